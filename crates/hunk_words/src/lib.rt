@@ -1,0 +1,8 @@
+//! The words of the Amiga hunk format: what object files and load files are made of.
+//!
+//! - `fault`: what is wrong with a file, and where; what a read or a write is refused with.
+#![tactic(auto)]
+
+pub mod fault;
+
+pub use fault::{DeviceFault, Fault, ReadFault, Reason, Refusal, WriteFault};
