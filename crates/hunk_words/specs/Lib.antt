@@ -1,0 +1,16 @@
+pub mod Kinds
+pub mod Trees
+pub mod Spelling
+pub mod Words
+pub mod SiteRules
+pub mod Files
+pub mod FirstOffence
+pub mod Machine
+pub mod Reading
+pub mod Events
+pub mod Values
+pub mod Building
+pub mod Watch
+pub mod Laws
+pub mod EventLaws
+pub mod OffenceLaws
