@@ -1,8 +1,17 @@
 //! What holds of the definitions of the format, each law a function without a body.
 
+ghost use Rattle.hunk_words.specs.Examples.{LoadExamples, ObjectExamples, ShortExamples};
 ghost use Rattle.hunk_words.specs.Laws.{NothingBehind};
 
 /// Nothing passes behind the last END of a load file.
 pub fn nothing_stands_behind()
     ensures { NothingBehind }
+{}
+
+/// Worked load files, object files and 16-bit relocations: which are files, and where the others
+/// offend first and why.
+pub fn worked_files()
+    ensures load { LoadExamples }
+    ensures short { ShortExamples }
+    ensures object { ObjectExamples }
 {}
