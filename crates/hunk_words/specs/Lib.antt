@@ -15,3 +15,9 @@ pub mod Examples
 pub mod Laws
 pub mod EventLaws
 pub mod OffenceLaws
+pub mod Longwords
+pub mod Pieces
+pub mod Room
+pub mod Splitter
+pub mod Streams
+pub mod Watched

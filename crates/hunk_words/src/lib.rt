@@ -4,13 +4,27 @@
 //! - `kinds`: the kinds of blocks, of content, of external symbols, and of half longwords.
 //! - `event`: what the longwords of a file tell, one after another.
 //! - `laws`: what holds of the definitions of the format.
+//! - `splitter`: bytes to longwords.
+//! - `streams`: readers and writers that tell their bytes, their failure and their end.
+//! - `watched`: readers and writers of std that are watched.
+//! - `pieces`, `room`: a reader and a writer over memory, which fail where they are told to.
 #![tactic(auto)]
 
 pub mod event;
 pub mod fault;
 pub mod kinds;
 pub mod laws;
+pub mod pieces;
+pub mod room;
+pub mod splitter;
+pub mod streams;
+pub mod watched;
 
 pub use event::{Event, FileKind};
 pub use fault::{DeviceFault, Fault, ReadFault, Reason, Refusal, WriteFault};
 pub use kinds::{BlockType, ContentType, EntryType, Half};
+pub use pieces::Pieces;
+pub use room::Room;
+pub use splitter::Splitter;
+pub use streams::{Feed, Sink, Source, read_all, write_all};
+pub use watched::Watched;
