@@ -1,3 +1,4 @@
 mod Longwords
 mod SplitterLemmas
 mod StreamLemmas
+mod ViewLemmas

@@ -11,6 +11,7 @@ pub mod Events
 pub mod Values
 pub mod Building
 pub mod Watch
+pub mod View
 pub mod Examples
 pub mod Laws
 pub mod EventLaws

@@ -10,14 +10,21 @@
 //! - `pieces`, `room`: a reader and a writer over memory, which fail where they are told to.
 #![tactic(auto)]
 
+mod block_steps;
 pub mod event;
 pub mod fault;
+mod header_steps;
 pub mod kinds;
 pub mod laws;
+mod longword;
 pub mod pieces;
 pub mod room;
+mod short_steps;
 pub mod splitter;
+mod state;
+mod step;
 pub mod streams;
+mod type_steps;
 pub mod watched;
 
 pub use event::{Event, FileKind};
