@@ -1,0 +1,5 @@
+pub mod PartsLemmas
+pub mod TypeLemmas
+pub mod TakenLemmas
+pub mod AlignedLemmas
+pub mod ReadLemmas
