@@ -3,3 +3,5 @@ pub mod TypeLemmas
 pub mod TakenLemmas
 pub mod AlignedLemmas
 pub mod ReadLemmas
+pub mod SeenLemmas
+pub mod LimitLemmas
