@@ -1,8 +1,11 @@
 //! The words of the Amiga hunk format: what object files and load files are made of.
 //!
 //! - `fault`: what is wrong with a file, and where; what a read or a write is refused with.
+//! - `name`: names, as longwords hold them.
 #![tactic(auto)]
 
 pub mod fault;
+pub mod name;
 
 pub use fault::{DeviceFault, Fault, ReadFault, Reason, Refusal, WriteFault};
+pub use name::Name;
