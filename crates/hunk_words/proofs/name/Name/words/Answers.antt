@@ -14,7 +14,7 @@ loop-place-preserved g c =
     record {
       room = omega arith;
       len = omega arith;
-      value = c.push_reserved.ensures.items ∙ name_words-more c.loop-place.words.items c.self.inside.bytes.items c.loop-place.place c.longword.result c.loop-place.invariant.value next;
+      value = rw c.push_reserved.ensures.items (name_words-more c.loop-place.words.items c.self.inside.bytes.items c.loop-place.place c.longword.result c.loop-place.invariant.value next);
     }
 
 pub returns-clause-fewest : goal.returns-clause-fewest
