@@ -9,3 +9,5 @@ pub mod AlignedLemmas
 pub mod ReadLemmas
 pub mod SeenLemmas
 pub mod LimitLemmas
+pub mod NameLemmas
+pub mod SiteLemmas

@@ -8,6 +8,8 @@
 //! - `streams`: readers and writers that tell their bytes, their failure and their end.
 //! - `watched`: readers and writers of std that are watched.
 //! - `pieces`, `room`: a reader and a writer over memory, which fail where they are told to.
+//! - `name`: names, as longwords hold them.
+//! - `sites`: the sites of a hunk, which do not share a byte.
 #![tactic(auto)]
 
 mod block_steps;
@@ -26,6 +28,8 @@ mod step;
 pub mod streams;
 mod type_steps;
 pub mod watched;
+pub mod name;
+pub mod sites;
 
 pub use event::{Event, FileKind};
 pub use fault::{DeviceFault, Fault, ReadFault, Reason, Refusal, WriteFault};
@@ -35,3 +39,5 @@ pub use room::Room;
 pub use splitter::Splitter;
 pub use streams::{Feed, Sink, Source, read_all, write_all};
 pub use watched::Watched;
+pub use name::Name;
+pub use sites::{SiteRefusal, Sites, Walk};
