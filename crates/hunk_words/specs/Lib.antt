@@ -12,6 +12,7 @@ pub mod Values
 pub mod Building
 pub mod Watch
 pub mod View
+pub mod Takers
 pub mod Examples
 pub mod Laws
 pub mod EventLaws
