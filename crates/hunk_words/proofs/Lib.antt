@@ -11,3 +11,4 @@ pub mod SeenLemmas
 pub mod LimitLemmas
 pub mod NameLemmas
 pub mod SiteLemmas
+pub mod NumberLemmas

@@ -13,6 +13,7 @@ pub mod Building
 pub mod Watch
 pub mod View
 pub mod Takers
+pub mod Numbering
 pub mod Examples
 pub mod Laws
 pub mod EventLaws

@@ -1,5 +1,5 @@
 -- What a taker answers to an event, by the events that it took before.
-use Rattle.std.specs.Prelude.{◌≡◌, ℕ, ◌+◌, ◌<◌, ◌≤◌, Bool, true, false, List, Result, Ok, Err}
+use Rattle.std.specs.Prelude.{◌≡◌, ℕ, ◌+◌, ◌<◌, ◌≤◌, Bool, true, false, List, Option, Some, None, Result, Ok, Err}
 use Rattle.hunk_words.specs.SiteRules.{all_apart}
 use Rattle.hunk_words.specs.Watch.{Watch, watched, unwatched}
 use Rattle.hunk_words.specs.declared.event.FileKind.{FileKind}
@@ -35,3 +35,8 @@ abbrev pub Judges : Watch → Event → Result (Unit {0}) SiteRefusal → Type 0
 Judges watch (Site offset target) answer = JudgesSite watch.place.limit watch.seen offset answer
 Judges watch (RefSite offset) answer = JudgesSite watch.place.limit watch.seen offset answer
 Judges watch event answer = JudgesNone answer
+
+-- the answer to what a number tells, if anything
+abbrev pub JudgesEvent : Watch → Option Event → Result (Unit {0}) SiteRefusal → Type 0
+JudgesEvent watch None answer = JudgesNone answer
+JudgesEvent watch (Some event) answer = Judges watch event answer

@@ -20,6 +20,7 @@ pub mod kinds;
 pub mod laws;
 mod longword;
 pub mod name;
+mod numbers;
 pub mod pieces;
 pub mod room;
 mod short_steps;
