@@ -12,3 +12,4 @@ pub mod LimitLemmas
 pub mod NameLemmas
 pub mod SiteLemmas
 pub mod NumberLemmas
+pub mod WordLemmas

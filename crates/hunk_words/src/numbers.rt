@@ -1,12 +1,13 @@
 //! The numbers of a file, and what they tell a taker.
 
 ghost use Rattle.std.specs.Prelude.{◌≡◌, ℕ, ◌+◌, ◌<◌, ◌^◌, List, [], ◌++◌, length, OnOk};
-ghost use Rattle.hunk_words.specs.Kinds.{Field};
-ghost use Rattle.hunk_words.specs.Events.{with_event};
+ghost use Rattle.hunk_words.specs.Kinds.{Field, halved, width};
+ghost use Rattle.hunk_words.specs.Events.{events, with_event};
+ghost use Rattle.hunk_words.specs.Machine.{due as first_due};
 ghost use Rattle.hunk_words.specs.Reading.{Progress};
-ghost use Rattle.hunk_words.specs.Numbering.{Reached, MayCome, NumberAnswered};
+ghost use Rattle.hunk_words.specs.Numbering.{Reached, MayCome, NumberAnswered, WordAnswered};
 ghost use Rattle.hunk_words.specs.Takers.{JudgesEvent, watch_of, sizes_told};
-ghost use Rattle.hunk_words.specs.View.{IsState, SizeIsGiven};
+ghost use Rattle.hunk_words.specs.View.{Around, IsState, SizeIsGiven, due_view};
 ghost use Rattle.hunk_words.specs.declared.event.Event.{Event};
 
 use crate::event::{Event, FileKind};
@@ -64,5 +65,30 @@ pub fn take_number<T: Taker>(taker: &mut T, state: State, number: u32) -> Result
             Err(SiteRefusal::OutOfMemory) => Err(Stop::OutOfMemory),
         },
         Err(reason) => Err(Stop::Refused(reason)),
+    }
+}
+
+// Two halves are due: 16-bit words of a list of relocations.
+fn is_halved(due: Due) -> bool
+    ensures { (a : Around) → result ≡ halved (width (first_due (due_view due a))) }
+{
+    matches!(
+        due,
+        Due::ShortCount { .. } | Due::ShortHunk { .. } | Due::ShortOffset { .. } | Due::ShortPad
+    )
+}
+
+/// Takes a longword: one number, or two halves, the upper one first.
+pub fn take_word<T: Taker>(taker: &mut T, state: State, word: u32) -> Result<State, Stop>
+    ensures { (fs : List Field) (at : Progress) → Reached T.KIND (T.stands_for taker.old) state fs at → length (events fs) + 1 < 2 ^ 29 →
+        WordAnswered T.KIND (T.stands_for taker.new) fs at word result }
+{
+    if is_halved(state.due) {
+        match take_number(taker, state, word / 0x1_0000) {
+            Ok(upper) => take_number(taker, upper, word % 0x1_0000),
+            Err(stop) => Err(stop),
+        }
+    } else {
+        take_number(taker, state, word)
     }
 }
