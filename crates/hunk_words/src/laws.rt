@@ -1,6 +1,6 @@
 //! What holds of the definitions of the format, each law a function without a body.
 
-ghost use Rattle.hunk_words.specs.Examples.{LoadExamples, ObjectExamples, ShortExamples};
+ghost use Rattle.hunk_words.specs.Examples.{LoadExamples, ObjectExamples, ShortExamples, ValueExamples};
 ghost use Rattle.hunk_words.specs.EventLaws.{ObjectLimit, LoadLimit};
 ghost use Rattle.hunk_words.specs.Laws.{NothingBehind, ObjectIsTaken, LoadIsTaken, ObjectIsRead, LoadIsRead};
 
@@ -28,9 +28,10 @@ pub fn events_tell_limits()
 {}
 
 /// Worked load files, object files and 16-bit relocations: which are files, and where the others
-/// offend first and why.
+/// offend first and why; and what files tell.
 pub fn worked_files()
     ensures load { LoadExamples }
     ensures short { ShortExamples }
     ensures object { ObjectExamples }
+    ensures value { ValueExamples }
 {}
