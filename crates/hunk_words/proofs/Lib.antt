@@ -1,3 +1,10 @@
 pub mod StackLemmas
 pub mod FinishLemmas
 pub mod SplitLemmas
+pub mod PartsLemmas
+pub mod TypeLemmas
+pub mod TakenLemmas
+pub mod AlignedLemmas
+pub mod ReadLemmas
+pub mod SeenLemmas
+pub mod LimitLemmas

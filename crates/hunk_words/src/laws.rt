@@ -1,17 +1,37 @@
 //! What holds of the definitions of the format, each law a function without a body.
 
-ghost use Rattle.hunk_words.specs.Examples.{LoadExamples, ObjectExamples, ShortExamples};
-ghost use Rattle.hunk_words.specs.Laws.{NothingBehind};
+ghost use Rattle.hunk_words.specs.Examples.{LoadExamples, ObjectExamples, ShortExamples, ValueExamples};
+ghost use Rattle.hunk_words.specs.EventLaws.{ObjectLimit, LoadLimit};
+ghost use Rattle.hunk_words.specs.Laws.{NothingBehind, ObjectIsTaken, LoadIsTaken, ObjectIsRead, LoadIsRead};
+
+/// What is spelled passes, each field under the kind of its spelling, to where a file may end.
+pub fn spelled_is_taken()
+    ensures object { ObjectIsTaken }
+    ensures load { LoadIsTaken }
+{}
+
+/// The longwords of what is spelled are read, to where a file may end.
+pub fn spelled_is_read()
+    ensures object { ObjectIsRead }
+    ensures load { LoadIsRead }
+{}
 
 /// Nothing passes behind the last END of a load file.
 pub fn nothing_stands_behind()
     ensures { NothingBehind }
 {}
 
+/// Where an offset is due, events tell its limit and the sites before it in its hunk.
+pub fn events_tell_limits()
+    ensures object { ObjectLimit }
+    ensures load { LoadLimit }
+{}
+
 /// Worked load files, object files and 16-bit relocations: which are files, and where the others
-/// offend first and why.
+/// offend first and why; and what files tell.
 pub fn worked_files()
     ensures load { LoadExamples }
     ensures short { ShortExamples }
     ensures object { ObjectExamples }
+    ensures value { ValueExamples }
 {}
