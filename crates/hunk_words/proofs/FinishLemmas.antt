@@ -1,10 +1,9 @@
 -- Whatever is due on a sound stack can be taken: 0 for what is no type, 1 for the size of the hunk table, the number of
 -- the last hunk, END where it passes, and empty BSS for each hunk that is still missing.
-use Rattle.std.proofs.Common.{◌≡◌, ℕ, zero, suc, pred, ◌+◌, ◌-◌, ◌^◌, ◌<◌, List, [], ◌∷◌, None, Bool, true, false, refl, ap, sym, subst, ◌∙◌, arith, rules}
-use Rattle.std.specs.Prelude.{nat_le, nat_lt, ◌==◌}
+use Rattle.std.proofs.Common.{◌≡◌, ℕ, zero, suc, ◌-◌, ◌^◌, ◌<◌, List, [], ◌∷◌, None, Bool, true, refl, ap, sym, subst, arith}
+use Rattle.std.specs.Prelude.{nat_le, ◌==◌}
 use Rattle.std.proofs.lemmas.Grind.{common_steps}
-use Rattle.hunk_words.specs.Kinds.{Within, Kind, Width, Field, Passes, field, low, bits, bound, judged, needs, width, type_of, flip, half_after, memory_of, site_limit}
-use Rattle.hunk_words.specs.Kinds.Width.{long, half}
+use Rattle.hunk_words.specs.Kinds.{Within, Kind, Field, Passes, field, low, needs, type_of, flip}
 use Rattle.hunk_words.specs.Kinds.Within.{in_unit, in_load}
 use Rattle.hunk_words.specs.Kinds.Kind.{object_start, load_start, unit_type, hunk_type, content_type, block_type, past_end, unit_length, name_length, word, value, content_size, reloc_count, hunk_number, offset, debug_length, ext_entry, ref_count, ref_offset, symbol_entry, resident, table_size, first_hunk, last_hunk, header_size, short_count, short_hunk, short_offset, short_pad}
 use Rattle.hunk_words.specs.declared.kinds.Half.{Half}
@@ -29,7 +28,7 @@ pub record Begin (k : Kind) (s : List Kind) : Type 0 where
   pub behind : Finish (push k number s)
 
 -- the number in front
-pub finish-begin : {k : Kind} {s : List Kind} → Begin k s → Finish (k ∷ s)
+abbrev pub finish-begin : {k : Kind} {s : List Kind} → Begin k s → Finish (k ∷ s)
 finish-begin {k} b = record { fields = field k b.number ∷ b.behind.fields; after = b.behind.after; takes = (refl, b.passes, b.behind.takes); complete = b.behind.complete }
 
 begin : {k : Kind} {s : List Kind} (n : ℕ) → Passes k n → Finish (push k n s) → Begin k s
@@ -119,7 +118,7 @@ finish-last_hunk last s h f = begin last (record { fits = h; passes = needs-true
 
 finish-table_size : (s : List Kind) → Finish s → Begin table_size s
 finish-table_size s f = begin 1 (record { fits = omega arith; passes = refl }) (finish-begin (begin 0 (record { fits = omega arith; passes = refl })
-  (finish-begin (finish-last_hunk 0 _ (omega arith) (finish-begin (finish-header_size 0 (2 ^ 24) 0 [] s f))))))
+    (finish-begin (finish-last_hunk 0 _ (omega arith) (finish-begin (finish-header_size 0 (2 ^ 24) 0 [] s f))))))
 
 -- ---- every kind
 

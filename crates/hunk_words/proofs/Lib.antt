@@ -1,6 +1,3 @@
-pub mod StackLemmas
-pub mod FinishLemmas
-pub mod SplitLemmas
 pub mod PartsLemmas
 pub mod TypeLemmas
 pub mod TakenLemmas
@@ -8,3 +5,10 @@ pub mod AlignedLemmas
 pub mod ReadLemmas
 pub mod SeenLemmas
 pub mod LimitLemmas
+pub mod StackLemmas
+pub mod FinishLemmas
+pub mod SplitLemmas
+pub mod FrontLemmas
+pub mod ProgressLemmas
+pub mod OffenceLemmas
+pub mod BlameLemmas

@@ -1,34 +1,19 @@
 -- Sound stacks: each kind begins at the half of a longword where the one above it ends, and what the rows of the table
 -- leave open is bounded. A stack that the machine reaches is sound.
-use Rattle.std.proofs.Common.{◌≡◌, ℕ, zero, suc, pred, ◌^◌, ◌<◌, List, [], ◌∷◌, Some, None, refl, sym, subst, arith, rules}
-use Rattle.hunk_words.specs.Kinds.{Within, Kind, Width, Passes, low, bits, width, entry_of, entry_length, type_of, flip, half_after, memory_of, site_limit}
-use Rattle.hunk_words.specs.Kinds.Width.{long, half}
-use Rattle.hunk_words.specs.Kinds.Within.{in_unit, in_load}
+use Rattle.std.proofs.Common.{◌≡◌, ℕ, zero, suc, pred, ◌^◌, ◌<◌, List, [], ◌∷◌, refl, subst, arith}
+use Rattle.hunk_words.specs.Kinds.{Within, Kind, Passes, low, bits, width, entry_of, entry_length, type_of, flip, half_after}
+use Rattle.hunk_words.specs.Kinds.Within.{in_load}
 use Rattle.hunk_words.specs.Kinds.Kind.{object_start, load_start, unit_type, hunk_type, content_type, block_type, past_end, unit_length, name_length, word, value, content_size, reloc_count, hunk_number, offset, debug_length, ext_entry, ref_count, ref_offset, symbol_entry, resident, table_size, first_hunk, last_hunk, header_size, short_count, short_hunk, short_offset, short_pad}
 use Rattle.hunk_words.specs.declared.kinds.Half.{Half}
 use Rattle.hunk_words.specs.declared.kinds.Half.TheVariants.{Upper as upper, Lower as lower}
 use Rattle.hunk_words.specs.declared.kinds.ContentType.{ContentType}
-use Rattle.hunk_words.specs.declared.kinds.ContentType.TheVariants.{Code, Data, Bss}
+use Rattle.hunk_words.specs.declared.kinds.ContentType.TheVariants.{Bss}
 use Rattle.hunk_words.specs.declared.kinds.BlockType.{BlockType}
 use Rattle.hunk_words.specs.declared.kinds.BlockType.TheVariants.{Unit as unit, Name as name, Content as content, Reloc as reloc, Ext as ext, Symbol as symbol, Debug as debug, Short as short}
 use Rattle.hunk_words.specs.declared.kinds.EntryType.{EntryType}
 use Rattle.hunk_words.specs.declared.kinds.EntryType.TheVariants.{Reference as reference}
-use Rattle.hunk_words.specs.Machine.{times, short_times, onto, hunks_due, unit_part, hunk_part, block_part, content_part, entry_part, entry_tail, push}
-
--- the half from which a number of this width stands, and the half behind it
-abbrev pub first_half : Width → Half
-first_half long = upper
-first_half (half h) = h
-
-abbrev pub half_behind : Width → Half
-half_behind long = upper
-half_behind (half h) = flip h
-
--- the half behind a kind and all that it makes due
-abbrev pub end_half : Kind → Half
-end_half (short_hunk h last limit more) = half_after (suc (suc more)) h
-end_half (short_offset h limit target) = flip h
-end_half _ = upper
+use Rattle.hunk_words.specs.Machine.{times, short_times, onto, hunks_due, unit_part, hunk_part, block_part, content_part, entry_tail, push}
+use Rattle.hunk_words.proofs.AlignedLemmas.{starts_at, next_at, ends_at}
 
 -- what a kind asks of itself and of the stack below it, so that some number passes
 abbrev pub Rests : Kind → List Kind → Type 0
@@ -41,11 +26,11 @@ Rests _ s = Unit {0}
 -- a sound stack whose top begins at this half
 abbrev pub Sound : Half → List Kind → Type 0
 Sound h [] = upper ≡ h
-Sound h (k ∷ s) = (first_half (width k) ≡ h) × Rests k s × Sound (end_half k) s
+Sound h (k ∷ s) = (starts_at (width k) ≡ h) × Rests k s × Sound (ends_at k) s
 
 -- ---- what is pushed is sound
 
-sound-times : (n : ℕ) (k : Kind) (s : List Kind) → first_half (width k) ≡ upper → upper ≡ end_half k → ((t : List Kind) → Rests k t) → Sound upper s → Sound upper (times n k s)
+sound-times : (n : ℕ) (k : Kind) (s : List Kind) → starts_at (width k) ≡ upper → upper ≡ ends_at k → ((t : List Kind) → Rests k t) → Sound upper s → Sound upper (times n k s)
 sound-times zero k s a b r q = q
 sound-times (suc n) k s a b r q = (a, r (times n k s), subst (λ h. Sound h (times n k s)) b (sound-times n k s a b r q))
 
@@ -91,7 +76,7 @@ pred-below : (n : ℕ) → n < 2 ^ 32 → pred n < 2 ^ 32
 pred-below zero h = h
 pred-below (suc n) h = omega arith
 
-pub sound-push : (k : Kind) (n : ℕ) (s : List Kind) → Passes k n → Rests k s → Sound (end_half k) s → Sound (half_behind (width k)) (push k n s)
+pub sound-push : (k : Kind) (n : ℕ) (s : List Kind) → Passes k n → Rests k s → Sound (ends_at k) s → Sound (next_at (width k)) (push k n s)
 sound-push object_start n s p r q = (refl, tt, (refl, r, q))
 sound-push load_start n s p r q = (refl, tt, (refl, tt, q))
 sound-push unit_type n s p r q = sound-unit_part (type_of (low n)) (bits n) s r q

@@ -2,7 +2,7 @@
 
 ghost use Rattle.hunk_words.specs.Examples.{LoadExamples, ObjectExamples, ShortExamples, ValueExamples};
 ghost use Rattle.hunk_words.specs.EventLaws.{ObjectLimit, LoadLimit};
-ghost use Rattle.hunk_words.specs.Laws.{NothingBehind, ObjectIsTaken, LoadIsTaken, ObjectIsRead, LoadIsRead};
+ghost use Rattle.hunk_words.specs.Laws.{NothingBehind, ObjectIsTaken, LoadIsTaken, ObjectIsRead, LoadIsRead, ObjectNext, LoadNext, ObjectDue, LoadDue};
 
 /// What is spelled passes, each field under the kind of its spelling, to where a file may end.
 pub fn spelled_is_taken()
@@ -34,4 +34,16 @@ pub fn worked_files()
     ensures short { ShortExamples }
     ensures object { ObjectExamples }
     ensures value { ValueExamples }
+{}
+
+/// Where a longword doesn't pass behind what was read, no file begins with both.
+pub fn refused_begins_none()
+    ensures object { ObjectNext }
+    ensures load { LoadNext }
+{}
+
+/// The kind that is due behind what was taken is the one that each file that begins so bears there.
+pub fn every_file_bears_due()
+    ensures object { ObjectDue }
+    ensures load { LoadDue }
 {}
