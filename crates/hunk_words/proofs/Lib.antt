@@ -5,3 +5,8 @@ pub mod AlignedLemmas
 pub mod ReadLemmas
 pub mod SeenLemmas
 pub mod LimitLemmas
+pub mod LookLemmas
+pub mod Filled
+pub mod BuildLemmas
+pub mod FilledLemmas
+pub mod LabelLemmas

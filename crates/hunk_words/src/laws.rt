@@ -2,7 +2,7 @@
 
 ghost use Rattle.hunk_words.specs.Examples.{LoadExamples, ObjectExamples, ShortExamples, ValueExamples};
 ghost use Rattle.hunk_words.specs.EventLaws.{ObjectLimit, LoadLimit};
-ghost use Rattle.hunk_words.specs.Laws.{NothingBehind, ObjectIsTaken, LoadIsTaken, ObjectIsRead, LoadIsRead};
+ghost use Rattle.hunk_words.specs.Laws.{NothingBehind, ObjectIsTaken, LoadIsTaken, ObjectIsRead, LoadIsRead, ReadIsObject, ReadIsLoad};
 
 /// What is spelled passes, each field under the kind of its spelling, to where a file may end.
 pub fn spelled_is_taken()
@@ -34,4 +34,10 @@ pub fn worked_files()
     ensures short { ShortExamples }
     ensures object { ObjectExamples }
     ensures value { ValueExamples }
+{}
+
+/// What is read to where a file may end is spelled by a tree.
+pub fn read_is_spelled()
+    ensures object { ReadIsObject }
+    ensures load { ReadIsLoad }
 {}
