@@ -10,3 +10,4 @@ pub mod Filled
 pub mod BuildLemmas
 pub mod FilledLemmas
 pub mod LabelLemmas
+pub mod SameLemmas
