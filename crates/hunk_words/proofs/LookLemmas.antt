@@ -21,10 +21,6 @@ pub and_then-first : (a b : Option Reason) → and_then a b ≡ None → a ≡ N
 and_then-first None b h = refl
 and_then-first (Some r) b h = absurd (cc)
 
-pub and_then-second : (a b : Option Reason) → and_then a b ≡ None → b ≡ None
-and_then-second None b h = h
-and_then-second (Some r) b h = absurd (cc)
-
 pub needs-number : (n m : ℕ) (r : Reason) → needs (n == m) r ≡ None → n ≡ m
 needs-number n m r h = eqb-true n m (needs-none (n == m) r h)
 
