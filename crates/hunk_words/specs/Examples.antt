@@ -1,8 +1,14 @@
 -- Worked files: what the definitions say of them, by computation.
 use Rattle.std.specs.Prelude.{◌≡◌, ℕ, List, [], ◌∷◌, ◌++◌, length, Option, Some, None, Ok, Err}
 use Rattle.hunk_words.specs.Kinds.{Kind}
-use Rattle.hunk_words.specs.Kinds.Kind.{unit_type}
-use Rattle.hunk_words.specs.Reading.{begun, read_words}
+use Rattle.hunk_words.specs.Kinds.Kind.{object_start, load_start, unit_type}
+use Rattle.hunk_words.specs.Reading.{begun, read_words, labels}
+use Rattle.hunk_words.specs.Events.{events}
+use Rattle.hunk_words.specs.Values.{Part}
+use Rattle.hunk_words.specs.Values.Adds.{to_hunk, to_reference}
+use Rattle.hunk_words.specs.Values.Definition.{offset_at}
+use Rattle.hunk_words.specs.Building.{built, object_begun, load_begun}
+use Rattle.hunk_words.specs.declared.kinds.ContentType.TheVariants.{Code, Bss}
 use Rattle.hunk_words.specs.declared.event.FileKind.{FileKind}
 use Rattle.hunk_words.specs.declared.event.FileKind.TheVariants.{Object, Load}
 use Rattle.hunk_words.specs.declared.fault.Reason.{Reason}
@@ -80,6 +86,17 @@ references_twice = 0x3E7 ∷ 1 ∷ 0x55000000 ∷ 0x3E9 ∷ 3 ∷ 0 ∷ 0 ∷ 0
     ∷ 0x3EF ∷ 0x81000001 ∷ 0x78000000 ∷ 1 ∷ 8 ∷ 0x81000001 ∷ 0x79000000 ∷ 0 ∷ 0x81000001 ∷ 0x78000000 ∷ 1 ∷ 0 ∷ 0
     ∷ 0x3EC ∷ 1 ∷ 0 ∷ 4 ∷ 0 ∷ 0x3F2 ∷ []
 
+-- ---- what is built of them
+
+abbrev pub object_built : List ℕ → List Part
+object_built ws = (built object_begun (events (labels (object_start ∷ []) ws))).parts
+
+abbrev pub load_built : List ℕ → List Part
+load_built ws = (built load_begun (events (labels (load_start ∷ []) ws))).parts
+
+abbrev pub sizes_built : List ℕ → List (ℕ × ℕ)
+sizes_built ws = (built load_begun (events (labels (load_start ∷ []) ws))).sizes
+
 -- ---- what is said of them
 
 pub record LoadExamples : Type 0 where
@@ -137,3 +154,84 @@ pub record ObjectExamples : Type 0 where
   pub common_symbol : offence Object (object_b (0x82000001 ∷ [])) ≡ Some (7, UnsupportedExt 130)
   pub symbol_in_ext : offence Object (object_b (1 ∷ [])) ≡ Some (7, UnsupportedExt 0)
   pub symbol_of_kind : offence Object (object_e 0x1000001) ≡ Some (21, SymbolKind 1)
+
+-- what files tell
+pub record ValueExamples : Type 0 where
+  -- a reference without offsets is dropped, and one to the same name stands again
+  pub references_twice_told : object_built references_twice ≡ record {
+    name = 0x55000000 ∷ [];
+    hunks = record {
+      name = [];
+      kind = Code;
+      memory = 0;
+      size = 3;
+      content = 0 ∷ 0 ∷ 0 ∷ [];
+      told = record {
+        sites = (8, to_reference 0) ∷ (0, to_reference 1) ∷ (4, to_hunk 0) ∷ [];
+        references = (0x78000000 ∷ []) ∷ (0x78000000 ∷ []) ∷ [];
+        definitions = [];
+        symbols = [];
+        debugs = [];
+      };
+    } ∷ [];
+  } ∷ []
+  pub every_block_told : object_built (object_e 1) ≡ record {
+    name = 0x74657374 ∷ [];
+    hunks = record {
+      name = 0x434F4445 ∷ [];
+      kind = Code;
+      memory = 0;
+      size = 2;
+      content = 0x4EB90000 ∷ 0x4E75 ∷ [];
+      told = record {
+        sites = (2, to_hunk 1) ∷ [];
+        references = [];
+        definitions = (0x6D61696E ∷ [], offset_at 0) ∷ [];
+        symbols = (0x6C6F6F70 ∷ [], 6) ∷ [];
+        debugs = (0x12345678 ∷ []) ∷ [];
+      };
+    } ∷ record {
+      name = [];
+      kind = Bss;
+      memory = 1;
+      size = 2;
+      content = [];
+      told = record { sites = []; references = []; definitions = []; symbols = []; debugs = [] };
+    } ∷ [];
+  } ∷ []
+  pub unusual_sizes : sizes_built unusual_load ≡ (0, 3) ∷ (1, 1) ∷ []
+  pub unusual_told : load_built unusual_load ≡ record {
+    name = [];
+    hunks = record {
+      name = 0x54455854 ∷ [];
+      kind = Code;
+      memory = 0;
+      size = 3;
+      content = 0 ∷ 0 ∷ 4 ∷ [];
+      told = record {
+        sites = (8, to_hunk 1) ∷ (4, to_hunk 0) ∷ (0, to_hunk 1) ∷ [];
+        references = [];
+        definitions = [];
+        symbols = (0x41004242 ∷ 0x43434343 ∷ [], 2) ∷ [];
+        debugs = (0xCAFEBABE ∷ []) ∷ [];
+      };
+    } ∷ record {
+      name = [];
+      kind = Bss;
+      memory = 0;
+      size = 0;
+      content = [];
+      told = record { sites = []; references = []; definitions = []; symbols = []; debugs = [] };
+    } ∷ [];
+  } ∷ []
+  pub short_told : load_built (short_load (0x20000 ∷ 4 ∷ 0xFFFF ∷ 0x3F2 ∷ [])) ≡ record {
+    name = [];
+    hunks = record {
+      name = [];
+      kind = Code;
+      memory = 0;
+      size = 2;
+      content = 4 ∷ 0 ∷ [];
+      told = record { sites = (0, to_hunk 0) ∷ (4, to_hunk 0) ∷ []; references = []; definitions = []; symbols = []; debugs = [] };
+    } ∷ [];
+  } ∷ []

@@ -1,8 +1,9 @@
 //! What holds of the definitions of the format, each law a function without a body.
 
-ghost use Rattle.hunk_words.specs.Examples.{LoadExamples, ObjectExamples, ShortExamples};
+ghost use Rattle.hunk_words.specs.Examples.{LoadExamples, ObjectExamples, ShortExamples, ValueExamples};
 ghost use Rattle.hunk_words.specs.EventLaws.{ObjectLimit, LoadLimit};
-ghost use Rattle.hunk_words.specs.Laws.{NothingBehind, ObjectIsTaken, LoadIsTaken, ObjectIsRead, LoadIsRead};
+ghost use Rattle.hunk_words.specs.Laws.{NothingBehind, ObjectIsTaken, LoadIsTaken, ObjectIsRead, LoadIsRead, ObjectNext, LoadNext, ObjectDue, LoadDue};
+ghost use Rattle.hunk_words.specs.Laws.{NothingBehind, ObjectIsTaken, LoadIsTaken, ObjectIsRead, LoadIsRead, ReadIsObject, ReadIsLoad, ObjectSame, LoadSame};
 
 /// What is spelled passes, each field under the kind of its spelling, to where a file may end.
 pub fn spelled_is_taken()
@@ -28,9 +29,32 @@ pub fn events_tell_limits()
 {}
 
 /// Worked load files, object files and 16-bit relocations: which are files, and where the others
-/// offend first and why.
+/// offend first and why; and what files tell.
 pub fn worked_files()
     ensures load { LoadExamples }
     ensures short { ShortExamples }
     ensures object { ObjectExamples }
+    ensures value { ValueExamples }
+{}
+
+/// Where a longword doesn't pass behind what was read, no file begins with both.
+pub fn refused_begins_none()
+    ensures object { ObjectNext }
+    ensures load { LoadNext }
+{}
+
+/// The kind that is due behind what was taken is the one that each file that begins so bears there.
+pub fn every_file_bears_due()
+    ensures object { ObjectDue }
+    ensures load { LoadDue }
+/// What is read to where a file may end is spelled by a tree.
+pub fn read_is_spelled()
+    ensures object { ReadIsObject }
+    ensures load { ReadIsLoad }
+{}
+
+/// The same longwords have the same fields.
+pub fn longwords_tell_fields()
+    ensures object { ObjectSame }
+    ensures load { LoadSame }
 {}

@@ -66,3 +66,13 @@ returns-clause-object c = record {
   symbol_in_ext = refl;
   symbol_of_kind = refl;
 }
+
+pub returns-clause-value : goal.returns-clause-value
+unfolding type_of entry_of
+returns-clause-value c = record {
+  references_twice_told = refl;
+  every_block_told = refl;
+  unusual_sizes = refl;
+  unusual_told = refl;
+  short_told = refl;
+}
