@@ -35,10 +35,11 @@ MayCome-long fs at w is fits few = record { fits = subst (λ v. w < bound v) (sy
 
 long-answered : (kind : FileKind) (Stands : List Event → Type 0) (fs : List Field) (at : Progress) (w : ℕ) (answer : Result State Stop) → width (due at.stack) ≡ long
     → NumberAnswered kind Stands fs at w answer → WordAnswered kind Stands fs at w answer
-long-answered kind Stands fs at w (Ok s) is answered =
-    (field_next at w,
-     ap (λ v. width_step v at w) is ∙ ap (λ o. unless o (field_next at w)) answered.0,
-     subst (λ v. Reached kind Stands s (fs ++ word_labels v at.stack w []) (field_next at w)) (sym is) answered.1)
+long-answered kind Stands fs at w (Ok s) is answered = (
+  field_next at w,
+  ap (λ v. width_step v at w) is ∙ ap (λ o. unless o (field_next at w)) answered.0,
+  subst (λ v. Reached kind Stands s (fs ++ word_labels v at.stack w []) (field_next at w)) (sym is) answered.1,
+)
 long-answered kind Stands fs at w (Err (Refused reason)) is answered = ap (λ v. width_step v at w) is ∙ ap (λ o. unless o (field_next at w)) answered
 long-answered kind Stands fs at w (Err OutOfMemory) is answered = tt
 
@@ -74,10 +75,11 @@ pub WordAnswered-halves : (kind : FileKind) (Stands : List Event → Type 0) (fs
     → field_judged at (w / 2 ^ 16) ≡ None
     → NumberAnswered kind Stands (fs ++ field (due at.stack) (w / 2 ^ 16) ∷ []) (field_next at (w / 2 ^ 16)) (w % 2 ^ 16) answer → WordAnswered kind Stands fs at w answer
 WordAnswered-halves kind Stands fs at w (Ok s) is passes answered =
-    let lower = field_next at (w / 2 ^ 16) in
-    (field_next lower (w % 2 ^ 16),
-     upper-step _ at w None is passes ∙ ap (λ o. unless o (field_next lower (w % 2 ^ 16))) answered.0,
-     subst (λ gs. Reached kind Stands s gs (field_next lower (w % 2 ^ 16))) (two-labels _ fs at w is) answered.1)
+    let lower = field_next at (w / 2 ^ 16) in (
+      field_next lower (w % 2 ^ 16),
+      upper-step _ at w None is passes ∙ ap (λ o. unless o (field_next lower (w % 2 ^ 16))) answered.0,
+      subst (λ gs. Reached kind Stands s gs (field_next lower (w % 2 ^ 16))) (two-labels _ fs at w is) answered.1,
+    )
 WordAnswered-halves kind Stands fs at w (Err (Refused reason)) is passes answered =
     let lower = field_next at (w / 2 ^ 16) in
     upper-step _ at w None is passes ∙ ap (λ o. unless o (field_next lower (w % 2 ^ 16))) answered

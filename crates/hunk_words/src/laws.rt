@@ -2,8 +2,7 @@
 
 ghost use Rattle.hunk_words.specs.Examples.{LoadExamples, ObjectExamples, ShortExamples, ValueExamples};
 ghost use Rattle.hunk_words.specs.EventLaws.{ObjectLimit, LoadLimit};
-ghost use Rattle.hunk_words.specs.Laws.{NothingBehind, ObjectIsTaken, LoadIsTaken, ObjectIsRead, LoadIsRead, ObjectNext, LoadNext, ObjectDue, LoadDue};
-ghost use Rattle.hunk_words.specs.Laws.{NothingBehind, ObjectIsTaken, LoadIsTaken, ObjectIsRead, LoadIsRead, ReadIsObject, ReadIsLoad, ObjectSame, LoadSame};
+ghost use Rattle.hunk_words.specs.Laws.{NothingBehind, ObjectIsTaken, LoadIsTaken, ObjectIsRead, LoadIsRead, ObjectNext, LoadNext, ObjectDue, LoadDue, ReadIsObject, ReadIsLoad, ObjectSame, LoadSame};
 
 /// What is spelled passes, each field under the kind of its spelling, to where a file may end.
 pub fn spelled_is_taken()
@@ -47,6 +46,8 @@ pub fn refused_begins_none()
 pub fn every_file_bears_due()
     ensures object { ObjectDue }
     ensures load { LoadDue }
+{}
+
 /// What is read to where a file may end is spelled by a tree.
 pub fn read_is_spelled()
     ensures object { ReadIsObject }
