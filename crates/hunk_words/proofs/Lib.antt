@@ -12,3 +12,10 @@ pub mod FrontLemmas
 pub mod ProgressLemmas
 pub mod OffenceLemmas
 pub mod BlameLemmas
+pub mod LookLemmas
+pub mod Filled
+pub mod BuildLemmas
+pub mod FilledLemmas
+pub mod LabelLemmas
+pub mod SameLemmas
+pub mod FirstOffenceLemmas
