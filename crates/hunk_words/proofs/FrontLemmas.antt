@@ -15,6 +15,7 @@ use Rattle.hunk_words.specs.declared.event.FileKind.TheVariants.{Object, Load}
 use Rattle.hunk_words.specs.declared.kinds.Half.{Half}
 use Rattle.hunk_words.specs.declared.kinds.Half.TheVariants.{Upper as upper, Lower as lower}
 use Rattle.hunk_words.proofs.TakenLemmas.{object-taken, load-taken}
+use Rattle.hunk_words.proofs.LabelLemmas.{read-is-object, read-is-load}
 use Rattle.hunk_words.proofs.StackLemmas.{Sound}
 use Rattle.hunk_words.proofs.FinishLemmas.{Finish, Begin, finish-begin, finish-stack, begin-stack}
 use Rattle.hunk_words.proofs.SplitLemmas.{Split, split, sound-half, lower-fits, sound-reads, reads-behind, reads-join, takes-behind, takes-due}
@@ -30,6 +31,10 @@ taken Load t f = ([], load-taken t f, tt)
 -- What is read to where a file may end is spelled.
 abbrev pub IsSpelled : FileKind → Type 0
 IsSpelled kind = (ws : List ℕ) (e : List Kind) → Reads (start_of kind ∷ []) ws e → IsComplete e → (t : Tree kind) × Fits kind t × (longwords_spelled kind t ≡ ws)
+
+pub spelled : (kind : FileKind) → IsSpelled kind
+spelled Object ws e r c = read-is-object ws e r c
+spelled Load ws e r c = read-is-load ws e r c
 
 -- ---- stacks
 

@@ -26,3 +26,4 @@ pub mod BuildLemmas
 pub mod FilledLemmas
 pub mod LabelLemmas
 pub mod SameLemmas
+pub mod FirstOffenceLemmas

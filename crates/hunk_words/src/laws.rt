@@ -3,6 +3,8 @@
 ghost use Rattle.hunk_words.specs.Examples.{LoadExamples, ObjectExamples, ShortExamples, ValueExamples};
 ghost use Rattle.hunk_words.specs.EventLaws.{ObjectLimit, LoadLimit};
 ghost use Rattle.hunk_words.specs.Laws.{NothingBehind, ObjectIsTaken, LoadIsTaken, ObjectIsRead, LoadIsRead, ObjectNext, LoadNext, ObjectDue, LoadDue, ReadIsObject, ReadIsLoad, ObjectSame, LoadSame};
+ghost use Rattle.hunk_words.specs.OffenceLaws.{ReadIsFront, FrontIsRead, StopsBehindFront, StopsAtOffence, TooLongOffends, CompleteIsFile, EndsBehindFront, FileOrOffence, FileHasNone, OffenceIsOne};
+ghost use Rattle.hunk_words.specs.Laws.{NothingBehind, ObjectIsTaken, LoadIsTaken, ObjectIsRead, LoadIsRead, ReadIsObject, ReadIsLoad, ObjectSame, LoadSame, ObjectFront, LoadFront, ObjectNext, LoadNext, ObjectDue, LoadDue};
 
 /// What is spelled passes, each field under the kind of its spelling, to where a file may end.
 pub fn spelled_is_taken()
@@ -36,6 +38,12 @@ pub fn worked_files()
     ensures value { ValueExamples }
 {}
 
+/// What is read so far is the front of a file.
+pub fn read_is_front()
+    ensures object { ObjectFront }
+    ensures load { LoadFront }
+{}
+
 /// Where a longword doesn't pass behind what was read, no file begins with both.
 pub fn refused_begins_none()
     ensures object { ObjectNext }
@@ -58,4 +66,32 @@ pub fn read_is_spelled()
 pub fn longwords_tell_fields()
     ensures object { ObjectSame }
     ensures load { LoadSame }
+{}
+
+/// The machine, which keeps the rules of sites too, goes on over good fronts alone, and over each.
+pub fn machine_reads_fronts()
+    ensures read { ReadIsFront }
+    ensures front { FrontIsRead }
+{}
+
+/// Where the machine stops, a good front ends, and its reason is that of the first offence; so it
+/// is behind 2^28 longwords.
+pub fn machine_stops_at_offence()
+    ensures front { StopsBehindFront }
+    ensures offence { StopsAtOffence }
+    ensures long { TooLongOffends }
+{}
+
+/// Where the machine comes to the end, it tells whether the longwords are a file or end too early.
+pub fn machine_tells_files()
+    ensures file { CompleteIsFile }
+    ensures early { EndsBehindFront }
+{}
+
+/// Longwords, and up to three bytes of a further one, are a file or have a first offence, and
+/// never both; and it is one.
+pub fn file_or_first_offence()
+    ensures either { FileOrOffence }
+    ensures never_both { FileHasNone }
+    ensures one { OffenceIsOne }
 {}
