@@ -27,3 +27,4 @@ pub mod FilledLemmas
 pub mod LabelLemmas
 pub mod SameLemmas
 pub mod FirstOffenceLemmas
+pub mod CoreLemmas

@@ -14,6 +14,7 @@ pub mod Watch
 pub mod View
 pub mod Takers
 pub mod Numbering
+pub mod DecoderCore
 pub mod Examples
 pub mod Laws
 pub mod EventLaws

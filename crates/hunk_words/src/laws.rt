@@ -2,7 +2,6 @@
 
 ghost use Rattle.hunk_words.specs.Examples.{LoadExamples, ObjectExamples, ShortExamples, ValueExamples};
 ghost use Rattle.hunk_words.specs.EventLaws.{ObjectLimit, LoadLimit};
-ghost use Rattle.hunk_words.specs.Laws.{NothingBehind, ObjectIsTaken, LoadIsTaken, ObjectIsRead, LoadIsRead, ObjectNext, LoadNext, ObjectDue, LoadDue, ReadIsObject, ReadIsLoad, ObjectSame, LoadSame};
 ghost use Rattle.hunk_words.specs.OffenceLaws.{ReadIsFront, FrontIsRead, StopsBehindFront, StopsAtOffence, TooLongOffends, CompleteIsFile, EndsBehindFront, FileOrOffence, FileHasNone, OffenceIsOne};
 ghost use Rattle.hunk_words.specs.Laws.{NothingBehind, ObjectIsTaken, LoadIsTaken, ObjectIsRead, LoadIsRead, ReadIsObject, ReadIsLoad, ObjectSame, LoadSame, ObjectFront, LoadFront, ObjectNext, LoadNext, ObjectDue, LoadDue};
 
