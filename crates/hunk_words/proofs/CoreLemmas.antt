@@ -2,25 +2,28 @@
 use Rattle.std.proofs.Common.{◌≡◌, ℕ, zero, suc, ◌+◌, ◌*◌, ◌<◌, ◌≤◌, ◌^◌, List, [], ◌∷◌, ◌++◌, length, Option, Some, None, Result, Ok, Err, refl, sym, ap, subst, ◌∙◌, append_assoc, length-append, arith}
 use Rattle.hunk_words.specs.Kinds.{Width, Kind, Field, width}
 use Rattle.hunk_words.specs.Kinds.Width.{long, half}
-use Rattle.hunk_words.specs.Machine.{due}
+use Rattle.hunk_words.specs.Machine.{due, IsComplete}
 use Rattle.hunk_words.specs.Reading.{Progress, Reads, start_of, begun, word_next, read_word, read_words, word_labels, labels}
-use Rattle.hunk_words.specs.Files.{AllLong, most_longwords}
-use Rattle.hunk_words.specs.FirstOffence.{OffendsAt}
+use Rattle.hunk_words.specs.Files.{AllLong, Tree, spelling, IsFileOf, most_longwords}
+use Rattle.hunk_words.specs.FirstOffence.{OffendsAt, FirstOffence, end_reason}
+use Rattle.hunk_words.specs.FirstOffence.FirstOffence.{end_offends}
 use Rattle.hunk_words.specs.Events.{event_of, events}
 use Rattle.hunk_words.specs.View.{IsState, view}
 use Rattle.hunk_words.specs.Numbering.{Reached, WordAnswered}
-use Rattle.hunk_words.specs.DecoderCore.{Behind, StandsBy, fields_read}
+use Rattle.hunk_words.specs.DecoderCore.{Behind, StandsBy, TellsFile, fields_read}
 use Rattle.hunk_words.specs.declared.decoder_core.CoreState.{CoreState}
 use Rattle.hunk_words.specs.declared.event.Event.{Event}
 use Rattle.hunk_words.specs.declared.event.FileKind.{FileKind}
 use Rattle.hunk_words.specs.declared.fault.Fault.{Fault}
 use Rattle.hunk_words.specs.declared.fault.Reason.{Reason}
-use Rattle.hunk_words.specs.declared.fault.Reason.TheVariants.{TooLarge}
+use Rattle.hunk_words.specs.declared.fault.Reason.TheVariants.{TooLarge, PartialLongword, UnexpectedEnd}
 use Rattle.hunk_words.specs.declared.fault.Refusal.{Refusal}
 use Rattle.hunk_words.specs.declared.fault.Refusal.TheVariants as refusal_is
 use Rattle.hunk_words.specs.declared.state.State.{State}
 use Rattle.hunk_words.proofs.ProgressLemmas.{words-read}
-use Rattle.hunk_words.proofs.FirstOffenceLemmas.{offends-at, too-long}
+use Rattle.hunk_words.proofs.FirstOffenceLemmas.{offends-at, too-long, ends-early}
+use Rattle.hunk_words.proofs.OffenceLemmas.{complete-file}
+use Rattle.hunk_words.proofs.FrontLemmas.{taken, spelled, labels-takes, sound-start, sound-complete}
 use Rattle.hunk_words.proofs.WordLemmas.{length-events_one}
 
 -- ---- longwords that grow at their end
@@ -168,3 +171,35 @@ length-told (f ∷ fs) = omega (arith, length-events_one (event_of f) (events fs
 pub few-events : (kind : FileKind) (Stands : List Event → Type 0) (s : CoreState) (ws : List ℕ) → Behind kind Stands s ws → s.place < most_longwords
     → length (events (fields_read kind ws)) + 1 < 2 ^ 29
 few-events kind Stands s ws b room = omega (arith, length-told (fields_read kind ws), length-labels ws (start_of kind ∷ []), b.place)
+
+-- ---- the end
+
+pub stands-good : (kind : FileKind) (Stands : List Event → Type 0) (s : CoreState) (ws : List ℕ) → StandsBy kind Stands s ws → s.refusal ≡ None → Behind kind Stands s ws
+stands-good kind Stands s ws stands none = stands.good none
+
+early : (kind : FileKind) (Stands : List Event → Type 0) (s : CoreState) (ws : List ℕ) (rest : ℕ) (b : Behind kind Stands s ws) → (rest ≡ 0 → IsComplete b.progress.stack → ⊥)
+    → FirstOffence kind ws rest s.place (end_reason rest)
+early kind Stands s ws rest b not_whole = subst (λ p. FirstOffence kind ws rest p (end_reason rest)) (sym b.place) (end_offends (ends-early kind ws rest b.progress b.long b.few b.read not_whole))
+
+pub FirstOffence-partial : (kind : FileKind) (Stands : List Event → Type 0) (s : CoreState) (ws : List ℕ) (rest : ℕ) → Behind kind Stands s ws → 0 < rest → FirstOffence kind ws rest s.place PartialLongword
+FirstOffence-partial kind Stands s ws zero b some = absurd (omega arith)
+FirstOffence-partial kind Stands s ws (suc n) b some = early kind Stands s ws (suc n) b (λ none. absurd (omega arith))
+
+pub FirstOffence-unexpected : (kind : FileKind) (Stands : List Event → Type 0) (s : CoreState) (ws : List ℕ) (rest : ℕ) (b : Behind kind Stands s ws) → rest ≡ 0 → (IsComplete b.progress.stack → ⊥)
+    → FirstOffence kind ws rest s.place UnexpectedEnd
+FirstOffence-unexpected kind Stands s ws zero b none not_whole = early kind Stands s ws zero b (λ is. not_whole)
+FirstOffence-unexpected kind Stands s ws (suc n) b none not_whole = absurd (omega arith)
+
+-- the events of a file are those of its fields as the machine reads them
+told-file : (kind : FileKind) (tree : Tree kind) (ws : List ℕ) → IsFileOf kind tree ws → spelling kind tree ≡ fields_read kind ws
+told-file kind tree ws is_file =
+    let e = taken kind tree is_file.fits in
+    labels-takes (start_of kind ∷ []) (spelling kind tree) e.0 (sound-start kind) (sound-complete e.0 e.2) e.1 ∙ ap (fields_read kind) is_file.spelled
+
+pub TellsFile-complete : (kind : FileKind) (Stands : List Event → Type 0) (s : CoreState) (ws : List ℕ) (b : Behind kind Stands s ws) → IsComplete b.progress.stack → TellsFile kind Stands ws
+TellsFile-complete kind Stands s ws b complete =
+    let f = complete-file kind (spelled kind) ws b.progress b.long b.few b.read complete in record {
+      tree = f.tree;
+      is_file = f.is_file;
+      stands = subst (λ fs. Stands (events fs)) (sym (told-file kind f.tree ws f.is_file)) b.reached.stands;
+    }

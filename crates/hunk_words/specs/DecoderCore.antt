@@ -2,8 +2,9 @@
 use Rattle.std.specs.Prelude.{◌≡◌, ℕ, ◌≤◌, List, [], ◌∷◌, length, Option, Some, None, Result, Ok, Err}
 use Rattle.hunk_words.specs.Kinds.{Field}
 use Rattle.hunk_words.specs.Reading.{Progress, start_of, begun, read_words, labels}
-use Rattle.hunk_words.specs.Files.{AllLong, most_longwords}
-use Rattle.hunk_words.specs.FirstOffence.{OffendsAt}
+use Rattle.hunk_words.specs.Files.{AllLong, Tree, spelling, most_longwords, IsFileOf}
+use Rattle.hunk_words.specs.FirstOffence.{OffendsAt, FirstOffence}
+use Rattle.hunk_words.specs.Events.{events}
 use Rattle.hunk_words.specs.Numbering.{Reached}
 use Rattle.hunk_words.specs.declared.event.FileKind.{FileKind}
 use Rattle.hunk_words.specs.declared.event.Event.{Event}
@@ -42,3 +43,15 @@ StandsFor kind stands_for core ws = StandsBy kind (stands_for core.taker) core.s
 abbrev pub Keeps : {A : Type 0} → Option Refusal → Result A Refusal → Type 0
 Keeps refusal (Ok done) = refusal ≡ None
 Keeps refusal (Err e) = refusal ≡ Some e
+
+-- The longwords are a file, and this holds of its events.
+pub record TellsFile (kind : FileKind) (Stands : List Event → Type 0) (ws : List ℕ) : Type 0 where
+  pub tree : Tree kind
+  pub is_file : IsFileOf kind tree ws
+  pub stands : Stands (events (spelling kind tree))
+
+-- the answer at the end of longwords, with this many bytes behind them
+abbrev pub EndAnswered : {T : Type 0} → FileKind → (T → List Event → Type 0) → List ℕ → ℕ → Result T Refusal → Type 0
+EndAnswered kind stands_for ws rest (Ok taker) = (rest ≡ 0) × TellsFile kind (stands_for taker) ws
+EndAnswered kind stands_for ws rest (Err (refusal_is.Fault fault)) = FirstOffence kind ws rest fault.place fault.reason
+EndAnswered kind stands_for ws rest (Err refusal_is.OutOfMemory) = Unit {0}

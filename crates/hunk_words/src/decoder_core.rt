@@ -1,9 +1,10 @@
 //! Longwords of a file, judged and told to a taker.
 
-ghost use Rattle.std.specs.Prelude.{◌≡◌, ℕ, List, [], ◌∷◌, ◌++◌, Option, Some, None};
-ghost use Rattle.hunk_words.specs.DecoderCore.{Behind, StandsBy, StandsFor, Keeps, kept};
+ghost use Rattle.std.specs.Prelude.{◌≡◌, ℕ, List, [], ◌∷◌, ◌++◌, length, Option, Some, None, IsTrue, IsFalse};
+ghost use Rattle.hunk_words.specs.DecoderCore.{Behind, StandsBy, StandsFor, EndAnswered, Keeps, kept};
+ghost use Rattle.hunk_words.specs.Machine.{IsComplete};
 ghost use Rattle.hunk_words.specs.Reading.{start_of};
-ghost use Rattle.hunk_words.specs.View.{IsState, view};
+ghost use Rattle.hunk_words.specs.View.{Around, IsState, due_view, view};
 ghost use Rattle.hunk_words.specs.declared.fault.Refusal.{Refusal};
 
 use crate::event::FileKind;
@@ -73,18 +74,28 @@ fn advance<T: Taker>(taker: &mut T, core: CoreState, word: u32) -> CoreState
     }
 }
 
+fn fault(place: u64, reason: Reason) -> Refusal
+    ensures { result ≡ Refusal.Fault (record { place = place; reason = reason }) }
+{
+    Refusal::Fault(Fault { place, reason })
+}
+
 // It keeps this fault of the longword at its place.
 fn refused(core: CoreState, reason: Reason) -> CoreState
     ensures { result ≡ record core { refusal = Some (Refusal.Fault (record { place = core.place; reason = reason })) } }
 {
-    let fault = Fault {
-        place: core.place,
-        reason,
-    };
     CoreState {
-        refusal: Some(Refusal::Fault(fault)),
+        refusal: Some(fault(core.place, reason)),
         ..core
     }
+}
+
+// Whether a file may end here.
+fn is_complete(due: Due) -> bool
+    ensures yes { IsTrue result → (a : Around) → IsComplete (due_view due a) }
+    ensures no { IsFalse result → (a : Around) → IsComplete (due_view due a) → ⊥ }
+{
+    matches!(due, Due::UnitType | Due::PastEnd)
 }
 
 impl<T: Taker> Core<T> {
@@ -122,6 +133,41 @@ impl<T: Taker> Core<T> {
         match self.state.refusal {
             Some(refusal) => Err(refusal),
             None => Ok(()),
+        }
+    }
+
+    /// The number of longwords taken, which is the place of the next one.
+    pub fn place(&self) -> u64
+        ensures { (ws : List ℕ) → kept self.now ≡ None → StandsFor T.KIND T.stands_for self.now ws → result ≡ length ws }
+    {
+        self.state.place
+    }
+
+    /// The taker of a whole file, where the input ends `rest` bytes behind the longwords taken.
+    ///
+    /// `UnexpectedEnd` comes where the file is not complete, `PartialLongword` where bytes of a
+    /// further longword follow. A refusal that was kept is answered again.
+    pub fn end(self, rest: u8) -> Result<T, Refusal>
+        ensures answer { (ws : List ℕ) → StandsFor T.KIND T.stands_for self ws → EndAnswered T.KIND T.stands_for ws rest result }
+        ensures again { (refusal : Refusal) → kept self ≡ Some refusal → result ≡ Err refusal }
+        ensures memory { result ≡ Err Refusal.OutOfMemory → kept self ≡ Some Refusal.OutOfMemory }
+    {
+        let CoreState {
+            state,
+            place,
+            refusal,
+        } = self.state;
+        match refusal {
+            Some(refusal) => return Err(refusal),
+            None => {}
+        }
+        if rest > 0 {
+            return Err(fault(place, Reason::PartialLongword));
+        }
+        if is_complete(state.due) {
+            Ok(self.taker)
+        } else {
+            Err(fault(place, Reason::UnexpectedEnd))
         }
     }
 }
