@@ -28,3 +28,4 @@ pub mod LabelLemmas
 pub mod SameLemmas
 pub mod FirstOffenceLemmas
 pub mod CoreLemmas
+pub mod DecoderLemmas
