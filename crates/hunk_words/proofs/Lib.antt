@@ -29,3 +29,4 @@ pub mod SameLemmas
 pub mod FirstOffenceLemmas
 pub mod CoreLemmas
 pub mod DecoderLemmas
+pub mod RunLemmas
