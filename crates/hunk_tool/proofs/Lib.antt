@@ -1,1 +1,3 @@
 pub mod BasesLemmas
+pub mod DecimalLemmas
+pub mod ReportExample

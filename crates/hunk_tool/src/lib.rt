@@ -1,8 +1,10 @@
 //! The engines of `amihunk` and the texts that it reads and prints.
 //!
 //! - `bases`: the list of addresses on the command line.
+//! - `digits`: numbers and bytes in digits.
 #![tactic(auto)]
 
 pub mod bases;
+mod digits;
 
 pub use bases::{BasesFault, parse_bases};
