@@ -1,3 +1,5 @@
 pub mod BasesLemmas
 pub mod DecimalLemmas
+pub mod PrintLemmas
 pub mod ReportExample
+pub mod ReportLemmas
