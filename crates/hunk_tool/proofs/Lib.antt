@@ -1,1 +1,2 @@
 pub mod BasesLemmas
+mod OneHunkLemmas

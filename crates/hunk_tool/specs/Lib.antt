@@ -1,1 +1,3 @@
 pub mod Bases
+pub mod OneHunk
+pub mod Reading

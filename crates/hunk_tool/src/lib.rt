@@ -1,8 +1,10 @@
 //! The engines of `amihunk` and the texts that it reads and prints.
 //!
 //! - `bases`: the list of addresses on the command line.
+//! - `one_hunk`: reads load files of one hunk.
 #![tactic(auto)]
 
 pub mod bases;
+mod one_hunk;
 
 pub use bases::{BasesFault, parse_bases};
