@@ -1,3 +1,5 @@
 pub mod Bases
 pub mod OneHunk
 pub mod Reading
+pub mod Report
+pub mod Texts

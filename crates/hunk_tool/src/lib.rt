@@ -6,5 +6,10 @@
 
 pub mod bases;
 mod one_hunk;
+//! - `digits`: numbers and bytes in digits.
+#![tactic(auto)]
+
+pub mod bases;
+mod digits;
 
 pub use bases::{BasesFault, parse_bases};
