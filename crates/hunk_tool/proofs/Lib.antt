@@ -1,4 +1,4 @@
 pub mod BasesLemmas
-mod OneHunkLemmas
+pub mod OneHunkLemmas
 pub mod DecimalLemmas
 pub mod ReportExample
