@@ -2,4 +2,5 @@ pub mod Bases
 pub mod OneHunk
 pub mod Reading
 pub mod Report
+pub mod Status
 pub mod Texts

@@ -3,10 +3,13 @@
 //! - `bases`: the list of addresses on the command line.
 //! - `digits`: numbers and bytes in digits.
 //! - `one_hunk`: reads load files of one hunk.
+//! - `tool_fault`: what an engine is refused with.
 #![tactic(auto)]
 
 pub mod bases;
 mod digits;
 mod one_hunk;
+pub mod tool_fault;
 
 pub use bases::{BasesFault, parse_bases};
+pub use tool_fault::{ToolFault, status_of};
