@@ -1,4 +1,5 @@
 pub mod BasesLemmas
+pub mod OneHunkLemmas
 pub mod DecimalLemmas
 pub mod PrintLemmas
 pub mod ReportExample

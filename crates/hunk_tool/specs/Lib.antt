@@ -1,3 +1,6 @@
 pub mod Bases
+pub mod OneHunk
+pub mod Reading
 pub mod Report
+pub mod Status
 pub mod Texts

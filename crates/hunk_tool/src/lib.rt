@@ -2,13 +2,18 @@
 //!
 //! - `bases`: the list of addresses on the command line.
 //! - `digits`: numbers and bytes in digits.
+//! - `one_hunk`: reads load files of one hunk.
 //! - `printing`: lines that are written in pieces.
 //! - `report`: the report of an image.
+//! - `tool_fault`: what an engine is refused with.
 #![tactic(auto)]
 
 pub mod bases;
 mod digits;
+mod one_hunk;
 mod printing;
 mod report;
+pub mod tool_fault;
 
 pub use bases::{BasesFault, parse_bases};
+pub use tool_fault::{ToolFault, status_of};
