@@ -2,7 +2,9 @@
 //!
 //! - `bases`: the list of addresses on the command line.
 //! - `digits`: numbers and bytes in digits.
+//! - `fault_line`: the line that tells why an engine stopped.
 //! - `one_hunk`: reads load files of one hunk.
+//! - `phrase`: texts with at most one number.
 //! - `printing`: lines that are written in pieces.
 //! - `report`: the report of an image.
 //! - `tool_fault`: what an engine is refused with.
@@ -10,10 +12,13 @@
 
 pub mod bases;
 mod digits;
+pub mod fault_line;
 mod one_hunk;
+mod phrase;
 mod printing;
 mod report;
 pub mod tool_fault;
 
 pub use bases::{BasesFault, parse_bases};
+pub use fault_line::write_fault;
 pub use tool_fault::{ToolFault, status_of};
