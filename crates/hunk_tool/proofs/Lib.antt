@@ -2,3 +2,4 @@ pub mod BasesLemmas
 pub mod OneHunkLemmas
 pub mod DecimalLemmas
 pub mod ReportExample
+pub mod LoadLemmas

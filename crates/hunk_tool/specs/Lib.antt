@@ -1,4 +1,5 @@
 pub mod Bases
+pub mod Loading
 pub mod OneHunk
 pub mod Reading
 pub mod Report

@@ -2,12 +2,14 @@
 //!
 //! - `bases`: the list of addresses on the command line.
 //! - `digits`: numbers and bytes in digits.
+//! - `load`: loads a file and writes the report of its memory.
 //! - `one_hunk`: reads load files of one hunk.
 //! - `tool_fault`: what an engine is refused with.
 #![tactic(auto)]
 
 pub mod bases;
 mod digits;
+pub mod load;
 mod one_hunk;
 pub mod tool_fault;
 
