@@ -1,6 +1,6 @@
 //! The digits of numbers and bytes, in arrays of fixed size, so that they take no memory.
 
-ghost use Rattle.std.specs.Prelude.{◌≡◌, ◌*◌, ◌≤◌, List, ℕ, drop, length, take};
+ghost use Rattle.std.specs.Prelude.{◌≡◌, ◌*◌, ◌≤◌, List, [], ℕ, drop};
 ghost use Rattle.std.specs.Fmt.{decimal};
 ghost use Rattle.hex.specs.Hex.{encode_lower};
 ghost use Rattle.hunk_tool.specs.Texts.{eight_digits};
@@ -10,14 +10,14 @@ use std::marker::Model;
 /// The most digits of a number of 64 bits.
 const MOST_DIGITS: usize = 20;
 
-/// A number in decimal digits, without leading zeros.
+/// The digits of a number.
 #[derive(Drop)]
-pub(crate) struct Decimal {
+pub(crate) struct Digits {
     digits: [u8; MOST_DIGITS],
     start: usize,
 }
 
-impl Model for Decimal {
+impl Model for Digits {
     ghost Value = { List ℕ };
 
     ghost view = { λ d. drop d.start d.digits };
@@ -25,8 +25,19 @@ impl Model for Decimal {
     ghost invariant = { λ d. d.start ≤ 20 };
 }
 
-impl Decimal {
-    pub(crate) fn new(number: u64) -> Decimal
+impl Digits {
+    /// No digits.
+    pub(crate) fn none() -> Digits
+        ensures { result ≡ [] }
+    {
+        Digits {
+            digits: [0; MOST_DIGITS],
+            start: MOST_DIGITS,
+        }
+    }
+
+    /// A number in decimal digits, without leading zeros.
+    pub(crate) fn decimal(number: u64) -> Digits
         ensures { result ≡ decimal number }
     {
         let mut digits = [0; MOST_DIGITS];
@@ -38,7 +49,18 @@ impl Decimal {
             left /= 10;
         }
         digits[start] = b'0' + left as u8;
-        Decimal { digits, start }
+        Digits { digits, start }
+    }
+
+    /// A longword in eight lower-case hexadecimal digits.
+    pub(crate) fn hexadecimal(number: u32) -> Digits
+        ensures { result ≡ eight_digits number }
+    {
+        let mut digits = [0; MOST_DIGITS];
+        let start = MOST_DIGITS - 8;
+        // There are two places for each byte, so this can't fail.
+        let _ = hex::encode_to_slice(number.to_be_bytes(), &mut digits[start..]);
+        Digits { digits, start }
     }
 
     pub(crate) fn as_bytes(&self) -> &[u8]
@@ -46,14 +68,4 @@ impl Decimal {
     {
         &self.digits[self.start..]
     }
-}
-
-/// A longword in eight lower-case hexadecimal digits.
-pub(crate) fn eight_digits(number: u32) -> [u8; 8]
-    ensures { result ≡ eight_digits number }
-{
-    let mut digits = [0; 8];
-    // The array has two places for each byte, so this can't fail.
-    let _ = hex::encode_to_slice(number.to_be_bytes(), &mut digits);
-    digits
 }
