@@ -1,6 +1,7 @@
 pub mod BasesLemmas
 pub mod DecimalLemmas
 pub mod FaultLineLemmas
+pub mod LoadLemmas
 pub mod OneHunkLemmas
 pub mod PrintLemmas
 pub mod ReportExample

@@ -3,6 +3,7 @@
 //! - `bases`: the list of addresses on the command line.
 //! - `digits`: numbers and bytes in digits.
 //! - `fault_line`: the line that tells why an engine stopped.
+//! - `load`: loads a file and writes the report of its memory.
 //! - `one_hunk`: reads load files of one hunk.
 //! - `phrase`: texts with at most one number.
 //! - `printing`: lines that are written in pieces.
@@ -13,6 +14,7 @@
 pub mod bases;
 mod digits;
 pub mod fault_line;
+pub mod load;
 mod one_hunk;
 mod phrase;
 mod printing;
@@ -21,4 +23,5 @@ pub mod tool_fault;
 
 pub use bases::{BasesFault, parse_bases};
 pub use fault_line::write_fault;
+pub use load::load_run;
 pub use tool_fault::{ToolFault, status_of};
