@@ -1,7 +1,7 @@
 //! The engines of `amihunk` and the texts that it reads and prints.
 //!
 //! - `bases`: the list of addresses on the command line.
-//! - `digits`: numbers and bytes in digits.
+//! - `digits`: numbers in digits.
 //! - `fault_line`: the line that tells why an engine stopped.
 //! - `load`: loads a file and writes the report of its memory.
 //! - `one_hunk`: reads load files of one hunk.
