@@ -1,3 +1,5 @@
 pub mod Longwords
 pub mod SplitterLemmas
 pub mod StreamLemmas
+pub mod NameLemmas
+pub mod SiteLemmas

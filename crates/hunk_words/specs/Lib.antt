@@ -4,3 +4,5 @@ pub mod Room
 pub mod Splitter
 pub mod Streams
 pub mod Watched
+pub mod Names
+pub mod Sites
