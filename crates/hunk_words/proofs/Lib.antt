@@ -5,3 +5,5 @@ pub mod AlignedLemmas
 pub mod ReadLemmas
 pub mod SeenLemmas
 pub mod LimitLemmas
+pub mod BuildingLemmas
+pub mod ToldLemmas

@@ -1,7 +1,7 @@
 //! What holds of the definitions of the format, each law a function without a body.
 
 ghost use Rattle.hunk_words.specs.Examples.{LoadExamples, ObjectExamples, ShortExamples, ValueExamples};
-ghost use Rattle.hunk_words.specs.EventLaws.{ObjectLimit, LoadLimit};
+ghost use Rattle.hunk_words.specs.EventLaws.{ObjectTold, LoadTold, ObjectLimit, LoadLimit};
 ghost use Rattle.hunk_words.specs.Laws.{NothingBehind, ObjectIsTaken, LoadIsTaken, ObjectIsRead, LoadIsRead};
 
 /// What is spelled passes, each field under the kind of its spelling, to where a file may end.
@@ -34,4 +34,10 @@ pub fn worked_files()
     ensures short { ShortExamples }
     ensures object { ObjectExamples }
     ensures value { ValueExamples }
+{}
+
+/// What the events of a file build is the value of its tree.
+pub fn events_tell_values()
+    ensures object { ObjectTold }
+    ensures load { LoadTold }
 {}
