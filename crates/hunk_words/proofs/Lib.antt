@@ -7,3 +7,9 @@ pub mod SeenLemmas
 pub mod LimitLemmas
 pub mod BuildingLemmas
 pub mod ToldLemmas
+pub mod LookLemmas
+pub mod Filled
+pub mod BuildLemmas
+pub mod FilledLemmas
+pub mod LabelLemmas
+pub mod SameLemmas

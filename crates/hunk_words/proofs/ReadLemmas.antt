@@ -68,7 +68,7 @@ from-lower f fs e up k m s (l ∷ u) is p pushed a t =
     (λ b c q r. lower-step (width f.kind) k f.kind m f.number fs s u e up is p b refl c.0 (aligned-push f.kind f.number u c.1) q r) pushed a t.1 t.2
 
 -- no stack starts at both halves
-aligned-one : (s : List Kind) → Aligned lower s → Aligned upper s → ⊥
+pub aligned-one : (s : List Kind) → Aligned lower s → Aligned upper s → ⊥
 aligned-one [] a b = upper-not-lower (sym a)
 aligned-one (k ∷ s) a b = upper-not-lower (sym b.0 ∙ a.0)
 

@@ -2,7 +2,7 @@
 
 ghost use Rattle.hunk_words.specs.Examples.{LoadExamples, ObjectExamples, ShortExamples, ValueExamples};
 ghost use Rattle.hunk_words.specs.EventLaws.{ObjectTold, LoadTold, ObjectLimit, LoadLimit};
-ghost use Rattle.hunk_words.specs.Laws.{NothingBehind, ObjectIsTaken, LoadIsTaken, ObjectIsRead, LoadIsRead};
+ghost use Rattle.hunk_words.specs.Laws.{NothingBehind, ObjectIsTaken, LoadIsTaken, ObjectIsRead, LoadIsRead, ReadIsObject, ReadIsLoad, ObjectSame, LoadSame};
 
 /// What is spelled passes, each field under the kind of its spelling, to where a file may end.
 pub fn spelled_is_taken()
@@ -40,4 +40,16 @@ pub fn worked_files()
 pub fn events_tell_values()
     ensures object { ObjectTold }
     ensures load { LoadTold }
+{}
+
+/// What is read to where a file may end is spelled by a tree.
+pub fn read_is_spelled()
+    ensures object { ReadIsObject }
+    ensures load { ReadIsLoad }
+{}
+
+/// The same longwords have the same fields.
+pub fn longwords_tell_fields()
+    ensures object { ObjectSame }
+    ensures load { LoadSame }
 {}
