@@ -13,3 +13,4 @@ pub mod BuildLemmas
 pub mod FilledLemmas
 pub mod LabelLemmas
 pub mod SameLemmas
+pub mod OneValueLemmas

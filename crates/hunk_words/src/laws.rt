@@ -1,7 +1,7 @@
 //! What holds of the definitions of the format, each law a function without a body.
 
 ghost use Rattle.hunk_words.specs.Examples.{LoadExamples, ObjectExamples, ShortExamples, ValueExamples};
-ghost use Rattle.hunk_words.specs.EventLaws.{ObjectTold, LoadTold, ObjectLimit, LoadLimit};
+ghost use Rattle.hunk_words.specs.EventLaws.{ObjectTold, LoadTold, ObjectOneValue, LoadOneValue, ObjectLimit, LoadLimit};
 ghost use Rattle.hunk_words.specs.Laws.{NothingBehind, ObjectIsTaken, LoadIsTaken, ObjectIsRead, LoadIsRead, ReadIsObject, ReadIsLoad, ObjectSame, LoadSame};
 
 /// What is spelled passes, each field under the kind of its spelling, to where a file may end.
@@ -52,4 +52,10 @@ pub fn read_is_spelled()
 pub fn longwords_tell_fields()
     ensures object { ObjectSame }
     ensures load { LoadSame }
+{}
+
+/// No longwords are a file of two values.
+pub fn longwords_tell_value()
+    ensures object { ObjectOneValue }
+    ensures load { LoadOneValue }
 {}
