@@ -12,6 +12,13 @@ pub mod SeenLemmas
 pub mod LimitLemmas
 pub mod BuildingLemmas
 pub mod ToldLemmas
+pub mod StackLemmas
+pub mod FinishLemmas
+pub mod SplitLemmas
+pub mod FrontLemmas
+pub mod ProgressLemmas
+pub mod OffenceLemmas
+pub mod BlameLemmas
 pub mod LookLemmas
 pub mod Filled
 pub mod BuildLemmas
@@ -19,3 +26,4 @@ pub mod FilledLemmas
 pub mod LabelLemmas
 pub mod SameLemmas
 pub mod OneValueLemmas
+pub mod FirstOffenceLemmas

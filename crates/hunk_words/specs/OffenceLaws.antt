@@ -3,7 +3,7 @@ use Rattle.std.specs.Prelude.{◌≡◌, ℕ, ◌<◌, ◌≤◌, List, [], ◌�
 use Rattle.hunk_words.specs.Machine.{IsComplete}
 use Rattle.hunk_words.specs.Reading.{Progress, begun, read_word, read_words}
 use Rattle.hunk_words.specs.Files.{AllLong, most_longwords, IsFile, IsFront}
-use Rattle.hunk_words.specs.FirstOffence.{OffendsAt, FirstOffence}
+use Rattle.hunk_words.specs.FirstOffence.{OffendsAt, EndsEarly, end_reason, FirstOffence}
 use Rattle.hunk_words.specs.declared.event.FileKind.{FileKind}
 use Rattle.hunk_words.specs.declared.fault.Reason.{Reason}
 use Rattle.hunk_words.specs.declared.fault.Reason.TheVariants.{TooLarge}
@@ -43,6 +43,10 @@ TooLongOffends = (kind : FileKind) (front behind : List ℕ) (bad : ℕ) (d : Pr
 -- Behind a good front the machine tells whether it is a file.
 abbrev pub CompleteIsFile : Type 0
 CompleteIsFile = (kind : FileKind) (ws : List ℕ) (d : Progress) → AllLong ws → length ws ≤ most_longwords → read_words (begun kind) 0 ws ≡ Ok d → IsComplete d.stack ↔ IsFile kind ws
+
+-- Where the longwords of a good front end and are not complete, or bytes of a further one follow, they end too early.
+abbrev pub EndsBehindFront : Type 0
+EndsBehindFront = (kind : FileKind) (ws : List ℕ) (rest : ℕ) (d : Progress) → AllLong ws → length ws ≤ most_longwords → read_words (begun kind) 0 ws ≡ Ok d → (rest ≡ 0 → IsComplete d.stack → ⊥) → EndsEarly kind ws rest (length ws) (end_reason rest)
 
 -- ---- without the machine
 
