@@ -27,3 +27,4 @@ pub mod LabelLemmas
 pub mod SameLemmas
 pub mod OneValueLemmas
 pub mod FirstOffenceLemmas
+pub mod LongwordBytes

@@ -2,8 +2,6 @@
 
 ghost use Rattle.hunk_words.specs.Examples.{LoadExamples, ObjectExamples, ShortExamples, ValueExamples};
 ghost use Rattle.hunk_words.specs.EventLaws.{ObjectTold, LoadTold, ObjectOneValue, LoadOneValue, ObjectLimit, LoadLimit};
-ghost use Rattle.hunk_words.specs.Laws.{NothingBehind, ObjectIsTaken, LoadIsTaken, ObjectIsRead, LoadIsRead, ReadIsObject, ReadIsLoad, ObjectSame, LoadSame};
-ghost use Rattle.hunk_words.specs.EventLaws.{ObjectLimit, LoadLimit};
 ghost use Rattle.hunk_words.specs.OffenceLaws.{ReadIsFront, FrontIsRead, StopsBehindFront, StopsAtOffence, TooLongOffends, CompleteIsFile, EndsBehindFront, FileOrOffence, FileHasNone, OffenceIsOne};
 ghost use Rattle.hunk_words.specs.Laws.{NothingBehind, ObjectIsTaken, LoadIsTaken, ObjectIsRead, LoadIsRead, ReadIsObject, ReadIsLoad, ObjectSame, LoadSame, ObjectFront, LoadFront, ObjectNext, LoadNext, ObjectDue, LoadDue};
 
@@ -43,6 +41,8 @@ pub fn worked_files()
 pub fn events_tell_values()
     ensures object { ObjectTold }
     ensures load { LoadTold }
+{}
+
 /// What is read so far is the front of a file.
 pub fn read_is_front()
     ensures object { ObjectFront }
@@ -77,6 +77,8 @@ pub fn longwords_tell_fields()
 pub fn longwords_tell_value()
     ensures object { ObjectOneValue }
     ensures load { LoadOneValue }
+{}
+
 /// The machine, which keeps the rules of sites too, goes on over good fronts alone, and over each.
 pub fn machine_reads_fronts()
     ensures read { ReadIsFront }
