@@ -17,7 +17,7 @@ use Rattle.hunk_words.specs.declared.kinds.Half.TheVariants.{Upper as upper}
 use Rattle.hunk_words.specs.declared.fault.Reason.{Reason}
 use Rattle.hunk_words.proofs.AlongLemmas.{reads-one, upper-due}
 use Rattle.hunk_words.proofs.FrontLemmas.{start, end_of, spelling-read, read-spelled, aligned-front, spelling-in, spelling-behind, completion, completion-upper}
-use Rattle.hunk_words.proofs.ProgressLemmas.{WordsRead, words-read}
+use Rattle.hunk_words.proofs.ProgressLemmas.{and_then-none, WordsRead, words-read}
 use Rattle.hunk_words.proofs.OffenceLemmas.{complete-file, file-reads}
 
 -- ---- what completions bear
@@ -68,10 +68,6 @@ bind-err : (o : Option Reason) (c : Progress) (f : Progress → Result Progress 
 bind-err None c f r h = inr (refl, h)
 bind-err (Some s) c f r h = inl (ap (λ x. Some x) (err-one h))
 
-and_then-none : (a b : Option Reason) → and_then a b ≡ None → a ≡ None
-and_then-none None b h = refl
-and_then-none (Some r) b h = absurd (cc)
-
 -- ---- the machine's reason is blamed
 
 is-due : (kind : FileKind) (ws : List ℕ) (k : Kind) (s : List Kind) (seen : List ℕ) → Reads (start kind) ws (k ∷ s) → seen_all [] (labels (start kind) ws) ≡ seen → IsDue kind ws k seen
@@ -101,7 +97,7 @@ blames-width (half x) kind ws k s seen bad r wide short small reads is h =
       | inl e ↦ upper_half short (is-due kind ws k s seen reads is) both e
       | inr e ↦ lower_half short (is-due kind ws k s seen reads is) both e.0
           (is-lower-due kind ws k s upper (bad / 2 ^ 16) seen reads is both
-          (record { fits = subst (λ w. bad / 2 ^ 16 < bound w) (sym both) (omega arith); passes = and_then-none (judged k (bad / 2 ^ 16)) (site_judged (limit_of k) seen (bad / 2 ^ 16)) e.0 }))
+          (record { fits = subst (λ w. bad / 2 ^ 16 < bound w) (sym both) (omega arith); passes = (and_then-none (judged k (bad / 2 ^ 16)) (site_judged (limit_of k) seen (bad / 2 ^ 16)) e.0).0 }))
           (unless-err (wrong_with (due (push k (bad / 2 ^ 16) s)) (seen_after k (bad / 2 ^ 16) seen) (bad % 2 ^ 16)) _ r e.1)
     ]
 
