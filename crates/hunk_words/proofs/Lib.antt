@@ -5,12 +5,6 @@ pub mod AlignedLemmas
 pub mod ReadLemmas
 pub mod SeenLemmas
 pub mod LimitLemmas
-pub mod LookLemmas
-pub mod Filled
-pub mod BuildLemmas
-pub mod FilledLemmas
-pub mod LabelLemmas
-pub mod SameLemmas
 pub mod FinishableLemmas
 pub mod FinishLemmas
 pub mod AlongLemmas
@@ -18,4 +12,10 @@ pub mod FrontLemmas
 pub mod ProgressLemmas
 pub mod OffenceLemmas
 pub mod BlameLemmas
+pub mod LookLemmas
+pub mod Filled
+pub mod BuildLemmas
+pub mod FilledLemmas
+pub mod LabelLemmas
+pub mod SameLemmas
 pub mod FirstOffenceLemmas
