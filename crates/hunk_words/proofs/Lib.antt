@@ -13,8 +13,9 @@ pub mod LimitLemmas
 pub mod BuildingLemmas
 pub mod ToldLemmas
 pub mod StackLemmas
+pub mod FinishableLemmas
 pub mod FinishLemmas
-pub mod SplitLemmas
+pub mod AlongLemmas
 pub mod FrontLemmas
 pub mod ProgressLemmas
 pub mod OffenceLemmas
