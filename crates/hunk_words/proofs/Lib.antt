@@ -12,7 +12,6 @@ pub mod SeenLemmas
 pub mod LimitLemmas
 pub mod BuildingLemmas
 pub mod ToldLemmas
-pub mod StackLemmas
 pub mod FinishableLemmas
 pub mod FinishLemmas
 pub mod AlongLemmas
