@@ -1,0 +1,4 @@
+pub mod Answered
+pub mod CommandLine
+pub mod Filled
+pub mod Values
