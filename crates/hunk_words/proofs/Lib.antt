@@ -1,0 +1,3 @@
+mod Longwords
+mod SplitterLemmas
+mod StreamLemmas
