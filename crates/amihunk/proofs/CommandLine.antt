@@ -51,12 +51,12 @@ right_where_faultless s words all none e =
 
 -- ---- the subcommand `load`
 
-abbrev first_shape : List Shape → Shape
+abbrev pub first_shape : List Shape → Shape
 first_shape [] = load_shape
 first_shape (s ∷ rest) = s
 
 -- the subcommand as `clap` builds it
-abbrev built_load : Shape
+abbrev pub built_load : Shape
 built_load = first_shape (built command_line).subs
 
 required_given : (at of : Bool) → check_kinds false false (not at || (not of || false)) ≡ [] → (at ≡ true) × (of ≡ true)
@@ -96,7 +96,7 @@ whole_load words e =
 -- ---- the command line
 
 -- the command line as `clap` builds it
-abbrev line : App
+abbrev pub line : App
 line = built command_line
 
 -- a subcommand is asked for

@@ -1,4 +1,5 @@
 pub mod Answered
 pub mod CommandLine
 pub mod Filled
+pub mod LoadLine
 pub mod Values

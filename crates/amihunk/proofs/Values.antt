@@ -1,5 +1,5 @@
 -- The values of a subcommand's arguments, by their rows.
-use Rattle.std.proofs.Common.{◌≡◌, ◌∙◌, ap, codes, List, [], Some}
+use Rattle.std.proofs.Common.{◌≡◌, ◌∙◌, sym, ap, codes, List, [], Some}
 use Rattle.std.specs.Option.{option_map_or}
 use Rattle.clap.specs.Words.{Row, Text, first_of, first_value, rows_of}
 use Rattle.clap.specs.declared.parser.matches.Found.{Found}
@@ -18,3 +18,12 @@ first_value-load f list file h =
       first_value-rows f (codes "at") ∙ (ap (first_of (codes "at")) same ∙ h.at),
       first_value-rows f (codes "file") ∙ (ap (first_of (codes "file")) same ∙ h.of),
     )
+
+-- what was met has one LIST and one FILE
+pub IsLoad-same : (met : Met) (a b c d : Text) → IsLoad met a b → IsLoad met c d → (a ≡ c) × (b ≡ d)
+unfolding rows_met
+IsLoad-same met a b c d h k =
+    let same : h.rows ≡ k.rows = ap rows_met (sym h.load ∙ k.load) in
+    let list_is : Some a ≡ Some c = sym h.at ∙ (ap (first_of (codes "at")) same ∙ k.at) in
+    let file_is : Some b ≡ Some d = sym h.of ∙ (ap (first_of (codes "file")) same ∙ k.of) in
+    (cc, cc)

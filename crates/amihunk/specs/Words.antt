@@ -1,5 +1,5 @@
 -- What the words of a command line ask for, as `clap` reads them.
-use Rattle.std.specs.Prelude.{◌≡◌, ◌≢◌, ⊤, List, [], true, codes, Option, Some}
+use Rattle.std.specs.Prelude.{◌≡◌, ◌≢◌, ⊤, ◌∷◌, List, [], true, codes, Option, Some}
 use Rattle.clap.specs.Words.{App, IsAmong, Kinds, Row, Rule, Shape, Text, fault_of, first_of}
 use Rattle.clap.specs.Words.{new_app, new_rule, subcommand_of, with_rule, with_subcommand}
 use Rattle.clap.specs.declared.error.ErrorKind.{ErrorKind}
@@ -75,3 +75,20 @@ IsAskedBy words (Load list file) = (fault_of command_line words ≡ [])
 IsAskedBy words (Help text) = IsAmong error.DisplayHelp (fault_of command_line words)
 IsAskedBy words (Refused text) = IsRefusedBy (fault_of command_line words)
 IsAskedBy words OutOfMemory = ⊤
+
+-- ---- the plain form of `load`
+
+-- the word begins with no hyphen (45)
+abbrev pub IsNoFlag : Text → Type 0
+IsNoFlag [] = ⊤
+IsNoFlag (c ∷ rest) = c ≢ 45
+
+-- the words `PROGRAM load --at LIST FILE`
+abbrev pub load_line : Text → Text → Text → List Text
+load_line program list file = program ∷ codes "load" ∷ codes "--at" ∷ list ∷ file ∷ []
+
+-- the request is `load` with this LIST and this FILE, or there was no memory
+abbrev pub AsksLoad : Text → Text → Request → Type 0
+AsksLoad list file (Load l f) = (l.now ≡ list) × (f.now ≡ file)
+AsksLoad list file OutOfMemory = ⊤
+AsksLoad list file _ = ⊥

@@ -1,9 +1,10 @@
 //! The words of the command line, read by `clap`.
-ghost use Rattle.std.specs.Prelude.{◌≡◌, IfOk, Some, codes, false, map};
+ghost use Rattle.std.specs.Prelude.{◌≡◌, ℕ, IfOk, List, Some, codes, false, map};
 ghost use Rattle.clap.specs.Words.{FailsBy, app_of, fault_of, found_of, kind_of, rows_of};
 ghost use Rattle.clap.specs.Words.{shape_of, subcommand_of, subcommand_rows_of};
 ghost use Rattle.clap.specs.declared.builder.command.Command.TheViews.{out-Command};
-ghost use Rattle.amihunk.specs.Words.{Answers, IsAskedBy, IsOf, IsWhole, command_line, load_shape};
+ghost use Rattle.amihunk.specs.Words.{Answers, AsksLoad, IsAskedBy, IsOf, IsNoFlag};
+ghost use Rattle.amihunk.specs.Words.{IsWhole, command_line, load_line, load_shape};
 
 use clap::error::ErrorKind;
 use clap::{Arg, ArgMatches, Command, Error};
@@ -30,7 +31,10 @@ pub enum Request<'a> {
 
 /// Reads the words of a command line, of which the first is the program's name.
 pub fn read_words<'a, S: AsStr>(alloc: Global, words: &'a [S]) -> Request<'a>
-    ensures { IsAskedBy (map S.text words.entry.now) result }
+    ensures answer { IsAskedBy (map S.text words.entry.now) result }
+    ensures load { (program list file : List ℕ)
+        → map S.text words.entry.now ≡ load_line program list file
+        → IsNoFlag list → IsNoFlag file → AsksLoad list file result }
 {
     match matches_of(alloc, words) {
         Ok(matches) => request_of(&matches),
