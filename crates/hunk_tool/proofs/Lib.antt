@@ -1,1 +1,5 @@
 pub mod BasesLemmas
+pub mod OneHunkLemmas
+pub mod DecimalLemmas
+pub mod ReportExample
+pub mod LoadLemmas

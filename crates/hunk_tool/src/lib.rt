@@ -1,8 +1,17 @@
 //! The engines of `amihunk` and the texts that it reads and prints.
 //!
 //! - `bases`: the list of addresses on the command line.
+//! - `digits`: numbers and bytes in digits.
+//! - `load`: loads a file and writes the report of its memory.
+//! - `one_hunk`: reads load files of one hunk.
+//! - `tool_fault`: what an engine is refused with.
 #![tactic(auto)]
 
 pub mod bases;
+mod digits;
+pub mod load;
+mod one_hunk;
+pub mod tool_fault;
 
 pub use bases::{BasesFault, parse_bases};
+pub use tool_fault::{ToolFault, status_of};

@@ -1,3 +1,3 @@
-mod Longwords
-mod SplitterLemmas
-mod StreamLemmas
+pub mod Longwords
+pub mod SplitterLemmas
+pub mod StreamLemmas

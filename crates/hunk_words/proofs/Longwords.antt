@@ -1,5 +1,5 @@
 -- Longwords of bytes that come in pieces: lemmas that go four bytes at a time.
-use Rattle.std.proofs.Common.{◌≡◌, ℕ, ◌≤◌, List, [], ◌∷◌, ◌++◌, length, refl, ap, arith}
+use Rattle.std.proofs.Common.{◌≡◌, ℕ, ◌+◌, ◌*◌, ◌≤◌, List, [], ◌∷◌, ◌++◌, length, refl, ap, arith}
 use Rattle.byteorder.specs.Endian.{big_number}
 use Rattle.hunk_words.specs.Longwords.{longwords, unfinished}
 
@@ -38,3 +38,10 @@ longwords-short (a ∷ []) h = refl
 longwords-short (a ∷ b ∷ []) h = refl
 longwords-short (a ∷ b ∷ c ∷ []) h = refl
 longwords-short (a ∷ b ∷ c ∷ d ∷ bytes) h = absurd (omega arith)
+
+pub length-longwords : (bytes : List ℕ) → 4 * length (longwords bytes) + length (unfinished bytes) ≡ length bytes
+length-longwords [] = omega arith
+length-longwords (a ∷ []) = omega arith
+length-longwords (a ∷ b ∷ []) = omega arith
+length-longwords (a ∷ b ∷ c ∷ []) = omega arith
+length-longwords (a ∷ b ∷ c ∷ d ∷ bytes) = omega (arith, length-longwords bytes)
