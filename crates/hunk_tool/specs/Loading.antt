@@ -54,6 +54,10 @@ pub record Ends : Type 0 where
   pub taken_then : Option (List ℕ)
   pub write_failed : Bool
 
+abbrev pub ends_of : (left left_then : Option (List ℕ)) (read_failed ended : Bool) (taken taken_then : Option (List ℕ)) (write_failed : Bool) → Ends
+ends_of left left_then read_failed ended taken taken_then write_failed =
+    record { left = left; left_then = left_then; read_failed = read_failed; ended = ended; taken = taken; taken_then = taken_then; write_failed = write_failed }
+
 -- why the report of a file at these bases was not written, or not whole
 abbrev pub IsLoadFault : List ℕ → Ends → ToolFault → Type 0
 IsLoadFault bases ends (Input file fault) = (file ≡ 0) × HasRead ends.left ends.left_then (IsRefused ends.ended) × Keeps ends.taken ends.taken_then

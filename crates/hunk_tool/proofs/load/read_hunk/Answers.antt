@@ -1,6 +1,4 @@
 -- A refusal is that of the bytes read, or of their end.
-use Rattle.std.proofs.Common.{◌≡◌, subst, sym}
-use Rattle.hunk_tool.specs.Loading.{IsReadFault}
 use Rattle.hunk_tool.proofs.LoadLemmas.{IsReadFault-kept, IsReadFault-end}
 use Rattle.hunk_tool.proofs.load.read_hunk.Goals as goal
 
