@@ -1,6 +1,7 @@
 pub mod BasesLemmas
-pub mod OneHunkLemmas
 pub mod DecimalLemmas
+pub mod FaultLineLemmas
+pub mod OneHunkLemmas
 pub mod PrintLemmas
 pub mod ReportExample
 pub mod LoadLemmas

@@ -6,7 +6,7 @@ ghost use Rattle.std.specs.List.{All};
 ghost use Rattle.hunk_words.specs.Streams.{DeviceStopped};
 ghost use Rattle.hunk_tool.specs.Report.{hunk_line, hunk_lines, lent, report, row_line, row_lines, EndsInside};
 
-use crate::digits::{Decimal, eight_digits};
+use crate::digits::Digits;
 use crate::printing::write_pieces;
 use hunk_words::{Sink, WriteFault};
 use std::alloc::Allocator;
@@ -66,9 +66,9 @@ fn write_hunk_line<W: Sink>(
     ensures quiet { OnOk result (W.failed writer.new ≡ W.failed writer.old) }
     ensures stopped { IfErr result (DeviceStopped (W.taken writer.old) (W.taken writer.new) (W.failed writer.new) (hunk_line number base size) written) }
 {
-    let number = Decimal::new(number);
-    let base = eight_digits(base);
-    let size = Decimal::new(size);
+    let number = Digits::decimal(number);
+    let base = Digits::hexadecimal(base);
+    let size = Digits::decimal(size);
     write_pieces(
         writer,
         written,
@@ -76,7 +76,7 @@ fn write_hunk_line<W: Sink>(
             b"hunk ",
             number.as_bytes(),
             b" at ",
-            &base,
+            base.as_bytes(),
             b" size ",
             size.as_bytes(),
             b"\n",
@@ -121,12 +121,12 @@ fn write_row<W: Sink>(
     ensures quiet { OnOk result (W.failed writer.new ≡ W.failed writer.old) }
     ensures stopped { IfErr result (DeviceStopped (W.taken writer.old) (W.taken writer.new) (W.failed writer.new) (row_line address row.now) written) }
 {
-    let address = eight_digits(address);
+    let address = Digits::hexadecimal(address);
     let mut digits = [0; 2 * ROW];
     let digits = &mut digits[..2 * row.len()];
     // There are two places for each byte, so this can't fail.
     let _ = hex::encode_to_slice(row, digits);
-    write_pieces(writer, written, &[&address, b" ", digits, b"\n"])
+    write_pieces(writer, written, &[address.as_bytes(), b" ", digits, b"\n"])
 }
 
 #[cfg(test)]

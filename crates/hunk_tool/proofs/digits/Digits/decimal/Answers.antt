@@ -2,7 +2,7 @@ use Rattle.std.proofs.Common.{◌≡◌, ◌+◌, ◌-◌, ◌/◌, ◌%◌, ◌
 use Rattle.std.proofs.lemmas.List.{length-set}
 use Rattle.std.specs.Fmt.{decimal}
 use Rattle.hunk_tool.proofs.DecimalLemmas.{decimal-first, decimal-front, length-decimal, length-decimal_step}
-use Rattle.hunk_tool.proofs.digits.Decimal.new.Goals as goal
+use Rattle.hunk_tool.proofs.digits.Digits.decimal.Goals as goal
 
 pub loop-left-init : goal.loop-left-init
 loop-left-init c = record {
@@ -33,6 +33,6 @@ loop-left-preserved c =
           ∙ c.loop-left.invariant.digits;
     }
 
-pub returns : goal.returns
-returns c =
+pub returns-clause-value : goal.returns-clause-value
+returns-clause-value c =
     decimal-first c.loop-left.left c.loop-left.start c.loop-left.digits (omega arith) (omega arith) ∙ c.loop-left.invariant.digits

@@ -1,6 +1,6 @@
 use Rattle.std.proofs.Common.{◌+◌, ◌≡◌, ◌≤◌, ◌<◌, ◌++◌, drop, length}
 use Rattle.std.specs.Fmt.{decimal}
-use Rattle.hunk_tool.proofs.digits.Decimal.new.Given as goal
+use Rattle.hunk_tool.proofs.digits.Digits.decimal.Given as goal
 
 -- what is left is written before the digits that stand in the array
 abbrev pub invariant-loop-left : goal.invariant-loop-left
