@@ -2,4 +2,5 @@ pub mod Answered
 pub mod CommandLine
 pub mod Filled
 pub mod LoadLine
+pub mod LoadingLemmas
 pub mod Values

@@ -1,1 +1,4 @@
+pub mod Ending
+pub mod Failure
+pub mod Loading
 pub mod Words

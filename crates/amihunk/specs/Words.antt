@@ -76,6 +76,12 @@ IsAskedBy words (Help text) = IsAmong error.DisplayHelp (fault_of command_line w
 IsAskedBy words (Refused text) = IsRefusedBy (fault_of command_line words)
 IsAskedBy words OutOfMemory = ⊤
 
+-- the words are refused, or there was no memory
+abbrev pub IsRefusal : Request → Type 0
+IsRefusal (Refused text) = ⊤
+IsRefusal OutOfMemory = ⊤
+IsRefusal _ = ⊥
+
 -- ---- the plain form of `load`
 
 -- the word begins with no hyphen (45)

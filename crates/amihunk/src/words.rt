@@ -3,7 +3,7 @@ ghost use Rattle.std.specs.Prelude.{◌≡◌, ℕ, IfOk, List, Some, codes, fal
 ghost use Rattle.clap.specs.Words.{FailsBy, app_of, fault_of, found_of, kind_of, rows_of};
 ghost use Rattle.clap.specs.Words.{shape_of, subcommand_of, subcommand_rows_of};
 ghost use Rattle.clap.specs.declared.builder.command.Command.TheViews.{out-Command};
-ghost use Rattle.amihunk.specs.Words.{Answers, AsksLoad, IsAskedBy, IsOf, IsNoFlag};
+ghost use Rattle.amihunk.specs.Words.{Answers, AsksLoad, IsAskedBy, IsNoFlag, IsOf, IsRefusal};
 ghost use Rattle.amihunk.specs.Words.{IsWhole, command_line, load_line, load_shape};
 
 use clap::error::ErrorKind;
@@ -40,6 +40,23 @@ pub fn read_words<'a, S: AsStr>(alloc: Global, words: &'a [S]) -> Request<'a>
         Ok(matches) => request_of(&matches),
         Err(error) => answer_to(alloc, &error),
     }
+}
+
+/// Refuses words that are no UTF-8 text, as `clap` does.
+pub fn refuse_bytes<'a>(alloc: Global) -> Request<'a>
+    ensures { IsRefusal result }
+{
+    match bytes_error(alloc) {
+        Ok(error) => answer_to(alloc, &error),
+        Err(_) => Request::OutOfMemory,
+    }
+}
+
+fn bytes_error(alloc: Global) -> Result<Error, AllocError>
+    ensures { IfOk result (λ e. kind_of e ≡ ErrorKind.ValueValidation) }
+{
+    let text = "invalid UTF-8 was detected in one or more arguments";
+    command(alloc)?.error(ErrorKind::ValueValidation, text)
 }
 
 /// What `clap` makes of the words.
