@@ -5,9 +5,9 @@ pub mod AlignedLemmas
 pub mod ReadLemmas
 pub mod SeenLemmas
 pub mod LimitLemmas
-pub mod FinishableLemmas
+pub mod StackLemmas
 pub mod FinishLemmas
-pub mod AlongLemmas
+pub mod SplitLemmas
 pub mod FrontLemmas
 pub mod ProgressLemmas
 pub mod OffenceLemmas
