@@ -1,3 +1,7 @@
+mod Longwords
+mod SplitterLemmas
+mod StreamLemmas
+mod ViewLemmas
 pub mod PartsLemmas
 pub mod TypeLemmas
 pub mod TakenLemmas
@@ -5,6 +9,10 @@ pub mod AlignedLemmas
 pub mod ReadLemmas
 pub mod SeenLemmas
 pub mod LimitLemmas
+pub mod NameLemmas
+pub mod SiteLemmas
+pub mod NumberLemmas
+pub mod WordLemmas
 pub mod StackLemmas
 pub mod FinishLemmas
 pub mod SplitLemmas
@@ -19,3 +27,4 @@ pub mod FilledLemmas
 pub mod LabelLemmas
 pub mod SameLemmas
 pub mod FirstOffenceLemmas
+pub mod CoreLemmas

@@ -1,0 +1,78 @@
+//! The list of addresses that a command line gives, one for each hunk.
+
+ghost use Rattle.std.specs.Prelude.{◌≡◌, map, IfOk, IfErr};
+ghost use Rattle.std.specs.Char.{is_ascii_hexdigit};
+ghost use Rattle.std.specs.List.{list_all};
+ghost use Rattle.hunk_tool.specs.Bases.{numbers, number_of, IsBasesFault};
+
+use std::alloc::Allocator;
+use thiserror::Error;
+
+/// Why a list of addresses was refused.
+#[derive(Clone, Copy, Debug, PartialEq, Eq, Error)]
+pub enum BasesFault {
+    /// The first part that is not 1 to 8 hexadecimal digits: its index in the list, from 0.
+    #[error("part {0} is not 1 to 8 hexadecimal digits")]
+    BadNumber(usize),
+    /// A growth of memory was refused.
+    #[error("out of memory")]
+    OutOfMemory,
+}
+
+/// The addresses of a list: numbers of 1 to 8 hexadecimal digits of either case, with one comma
+/// between two (own rule). The empty text has one part, which is no number.
+pub fn parse_bases<A: Allocator + Copy>(alloc: A, text: &str) -> Result<Vec<u32, A>, BasesFault>
+    ensures numbers { IfOk result (λ bases. numbers text.now ≡ map Some bases.items) }
+    ensures refused { IfErr result (λ fault. IsBasesFault text.now fault) }
+{
+    let mut bases = Vec::new(alloc);
+    for part in text.split(',') {
+        let Some(base) = number(part) else {
+            return Err(BasesFault::BadNumber(bases.len()));
+        };
+        bases.push(base).map_err(|_| BasesFault::OutOfMemory)?;
+    }
+    Ok(bases)
+}
+
+/// The number of 1 to 8 hexadecimal digits.
+fn number(part: &str) -> Option<u32>
+    ensures { result ≡ number_of part.now }
+{
+    if 1 <= part.len() && part.len() <= 8 && is_digits(part) {
+        u32::from_str_radix(part, 16).ok()
+    } else {
+        None
+    }
+}
+
+fn is_digits(part: &str) -> bool
+    ensures { result ≡ list_all is_ascii_hexdigit part.now }
+{
+    part.bytes().all(|digit| digit.is_ascii_hexdigit())
+}
+
+#[cfg(test)]
+mod tests {
+    use super::*;
+
+    #[test]
+    fn reads_lists(rt: HostRuntime) {
+        let bases = parse_bases(rt.alloc(), "10000,FfFffff8");
+        assert_eq!(rt; bases.as_deref(), Ok([0x1_0000, 0xFFFF_FFF8].as_slice()));
+        for (text, index) in [
+            ("", 0),
+            ("1,,2", 1),
+            ("1,", 1),
+            ("123456789", 0),
+            ("0x10", 0),
+            ("1,2,+3", 2),
+        ] {
+            assert_eq!(rt;
+                parse_bases(rt.alloc(), text).err(),
+                Some(BasesFault::BadNumber(index)),
+                "{text}"
+            );
+        }
+    }
+}

@@ -1,0 +1,31 @@
+-- What a reader over memory answers, read by read.
+use Rattle.std.specs.Prelude.{◌≡◌, ℕ, ◌+◌, ◌-◌, ◌^◌, ◌==◌, min, List, length, drop, Bool, false, Option, Some, None, Result, Ok, Err, if◌then◌else◌}
+use Rattle.hunk_words.specs.declared.fault.DeviceFault.{DeviceFault}
+use Rattle.hunk_words.specs.declared.pieces.Pieces.{Pieces}
+
+-- the bytes not read yet
+abbrev pub bytes_left : {A : Type 0} → Pieces A → List ℕ
+bytes_left pieces = drop pieces.position pieces.bytes.items
+
+-- Before its first read it has all of these bytes, and the rules of its reads.
+pub record IsFresh {A : Type 0} (pieces : Pieces A) (bytes : List ℕ) (most : ℕ) (fails_at : Option ℕ) : Type 0 where
+  pub all : bytes_left pieces ≡ bytes
+  pub at_most : pieces.most ≡ most
+  pub fails : pieces.fails_at ≡ fails_at
+  pub no_reads : pieces.reads ≡ 0
+  pub not_failed : pieces.failed ≡ false
+  pub not_ended : pieces.ended ≡ false
+
+abbrev pub is_number : Option ℕ → ℕ → Bool
+is_number None reads = false
+is_number (Some number) reads = number == reads
+
+-- A read fails where its number says so; else it gives as many bytes as there are, as there is room for, at most so many.
+abbrev pub answer_of : {A : Type 0} → Pieces A → ℕ → Result ℕ DeviceFault
+answer_of pieces room = if is_number pieces.fails_at pieces.reads then Err record {} else Ok (min (min room (length (bytes_left pieces))) pieces.most)
+
+-- A read is counted, and changes no rule.
+pub record IsCounted {A : Type 0} (old new : Pieces A) : Type 0 where
+  pub reads : new.reads ≡ min (old.reads + 1) (2 ^ 64 - 1)
+  pub at_most : new.most ≡ old.most
+  pub fails : new.fails_at ≡ old.fails_at
