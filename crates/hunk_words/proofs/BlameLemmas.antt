@@ -15,7 +15,7 @@ use Rattle.hunk_words.specs.declared.event.FileKind.TheVariants.{Object, Load}
 use Rattle.hunk_words.specs.declared.kinds.Half.{Half}
 use Rattle.hunk_words.specs.declared.kinds.Half.TheVariants.{Upper as upper}
 use Rattle.hunk_words.specs.declared.fault.Reason.{Reason}
-use Rattle.hunk_words.proofs.AlongLemmas.{reads-one, upper-due}
+use Rattle.hunk_words.proofs.SplitLemmas.{reads-one, upper-due}
 use Rattle.hunk_words.proofs.FrontLemmas.{start, end_of, spelling-read, read-spelled, aligned-front, spelling-in, spelling-behind, completion, completion-upper}
 use Rattle.hunk_words.proofs.ProgressLemmas.{and_then-none, WordsRead, words-read}
 use Rattle.hunk_words.proofs.OffenceLemmas.{complete-file, file-reads}

@@ -12,7 +12,7 @@ use Rattle.hunk_words.specs.declared.kinds.ContentType.{ContentType}
 use Rattle.hunk_words.specs.declared.fault.Reason.{Reason}
 use Rattle.hunk_words.specs.declared.kinds.ContentType.TheVariants.{Code, Data, Bss}
 use Rattle.hunk_words.specs.Machine.{times, short_times, onto, hunks_due, push, Takes, IsComplete}
-use Rattle.hunk_words.proofs.FinishableLemmas.{Passable, Finishable}
+use Rattle.hunk_words.proofs.StackLemmas.{Passable, Finishable}
 
 -- fields that the machine takes from this stack to where a file may end
 pub record Finish (s : List Kind) : Type 0 where

@@ -18,9 +18,9 @@ use Rattle.hunk_words.proofs.AlignedLemmas.{Aligned}
 use Rattle.hunk_words.proofs.ReadLemmas.{taken-read}
 use Rattle.hunk_words.proofs.LabelLemmas.{read-is-object, read-is-load}
 use Rattle.hunk_words.proofs.SameLemmas.{object-labels, load-labels}
-use Rattle.hunk_words.proofs.FinishableLemmas.{Finishable, finishable-push, finishable-reads}
+use Rattle.hunk_words.proofs.StackLemmas.{Finishable, finishable-push, finishable-reads}
 use Rattle.hunk_words.proofs.FinishLemmas.{Finish, Begin, finish-begin, finish-stack, begin-stack}
-use Rattle.hunk_words.proofs.AlongLemmas.{reads-behind, reads-join, takes-behind, takes-due, aligned-upper, lower-due, aligned-reads, fields_in-labels, fields_behind-labels}
+use Rattle.hunk_words.proofs.SplitLemmas.{reads-behind, reads-join, takes-behind, takes-due, aligned-upper, lower-due, aligned-reads, fields_in-labels, fields_behind-labels}
 
 -- ---- files of both kinds
 

@@ -3,6 +3,7 @@ pub mod SplitterLemmas
 pub mod StreamLemmas
 pub mod NameLemmas
 pub mod SiteLemmas
+pub mod ViewLemmas
 pub mod PartsLemmas
 pub mod TypeLemmas
 pub mod TakenLemmas
@@ -12,9 +13,11 @@ pub mod SeenLemmas
 pub mod LimitLemmas
 pub mod BuildingLemmas
 pub mod ToldLemmas
-pub mod FinishableLemmas
+pub mod NumberLemmas
+pub mod WordLemmas
+pub mod StackLemmas
 pub mod FinishLemmas
-pub mod AlongLemmas
+pub mod SplitLemmas
 pub mod FrontLemmas
 pub mod ProgressLemmas
 pub mod OffenceLemmas
@@ -28,3 +31,4 @@ pub mod SameLemmas
 pub mod OneValueLemmas
 pub mod FirstOffenceLemmas
 pub mod LongwordBytes
+pub mod CoreLemmas

@@ -10,7 +10,7 @@ use Rattle.hunk_words.specs.Files.{AllLong, spelling, most_longwords, IsFile, Is
 use Rattle.hunk_words.specs.declared.event.FileKind.{FileKind}
 use Rattle.hunk_words.specs.declared.kinds.Half.{Half}
 use Rattle.hunk_words.specs.declared.kinds.Half.TheVariants.{Upper as upper, Lower as lower}
-use Rattle.hunk_words.proofs.AlongLemmas.{reads-split, reads-one}
+use Rattle.hunk_words.proofs.SplitLemmas.{reads-split, reads-one}
 use Rattle.hunk_words.proofs.FrontLemmas.{start, end_of, complete-end, spelling-read, spelling-labels, spelling-in, read-spelled, front}
 use Rattle.hunk_words.proofs.ProgressLemmas.{WordsRead, words-read, words-go}
 
