@@ -1,14 +1,12 @@
 //! The engines of `amihunk` and the texts that it reads and prints.
 //!
 //! - `bases`: the list of addresses on the command line.
-//! - `digits`: numbers in digits.
-//! - `fault_line`: the line that tells why an engine stopped.
 //! - `load`: loads a file and writes the report of its memory.
 //! - `one_hunk`: reads load files of one hunk.
-//! - `phrase`: texts with at most one number.
-//! - `printing`: lines that are written in pieces.
 //! - `report`: the report of an image.
 //! - `tool_fault`: what an engine is refused with.
+//! - `fault_line`: the line that tells why an engine stopped.
+//! - `digits`, `phrase`, `printing`: digits, texts with at most one number, lines written in pieces.
 #![tactic(auto)]
 
 pub mod bases;

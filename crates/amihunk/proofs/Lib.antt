@@ -1,0 +1,6 @@
+pub mod Answered
+pub mod CommandLine
+pub mod Filled
+pub mod LoadLine
+pub mod LoadingLemmas
+pub mod Values

@@ -1,0 +1,6 @@
+-- A refusal is kept.
+use Rattle.hunk_words.proofs.CoreLemmas.{StandsBy-append}
+use Rattle.hunk_words.proofs.decoder_core.Core.word.Goals as goal
+
+pub returns-in-Some-clause-stands : goal.returns-in-Some-clause-stands
+returns-in-Some-clause-stands g c = λ ws stands. StandsBy-append _ _ c.args.self.now.state ws _ c.in-Some.refusal c.in-Some.is stands

@@ -1,0 +1,112 @@
+-- The first offence of longwords that are no file: its place, and its reason by the table of faults and the rules of
+-- sites. No machine occurs in it: what is due at a place is what every completion of the front before it bears there.
+use Rattle.std.specs.Prelude.{◌≡◌, ℕ, zero, suc, ◌/◌, ◌%◌, ◌^◌, ◌<◌, List, [], ◌∷◌, ◌++◌, length, Option, Some, None}
+use Rattle.hunk_words.specs.Kinds.{Kind, Field, judged, width, and_then}
+use Rattle.hunk_words.specs.Kinds.Width.{long, half}
+use Rattle.hunk_words.specs.Kinds.Kind.{past_end}
+use Rattle.hunk_words.specs.Words.{fields_in, fields_behind}
+use Rattle.hunk_words.specs.SiteRules.{limit_of, site_judged, seen_after, seen_all}
+use Rattle.hunk_words.specs.Files.{Tree, Fits, spelling, longwords_spelled, most_longwords, IsFile, IsFront}
+use Rattle.hunk_words.specs.declared.event.FileKind.{FileKind}
+use Rattle.hunk_words.specs.declared.event.FileKind.TheVariants.{Load}
+use Rattle.hunk_words.specs.declared.kinds.Half.TheVariants.{Upper as upper}
+use Rattle.hunk_words.specs.declared.fault.Reason.{Reason}
+use Rattle.hunk_words.specs.declared.fault.Reason.TheVariants.{TooLarge, PartialLongword, UnexpectedEnd}
+
+-- The front goes on in a file's numbers, with this longword next.
+pub record Completion (kind : FileKind) (front : List ℕ) : Type 0 where
+  pub tree : Tree kind
+  pub fits : Fits kind tree
+  pub next : ℕ
+  pub more : List ℕ
+  pub begins : longwords_spelled kind tree ≡ front ++ (next ∷ more)
+
+-- ---- what a completion bears at a place
+
+-- the kind of the first field, and of the second
+abbrev pub first_kind : List Field → Option Kind
+first_kind [] = None
+first_kind (f ∷ fs) = Some f.kind
+
+abbrev pub second_kind : List Field → Option Kind
+second_kind [] = None
+second_kind (f ∷ fs) = first_kind fs
+
+-- the offsets of the hunk's sites, one field further
+abbrev pub seen_with_first : List ℕ → List Field → List ℕ
+seen_with_first seen [] = seen
+seen_with_first seen (f ∷ fs) = seen_after f.kind f.number seen
+
+-- the kind of the longword n of a spelling, or of its upper half; and the offsets of the sites before it in its hunk
+abbrev pub kind_at : ℕ → List Field → Option Kind
+kind_at n fs = first_kind (fields_behind n fs)
+
+abbrev pub seen_before : ℕ → List Field → List ℕ
+seen_before n fs = seen_all [] (fields_in n fs)
+
+-- the same for its lower half
+abbrev pub lower_kind_at : ℕ → List Field → Option Kind
+lower_kind_at n fs = second_kind (fields_behind n fs)
+
+abbrev pub seen_before_lower : ℕ → List Field → List ℕ
+seen_before_lower n fs = seen_with_first (seen_before n fs) (fields_behind n fs)
+
+-- The front has a completion, and each one bears this kind behind it, with these sites before it.
+pub record IsDue (kind : FileKind) (front : List ℕ) (k : Kind) (seen : List ℕ) : Type 0 where
+  pub some : Completion kind front
+  pub bears : (c : Completion kind front) → kind_at (length front) (spelling kind c.tree) ≡ Some k
+  pub before : (c : Completion kind front) → seen_before (length front) (spelling kind c.tree) ≡ seen
+
+-- The same for the lower half behind the front and this upper half.
+pub record IsLowerDue (kind : FileKind) (front : List ℕ) (m : ℕ) (k : Kind) (seen : List ℕ) : Type 0 where
+  pub some : Completion kind front
+  pub some_is : some.next / 2 ^ 16 ≡ m
+  pub bears : (c : Completion kind front) → c.next / 2 ^ 16 ≡ m → lower_kind_at (length front) (spelling kind c.tree) ≡ Some k
+  pub before : (c : Completion kind front) → c.next / 2 ^ 16 ≡ m → seen_before_lower (length front) (spelling kind c.tree) ≡ seen
+
+-- ---- the reason
+
+-- what is wrong with a number of this kind, these being the sites before it in its hunk: the table, and then the rules
+-- of sites
+abbrev pub wrong_with : Kind → List ℕ → ℕ → Option Reason
+wrong_with k seen n = and_then (judged k n) (site_judged (limit_of k) seen n)
+
+-- The longword is blamed for this reason behind the front.
+pub data Blames (kind : FileKind) (front : List ℕ) (bad : ℕ) (r : Reason) : Type 0 where
+  -- no file is so long
+  too_large : length front ≡ most_longwords → r ≡ TooLarge → Blames kind front bad r
+  -- behind a whole load file
+  behind_file : length front < most_longwords → kind ≡ Load → IsFile kind front → judged past_end bad ≡ Some r → Blames kind front bad r
+  -- where a whole longword is due
+  longword : {k : Kind} {seen : List ℕ} → length front < most_longwords → IsDue kind front k seen → width k ≡ long → wrong_with k seen bad ≡ Some r → Blames kind front bad r
+  -- where two halves are due: the upper one before the lower one
+  upper_half : {k : Kind} {seen : List ℕ} → length front < most_longwords → IsDue kind front k seen → width k ≡ half upper → wrong_with k seen (bad / 2 ^ 16) ≡ Some r → Blames kind front bad r
+  lower_half : {k l : Kind} {seen seen_lower : List ℕ} → length front < most_longwords → IsDue kind front k seen → width k ≡ half upper → wrong_with k seen (bad / 2 ^ 16) ≡ None → IsLowerDue kind front (bad / 2 ^ 16) l seen_lower → wrong_with l seen_lower (bad % 2 ^ 16) ≡ Some r → Blames kind front bad r
+
+-- The first offence is the longword at this place: what stands before it is a good front, with it there is none.
+pub record OffendsAt (kind : FileKind) (ws : List ℕ) (place : ℕ) (r : Reason) : Type 0 where
+  pub front : List ℕ
+  pub bad : ℕ
+  pub behind : List ℕ
+  pub parts : ws ≡ front ++ (bad ∷ behind)
+  pub at_place : place ≡ length front
+  pub good : IsFront kind front
+  pub no_longer : IsFront kind (front ++ (bad ∷ [])) → ⊥
+  pub blames : Blames kind front bad r
+
+-- the reason where the input ends too early, with this many bytes of a longword
+abbrev pub end_reason : ℕ → Reason
+end_reason zero = UnexpectedEnd
+end_reason (suc n) = PartialLongword
+
+-- The first offence is the end: all longwords are a good front, but no file, or some bytes of a longword follow.
+pub record EndsEarly (kind : FileKind) (ws : List ℕ) (rest place : ℕ) (r : Reason) : Type 0 where
+  pub good : IsFront kind ws
+  pub not_whole : rest ≡ 0 → IsFile kind ws → ⊥
+  pub at_place : place ≡ length ws
+  pub is_reason : r ≡ end_reason rest
+
+-- Longwords, and then this many bytes of a further one (0 to 3), are no file, and this is their first offence.
+pub data FirstOffence (kind : FileKind) (ws : List ℕ) (rest place : ℕ) (r : Reason) : Type 0 where
+  longword_offends : OffendsAt kind ws place r → FirstOffence kind ws rest place r
+  end_offends : EndsEarly kind ws rest place r → FirstOffence kind ws rest place r

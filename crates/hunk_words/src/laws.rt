@@ -1,0 +1,108 @@
+//! What holds of the definitions of the format, each law a function without a body.
+
+ghost use Rattle.hunk_words.specs.Examples.{LoadExamples, ObjectExamples, ShortExamples, ValueExamples};
+ghost use Rattle.hunk_words.specs.EventLaws.{ObjectTold, LoadTold, ObjectOneValue, LoadOneValue, ObjectLimit, LoadLimit};
+ghost use Rattle.hunk_words.specs.OffenceLaws.{ReadIsFront, FrontIsRead, StopsBehindFront, StopsAtOffence, TooLongOffends, CompleteIsFile, EndsBehindFront, FileOrOffence, FileHasNone, OffenceIsOne};
+ghost use Rattle.hunk_words.specs.Laws.{NothingBehind, ObjectIsTaken, LoadIsTaken, ObjectIsRead, LoadIsRead, ReadIsObject, ReadIsLoad, ObjectSame, LoadSame, ObjectFront, LoadFront, ObjectNext, LoadNext, ObjectDue, LoadDue};
+
+/// What is spelled passes, each field under the kind of its spelling, to where a file may end.
+pub fn spelled_is_taken()
+    ensures object { ObjectIsTaken }
+    ensures load { LoadIsTaken }
+{}
+
+/// The longwords of what is spelled are read, to where a file may end.
+pub fn spelled_is_read()
+    ensures object { ObjectIsRead }
+    ensures load { LoadIsRead }
+{}
+
+/// Nothing passes behind the last END of a load file.
+pub fn nothing_stands_behind()
+    ensures { NothingBehind }
+{}
+
+/// Where an offset is due, events tell its limit and the sites before it in its hunk.
+pub fn events_tell_limits()
+    ensures object { ObjectLimit }
+    ensures load { LoadLimit }
+{}
+
+/// Worked load files, object files and 16-bit relocations: which are files, and where the others
+/// offend first and why; and what files tell.
+pub fn worked_files()
+    ensures load { LoadExamples }
+    ensures short { ShortExamples }
+    ensures object { ObjectExamples }
+    ensures value { ValueExamples }
+{}
+
+/// What the events of a file build is the value of its tree.
+pub fn events_tell_values()
+    ensures object { ObjectTold }
+    ensures load { LoadTold }
+{}
+
+/// What is read so far is the front of a file.
+pub fn read_is_front()
+    ensures object { ObjectFront }
+    ensures load { LoadFront }
+{}
+
+/// Where a longword doesn't pass behind what was read, no file begins with both.
+pub fn refused_begins_none()
+    ensures object { ObjectNext }
+    ensures load { LoadNext }
+{}
+
+/// The kind that is due behind what was taken is the one that each file that begins so bears there.
+pub fn every_file_bears_due()
+    ensures object { ObjectDue }
+    ensures load { LoadDue }
+{}
+
+/// What is read to where a file may end is spelled by a tree.
+pub fn read_is_spelled()
+    ensures object { ReadIsObject }
+    ensures load { ReadIsLoad }
+{}
+
+/// The same longwords have the same fields.
+pub fn longwords_tell_fields()
+    ensures object { ObjectSame }
+    ensures load { LoadSame }
+{}
+
+/// No longwords are a file of two values.
+pub fn longwords_tell_value()
+    ensures object { ObjectOneValue }
+    ensures load { LoadOneValue }
+{}
+
+/// The machine, which keeps the rules of sites too, goes on over good fronts alone, and over each.
+pub fn machine_reads_fronts()
+    ensures read { ReadIsFront }
+    ensures front { FrontIsRead }
+{}
+
+/// Where the machine stops, a good front ends, and its reason is that of the first offence; so it
+/// is behind 2^28 longwords.
+pub fn machine_stops_at_offence()
+    ensures front { StopsBehindFront }
+    ensures offence { StopsAtOffence }
+    ensures long { TooLongOffends }
+{}
+
+/// Where the machine comes to the end, it tells whether the longwords are a file or end too early.
+pub fn machine_tells_files()
+    ensures file { CompleteIsFile }
+    ensures early { EndsBehindFront }
+{}
+
+/// Longwords, and up to three bytes of a further one, are a file or have a first offence, and
+/// never both; and it is one.
+pub fn file_or_first_offence()
+    ensures either { FileOrOffence }
+    ensures never_both { FileHasNone }
+    ensures one { OffenceIsOne }
+{}

@@ -1,0 +1,238 @@
+//! Names of units, hunks and symbols.
+ghost use Rattle.std.specs.Prelude.{◌≡◌, ℕ, ◌==◌, nat_eq, List, IfOk, Some, refl};
+ghost use Rattle.std.specs.List.{All, position, before_first};
+ghost use Rattle.std.specs.Ordering.{nat_cmp};
+ghost use Rattle.std.specs.Hash as fed;
+ghost use Rattle.std.specs.Cmp.Lexicographic.{pointwise, slice_cmp, nat_list_eq_equiv, nat_list_cmp_total, texts_ties, texts_po};
+ghost use Rattle.std.specs.Cmp.{partial_equiv_from_equiv};
+ghost use Rattle.std.specs.Cmp.Rules.{hashing};
+ghost use Rattle.std.proofs.Common.{rules};
+ghost use Rattle.byteorder.specs.Endian.{big_bytes, big_number};
+ghost use Rattle.hunk_words.specs.Names.{IsNameByte, Names, Writes, name_of, name_words};
+
+use byteorder::{BigEndian, ByteOrder};
+use std::alloc::{AllocError, Allocator, Global};
+use std::cmp::Ordering;
+use std::hash::{Hash, Hasher};
+use std::marker::Model;
+
+/// A name: bytes, none of which is zero. It may be empty.
+///
+/// In a file a name stands in longwords (The AmigaDOS Manual, 3rd edition, "Amiga binary file
+/// structure"). That what follows its first zero byte is ignored is a rule of our own.
+#[derive(Debug, Drop)]
+pub struct Name<A: Allocator + Copy = Global> {
+    bytes: Vec<u8, A>,
+}
+
+impl<A: Allocator + Copy> Model for Name<A> {
+    ghost use Rattle.std.specs.Prelude.{ℕ, List};
+    ghost use Rattle.std.specs.List.{All};
+    ghost use Rattle.hunk_words.specs.Names.{IsNameByte};
+
+    ghost Value = { List ℕ };
+
+    ghost view = { λ n. n.bytes.items };
+
+    ghost invariant = { λ n. All IsNameByte n.bytes.items };
+}
+
+impl<A: Allocator + Copy> Name<A> {
+    /// The name that the longwords hold: their bytes, the most significant byte of each first, up
+    /// to the first zero byte, or all of them where there is none.
+    ///
+    /// It takes memory for the name alone. `AllocError` comes only where that was refused.
+    pub fn from_words(alloc: A, words: &[u32]) -> Result<Self, AllocError>
+        ensures names { IfOk result (λ n. Names n words.now) }
+        ensures only { IfOk result (λ n. (other : List ℕ) → Names other words.now → other ≡ n) }
+    {
+        Ok(Name {
+            bytes: cut(alloc, words)?,
+        })
+    }
+
+    /// The fewest longwords that hold the name, the last one filled up with zero bytes. The empty
+    /// name is one zero longword.
+    ///
+    /// `AllocError` comes only where memory was refused.
+    pub fn words(&self, alloc: A) -> Result<Vec<u32, A>, AllocError>
+        ensures value { IfOk result (λ ws. ws.items ≡ name_words self.now) }
+        ensures fewest { IfOk result (λ ws. Writes self.now ws.items) }
+    {
+        let count = self.bytes.len().div_ceil(4).max(1);
+        let mut words = Vec::with_capacity(alloc, count)?;
+        for place in 0..count {
+            words.push_reserved(longword(&self.bytes[4 * place..]));
+        }
+        Ok(words)
+    }
+
+    /// The bytes of the name.
+    pub fn bytes(&self) -> &[u8]
+        ensures value { result.now ≡ self.now }
+        ensures each { All IsNameByte self.now }
+    {
+        &self.bytes
+    }
+
+    /// An equal name. `AllocError` comes only where memory was refused.
+    pub fn copy(&self, alloc: A) -> Result<Self, AllocError>
+        ensures { IfOk result (λ n. n ≡ self.now) }
+    {
+        Ok(Name {
+            bytes: Vec::from_slice(alloc, &self.bytes)?,
+        })
+    }
+}
+
+impl<A: Allocator + Copy> PartialEq for Name<A> {
+    ghost eq = { pointwise nat_eq };
+
+    ghost laws = { partial_equiv_from_equiv nat_list_eq_equiv };
+
+    fn eq(&self, other: &Self) -> bool {
+        self.bytes.as_slice() == other.bytes.as_slice()
+    }
+}
+
+impl<A: Allocator + Copy> Eq for Name<A> {
+    ghost laws = { nat_list_eq_equiv };
+}
+
+impl<A: Allocator + Copy> PartialOrd for Name<A> {
+    ghost partial_cmp = { λ x y. Some (slice_cmp nat_cmp x y) };
+
+    ghost laws = { texts_po };
+
+    fn partial_cmp(&self, other: &Self) -> Option<Ordering> {
+        Some(self.cmp(other))
+    }
+}
+
+impl<A: Allocator + Copy> Ord for Name<A> {
+    ghost cmp = { slice_cmp nat_cmp };
+
+    ghost total = { nat_list_cmp_total };
+
+    ghost matches_partial_cmp = { λ x y. refl };
+
+    ghost matches_eq = { texts_ties };
+
+    fn cmp(&self, other: &Self) -> Ordering {
+        self.bytes.as_slice().cmp(other.bytes.as_slice())
+    }
+}
+
+impl<A: Allocator + Copy> Hash for Name<A> {
+    ghost hash_input = { λ n. fed.slice fed.u8 n };
+
+    ghost respects_eq = { Prim.search (hashing, rules) };
+
+    fn hash<H: Hasher>(&self, state: &mut H) {
+        self.bytes.as_slice().hash(state);
+    }
+}
+
+/// The bytes of the longwords before their first zero byte. It takes memory for these alone.
+fn cut<A: Allocator>(alloc: A, words: &[u32]) -> Result<Vec<u8, A>, AllocError>
+    ensures { IfOk result (λ bytes. bytes.items ≡ name_of words.now) }
+{
+    let mut bytes = Vec::new(alloc);
+    for word in words {
+        let longword = big_endian(*word);
+        let front = until_zero(&longword);
+        bytes.extend_from_slice(front)?;
+        if front.len() < longword.len() {
+            return Ok(bytes);
+        }
+    }
+    Ok(bytes)
+}
+
+/// The four bytes of a longword, the most significant one first.
+fn big_endian(word: u32) -> [u8; 4]
+    ensures { result ≡ big_bytes 4 word }
+{
+    let mut bytes = [0; 4];
+    BigEndian::write_u32(&mut bytes, word);
+    bytes
+}
+
+/// The bytes before the first zero byte, or all of them where there is none.
+fn until_zero(bytes: &[u8]) -> &[u8]
+    ensures { result.now ≡ before_first (λ b. b == 0) bytes.now }
+{
+    match zero_place(bytes) {
+        Some(end) => &bytes[..end],
+        None => bytes,
+    }
+}
+
+/// The index of the first zero byte.
+fn zero_place(bytes: &[u8]) -> Option<usize>
+    ensures { result ≡ position (λ b. b == 0) bytes.now }
+{
+    bytes.iter().position(|byte| *byte == 0)
+}
+
+/// The longword of the first four bytes, where a missing byte is a zero.
+fn longword(bytes: &[u8]) -> u32
+    ensures { result ≡ big_number 4 bytes.now }
+{
+    let count = bytes.len().min(4);
+    let mut filled = [0; 4];
+    filled[..count].copy_from_slice(&bytes[..count]);
+    BigEndian::read_u32(&filled)
+}
+
+#[cfg(test)]
+mod tests {
+    use super::*;
+    use std::collections::{BTreeSet, HashSet};
+    use std::test::Fail;
+
+    #[test]
+    fn ends_a_name_at_the_first_zero_byte(rt: HostRuntime) -> Result<(), Fail> {
+        let name = Name::from_words(rt.alloc(), &[0x4100_4242, 0x4343_4343])?;
+        assert_eq!(rt; name.bytes(), b"A".as_slice());
+        assert_eq!(rt;
+            name.words(rt.alloc())?.as_slice(),
+            [0x4100_0000].as_slice()
+        );
+        Ok(())
+    }
+
+    #[test]
+    fn writes_whole_longwords(rt: HostRuntime) -> Result<(), Fail> {
+        let empty = Name::from_words(rt.alloc(), &[])?;
+        assert_eq!(rt; empty.words(rt.alloc())?.as_slice(), [0].as_slice());
+        let main = Name::from_words(rt.alloc(), &[0x6D61_696E, 0])?;
+        assert_eq!(rt;
+            main.words(rt.alloc())?.as_slice(),
+            [0x6D61_696E].as_slice()
+        );
+        let start = Name::from_words(rt.alloc(), &[0x5F73_7461, 0x7274_0000])?;
+        assert_eq!(rt; start.bytes(), b"_start".as_slice());
+        Ok(())
+    }
+
+    #[test]
+    fn compares_by_bytes(rt: HostRuntime) -> Result<(), Fail> {
+        let foo = Name::from_words(rt.alloc(), &[0x666F_6F00])?;
+        let food = Name::from_words(rt.alloc(), &[0x666F_6F64])?;
+        let copy = foo.copy(rt.alloc())?;
+        assert!(rt; foo == copy && foo != food && foo < food);
+        let mut names = BTreeSet::new(rt.alloc());
+        assert!(rt; names.insert(food)? && names.insert(foo)? && !names.insert(copy)?);
+        Ok(())
+    }
+
+    #[test]
+    fn hashes_equal_names_alike(rt: HostRuntime) -> Result<(), Fail> {
+        let mut names = HashSet::new(rt.alloc());
+        names.insert(Name::from_words(rt.alloc(), &[0x666F_6F00])?)?;
+        assert!(rt; names.contains(&Name::from_words(rt.alloc(), &[0x666F_6F00, 1])?));
+        assert!(rt; !names.contains(&Name::from_words(rt.alloc(), &[0x6261_7200])?));
+        Ok(())
+    }
+}
