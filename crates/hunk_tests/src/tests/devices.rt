@@ -8,9 +8,6 @@ use std::io;
 use std::io::{ErrorKind, Read};
 use std::test::Fail;
 
-// More reads than a run makes.
-const MOST_READS: u64 = 64;
-
 // Each read of a run fails in turn, the one that would tell the end too.
 #[test]
 fn tells_a_read_that_failed(rt: HostRuntime) -> Result<(), Fail> {

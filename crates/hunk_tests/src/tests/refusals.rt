@@ -41,11 +41,21 @@ fn refuses_a_longword(rt: HostRuntime) -> Result<(), Fail> {
         (5, 0xFFFF_FFFF, Reason::BothMemoryBits),
         (6, 0x2000_03E9, Reason::UnknownType(536_871_913)),
         (6, 0xFFFF_FFFF, Reason::UnknownType(1_073_741_823)),
+        (6, 0x0000_03F2, Reason::MisplacedType(1010)),
+        (6, 0x0000_03F5, Reason::UnsupportedBlock(1013)),
+        (6, 0x0000_03FC, Reason::MisplacedType(1020)),
         (7, 2, Reason::ContentTooLong),
         (7, 0xFFFF_FFFF, Reason::ContentTooLong),
         (9, 0x0000_03E9, Reason::MisplacedType(1001)),
         (9, 0x0000_03F7, Reason::UnsupportedBlock(1015)),
         (9, 0xFFFF_FFFF, Reason::UnknownType(1_073_741_823)),
+        // Blocks that are not read yet.
+        (6, 0x0000_03E8, Reason::UnsupportedBlock(1000)),
+        (6, 0x0000_03EA, Reason::UnsupportedBlock(1002)),
+        (6, 0x0000_03EB, Reason::UnsupportedBlock(1003)),
+        (9, 0x0000_03EC, Reason::UnsupportedBlock(1004)),
+        (9, 0x0000_03F0, Reason::UnsupportedBlock(1008)),
+        (9, 0x0000_03F1, Reason::UnsupportedBlock(1009)),
     ];
     for (place, word, reason) in rows {
         let bytes = with_word(rt.alloc(), place, word)?;
@@ -54,31 +64,14 @@ fn refuses_a_longword(rt: HostRuntime) -> Result<(), Fail> {
     Ok(())
 }
 
-// Blocks that are not read yet, where the content is due and behind it.
-#[test]
-fn refuses_blocks_that_are_not_read(rt: HostRuntime) -> Result<(), Fail> {
-    for (place, block) in [
-        (6, 1000),
-        (6, 1002),
-        (6, 1003),
-        (9, 1004),
-        (9, 1008),
-        (9, 1009),
-    ] {
-        let bytes = with_word(rt.alloc(), place, block)?;
-        let reason = Reason::UnsupportedBlock(block);
-        is_refused(&rt, rt.alloc(), &bytes, place as u64, reason)?;
-    }
-    Ok(())
-}
-
 #[test]
 fn refuses_what_follows_the_file(rt: HostRuntime) -> Result<(), Fail> {
-    let rows: [(&[u8], Reason); 5] = [
+    let rows: [(&[u8], Reason); 6] = [
         (&[0], Reason::PartialLongword),
         (&[0, 0], Reason::PartialLongword),
         (&[0, 0, 0], Reason::PartialLongword),
         (&[0, 0, 0, 0], Reason::TrailingData),
+        (&[0, 0, 0x03, 0xFC], Reason::TrailingData),
         (&[0, 0, 0x03, 0xF5], Reason::UnsupportedBlock(1013)),
     ];
     for (rest, reason) in rows {
