@@ -6,19 +6,18 @@
 
 mod count;
 
-use std::time::Instant;
-use std::{env, io};
-
+use crate::count::Count;
 use byteorder::{BigEndian, ByteOrder};
 use hunk_words::{Decoder, Feed, Refusal};
-
-use crate::count::Count;
+use std::time::Instant;
+use std::{env, io};
 
 // An object file of one unit with one hunk, up to its content of 2^24 longwords.
 const START: [u8; 16] = [0, 0, 3, 0xE7, 0, 0, 0, 0, 0, 0, 3, 0xE9, 1, 0, 0, 0];
 
 // Bytes of its content, and of the pieces that are fed.
 const CONTENT: usize = 0x0400_0000;
+
 const PIECE: usize = 65536;
 
 fn main(rt: HostRuntime) -> io::Result<()> {
