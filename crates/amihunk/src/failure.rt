@@ -121,3 +121,6 @@ fn write_answer<W: Write + Drop>(
         Err(_) => Err(DeviceFault),
     }
 }
+
+#[cfg(test)]
+mod tests;

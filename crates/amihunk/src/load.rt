@@ -80,3 +80,6 @@ fn flushed<'a, O: Write + Drop>(buffered: BufWriter<O>) -> Result<O, Failure<'a>
         Err(_) => Err(Failure::Printing),
     }
 }
+
+#[cfg(test)]
+mod tests;

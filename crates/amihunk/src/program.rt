@@ -32,7 +32,7 @@ fn words_of<R: Env + AllocGlobal>(rt: &R) -> io::Result<Vec<String>> {
 /// Does what was asked for, and gives the exit status.
 fn answer<R: Files + Print + AllocGlobal, W: Write + Drop>(
     rt: &R,
-    errors: W,
+    mut errors: W,
     request: Request<'_>,
 ) -> u8
     ensures { Ends request.entry result }
@@ -44,7 +44,6 @@ fn answer<R: Files + Print + AllocGlobal, W: Write + Drop>(
             Err(_) => told(errors, &[], &Failure::Printing),
         },
         Request::Refused(text) => {
-            let mut errors = errors;
             let _ = errors.write_all(text.as_bytes());
             COMMAND_LINE
         }
