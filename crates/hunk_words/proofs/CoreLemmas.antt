@@ -23,7 +23,7 @@ use Rattle.hunk_words.specs.declared.state.State.{State}
 use Rattle.hunk_words.proofs.ProgressLemmas.{words-read}
 use Rattle.hunk_words.proofs.FirstOffenceLemmas.{offends-at, too-long, ends-early}
 use Rattle.hunk_words.proofs.OffenceLemmas.{complete-file, read-front}
-use Rattle.hunk_words.proofs.FrontLemmas.{taken, spelled, labels-takes, sound-start, sound-complete}
+use Rattle.hunk_words.proofs.FrontLemmas.{spelling-labels}
 use Rattle.hunk_words.proofs.WordLemmas.{length-events_one}
 
 -- ---- longwords that grow at their end
@@ -177,7 +177,7 @@ few-events kind Stands s ws b room = omega (arith, length-told-events kind Stand
 
 -- where no refusal is kept, the longwords are a good front
 pub StandsBy-front : (kind : FileKind) (Stands : List Event → Type 0) (s : CoreState) (ws : List ℕ) → s.refusal ≡ None → StandsBy kind Stands s ws → IsFront kind ws
-StandsBy-front kind Stands s ws none stands = let b = stands.good none in read-front kind (spelled kind) ws b.progress b.long b.few b.read
+StandsBy-front kind Stands s ws none stands = let b = stands.good none in read-front kind ws b.progress b.long b.few b.read
 
 -- ---- the end
 
@@ -196,13 +196,11 @@ FirstOffence-unexpected kind Stands s ws (suc n) b none not_whole = absurd (omeg
 
 -- the events of a file are those of its fields as the machine reads them
 told-file : (kind : FileKind) (tree : Tree kind) (ws : List ℕ) → IsFileOf kind tree ws → spelling kind tree ≡ fields_read kind ws
-told-file kind tree ws is_file =
-    let e = taken kind tree is_file.fits in
-    labels-takes (start_of kind ∷ []) (spelling kind tree) e.0 (sound-start kind) (sound-complete e.0 e.2) e.1 ∙ ap (fields_read kind) is_file.spelled
+told-file kind tree ws is_file = spelling-labels kind tree is_file.fits ∙ ap (fields_read kind) is_file.spelled
 
 pub TellsFile-complete : (kind : FileKind) (Stands : List Event → Type 0) (s : CoreState) (ws : List ℕ) (b : Behind kind Stands s ws) → IsComplete b.progress.stack → TellsFile kind Stands ws
 TellsFile-complete kind Stands s ws b complete =
-    let f = complete-file kind (spelled kind) ws b.progress b.long b.few b.read complete in record {
+    let f = complete-file kind ws b.progress b.long b.few b.read complete in record {
       tree = f.tree;
       is_file = f.is_file;
       stands = subst (λ fs. Stands (events fs)) (sym (told-file kind f.tree ws f.is_file)) b.reached.stands;

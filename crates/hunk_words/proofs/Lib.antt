@@ -1,7 +1,9 @@
-mod Longwords
-mod SplitterLemmas
-mod StreamLemmas
-mod ViewLemmas
+pub mod Longwords
+pub mod SplitterLemmas
+pub mod StreamLemmas
+pub mod NameLemmas
+pub mod SiteLemmas
+pub mod ViewLemmas
 pub mod PartsLemmas
 pub mod TypeLemmas
 pub mod TakenLemmas
@@ -9,8 +11,8 @@ pub mod AlignedLemmas
 pub mod ReadLemmas
 pub mod SeenLemmas
 pub mod LimitLemmas
-pub mod NameLemmas
-pub mod SiteLemmas
+pub mod BuildingLemmas
+pub mod ToldLemmas
 pub mod NumberLemmas
 pub mod WordLemmas
 pub mod StackLemmas
@@ -26,7 +28,9 @@ pub mod BuildLemmas
 pub mod FilledLemmas
 pub mod LabelLemmas
 pub mod SameLemmas
+pub mod OneValueLemmas
 pub mod FirstOffenceLemmas
+pub mod LongwordBytes
 pub mod CoreLemmas
 pub mod DecoderLemmas
 pub mod RunLemmas

@@ -1,5 +1,5 @@
 -- What holds of names and of the longwords that hold them.
-use Rattle.std.proofs.Common.{◌≡◌, ℕ, zero, suc, ◌+◌, ◌-◌, ◌*◌, ◌<◌, ◌≤◌, ◌==◌, ◌⊎◌, inl, inr, Option, MatchOption, nat_lt, Bool, true, false, cond, not, List, [], ◌∷◌, ◌++◌, length, take, drop, map, replicate, get_or, refl, sym, ap, ◌∙◌, arith}
+use Rattle.std.proofs.Common.{◌≡◌, ℕ, zero, suc, ◌+◌, ◌-◌, ◌*◌, ◌^◌, ◌<◌, ◌≤◌, ◌==◌, ◌⊎◌, inl, inr, Option, MatchOption, nat_lt, Bool, true, false, cond, not, List, [], ◌∷◌, ◌++◌, length, take, drop, map, replicate, get_or, slice_index, refl, sym, ap, ◌∙◌, arith}
 use Rattle.std.proofs.lemmas.List.{append-nil, append_assoc, drop-drop, drop_all, drop_more, length-drop, take_all}
 use Rattle.std.proofs.lemmas.List.Elements.{All-from_recursion, recursion_from_All, All-weaker}
 use Rattle.std.proofs.lemmas.Bool.{cases_lt, lt-ltb, le-ltb}
@@ -9,6 +9,7 @@ use Rattle.std.proofs.lemmas.List.FromFn.{length-map-range_with_len, map-range_w
 use Rattle.std.specs.Int.{byte_at}
 use Rattle.std.specs.List.{All, AllByRecursion, before_first, range_with_len, position, position_or_len, prefix_len}
 use Rattle.byteorder.specs.Endian.{big_bytes, big_number}
+use Rattle.byteorder.specs.Numbers.{big_from-lt}
 use Rattle.hunk_words.specs.Names.{IsNameByte, Names, Writes, bytes_of, name_of, name_words, longword_count}
 
 -- what stands before the first zero byte
@@ -105,7 +106,7 @@ before_zero-long (suc b ∷ xs) ys h =
     let longer : length xs ≤ length (before_zero xs) = omega arith in
     before_zero-more b (xs ++ ys) ∙ ap (λ (t : List ℕ). suc b ∷ t) (before_zero-long xs ys longer) ∙ ap (λ (t : List ℕ). t ++ before_zero ys) (sym e)
 
--- the name behind one more longword, whose bytes up to the first zero are `front`
+-- The name of longwords, of which the first i gave `items`, and the next one gives `front`: it ends here, or goes on.
 pub name_of-stops : (words items long front : List ℕ) (i : ℕ) → i < length words
     → long ≡ big_bytes 4 (get_or words i 0) → front ≡ before_first (λ b. b == 0) long
     → name_of words ≡ items ++ name_of (drop i words) → length front < 4 → items ++ front ≡ name_of words
@@ -146,8 +147,8 @@ pub names-unique : (n ws : List ℕ) → Names n ws → n ≡ name_of ws
 names-unique n ws h =
     let nonzero = recursion_from_All (λ b. 0 < b) n h.no_zero in
     elim h.bytes [
-      | inl e ↦ sym (ap (before_zero) e ∙ before_zero-whole n nonzero)
-      | inr r ↦ sym (ap (before_zero) r.1 ∙ before_zero-zero n r.0 nonzero)
+      | inl e ↦ sym (ap before_zero e ∙ before_zero-whole n nonzero)
+      | inr r ↦ sym (ap before_zero r.1 ∙ before_zero-zero n r.0 nonzero)
     ]
 
 -- ---- the longwords of a name
@@ -162,17 +163,6 @@ big_bytes-of_four a b c d rest ha hb hc hd =
     let e1 : byte_at 1 n ≡ c = omega arith in
     let e0 : byte_at 0 n ≡ d = omega arith in
     cc
-
--- the first four bytes, where zeros stand for missing ones
-big_bytes-big_number : (bs : List ℕ) → AreBytes bs
-    → big_bytes 4 (big_number 4 bs) ≡ take 4 bs ++ replicate (4 - length bs) 0
-big_bytes-big_number [] h = refl
-big_bytes-big_number (a ∷ []) h = big_bytes-of_four a 0 0 0 [] h.0 (omega arith) (omega arith) (omega arith)
-big_bytes-big_number (a ∷ b ∷ []) h = big_bytes-of_four a b 0 0 [] h.0 h.1.0 (omega arith) (omega arith)
-big_bytes-big_number (a ∷ b ∷ c ∷ []) h = big_bytes-of_four a b c 0 [] h.0 h.1.0 h.1.1.0 (omega arith)
-big_bytes-big_number (a ∷ b ∷ c ∷ d ∷ rest) h =
-    let none : 4 - length (a ∷ b ∷ c ∷ d ∷ rest) ≡ 0 = omega arith in
-    rw none (big_bytes-of_four a b c d rest h.0 h.1.0 h.1.1.0 h.1.1.1.0)
 
 -- the longwords of n from place k on
 abbrev words_from : List ℕ → ℕ → ℕ → List ℕ
@@ -253,3 +243,22 @@ writes-names n ws h w = record {
   no_zero = All-weaker IsNameByte (λ b. 0 < b) (λ b k. k.0) n h;
   bytes = ends_or_stops (bytes_of ws) n w.zeros w.bytes;
 }
+
+-- and is read back
+pub name_of-name_words : (n : List ℕ) → All IsNameByte n → name_of (name_words n) ≡ n
+name_of-name_words n h = sym (names-unique n (name_words n) (writes-names n (name_words n) h (name_words-writes n h)))
+
+slice_index-lt : (bs : List ℕ) → AreBytes bs → (k : ℕ) → slice_index bs k < 256
+slice_index-lt [] h k = omega arith
+slice_index-lt (b ∷ bs) h zero = h.0
+slice_index-lt (b ∷ bs) h (suc k) = slice_index-lt bs h.1 k
+
+-- the longwords of a name are longwords
+pub name_words-lt : (n : List ℕ) → All IsNameByte n → All (λ w. w < 2 ^ 32) (name_words n)
+name_words-lt n h =
+    let bytes = recursion_from_All (λ b. b < 256) n (All-weaker IsNameByte (λ b. b < 256) (λ b k. k.1) n h) in
+    All-from_recursion (λ w. w < 2 ^ 32) (name_words n) (each (range_with_len 0 (longword_count (length n))) bytes)
+  where
+    each : (ks : List ℕ) → AreBytes n → AllByRecursion (λ w. w < 2 ^ 32) (map (λ k. big_number 4 (drop (4 * k) n)) ks)
+    each [] b = tt
+    each (k ∷ ks) b = (big_from-lt 0 4 (drop (4 * k) n) (slice_index-lt (drop (4 * k) n) (AreBytes-drop (4 * k) n b)), each ks b)

@@ -1,6 +1,6 @@
 -- What holds of sites that are apart.
-use Rattle.std.proofs.Common.{◌≡◌, ℕ, ◌+◌, ◌-◌, ◌*◌, ◌≤◌, inl, inr, ⊎_elim, Some, IsSome, Bool, true, false, cond, List, [], ◌∷◌, length, refl, sym, ap, arith}
-use Rattle.std.proofs.lemmas.Bool.{cases_lt}
+use Rattle.std.proofs.Common.{◌≡◌, ℕ, ◌+◌, ◌-◌, ◌*◌, ◌≤◌, inl, inr, ⊎_elim, Some, IsSome, Bool, true, false, cond, List, [], ◌∷◌, length, refl, sym, ap, ◌∙◌, ◌==◌, if◌then◌else◌, eq-eqb, arith}
+use Rattle.std.proofs.lemmas.Bool.{cases_lt, cases_eq, ne_eqb}
 use Rattle.std.proofs.iter.runs.Sources.{from_front}
 use Rattle.std.specs.declared.cmp.Ordering.TheVariants.{Less, Equal, Greater}
 use Rattle.std.specs.Cmp.{nat_cmp_is}
@@ -27,6 +27,64 @@ target_at-first e es =
 -- what meets the rest meets the whole
 Meets-more : {T : Type 0} (e : ℕ × T) (es : List (ℕ × T)) (offset : ℕ) → Meets es offset → Meets (e ∷ es) offset
 Meets-more e es offset m = (m.0, target_at-more e es m.0 m.1, m.2)
+
+-- an entry at another offset is not looked at
+is_at-apart : (a b : ℕ) → (a ≡ b → ⊥) → is_at (nat_cmp a) b ≡ false
+is_at-apart a b apart = elim (cases_lt a b) [
+  | inl below ↦ let less : nat_cmp a b ≡ Less = sym (nat_cmp_is a b Less below) in rw less refl
+  | inr above ↦ let greater : nat_cmp a b ≡ Greater = sym (nat_cmp_is a b Greater (omega arith)) in rw greater refl
+]
+
+-- the site that was put in is found
+target_at-here : {T : Type 0} (es : List (ℕ × T)) (offset : ℕ) (target : T) → target_at (insert_entry nat_cmp es offset target) offset ≡ Some target
+target_at-here [] offset target =
+    let same : nat_cmp offset offset ≡ Equal = sym (nat_cmp_is offset offset Equal refl) in
+    rw same refl
+target_at-here (e ∷ es) offset target = elim (cases_lt offset e.0) [
+  | inl below ↦
+      let less : nat_cmp offset e.0 ≡ Less = sym (nat_cmp_is offset e.0 Less below) in
+      let same : nat_cmp offset offset ≡ Equal = sym (nat_cmp_is offset offset Equal refl) in
+      rw (less, same) refl
+  | inr above ↦ elim (cases_eq offset e.0) [
+    | inl equal ↦
+        let is_equal : nat_cmp offset e.0 ≡ Equal = sym (nat_cmp_is offset e.0 Equal equal) in
+        rw (is_equal, is_equal) refl
+    | inr apart ↦
+        let greater : nat_cmp offset e.0 ≡ Greater = sym (nat_cmp_is offset e.0 Greater (omega arith)) in
+        rw (greater, greater) (target_at-here es offset target)
+  ]
+]
+
+-- and no other look-up changes
+target_at-elsewhere : {T : Type 0} (es : List (ℕ × T)) (offset : ℕ) (target : T) (other : ℕ) → (offset ≡ other → ⊥)
+    → target_at (insert_entry nat_cmp es offset target) other ≡ target_at es other
+target_at-elsewhere [] offset target other apart = rw (is_at-apart other offset (λ e. apart (sym e))) refl
+target_at-elsewhere (e ∷ es) offset target other apart = elim (cases_lt offset e.0) [
+  | inl below ↦
+      let less : nat_cmp offset e.0 ≡ Less = sym (nat_cmp_is offset e.0 Less below) in
+      rw (less, is_at-apart other offset (λ k. apart (sym k))) refl
+  | inr above ↦ elim (cases_eq offset e.0) [
+    | inl equal ↦
+        let is_equal : nat_cmp offset e.0 ≡ Equal = sym (nat_cmp_is offset e.0 Equal equal) in
+        let no : is_at (nat_cmp other) e.0 ≡ false = is_at-apart other e.0 (λ k. apart (equal ∙ sym k)) in
+        rw (is_equal, no) refl
+    | inr unequal ↦
+        let greater : nat_cmp offset e.0 ≡ Greater = sym (nat_cmp_is offset e.0 Greater (omega arith)) in
+        rw greater (ap (λ o. cond (is_at (nat_cmp other) e.0) (Some e.1) o) (target_at-elsewhere es offset target other apart))
+  ]
+]
+
+-- the look-ups behind a site that was put in
+pub target_at-insert_entry : {T : Type 0} (es : List (ℕ × T)) (offset : ℕ) (target : T) (other : ℕ)
+    → target_at (insert_entry nat_cmp es offset target) other ≡ (if offset == other then Some target else target_at es other)
+target_at-insert_entry es offset target other = elim (cases_eq offset other) [
+  | inl same ↦
+      let test : (offset == other) ≡ true = eq-eqb offset other same in
+      rw test (ap (λ q. target_at (insert_entry nat_cmp es offset target) q) (sym same) ∙ target_at-here es offset target)
+  | inr apart ↦
+      let test : (offset == other) ≡ false = ne_eqb offset other apart in
+      rw test (target_at-elsewhere es offset target other apart)
+]
 
 -- a site that meets none may be put in
 pub StandFrom-insert_entry : {T : Type 0} (from limit offset : ℕ) (target : T) (es : List (ℕ × T))

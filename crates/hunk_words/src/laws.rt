@@ -1,7 +1,7 @@
 //! What holds of the definitions of the format, each law a function without a body.
 
 ghost use Rattle.hunk_words.specs.Examples.{LoadExamples, ObjectExamples, ShortExamples, ValueExamples};
-ghost use Rattle.hunk_words.specs.EventLaws.{ObjectLimit, LoadLimit};
+ghost use Rattle.hunk_words.specs.EventLaws.{ObjectTold, LoadTold, ObjectOneValue, LoadOneValue, ObjectLimit, LoadLimit};
 ghost use Rattle.hunk_words.specs.OffenceLaws.{ReadIsFront, FrontIsRead, StopsBehindFront, StopsAtOffence, TooLongOffends, CompleteIsFile, EndsBehindFront, FileOrOffence, FileHasNone, OffenceIsOne};
 ghost use Rattle.hunk_words.specs.Laws.{NothingBehind, ObjectIsTaken, LoadIsTaken, ObjectIsRead, LoadIsRead, ReadIsObject, ReadIsLoad, ObjectSame, LoadSame, ObjectFront, LoadFront, ObjectNext, LoadNext, ObjectDue, LoadDue};
 
@@ -37,6 +37,12 @@ pub fn worked_files()
     ensures value { ValueExamples }
 {}
 
+/// What the events of a file build is the value of its tree.
+pub fn events_tell_values()
+    ensures object { ObjectTold }
+    ensures load { LoadTold }
+{}
+
 /// What is read so far is the front of a file.
 pub fn read_is_front()
     ensures object { ObjectFront }
@@ -65,6 +71,12 @@ pub fn read_is_spelled()
 pub fn longwords_tell_fields()
     ensures object { ObjectSame }
     ensures load { LoadSame }
+{}
+
+/// No longwords are a file of two values.
+pub fn longwords_tell_value()
+    ensures object { ObjectOneValue }
+    ensures load { LoadOneValue }
 {}
 
 /// The machine, which keeps the rules of sites too, goes on over good fronts alone, and over each.

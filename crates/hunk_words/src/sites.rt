@@ -82,7 +82,8 @@ impl<T: Copy, A: Allocator + Copy> Sites<T, A> {
         }
     }
 
-    /// The limit, in bytes. As the sites are apart and below it, they are at most a fourth as many.
+    /// The limit, in bytes. The sites are apart and below it, so there is at most one for every four
+    /// bytes.
     pub fn limit(&self) -> u64
         ensures value { result ≡ self.now.limit }
         ensures apart { AreApart self.now }
@@ -137,10 +138,6 @@ impl<'a, T> Iterator for Walk<'a, T> {
             Some((offset, target)) => Some((*offset, target)),
             None => None,
         }
-    }
-
-    fn size_hint(&self) -> (usize, Option<usize>) {
-        self.inner.size_hint()
     }
 }
 

@@ -1,0 +1,7 @@
+use Rattle.std.proofs.Common.{ℕ, ◌<◌}
+use Rattle.hunk_loader.specs.Places.{ShareAddress}
+use Rattle.hunk_loader.proofs.places.first_meeting.Given as goal
+
+abbrev pub invariant-loop-earlier : goal.invariant-loop-earlier
+invariant-loop-earlier l =
+    (lower : ℕ) → lower < l.earlier → ¬ ShareAddress l.sizes l.bases lower l.later

@@ -1,0 +1,7 @@
+use Rattle.std.proofs.Common.{ℕ, ◌<◌}
+use Rattle.hunk_loader.specs.Places.{ApartFromEarlier}
+use Rattle.hunk_loader.proofs.places.first_overlap.Given as goal
+
+abbrev pub invariant-loop-later : goal.invariant-loop-later
+invariant-loop-later l =
+    (lower : ℕ) → lower < l.later → ApartFromEarlier l.sizes l.bases lower

@@ -1,0 +1,6 @@
+use Rattle.std.proofs.Common.{ℕ, ◌<◌}
+use Rattle.hunk_loader.specs.Places.{EndsWithin}
+use Rattle.hunk_loader.proofs.places.first_past_end.Given as goal
+
+abbrev pub invariant-loop-hunk : goal.invariant-loop-hunk
+invariant-loop-hunk l = (lower : ℕ) → lower < l.hunk → EndsWithin l.sizes l.bases lower

@@ -1,0 +1,155 @@
+//! The report of an image, line by line as it is written.
+
+ghost use Rattle.std.specs.Prelude.{◌≡◌, ◌+◌, ◌*◌, ◌<◌, ◌≤◌, ◌^◌, ℕ, List, length, IfOk, IfErr, OnOk};
+ghost use Rattle.std.specs.Io.KnownBytes.{Appends};
+ghost use Rattle.std.specs.List.{All};
+ghost use Rattle.hunk_words.specs.Streams.{DeviceStopped};
+ghost use Rattle.hunk_tool.specs.Report.{hunk_line, hunk_lines, lent, report, row_line, row_lines, EndsInside};
+
+use crate::digits::Digits;
+use crate::printing::write_pieces;
+use hunk_words::{Sink, WriteFault};
+use std::alloc::Allocator;
+
+/// Bytes in a row of the report.
+const ROW: usize = 16;
+
+/// Writes the report of an image, whose hunks are these: each a base, which is an address, and its
+/// bytes, the last of which has an address. Every hunk is told, empty ones too. It takes no memory.
+pub(crate) fn write_report<A: Allocator, W: Sink>(
+    hunks: &[(u32, Vec<u8, A>)],
+    writer: &mut W,
+) -> Result<(), WriteFault>
+    requires few { length hunks.now < 2 ^ 16 }
+    requires inside { All EndsInside (lent hunks.now) }
+    ensures text { OnOk result (Appends (W.taken writer.old) (W.taken writer.new) (report (lent hunks.now))) }
+    ensures quiet { OnOk result (W.failed writer.new ≡ W.failed writer.old) }
+    ensures stopped { IfErr result (DeviceStopped (W.taken writer.old) (W.taken writer.new) (W.failed writer.new) (report (lent hunks.now)) 0) }
+{
+    let mut written = 0;
+    for (number, (base, bytes)) in hunks.iter().enumerate() {
+        written = write_hunk(writer, written, number as u64, *base, bytes)?;
+    }
+    Ok(())
+}
+
+/// Writes all lines of a hunk, of which `written` bytes stand before them.
+fn write_hunk<W: Sink>(
+    writer: &mut W,
+    written: u64,
+    number: u64,
+    base: u32,
+    bytes: &[u8],
+) -> Result<u64, WriteFault>
+    requires inside { base + length bytes.now ≤ 2 ^ 32 }
+    requires room { written + length (hunk_lines number base bytes.now) < 2 ^ 64 }
+    ensures count { IfOk result (λ n. n ≡ written + length (hunk_lines number base bytes.now)) }
+    ensures text { OnOk result (Appends (W.taken writer.old) (W.taken writer.new) (hunk_lines number base bytes.now)) }
+    ensures quiet { OnOk result (W.failed writer.new ≡ W.failed writer.old) }
+    ensures stopped { IfErr result (DeviceStopped (W.taken writer.old) (W.taken writer.new) (W.failed writer.new) (hunk_lines number base bytes.now) written) }
+{
+    let written = write_hunk_line(writer, written, number, base, bytes.len() as u64)?;
+    write_rows(writer, written, base, bytes)
+}
+
+/// Writes the first line of a hunk.
+fn write_hunk_line<W: Sink>(
+    writer: &mut W,
+    written: u64,
+    number: u64,
+    base: u32,
+    size: u64,
+) -> Result<u64, WriteFault>
+    requires { written + length (hunk_line number base size) < 2 ^ 64 }
+    ensures count { IfOk result (λ n. n ≡ written + length (hunk_line number base size)) }
+    ensures text { OnOk result (Appends (W.taken writer.old) (W.taken writer.new) (hunk_line number base size)) }
+    ensures quiet { OnOk result (W.failed writer.new ≡ W.failed writer.old) }
+    ensures stopped { IfErr result (DeviceStopped (W.taken writer.old) (W.taken writer.new) (W.failed writer.new) (hunk_line number base size) written) }
+{
+    let number = Digits::decimal(number);
+    let base = Digits::hexadecimal(base);
+    let size = Digits::decimal(size);
+    write_pieces(
+        writer,
+        written,
+        &[
+            b"hunk ",
+            number.as_bytes(),
+            b" at ",
+            base.as_bytes(),
+            b" size ",
+            size.as_bytes(),
+            b"\n",
+        ],
+    )
+}
+
+/// Writes the lines of the rows of a hunk.
+fn write_rows<W: Sink>(
+    writer: &mut W,
+    written: u64,
+    base: u32,
+    bytes: &[u8],
+) -> Result<u64, WriteFault>
+    requires inside { base + length bytes.now ≤ 2 ^ 32 }
+    requires room { written + length (row_lines base bytes.now) < 2 ^ 64 }
+    ensures count { IfOk result (λ n. n ≡ written + length (row_lines base bytes.now)) }
+    ensures text { OnOk result (Appends (W.taken writer.old) (W.taken writer.new) (row_lines base bytes.now)) }
+    ensures quiet { OnOk result (W.failed writer.new ≡ W.failed writer.old) }
+    ensures stopped { IfErr result (DeviceStopped (W.taken writer.old) (W.taken writer.new) (W.failed writer.new) (row_lines base bytes.now) written) }
+{
+    let mut written = written;
+    for index in 0..bytes.len().div_ceil(ROW) {
+        let start = ROW * index;
+        let end = bytes.len().min(start + ROW);
+        written = write_row(writer, written, base + start as u32, &bytes[start..end])?;
+    }
+    Ok(written)
+}
+
+/// Writes a row of at most 16 bytes, the first of which stands at that address.
+fn write_row<W: Sink>(
+    writer: &mut W,
+    written: u64,
+    address: u32,
+    row: &[u8],
+) -> Result<u64, WriteFault>
+    requires short { length row.now ≤ 16 }
+    requires room { written + length (row_line address row.now) < 2 ^ 64 }
+    ensures count { IfOk result (λ n. n ≡ written + length (row_line address row.now)) }
+    ensures text { OnOk result (Appends (W.taken writer.old) (W.taken writer.new) (row_line address row.now)) }
+    ensures quiet { OnOk result (W.failed writer.new ≡ W.failed writer.old) }
+    ensures stopped { IfErr result (DeviceStopped (W.taken writer.old) (W.taken writer.new) (W.failed writer.new) (row_line address row.now) written) }
+{
+    let address = Digits::hexadecimal(address);
+    let mut digits = [0; 2 * ROW];
+    let digits = &mut digits[..2 * row.len()];
+    // There are two places for each byte, so this can't fail.
+    let _ = hex::encode_to_slice(row, digits);
+    write_pieces(writer, written, &[address.as_bytes(), b" ", digits, b"\n"])
+}
+
+#[cfg(test)]
+mod tests {
+    use super::*;
+    use hunk_words::Room;
+
+    #[test]
+    fn prints_each_hunk(rt: HostRuntime) {
+        let mut room = Room::new(rt.alloc(), 7, 200, false).expect(&rt, "room");
+        let hunks = [
+            (
+                0x1_0000,
+                vec![in rt.alloc(); 0x4E, 0x75, 0x4E, 0x71].expect(&rt, "bytes"),
+            ),
+            (0x2_0000, Vec::new(rt.alloc())),
+            (0xFFFF_FFEC, vec![in rt.alloc(); 0; 20].expect(&rt, "bytes")),
+        ];
+        let text = "hunk 0 at 00010000 size 4\n00010000 4e754e71\n\
+            hunk 1 at 00020000 size 0\n\
+            hunk 2 at ffffffec size 20\n\
+            ffffffec 00000000000000000000000000000000\nfffffffc 00000000\n";
+        assert_eq!(rt; write_report(&hunks, &mut room), Ok(()));
+        assert_eq!(rt; room.bytes(), text.as_bytes());
+    }
+}
