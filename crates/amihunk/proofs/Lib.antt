@@ -1,5 +1,6 @@
 pub mod AnswerLemmas
 pub mod CommandLineLemmas
+pub mod EndingLemmas
 pub mod FilledRowLemmas
 pub mod LoadLineLemmas
 pub mod LoadingLemmas

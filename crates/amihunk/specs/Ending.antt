@@ -2,6 +2,7 @@
 use Rattle.std.specs.Prelude.{◌≡◌, ◌⊎◌, ℕ, List}
 use Rattle.amihunk.specs.Failure.{status_by}
 use Rattle.amihunk.specs.Loading.{IsLoadFailure, IsLoaded}
+use Rattle.amihunk.specs.Words.{IsAskedBy}
 use Rattle.amihunk.specs.declared.failure.Failure.{Failure}
 use Rattle.amihunk.specs.declared.words.Request.{Request}
 use Rattle.amihunk.specs.declared.words.Request.TheVariants.{Load, Help, Refused, OutOfMemory}
@@ -22,3 +23,9 @@ Ends (Load list file) status = EndsLoad list.now file.now status
 Ends (Help text) status = (status ≡ 0) ⊎ (status ≡ 3)
 Ends (Refused text) status = status ≡ 2
 Ends OutOfMemory status = status ≡ 4
+
+-- the status after a command line: that of the request which its words make
+pub record EndsLine (words : List (List ℕ)) (status : ℕ) : Type 0 where
+  pub request : Request
+  pub asked : IsAskedBy words request
+  pub ends : Ends request status

@@ -14,5 +14,5 @@ mod words;
 use std::process::ExitCode;
 
 fn main(rt: HostRuntime) -> ExitCode {
-    ExitCode::from(program::run(&rt, rt.stderr()))
+    ExitCode::from(program::start(&rt, rt.stderr()))
 }

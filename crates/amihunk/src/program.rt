@@ -1,26 +1,43 @@
 //! The program: the words of the command line, what they ask for, and the exit status.
-ghost use Rattle.std.specs.Prelude.{◌≤◌};
-ghost use Rattle.amihunk.specs.Ending.{Ends, EndsLoad};
+ghost use Rattle.std.specs.Prelude.{◌≡◌, ◌≤◌, ℕ, List, map};
+ghost use Rattle.amihunk.specs.Ending.{Ends, EndsLine, EndsLoad};
+ghost use Rattle.amihunk.specs.Words.{load_line, IsNoFlag};
 
 use crate::failure::{COMMAND_LINE, DONE, Failure, told};
 use crate::load::load;
 use crate::words::{Request, read_words, refuse_bytes};
+use std::convert::AsStr;
 use std::io::{ErrorKind, Write};
 use std::rt::{Env, Files};
 use std::{env, io};
 
-/// Reads the words of the command line, does what they ask for, and gives the exit status. What is
-/// refused is told on `errors`.
-pub fn run<R: Env + Files + Print + AllocGlobal, W: Write + Drop>(rt: &R, errors: W) -> u8
+/// Does what the words of the system's command line ask for, and gives the exit status. Nothing is
+/// known of those words before they are read.
+pub fn start<R: Env + Files + Print + AllocGlobal, W: Write + Drop>(rt: &R, errors: W) -> u8
     ensures { result ≤ 4 }
 {
     match words_of(rt) {
-        Ok(words) => answer(rt, errors, read_words(rt.alloc(), words.as_slice())),
+        Ok(words) => run(rt, errors, words.as_slice()),
         Err(error) if error.kind() == ErrorKind::OutOfMemory => {
             answer(rt, errors, Request::OutOfMemory)
         }
         Err(_) => answer(rt, errors, refuse_bytes(rt.alloc())),
     }
+}
+
+/// Does what the words of a command line ask for, and gives the exit status. What is refused is
+/// told on `errors`.
+pub fn run<R: Files + Print + AllocGlobal, W: Write + Drop, S: AsStr>(
+    rt: &R,
+    errors: W,
+    words: &[S],
+) -> u8
+    ensures line { EndsLine (map S.text words.now) result }
+    ensures load { (program list file : List ℕ)
+        → map S.text words.now ≡ load_line program list file
+        → IsNoFlag list → IsNoFlag file → EndsLoad list file result }
+{
+    answer(rt, errors, read_words(rt.alloc(), words))
 }
 
 /// The words of the command line. One that is no UTF-8 is an error.

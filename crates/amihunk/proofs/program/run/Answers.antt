@@ -1,0 +1,6 @@
+use Rattle.amihunk.proofs.EndingLemmas.{ends_load}
+use Rattle.amihunk.proofs.program.run.Goals as goal
+
+pub returns-clause-load : goal.returns-clause-load
+returns-clause-load g c program list file is_line plain_list plain_file =
+    ends_load list file c.read_words.result c.answer.result (c.read_words.ensures.load program list file is_line plain_list plain_file) c.answer.ensures
