@@ -1,2 +1,2 @@
-pub mod PatchingLemmas
 pub mod PlacesLemmas
+pub mod RiseLemmas

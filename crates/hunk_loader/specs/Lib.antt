@@ -1,3 +1,3 @@
 pub mod Memory
-pub mod Patching
 pub mod Places
+pub mod Sizes

@@ -1,15 +1,15 @@
 //! Load files in memory: at which addresses their hunks are placed.
 //!
 //! - `image`: what the hunks are in memory.
-//! - `patching`: adding the bases to the longwords at sites.
 //! - `places`: whether the addresses that were handed in hold the hunks, and what is wrong with
 //!   them if not.
+//! - `sizes`: the sizes of hunks, told as numbers or by the hunks themselves.
 #![tactic(auto)]
 
 pub mod image;
-pub mod patching;
 pub mod places;
+pub mod sizes;
 
 pub use image::Image;
-pub use patching::patch;
-pub use places::{PlaceFault, check_places};
+pub use places::{PlaceFault, check_places, check_sizes};
+pub use sizes::Sizes;

@@ -1,1 +1,2 @@
 pub mod Hunks
+pub mod Patching

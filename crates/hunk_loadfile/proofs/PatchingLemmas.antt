@@ -10,7 +10,7 @@ use borrow.Rule.Slice.PartMut.{put_mid}
 use Rattle.byteorder.specs.Endian.{big_bytes, big_from}
 use Rattle.byteorder.specs.Numbers.{big_from-take}
 use Rattle.hunk_words.specs.Sites.{StandFrom}
-use Rattle.hunk_loader.specs.Patching.{holds, site_over, patched, patched_in, patched_bytes, sum_at}
+use Rattle.hunk_loadfile.specs.Patching.{holds, site_over, patched, patched_in, patched_bytes, sum_at}
 
 -- ---- which bytes a site holds
 

@@ -1,9 +1,9 @@
 use Rattle.std.proofs.Common.{◌≡◌, ℕ, ◌<◌, length, slice_index, sym, ap, subst, ◌∙◌, arith}
 use Rattle.std.specs.List.{All}
 use Rattle.hunk_words.specs.Sites.{StandFrom}
-use Rattle.hunk_loader.specs.Patching.{patched_bytes}
-use Rattle.hunk_loader.proofs.PatchingLemmas.{All-behind, StandFrom-wider, left-apart, left-patched, all-patched}
-use Rattle.hunk_loader.proofs.patching.patch.Goals as goal
+use Rattle.hunk_loadfile.specs.Patching.{patched_bytes}
+use Rattle.hunk_loadfile.proofs.PatchingLemmas.{All-behind, StandFrom-wider, left-apart, left-patched, all-patched}
+use Rattle.hunk_loadfile.proofs.patching.patch.Goals as goal
 
 pub loop-offset-init : goal.loop-offset-init
 loop-offset-init g c =

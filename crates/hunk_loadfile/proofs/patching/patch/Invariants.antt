@@ -2,8 +2,8 @@
 use Rattle.std.proofs.Common.{◌≡◌, ◌<◌, length, slice_index}
 use Rattle.std.specs.List.{All}
 use Rattle.hunk_words.specs.Sites.{StandFrom}
-use Rattle.hunk_loader.specs.Patching.{patched_bytes}
-use Rattle.hunk_loader.proofs.patching.patch.Given as goal
+use Rattle.hunk_loadfile.specs.Patching.{patched_bytes}
+use Rattle.hunk_loadfile.proofs.patching.patch.Given as goal
 
 abbrev pub invariant-loop-offset : goal.invariant-loop-offset
 invariant-loop-offset g l = record {

@@ -1,6 +1,6 @@
 use Rattle.std.proofs.Common.{◌+◌, ◌-◌, arith}
-use Rattle.hunk_loader.proofs.PatchingLemmas.{put_mid-added}
-use Rattle.hunk_loader.proofs.patching.add_at.Goals as goal
+use Rattle.hunk_loadfile.proofs.PatchingLemmas.{put_mid-added}
+use Rattle.hunk_loadfile.proofs.patching.add_at.Goals as goal
 
 pub returns : goal.returns
 returns c =

@@ -1,12 +1,12 @@
 //! Adding numbers to the longwords inside bytes: how a hunk is relocated.
 
-ghost use Rattle.std.specs.Prelude.{◌≡◌, ◌+◌, ◌-◌, ◌<◌, ◌≤◌, [], ◌∷◌, ◌++◌, length, replicate, slice_index, IfOk};
+ghost use Rattle.std.specs.Prelude.{◌≡◌, ◌+◌, ◌<◌, ◌≤◌, [], ◌∷◌, length, slice_index};
 ghost use Rattle.std.specs.List.{All};
-ghost use Rattle.hunk_loader.specs.Patching.{patched_bytes};
+ghost use Rattle.hunk_loadfile.specs.Patching.{patched_bytes};
 
 use byteorder::{BigEndian, ByteOrder};
 use hunk_words::Sites;
-use std::alloc::{AllocError, Allocator};
+use std::alloc::Allocator;
 
 /// Adds to the longword at each site the base of the hunk that the site names, modulo 2^32, and
 /// changes no other byte. Longwords stand most significant byte first.
@@ -22,27 +22,13 @@ pub fn patch<A: Allocator + Copy>(bytes: &mut [u8], sites: &Sites<u32, A>, bases
     }
 }
 
-/// Adds a number to the longword of the four bytes from an offset, modulo 2^32.
-fn add_at(bytes: &mut [u8], offset: usize, addend: u32)
+/// Adds a number to the longword of the four bytes from an offset, modulo 2^32. They lie inside the
+/// bytes.
+pub fn add_at(bytes: &mut [u8], offset: usize, addend: u32)
     requires { offset + 4 ≤ length bytes.old }
     ensures { bytes.new ≡ patched_bytes (length bytes.old) bytes.old ((offset, addend) ∷ []) (λ added. added) }
 {
     let longword = &mut bytes[offset..offset + 4];
     let sum = BigEndian::read_u32(longword).wrapping_add(addend);
     BigEndian::write_u32(longword, sum);
-}
-
-/// The content, and zeros behind it up to so many bytes.
-pub fn filled<A: Allocator>(
-    alloc: A,
-    content: &[u8],
-    count: usize,
-) -> Result<Vec<u8, A>, AllocError>
-    requires { length content.now ≤ count }
-    ensures { IfOk result (λ bytes. bytes.items ≡ content.now ++ replicate (count - length content.now) 0) }
-{
-    let mut bytes = Vec::with_capacity(alloc, count)?;
-    bytes.extend_from_slice(content)?;
-    bytes.resize(count, 0)?;
-    Ok(bytes)
 }
