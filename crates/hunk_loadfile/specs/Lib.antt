@@ -1,2 +1,5 @@
 pub mod Hunks
 pub mod Patching
+pub mod Rules
+pub mod Written
+pub mod FileValue
