@@ -1,1 +1,4 @@
+pub mod Image
+pub mod Loading
 pub mod Places
+pub mod Sizes

@@ -8,6 +8,7 @@ ghost use Rattle.hunk_loader.specs.Places.{end_of, ShareAddress, Rise, IsLeastEa
 ghost use Rattle.hunk_loader.specs.Places.{Placed, IsFirstPastEnd, AllEndWithin, IsFirstOverlap};
 ghost use Rattle.hunk_loader.specs.Places.{AllApart, ApartFromEarlier, IsFirstRefusal};
 
+use crate::sizes::Sizes;
 use thiserror::Error;
 
 /// How many addresses there are: 2^32.
@@ -47,7 +48,16 @@ pub fn check_places(sizes: &[u32], bases: &[u32]) -> Result<(), PlaceFault>
     ensures refused { (fault : PlaceFault) → (result ≡ Err fault)
         ↔ IsFirstRefusal sizes.now bases.now fault }
 {
-    if sizes.len() != bases.len() {
+    check_sizes(&sizes, bases)
+}
+
+/// The same for sizes that are told in another way. Takes no memory.
+pub fn check_sizes<S: Sizes>(sizes: &S, bases: &[u32]) -> Result<(), PlaceFault>
+    ensures placed { IsOk result ↔ Placed (S.sizes sizes.now) bases.now }
+    ensures refused { (fault : PlaceFault) → (result ≡ Err fault)
+        ↔ IsFirstRefusal (S.sizes sizes.now) bases.now fault }
+{
+    if sizes.count() != bases.len() {
         return Err(PlaceFault::WrongCount);
     }
     if let Some(hunk) = first_past_end(sizes, bases) {
@@ -63,19 +73,19 @@ pub fn check_places(sizes: &[u32], bases: &[u32]) -> Result<(), PlaceFault>
 }
 
 /// The address behind the last one of a hunk; its base where it is empty.
-fn end_of(sizes: &[u32], bases: &[u32], hunk: usize) -> u64
-    requires sized { hunk < length sizes.now }
+fn end_of<S: Sizes>(sizes: &S, bases: &[u32], hunk: usize) -> u64
+    requires sized { hunk < length (S.sizes sizes.now) }
     requires based { hunk < length bases.now }
-    ensures { result ≡ end_of sizes.now bases.now hunk }
+    ensures { result ≡ end_of (S.sizes sizes.now) bases.now hunk }
 {
-    u64::from(bases[hunk]) + 4 * u64::from(sizes[hunk])
+    u64::from(bases[hunk]) + 4 * u64::from(sizes.size(hunk))
 }
 
 /// The lowest hunk that ends behind the last address.
-fn first_past_end(sizes: &[u32], bases: &[u32]) -> Option<usize>
-    requires { length sizes.now ≡ length bases.now }
-    ensures { MatchOption result (AllEndWithin sizes.now bases.now)
-        (IsFirstPastEnd sizes.now bases.now) }
+fn first_past_end<S: Sizes>(sizes: &S, bases: &[u32]) -> Option<usize>
+    requires { length (S.sizes sizes.now) ≡ length bases.now }
+    ensures { MatchOption result (AllEndWithin (S.sizes sizes.now) bases.now)
+        (IsFirstPastEnd (S.sizes sizes.now) bases.now) }
 {
     for hunk in 0..bases.len() {
         if end_of(sizes, bases, hunk) > ADDRESSES {
@@ -86,13 +96,13 @@ fn first_past_end(sizes: &[u32], bases: &[u32]) -> Option<usize>
 }
 
 /// Whether each hunk that is not empty stands behind all earlier ones that are not.
-fn rise(sizes: &[u32], bases: &[u32]) -> bool
-    requires { length sizes.now ≡ length bases.now }
-    ensures { IsTrue result ↔ Rise sizes.now bases.now }
+fn rise<S: Sizes>(sizes: &S, bases: &[u32]) -> bool
+    requires { length (S.sizes sizes.now) ≡ length bases.now }
+    ensures { IsTrue result ↔ Rise (S.sizes sizes.now) bases.now }
 {
     let mut free = 0;
     for (hunk, base) in bases.iter().enumerate() {
-        if sizes[hunk] > 0 {
+        if sizes.size(hunk) > 0 {
             if u64::from(*base) < free {
                 return false;
             }
@@ -103,10 +113,10 @@ fn rise(sizes: &[u32], bases: &[u32]) -> bool
 }
 
 /// The lowest hunk that shares an address with an earlier one, behind the lowest of these.
-fn first_overlap(sizes: &[u32], bases: &[u32]) -> Option<(usize, usize)>
-    requires { length sizes.now ≡ length bases.now }
-    ensures { MatchOption result (AllApart sizes.now bases.now)
-        (λ pair. IsFirstOverlap sizes.now bases.now pair.0 pair.1) }
+fn first_overlap<S: Sizes>(sizes: &S, bases: &[u32]) -> Option<(usize, usize)>
+    requires { length (S.sizes sizes.now) ≡ length bases.now }
+    ensures { MatchOption result (AllApart (S.sizes sizes.now) bases.now)
+        (λ pair. IsFirstOverlap (S.sizes sizes.now) bases.now pair.0 pair.1) }
 {
     for later in 0..bases.len() {
         if let Some(earlier) = first_meeting(sizes, bases, later) {
@@ -117,11 +127,11 @@ fn first_overlap(sizes: &[u32], bases: &[u32]) -> Option<(usize, usize)>
 }
 
 /// The lowest of the hunks before `later` that share an address with it.
-fn first_meeting(sizes: &[u32], bases: &[u32], later: usize) -> Option<usize>
-    requires counted { length sizes.now ≡ length bases.now }
+fn first_meeting<S: Sizes>(sizes: &S, bases: &[u32], later: usize) -> Option<usize>
+    requires counted { length (S.sizes sizes.now) ≡ length bases.now }
     requires is_hunk { later < length bases.now }
-    ensures { MatchOption result (ApartFromEarlier sizes.now bases.now later)
-        (λ earlier. IsLeastEarlier sizes.now bases.now earlier later) }
+    ensures { MatchOption result (ApartFromEarlier (S.sizes sizes.now) bases.now later)
+        (λ earlier. IsLeastEarlier (S.sizes sizes.now) bases.now earlier later) }
 {
     for earlier in 0..later {
         if share_address(sizes, bases, earlier, later) {
@@ -132,11 +142,11 @@ fn first_meeting(sizes: &[u32], bases: &[u32], later: usize) -> Option<usize>
 }
 
 /// Whether two hunks share an address: whether the greater base lies before the lower end.
-fn share_address(sizes: &[u32], bases: &[u32], one: usize, other: usize) -> bool
-    requires counted { length sizes.now ≡ length bases.now }
+fn share_address<S: Sizes>(sizes: &S, bases: &[u32], one: usize, other: usize) -> bool
+    requires counted { length (S.sizes sizes.now) ≡ length bases.now }
     requires one_is_hunk { one < length bases.now }
     requires other_is_hunk { other < length bases.now }
-    ensures { IsTrue result ↔ ShareAddress sizes.now bases.now one other }
+    ensures { IsTrue result ↔ ShareAddress (S.sizes sizes.now) bases.now one other }
 {
     let base = u64::from(bases[one].max(bases[other]));
     let end = end_of(sizes, bases, one).min(end_of(sizes, bases, other));

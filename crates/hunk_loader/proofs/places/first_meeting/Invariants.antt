@@ -3,5 +3,5 @@ use Rattle.hunk_loader.specs.Places.{ShareAddress}
 use Rattle.hunk_loader.proofs.places.first_meeting.Given as goal
 
 abbrev pub invariant-loop-earlier : goal.invariant-loop-earlier
-invariant-loop-earlier l =
-    (lower : ℕ) → lower < l.earlier → ¬ ShareAddress l.sizes l.bases lower l.later
+invariant-loop-earlier g l =
+    (lower : ℕ) → lower < l.earlier → ¬ ShareAddress (g.S.Sizes.sizes l.sizes) l.bases lower l.later

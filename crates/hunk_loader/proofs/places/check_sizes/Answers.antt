@@ -3,11 +3,11 @@ use Rattle.std.proofs.Math.Facts.{Fits-lt-pow}
 use Rattle.hunk_loader.specs.Places.{Placed, IsFirstRefusal}
 use Rattle.hunk_loader.specs.declared.places.PlaceFault.TheVariants.{Overlap}
 use Rattle.hunk_loader.proofs.PlacesLemmas.{Placed-from_apart, refusal-placed, refusal-refused, success-refused}
-use Rattle.hunk_loader.proofs.places.check_places.Goals as goal
+use Rattle.hunk_loader.proofs.places.check_sizes.Goals as goal
 
 pub returns-in-Some-first_overlap : goal.returns-in-Some-first_overlap
-returns-in-Some-first_overlap c =
-    let sizes = c.args.sizes.now in
+returns-in-Some-first_overlap g c =
+    let sizes = g.S.Sizes.sizes c.args.sizes.now in
     let bases = c.args.bases.now in
     let counted : length sizes ≡ length bases = omega arith in
     let fault = Overlap c.in-Some-first_overlap.earlier c.in-Some-first_overlap.later in
@@ -15,8 +15,8 @@ returns-in-Some-first_overlap c =
     record { placed = refusal-placed sizes bases fault refused; refused = refusal-refused sizes bases fault refused }
 
 pub returns-in-None : goal.returns-in-None
-returns-in-None c =
-    let sizes = c.args.sizes.now in
+returns-in-None g c =
+    let sizes = g.S.Sizes.sizes c.args.sizes.now in
     let bases = c.args.bases.now in
     let counted : length sizes ≡ length bases = omega arith in
     let addresses : EachIndex bases (λ hunk. slice_index bases hunk < 2 ^ 32) = λ hunk _. Fits-lt-pow (c.type_inv.bases hunk) in

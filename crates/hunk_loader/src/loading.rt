@@ -1,0 +1,188 @@
+//! Loading a load file at given addresses.
+
+ghost use Rattle.std.specs.Prelude.{◌≡◌, ◌≢◌, ◌↔◌, ◌*◌, ◌-◌, ◌≤◌, ◌++◌, length, replicate, IfOk, IsOk};
+ghost use Rattle.std.specs.List.{All};
+ghost use Rattle.hunk_loadfile.specs.Rules.{IsLoadHunk};
+ghost use Rattle.hunk_loader.specs.Image.{hunks_of};
+ghost use Rattle.hunk_loader.specs.Loading.{loaded, loaded_bytes};
+ghost use Rattle.hunk_loader.specs.Places.{Placed, IsFirstRefusal};
+ghost use Rattle.hunk_loader.specs.Sizes.{sizes_of};
+
+use crate::image::Image;
+use crate::places::{PlaceFault, check_sizes};
+use hunk_loadfile::{LoadFile, LoadHunk, patch};
+use hunk_words::Fault;
+use std::alloc::{AllocError, Allocator};
+
+/// Why a load file is not loaded.
+#[derive(Clone, Copy, Debug, PartialEq, Eq)]
+pub enum LoadRefusal {
+    /// The bytes that were read are no load file.
+    File(Fault),
+    /// The hunks cannot stand at the addresses.
+    Place(PlaceFault),
+    /// A growth of memory was refused.
+    OutOfMemory,
+}
+
+/// Loads a load file: the content of each hunk stands at its base, zeros behind it up to the size,
+/// and the base of a hunk is added to the longword at each site that names it, modulo 2^32
+/// (The AmigaDOS Manual, 3rd edition, "Amiga binary file structure").
+///
+/// It takes memory only where the hunks can stand at the bases.
+///
+/// # Errors
+///
+/// [`LoadRefusal::Place`] exactly where [`check_places`](crate::check_places) answers that fault
+/// for the sizes of the hunks, else [`LoadRefusal::OutOfMemory`] only where a growth was refused.
+/// [`LoadRefusal::File`] never comes here.
+pub fn load<A: Allocator + Copy>(
+    alloc: A,
+    file: &LoadFile<A>,
+    bases: &[u32],
+) -> Result<Image<A>, LoadRefusal>
+    ensures image { IfOk result (λ image. image ≡ loaded file.now bases.now) }
+    ensures placed { IsOk result → Placed (sizes_of file.now) bases.now }
+    ensures refused { (fault : PlaceFault) → (result ≡ Err (LoadRefusal.Place fault))
+        ↔ IsFirstRefusal (sizes_of file.now) bases.now fault }
+    ensures read { (fault : Fault) → result ≢ Err (LoadRefusal.File fault) }
+{
+    let hunks = file.hunks();
+    if let Err(fault) = check_sizes(&hunks, bases) {
+        return Err(LoadRefusal::Place(fault));
+    }
+    match load_hunks(alloc, hunks, bases) {
+        Ok(made) => Ok(Image::of_hunks(made)),
+        Err(_) => Err(LoadRefusal::OutOfMemory),
+    }
+}
+
+/// The base and the bytes of each hunk, in order.
+fn load_hunks<A: Allocator + Copy>(
+    alloc: A,
+    hunks: &[LoadHunk<A>],
+    bases: &[u32],
+) -> Result<Vec<(u32, Vec<u8, A>), A>, AllocError>
+    requires counted { length hunks.now ≡ length bases.now }
+    requires valid { All (IsLoadHunk (length bases.now)) hunks.now }
+    ensures { IfOk result (λ made. hunks_of made.items ≡ loaded hunks.now bases.now) }
+{
+    let mut made = Vec::with_capacity(alloc, hunks.len())?;
+    for (number, hunk) in hunks.iter().enumerate() {
+        let bytes = load_hunk(alloc, hunk, bases)?;
+        made.push_reserved((bases[number], bytes));
+    }
+    Ok(made)
+}
+
+/// The bytes of a hunk, where the hunks of its file stand at the bases.
+fn load_hunk<A: Allocator + Copy>(
+    alloc: A,
+    hunk: &LoadHunk<A>,
+    bases: &[u32],
+) -> Result<Vec<u8, A>, AllocError>
+    requires { IsLoadHunk (length bases.now) hunk.now }
+    ensures { IfOk result (λ bytes. bytes.items ≡ loaded_bytes bases.now hunk.now) }
+{
+    let mut bytes = filled(alloc, &hunk.content, 4 * hunk.size as usize)?;
+    patch(&mut bytes, &hunk.sites, bases);
+    Ok(bytes)
+}
+
+/// The content, and zeros behind it up to so many bytes.
+fn filled<A: Allocator>(alloc: A, content: &[u8], count: usize) -> Result<Vec<u8, A>, AllocError>
+    requires { length content.now ≤ count }
+    ensures { IfOk result (λ bytes. bytes.items ≡ content.now ++ replicate (count - length content.now) 0) }
+{
+    let mut bytes = Vec::with_capacity(alloc, count)?;
+    bytes.extend_from_slice(content)?;
+    bytes.resize(count, 0)?;
+    Ok(bytes)
+}
+
+#[cfg(test)]
+mod tests {
+    use super::*;
+    use hunk_loadfile::{HunkKind, Memory};
+    use hunk_words::Sites;
+    use std::alloc::Global;
+    use std::test::Fail;
+
+    fn hunk(
+        alloc: Global,
+        size: u32,
+        content: &[u8],
+        sites: &[(u32, u32)],
+    ) -> Result<LoadHunk, Fail> {
+        let mut targets = Sites::new(alloc, 4 * u64::from(size));
+        for (offset, target) in sites {
+            targets.try_add(*offset, *target)?;
+        }
+        Ok(LoadHunk {
+            kind: HunkKind::Code,
+            memory: Memory::Any,
+            size,
+            content: Vec::from_slice(alloc, content)?,
+            sites: targets,
+            symbols: Vec::new(alloc),
+            debugs: Vec::new(alloc),
+        })
+    }
+
+    #[test]
+    fn fills_with_zeros_and_relocates_them(rt: HostRuntime) -> Result<(), Fail> {
+        let alloc = rt.alloc();
+        let content = [0x4E, 0x75, 0x4E, 0x71];
+        let hunks = vec![in alloc; hunk(alloc, 3, &content, &[(8, 0)])?]?;
+        let image = load(alloc, &LoadFile::new(hunks)?, &[0x0001_0000])?;
+        let want = [0x4E, 0x75, 0x4E, 0x71, 0, 0, 0, 0, 0, 1, 0, 0];
+        for (base, bytes) in image.hunks() {
+            assert_eq!(rt; *base, 0x0001_0000);
+            assert_eq!(rt; bytes.as_slice(), want.as_slice());
+        }
+        assert_eq!(rt; image.byte(0x0001_0009), Some(1));
+        assert_eq!(rt; image.byte(0x0000_FFFF), None);
+        assert_eq!(rt; image.byte(0x0001_000C), None);
+        Ok(())
+    }
+
+    #[test]
+    fn adds_the_bases_of_later_hunks(rt: HostRuntime) -> Result<(), Fail> {
+        let alloc = rt.alloc();
+        let bases = [0x0001_0000, 0x0002_0000, 0x0003_0000];
+        let mut hunks = Vec::new(alloc);
+        let wrapping = [0x4E, 0xB9, 0xFF, 0xFF, 0xFF, 0xFE, 0x4E, 0x75];
+        hunks.push(hunk(alloc, 2, &wrapping, &[(2, 1)])?)?;
+        hunks.push(hunk(alloc, 1, &[0, 0, 0, 8], &[(0, 2)])?)?;
+        hunks.push(hunk(alloc, 0, &[], &[])?)?;
+        let image = load(alloc, &LoadFile::new(hunks)?, &bases)?;
+        let wants: [&[u8]; 3] = [
+            &[0x4E, 0xB9, 0, 1, 0xFF, 0xFE, 0x4E, 0x75],
+            &[0, 3, 0, 8],
+            &[],
+        ];
+        assert_eq!(rt; image.hunks().len(), wants.len());
+        for ((_, bytes), want) in image.hunks().iter().zip(wants) {
+            assert_eq!(rt; bytes.as_slice(), want);
+        }
+        Ok(())
+    }
+
+    #[test]
+    fn refuses_addresses_that_do_not_hold_the_hunks(rt: HostRuntime) -> Result<(), Fail> {
+        let alloc = rt.alloc();
+        let hunks = vec![in alloc; hunk(alloc, 2, &[], &[])?]?;
+        let file = LoadFile::new(hunks)?;
+        let rows: [(&[u32], PlaceFault); 2] = [
+            (&[], PlaceFault::WrongCount),
+            (&[0xFFFF_FFFC], PlaceFault::PastEnd(0)),
+        ];
+        for (bases, want) in rows {
+            match load(alloc, &file, bases) {
+                Ok(_) => assert!(rt; false, "loaded at {bases:?}"),
+                Err(refusal) => assert_eq!(rt; refusal, LoadRefusal::Place(want)),
+            }
+        }
+        Ok(())
+    }
+}

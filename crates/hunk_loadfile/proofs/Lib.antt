@@ -1,0 +1,3 @@
+pub mod ContentLemmas
+pub mod PatchingLemmas
+pub mod RuleLemmas

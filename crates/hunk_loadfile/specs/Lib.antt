@@ -1,0 +1,5 @@
+pub mod FileValue
+pub mod Hunks
+pub mod Patching
+pub mod Rules
+pub mod Written

@@ -1,0 +1,36 @@
+-- Numbers added to the longwords inside bytes. A site is the four bytes from an offset, and has a target; the number that
+-- is added there is the target's addend.
+-- (The AmigaDOS Manual, 3rd edition, the relocation blocks of its section on the binary file structure.)
+use Rattle.std.specs.Prelude.{ℕ, ◌+◌, ◌-◌, ◌^◌, ◌%◌, nat_le, nat_lt, ◌&&◌, Bool, if◌then◌else◌, List, [], ◌∷◌, map, Option, Some, None, slice_index}
+use Rattle.std.specs.List.{range_with_len}
+use Rattle.byteorder.specs.Endian.{big_bytes, big_from}
+
+-- the site at this offset holds byte i
+abbrev pub holds : ℕ → ℕ → Bool
+holds offset i = nat_le offset i && nat_lt i (offset + 4)
+
+-- the site whose four bytes hold byte i, if any; where the sites are apart there is at most one
+abbrev pub site_over : {T : Type 0} → List (ℕ × T) → ℕ → Option (ℕ × T)
+site_over [] i = None
+site_over (site ∷ sites) i = if holds site.0 i then Some site else site_over sites i
+
+-- byte i of the content, or 0 behind it
+abbrev pub plain : List ℕ → ℕ → ℕ
+plain content i = slice_index content i
+
+-- the longword at a site with the addend of its target, modulo 2 ^ 32
+abbrev pub sum_at : {T : Type 0} → List ℕ → (T → ℕ) → ℕ × T → ℕ
+sum_at content addend site = (big_from site.0 4 content + addend site.1) % 2 ^ 32
+
+-- byte i in no site, or in this one
+abbrev pub patched_in : {T : Type 0} → List ℕ → (T → ℕ) → Option (ℕ × T) → ℕ → ℕ
+patched_in content addend None i = plain content i
+patched_in content addend (Some site) i = slice_index (big_bytes 4 (sum_at content addend site)) (i - site.0)
+
+-- byte i where the addends of the sites are added: the plain byte where no site holds it, else its byte of the sum
+abbrev pub patched : {T : Type 0} → List ℕ → List (ℕ × T) → (T → ℕ) → ℕ → ℕ
+patched content sites addend i = patched_in content addend (site_over sites i) i
+
+-- so many bytes of these, from the first on
+abbrev pub patched_bytes : {T : Type 0} → ℕ → List ℕ → List (ℕ × T) → (T → ℕ) → List ℕ
+patched_bytes count content sites addend = map (patched content sites addend) (range_with_len 0 count)
