@@ -1,5 +1,5 @@
 -- A run of words: what a core stands for behind many of them at once.
-use Rattle.std.proofs.Common.{◌≡◌, ℕ, zero, suc, ◌+◌, ◌-◌, ◌*◌, ◌<◌, ◌≤◌, ◌^◌, List, [], ◌∷◌, ◌++◌, length, Option, Some, None, Result, Ok, Err, refl, sym, ap, subst, ◌∙◌, append_assoc, false, arith}
+use Rattle.std.proofs.Common.{◌≡◌, ℕ, suc, ◌+◌, ◌-◌, ◌<◌, ◌≤◌, ◌^◌, List, [], ◌∷◌, ◌++◌, length, Some, None, Ok, refl, sym, ap, subst, append_assoc, false, arith}
 use Rattle.std.proofs.lemmas.List.{append-nil}
 use Rattle.hunk_words.specs.Kinds.{halved, width}
 use Rattle.hunk_words.specs.Machine.{due}
@@ -8,15 +8,13 @@ use Rattle.hunk_words.specs.Files.{AllLong, most_longwords}
 use Rattle.hunk_words.specs.Events.{events, word_events}
 use Rattle.hunk_words.specs.Takers.{sizes_told}
 use Rattle.hunk_words.specs.View.{Steps, IsState, SizesIn}
-use Rattle.hunk_words.specs.Numbering.{Reached, WordAnswered}
+use Rattle.hunk_words.specs.Numbering.{WordAnswered}
 use Rattle.hunk_words.specs.DecoderCore.{Behind, StandsBy, fields_read}
 use Rattle.hunk_words.specs.declared.decoder_core.CoreState.{CoreState}
 use Rattle.hunk_words.specs.declared.event.Event.{Event}
 use Rattle.hunk_words.specs.declared.event.Event.TheVariants as event_is
 use Rattle.hunk_words.specs.declared.event.FileKind.{FileKind}
 use Rattle.hunk_words.specs.declared.event.FileKind.TheVariants.{Object, Load}
-use Rattle.hunk_words.specs.declared.fault.Refusal.{Refusal}
-use Rattle.hunk_words.specs.declared.numbers.Stop.{Stop}
 use Rattle.hunk_words.specs.declared.state.Due.TheVariants.{Word}
 use Rattle.hunk_words.specs.declared.state.State.{State}
 use Rattle.hunk_words.specs.declared.state.Step.{Step}
@@ -79,9 +77,9 @@ word-behind kind told s more then place w ws b room fits =
     let after : State = record s { due = Word more then } in
     let step : Step = record { state = after; event = Some (event_is.Word w) } in
     let answered : WordAnswered kind After fs b.progress w (Ok after) =
-        WordAnswered-long kind After fs b.progress w (Ok after) is
-        (number-taken kind (Are told) After before.state fs b.progress w step b.reached (MayCome-long fs b.progress w is fits few)
-        (word-steps s more then (sizes_told kind (events fs)) w b.reached.is_state) (ap (λ t. site_judged (limit_of (due t)) b.progress.seen w) (sym b.reached.stack)) (ap (λ es. es ++ event_is.Word w ∷ []) b.reached.stands)) in
+    WordAnswered-long kind After fs b.progress w (Ok after) is
+    (number-taken kind (Are told) After before.state fs b.progress w step b.reached (MayCome-long fs b.progress w is fits few)
+    (word-steps s more then (sizes_told kind (events fs)) w b.reached.is_state) (ap (λ t. site_judged (limit_of (due t)) b.progress.seen w) (sym b.reached.stack)) (ap (λ es. es ++ event_is.Word w ∷ []) b.reached.stands)) in
     (StandsBy-taken kind (Are told) After before ws w after b room fits answered).good refl
 
 -- ---- many words
@@ -97,7 +95,7 @@ run-behind [] kind told s more left then place ws b count room long =
 run-behind (u ∷ us) kind told s more left then place ws b count room long =
     let first : more ≡ suc (left + length us) = omega arith in
     let next : Behind kind (Are (told ++ event_is.Word u ∷ [])) (in_run s (left + length us) then (place + 1)) (ws ++ u ∷ []) =
-        word-behind kind told s (left + length us) then place u ws (subst (λ n. Behind kind (Are told) (in_run s n then place) ws) first b) (omega arith) long.0 in
+    word-behind kind told s (left + length us) then place u ws (subst (λ n. Behind kind (Are told) (in_run s n then place) ws) first b) (omega arith) long.0 in
     let rest = run-behind us kind (told ++ event_is.Word u ∷ []) s (left + length us) left then (place + 1) (ws ++ u ∷ []) next refl (omega arith) long.1 in
     let places : place + 1 + length us ≡ place + length (u ∷ us) = omega arith in
     subst (λ es. Behind kind (Are es) (in_run s left then (place + length (u ∷ us))) (ws ++ u ∷ us)) (append_assoc told (event_is.Word u ∷ []) (word_events us))

@@ -207,8 +207,9 @@ impl<T: Taker> Core<T> {
         }
     }
 
-    /// Takes all longwords of these bytes, and leaves out up to three bytes behind them.
-    pub fn words(&mut self, bytes: &[u8]) -> Result<(), Refusal>
+    /// Takes all longwords of these bytes, and leaves out up to three bytes behind them. Where a run of
+    /// words is due, it takes them without a look at what is due for each of them.
+    pub(crate) fn words(&mut self, bytes: &[u8]) -> Result<(), Refusal>
         requires { kept self.old ≡ None }
         ensures stands { (ws : List ℕ) → StandsFor T.KIND T.stands_for self.old ws → StandsFor T.KIND T.stands_for self.new (ws ++ longwords bytes.now) }
         ensures kept { Keeps (kept self.new) result }

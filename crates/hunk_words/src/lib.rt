@@ -10,6 +10,10 @@
 //! - `pieces`, `room`: a reader and a writer over memory, which fail where they are told to.
 //! - `name`: names, as longwords hold them.
 //! - `sites`: the sites of a hunk, which do not share a byte.
+//! - `taker`: what takes the events of a file.
+//! - `decoder_core`, `decoder`: longwords and bytes of a file, judged and told to a taker. What is due
+//!   is a small value, `state`; `step` judges a number by the function of its kind, in `type_steps`,
+//!   `header_steps`, `block_steps` and `short_steps`; `numbers` tells it to the taker.
 #![tactic(auto)]
 
 mod block_steps;

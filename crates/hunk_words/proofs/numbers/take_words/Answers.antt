@@ -18,7 +18,7 @@ next-told : (told : List Event) (bytes : List ℕ) (i word : ℕ) → 4 * i + 4 
 next-told told bytes i word within is =
     append_assoc told _ _
     ∙ ap (λ es. told ++ es) (ap (λ w. word_events (longwords (take (4 * i) bytes)) ++ Word w ∷ []) is
-        ∙ sym (ap word_events (longwords-next bytes i within) ∙ word_events-append (longwords (take (4 * i) bytes)) (big_number 4 (take 4 (drop (4 * i) bytes)) ∷ [])))
+    ∙ sym (ap word_events (longwords-next bytes i within) ∙ word_events-append (longwords (take (4 * i) bytes)) (big_number 4 (take 4 (drop (4 * i) bytes)) ∷ [])))
 
 room : (told : List Event) (bytes : List ℕ) (i : ℕ) → 4 * i + 4 ≤ length bytes → length told + length (longwords bytes) < 2 ^ 29 → length (told ++ word_events (longwords (take (4 * i) bytes))) < 2 ^ 29
 room told bytes i within few =

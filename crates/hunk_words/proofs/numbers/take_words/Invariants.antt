@@ -1,5 +1,5 @@
 -- The longwords so far were taken.
-use Rattle.std.proofs.Common.{◌*◌, ◌+◌, ◌<◌, ◌^◌, ℕ, List, ◌++◌, take, length}
+use Rattle.std.proofs.Common.{◌*◌, ◌+◌, ◌<◌, ◌^◌, List, ◌++◌, take, length}
 use Rattle.hunk_words.specs.Events.{word_events}
 use Rattle.hunk_words.specs.Files.{AllLong}
 use Rattle.hunk_words.specs.Longwords.{longwords}

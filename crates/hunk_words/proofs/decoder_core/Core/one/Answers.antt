@@ -1,5 +1,5 @@
 -- The first longword is taken, and a refusal stands for those behind it.
-use Rattle.std.proofs.Common.{◌≡◌, ◌<◌, ◌≤◌, ◌+◌, ◌*◌, ◌++◌, take, length, subst, arith}
+use Rattle.std.proofs.Common.{◌++◌, take, subst, arith}
 use Rattle.hunk_words.specs.Longwords.{longwords}
 use Rattle.hunk_words.specs.DecoderCore.{StandsFor}
 use Rattle.hunk_words.proofs.CoreLemmas.{StandsBy-append}

@@ -1,5 +1,5 @@
 -- The run was taken whole.
-use Rattle.std.proofs.Common.{◌≡◌, ◌<◌, ◌≤◌, ◌+◌, ◌-◌, ◌*◌, ◌^◌, take, length, arith}
+use Rattle.std.proofs.Common.{◌<◌, ◌≤◌, ◌+◌, ◌*◌, take, length, arith}
 use Rattle.std.proofs.lemmas.List.{length-take-le}
 use Rattle.hunk_words.specs.Files.{most_longwords}
 use Rattle.hunk_words.specs.Longwords.{longwords}

@@ -1,5 +1,5 @@
 -- Some longwords further.
-use Rattle.std.proofs.Common.{◌≡◌, ◌<◌, ◌≤◌, ◌+◌, ◌-◌, ◌*◌, ◌++◌, take, drop, length, sym, ap, subst, ◌∙◌, length-drop, arith}
+use Rattle.std.proofs.Common.{◌≡◌, ◌≤◌, ◌-◌, ◌*◌, ◌++◌, take, drop, length, ap, subst, length-drop, arith}
 use Rattle.std.proofs.lemmas.List.{take_all}
 use Rattle.hunk_words.specs.Longwords.{longwords}
 use Rattle.hunk_words.specs.DecoderCore.{StandsFor}
