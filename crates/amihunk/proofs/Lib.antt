@@ -1,6 +1,6 @@
-pub mod Answered
-pub mod CommandLine
-pub mod Filled
-pub mod LoadLine
+pub mod AnswerLemmas
+pub mod CommandLineLemmas
+pub mod FilledRowLemmas
+pub mod LoadLineLemmas
 pub mod LoadingLemmas
-pub mod Values
+pub mod ValueLemmas

@@ -10,7 +10,7 @@ use Rattle.amihunk.specs.declared.failure.Failure.{Failure}
 use Rattle.amihunk.specs.declared.failure.Failure.TheVariants.{BadNumber, Opening, Printing, Tool}
 
 -- each part of the list is a number
-pub record Lists (list : List ℕ) : Type 0 where
+pub record IsList (list : List ℕ) : Type 0 where
   pub bases : List ℕ
   pub numbers_are : numbers list ≡ map Some bases
 
@@ -59,6 +59,6 @@ pub record IsStoppedAt (list : List ℕ) (fault : ToolFault) : Type 0 where
 -- why `load` was not done: the list is judged first, and then the file is opened
 abbrev pub IsLoadFailure : (list file : List ℕ) → Failure → Type 0
 IsLoadFailure list file (BadNumber index) = IsBasesFault list (bases_fault.BadNumber index)
-IsLoadFailure list file (Opening name) = (name.now ≡ file) × Lists list
-IsLoadFailure list file Printing = Lists list
+IsLoadFailure list file (Opening name) = (name.now ≡ file) × IsList list
+IsLoadFailure list file Printing = IsList list
 IsLoadFailure list file (Tool fault) = (fault ≡ tool_fault.OutOfMemory 0) ⊎ IsStoppedAt list fault

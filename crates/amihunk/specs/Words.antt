@@ -40,8 +40,8 @@ Met = Option (Text × List Row)
 pub record IsLoad (met : Met) (list file : Text) : Type 0 where
   pub rows : List Row
   pub load : met ≡ Some (codes "load", rows)
-  pub at : first_of (codes "at") rows ≡ Some list
-  pub of : first_of (codes "file") rows ≡ Some file
+  pub list_is : first_of (codes "at") rows ≡ Some list
+  pub file_is : first_of (codes "file") rows ≡ Some file
 
 -- the subcommand is one of the program's, with the values that it has to have
 pub record IsWhole (met : Met) : Type 0 where
@@ -50,9 +50,9 @@ pub record IsWhole (met : Met) : Type 0 where
   pub load : IsLoad met list file
 
 -- the request says what was met
-abbrev pub IsOf : Met → Request → Type 0
-IsOf met (Load list file) = IsLoad met list.now file.now
-IsOf met _ = ⊥
+abbrev pub Says : Met → Request → Type 0
+Says met (Load list file) = IsLoad met list.now file.now
+Says met _ = ⊥
 
 -- the answer to words that `clap` refuses by a kind
 abbrev pub Answers : ErrorKind → Request → Type 0

@@ -3,7 +3,7 @@ ghost use Rattle.std.specs.Prelude.{◌≡◌, ℕ, IfOk, List, Some, codes, fal
 ghost use Rattle.clap.specs.Words.{FailsBy, app_of, fault_of, found_of, kind_of, rows_of};
 ghost use Rattle.clap.specs.Words.{shape_of, subcommand_of, subcommand_rows_of};
 ghost use Rattle.clap.specs.declared.builder.command.Command.TheViews.{out-Command};
-ghost use Rattle.amihunk.specs.Words.{Answers, AsksLoad, IsAskedBy, IsNoFlag, IsOf, IsRefusal};
+ghost use Rattle.amihunk.specs.Words.{Answers, AsksLoad, IsAskedBy, IsNoFlag, Says, IsRefusal};
 ghost use Rattle.amihunk.specs.Words.{IsWhole, command_line, load_line, load_shape};
 
 use clap::error::ErrorKind;
@@ -102,7 +102,7 @@ fn load_command<'a>(alloc: Global) -> Result<Command<'a>, AllocError>
 /// The request of a parse that met a subcommand.
 fn request_of<'a>(matches: &ArgMatches<'a>) -> Request<'a>
     requires { IsWhole (subcommand_rows_of matches.now) }
-    ensures { IsOf (subcommand_rows_of matches.now) result }
+    ensures { Says (subcommand_rows_of matches.now) result }
 {
     match matches.subcommand_matches("load") {
         Some(values) => load_of(values),
@@ -113,7 +113,7 @@ fn request_of<'a>(matches: &ArgMatches<'a>) -> Request<'a>
 /// The request `load`, by what was found for its arguments.
 fn load_of<'a>(values: &ArgMatches<'a>) -> Request<'a>
     requires { IsWhole (Some (codes "load", rows_of (found_of values.now))) }
-    ensures { IsOf (Some (codes "load", rows_of (found_of values.now))) result }
+    ensures { Says (Some (codes "load", rows_of (found_of values.now))) result }
 {
     match (values.get_str("at"), values.get_str("file")) {
         (Some(list), Some(file)) => Request::Load { list, file },

@@ -1,19 +1,26 @@
-//! A taker that counts words.
+//! A taker that counts and sums words.
 
 ghost use Rattle.hunk_words.specs.declared.event.FileKind.TheVariants.{Object};
 
 use hunk_words::{Event, FileKind, SiteRefusal, Taker};
 
-/// Counts the longwords of names, content and debug blocks of an object file without sites.
+/// Counts and sums the longwords of names, content and debug blocks of an object file without
+/// sites. The sum has it read each of them.
 #[derive(Drop)]
 pub struct Count {
     words: u64,
+    total: u64,
 }
 
 impl Count {
     /// Nothing is counted yet.
     pub fn new() -> Count {
-        Count { words: 0 }
+        Count { words: 0, total: 0 }
+    }
+
+    /// The sum of the longwords.
+    pub fn total(&self) -> u64 {
+        self.total
     }
 
     /// The longwords counted.
@@ -33,8 +40,9 @@ impl Taker for Count {
     #[inline]
     fn take(&mut self, event: Event) -> Result<(), SiteRefusal> {
         match event {
-            Event::Word(_) => {
+            Event::Word(word) => {
                 self.words = self.words.wrapping_add(1);
+                self.total = self.total.wrapping_add(u64::from(word));
                 Ok(())
             }
             Event::Site { .. } | Event::RefSite(_) => Err(SiteRefusal::OutOfMemory),

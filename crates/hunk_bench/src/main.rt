@@ -39,8 +39,8 @@ fn measure(rt: &HostRuntime) -> io::Result<()> {
     let counted = decode_all(&content);
     let decode_time = start.elapsed(rt)?.as_nanos();
     match counted {
-        Ok(words) => rt.println(format_args!(
-            "sum {total}: {sum_time} ns; decoder, {words} longwords: {decode_time} ns"
+        Ok((words, decoded)) => rt.println(format_args!(
+            "sum {total}: {sum_time} ns; decoder, {words} longwords, {decoded}: {decode_time} ns"
         )),
         Err(_) => rt.println("the decoder refused the file"),
     }
@@ -56,9 +56,9 @@ fn sum_all(content: &[u8]) -> u64 {
     total
 }
 
-// The longwords that a taker counts.
+// The longwords that a taker counts, and their sum.
 #[inline(never)]
-fn decode_all(content: &[u8]) -> Result<u64, Refusal> {
+fn decode_all(content: &[u8]) -> Result<(u64, u64), Refusal> {
     let mut decoder = Decoder::new(Count::new());
     decoder.feed(&START)?;
     for piece in content.chunks(PIECE) {
@@ -66,5 +66,6 @@ fn decode_all(content: &[u8]) -> Result<u64, Refusal> {
     }
     // END
     decoder.feed(&[0, 0, 3, 0xF2])?;
-    Ok(decoder.finish()?.words())
+    let taker = decoder.finish()?;
+    Ok((taker.words(), taker.total()))
 }

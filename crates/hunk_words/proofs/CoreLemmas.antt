@@ -168,9 +168,12 @@ length-told [] = omega arith
 length-told (f ∷ fs) = omega (arith, length-events_one (event_of f) (events fs), length-told fs)
 
 -- each longword tells two events at most
+pub length-told-events : (kind : FileKind) (Stands : List Event → Type 0) (s : CoreState) (ws : List ℕ) → Behind kind Stands s ws → length (events (fields_read kind ws)) ≤ 2 * s.place
+length-told-events kind Stands s ws b = omega (arith, length-told (fields_read kind ws), length-labels ws (start_of kind ∷ []), b.place)
+
 pub few-events : (kind : FileKind) (Stands : List Event → Type 0) (s : CoreState) (ws : List ℕ) → Behind kind Stands s ws → s.place < most_longwords
     → length (events (fields_read kind ws)) + 1 < 2 ^ 29
-few-events kind Stands s ws b room = omega (arith, length-told (fields_read kind ws), length-labels ws (start_of kind ∷ []), b.place)
+few-events kind Stands s ws b room = omega (arith, length-told-events kind Stands s ws b)
 
 -- where no refusal is kept, the longwords are a good front
 pub StandsBy-front : (kind : FileKind) (Stands : List Event → Type 0) (s : CoreState) (ws : List ℕ) → s.refusal ≡ None → StandsBy kind Stands s ws → IsFront kind ws

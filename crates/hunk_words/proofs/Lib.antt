@@ -33,3 +33,4 @@ pub mod FirstOffenceLemmas
 pub mod LongwordBytes
 pub mod CoreLemmas
 pub mod DecoderLemmas
+pub mod RunLemmas

@@ -96,3 +96,27 @@ pub words-rest : (ws bytes : List ℕ) (n : ℕ) → (ws ++ longwords (take n by
 words-rest ws bytes n =
     append_assoc ws (longwords (take n bytes)) _
     ∙ ap (λ us. ws ++ us) (sym (longwords-append (take n bytes) (drop n bytes)) ∙ ap longwords (take-append-drop n bytes))
+
+-- the first longword behind others
+pub words-first : (ws bytes : List ℕ) (word : ℕ) → 4 ≤ length bytes → word ≡ big_number 4 (take 4 bytes) → ws ++ word ∷ [] ≡ ws ++ longwords (take 4 bytes)
+words-first ws bytes word within is = ap (λ w. ws ++ w ∷ []) is ∙ ap (λ us. ws ++ us) (sym (longwords-four (take 4 bytes) (length-take-le 4 bytes within)))
+
+-- some longwords further behind others
+pub words-more : (ws bytes : List ℕ) (i n : ℕ) → 4 * i ≤ length bytes → (ws ++ longwords (take (4 * i) bytes)) ++ longwords (take (4 * n) (drop (4 * i) bytes)) ≡ ws ++ longwords (take (4 * (i + n)) bytes)
+words-more ws bytes i n within =
+    let front = take (4 * i) bytes in
+    let more = take (4 * n) (drop (4 * i) bytes) in
+    let next : 4 * i + 4 * n ≡ 4 * (i + n) = omega arith in
+    let none : unfinished front ≡ [] = unfinished-none front i (length-take-le (4 * i) bytes within) in
+    append_assoc ws (longwords front) (longwords more)
+    ∙ ap (λ us. ws ++ us) (ap (λ xs. longwords front ++ longwords (xs ++ more)) (sym none) ∙ sym (longwords-append front more) ∙ ap longwords (sym (take-add (4 * i) (4 * n) bytes)) ∙ ap (λ m. longwords (take m bytes)) next)
+
+-- all longwords behind whole ones
+pub words-all : (ws bytes : List ℕ) (i : ℕ) → 4 * i ≤ length bytes → (ws ++ longwords (take (4 * i) bytes)) ++ longwords (drop (4 * i) bytes) ≡ ws ++ longwords bytes
+words-all ws bytes i within =
+    let none : unfinished (take (4 * i) bytes) ≡ [] = unfinished-none (take (4 * i) bytes) i (length-take-le (4 * i) bytes within) in
+    ap (λ xs. (ws ++ longwords (take (4 * i) bytes)) ++ longwords (xs ++ drop (4 * i) bytes)) (sym none) ∙ words-rest ws bytes (4 * i)
+
+-- the number of whole longwords
+pub length-whole : (bytes : List ℕ) (n : ℕ) → length bytes ≡ 4 * n → length (longwords bytes) ≡ n
+length-whole bytes n whole = omega (arith, length-longwords bytes, length-unfinished bytes)

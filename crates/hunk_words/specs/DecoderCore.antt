@@ -1,9 +1,10 @@
 -- What a decoder core stands for: the longwords that it was given.
-use Rattle.std.specs.Prelude.{◌≡◌, ℕ, ◌≤◌, List, [], ◌∷◌, length, Option, Some, None, Result, Ok, Err}
+use Rattle.std.specs.Prelude.{◌≡◌, ℕ, ◌*◌, ◌<◌, ◌≤◌, List, [], ◌∷◌, ◌++◌, length, take, Option, Some, None, Result, Ok, Err}
 use Rattle.hunk_words.specs.Kinds.{Field}
 use Rattle.hunk_words.specs.Reading.{Progress, start_of, begun, read_words, labels}
 use Rattle.hunk_words.specs.Files.{AllLong, Tree, spelling, most_longwords, IsFileOf}
 use Rattle.hunk_words.specs.FirstOffence.{OffendsAt, FirstOffence}
+use Rattle.hunk_words.specs.Longwords.{longwords}
 use Rattle.hunk_words.specs.Events.{events}
 use Rattle.hunk_words.specs.Numbering.{Reached}
 use Rattle.hunk_words.specs.declared.event.FileKind.{FileKind}
@@ -55,3 +56,13 @@ abbrev pub EndAnswered : {T : Type 0} → FileKind → (T → List Event → Typ
 EndAnswered kind stands_for ws rest (Ok taker) = (rest ≡ 0) × TellsFile kind (stands_for taker) ws
 EndAnswered kind stands_for ws rest (Err (refusal_is.Fault fault)) = FirstOffence kind ws rest fault.place fault.reason
 EndAnswered kind stands_for ws rest (Err refusal_is.OutOfMemory) = Unit {0}
+
+-- This many longwords of the bytes were taken; or a refusal is kept.
+abbrev pub SomeTaken : {T : Type 0} → FileKind → (T → List Event → Type 0) → Core T → (ws bytes : List ℕ) → Result ℕ Refusal → Type 0
+SomeTaken kind stands_for core ws bytes (Ok count) = StandsFor kind stands_for core (ws ++ longwords (take (4 * count) bytes))
+SomeTaken kind stands_for core ws bytes (Err refusal) = StandsFor kind stands_for core (ws ++ longwords bytes)
+
+-- one or more of the longwords of these bytes
+abbrev pub TakesSome : List ℕ → Result ℕ Refusal → Type 0
+TakesSome bytes (Ok count) = (0 < count) × (4 * count ≤ length bytes)
+TakesSome bytes (Err refusal) = Unit {0}

@@ -54,3 +54,8 @@ with_event (Some e) es = e ∷ es
 abbrev pub events : List Field → List Event
 events [] = []
 events (f ∷ fs) = with_event (event_of f) (events fs)
+
+-- what words tell
+abbrev pub word_events : List ℕ → List Event
+word_events [] = []
+word_events (w ∷ ws) = Word w ∷ word_events ws

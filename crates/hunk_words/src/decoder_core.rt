@@ -1,7 +1,7 @@
 //! Longwords of a file, judged and told to a taker.
 
-ghost use Rattle.std.specs.Prelude.{◌≡◌, ℕ, List, [], ◌∷◌, ◌++◌, length, Option, Some, None, IsTrue, IsFalse, OnOk};
-ghost use Rattle.hunk_words.specs.DecoderCore.{Behind, StandsBy, StandsFor, EndAnswered, Keeps, kept};
+ghost use Rattle.std.specs.Prelude.{◌≡◌, ℕ, ◌≤◌, List, [], ◌∷◌, ◌++◌, length, Option, Some, None, IsTrue, IsFalse, OnOk};
+ghost use Rattle.hunk_words.specs.DecoderCore.{Behind, StandsBy, StandsFor, SomeTaken, TakesSome, EndAnswered, Keeps, kept};
 ghost use Rattle.hunk_words.specs.Files.{IsFront};
 ghost use Rattle.hunk_words.specs.Longwords.{longwords};
 ghost use Rattle.hunk_words.specs.Machine.{IsComplete};
@@ -11,8 +11,8 @@ ghost use Rattle.hunk_words.specs.declared.fault.Refusal.{Refusal};
 
 use crate::event::FileKind;
 use crate::fault::{Fault, Reason, Refusal};
-use crate::numbers::{Stop, take_word};
-use crate::state::{Due, State};
+use crate::numbers::{Stop, take_word, take_words};
+use crate::state::{Due, State, Then};
 use crate::taker::Taker;
 use byteorder::{BigEndian, ByteOrder};
 
@@ -140,6 +140,73 @@ impl<T: Taker> Core<T> {
         }
     }
 
+    // Takes the first longword of these bytes, and gives the number of those taken.
+    fn one(&mut self, bytes: &[u8]) -> Result<usize, Refusal>
+        requires some { 4 ≤ length bytes.now }
+        ensures stands { (ws : List ℕ) → StandsFor T.KIND T.stands_for self.old ws → SomeTaken T.KIND T.stands_for self.new ws bytes.now result }
+        ensures count { TakesSome bytes.now result }
+        ensures kept { Keeps (kept self.new) result }
+    {
+        match self.word(BigEndian::read_u32(&bytes[..4])) {
+            Ok(()) => Ok(1),
+            Err(refusal) => Err(refusal),
+        }
+    }
+
+    // Takes longwords of these bytes where a run of words is due, without a look at what is due for
+    // each of them.
+    fn run(&mut self, more: u32, then: Then, bytes: &[u8]) -> Result<usize, Refusal>
+        requires some { 4 ≤ length bytes.now }
+        requires due { self.old.state.state.due ≡ Due.Word more then }
+        requires none { kept self.old ≡ None }
+        ensures stands { (ws : List ℕ) → StandsFor T.KIND T.stands_for self.old ws → SomeTaken T.KIND T.stands_for self.new ws bytes.now result }
+        ensures count { TakesSome bytes.now result }
+        ensures kept { Keeps (kept self.new) result }
+    {
+        let CoreState { state, place, .. } = self.state;
+        let room = MOST_LONGWORDS.saturating_sub(place).min(u64::from(more));
+        let count = (room as usize).min(bytes.len() / 4);
+        if count == 0 {
+            return self.one(bytes);
+        }
+        match take_words(&mut self.taker, &bytes[..4 * count]) {
+            Ok(()) => {
+                let due = Due::Word {
+                    more: more - count as u32,
+                    then,
+                };
+                self.state = CoreState {
+                    state: State { due, ..state },
+                    place: place + count as u64,
+                    refusal: None,
+                };
+                Ok(count)
+            }
+            Err(_) => {
+                self.state = CoreState {
+                    state,
+                    place,
+                    refusal: Some(Refusal::OutOfMemory),
+                };
+                Err(Refusal::OutOfMemory)
+            }
+        }
+    }
+
+    // Takes one longword of these bytes or more.
+    fn some(&mut self, bytes: &[u8]) -> Result<usize, Refusal>
+        requires some { 4 ≤ length bytes.now }
+        requires none { kept self.old ≡ None }
+        ensures stands { (ws : List ℕ) → StandsFor T.KIND T.stands_for self.old ws → SomeTaken T.KIND T.stands_for self.new ws bytes.now result }
+        ensures count { TakesSome bytes.now result }
+        ensures kept { Keeps (kept self.new) result }
+    {
+        match self.state.state.due {
+            Due::Word { more, then } => self.run(more, then, bytes),
+            _ => self.one(bytes),
+        }
+    }
+
     /// Takes all longwords of these bytes, and leaves out up to three bytes behind them.
     pub fn words(&mut self, bytes: &[u8]) -> Result<(), Refusal>
         requires { kept self.old ≡ None }
@@ -147,10 +214,10 @@ impl<T: Taker> Core<T> {
         ensures kept { Keeps (kept self.new) result }
     {
         let count = bytes.len() / 4;
-        for index in 0..count {
-            let at = 4 * index;
-            match self.word(BigEndian::read_u32(&bytes[at..at + 4])) {
-                Ok(()) => {}
+        let mut taken = 0;
+        while taken < count {
+            match self.some(&bytes[4 * taken..]) {
+                Ok(more) => taken += more,
                 Err(refusal) => return Err(refusal),
             }
         }

@@ -2,7 +2,9 @@
 
 ghost use Rattle.std.specs.Prelude.{◌≡◌, ℕ, ◌+◌, ◌<◌, ◌^◌, List, [], ◌++◌, length, OnOk};
 ghost use Rattle.hunk_words.specs.Kinds.{Field, halved, width};
-ghost use Rattle.hunk_words.specs.Events.{events, with_event};
+ghost use Rattle.hunk_words.specs.Events.{events, with_event, word_events};
+ghost use Rattle.hunk_words.specs.Files.{AllLong};
+ghost use Rattle.hunk_words.specs.Longwords.{longwords};
 ghost use Rattle.hunk_words.specs.Machine.{due as first_due};
 ghost use Rattle.hunk_words.specs.Reading.{Progress};
 ghost use Rattle.hunk_words.specs.Numbering.{Reached, MayCome, NumberAnswered, WordAnswered};
@@ -16,6 +18,7 @@ use crate::sites::SiteRefusal;
 use crate::state::{Due, State};
 use crate::step::step;
 use crate::taker::Taker;
+use byteorder::{BigEndian, ByteOrder};
 
 /// Why a number was not taken.
 #[derive(Clone, Copy, Debug)]
@@ -91,4 +94,21 @@ pub fn take_word<T: Taker>(taker: &mut T, state: State, word: u32) -> Result<Sta
     } else {
         take_number(taker, state, word)
     }
+}
+
+/// Takes longwords of a run of words.
+pub fn take_words<T: Taker>(taker: &mut T, bytes: &[u8]) -> Result<(), Stop>
+    ensures takes { (told : List Event) → T.stands_for taker.old told → length told + length (longwords bytes.now) < 2 ^ 29 →
+        OnOk result (T.stands_for taker.new (told ++ word_events (longwords bytes.now))) }
+    ensures long { OnOk result (AllLong (longwords bytes.now)) }
+{
+    for index in 0..bytes.len() / 4 {
+        let at = 4 * index;
+        let word = BigEndian::read_u32(&bytes[at..at + 4]);
+        match taker.take(Event::Word(word)) {
+            Ok(()) => {}
+            Err(_) => return Err(Stop::OutOfMemory),
+        }
+    }
+    Ok(())
 }

@@ -1,7 +1,7 @@
 use Rattle.std.proofs.Common.{◌∙◌, codes, sym, refl}
 use Rattle.clap.specs.Words.{found_of, rows_of}
 use Rattle.clap.proofs.WalkLemmas.{first_value-rows}
-use Rattle.amihunk.proofs.Values.{first_value-load}
+use Rattle.amihunk.proofs.ValueLemmas.{first_value-load}
 use Rattle.amihunk.proofs.words.load_of.Goals as goal
 use Rattle.amihunk.proofs.words.load_of.Goals.{in_default-via-in-Some+in_default, in_default-via-in_default}
 
@@ -24,6 +24,6 @@ returns c =
     record {
       rows = rows_of found;
       load = refl;
-      at = sym (first_value-rows found (codes "at")) ∙ sym c.in-Some-Some.ensures;
-      of = sym (first_value-rows found (codes "file")) ∙ sym c.in-Some-Some.ensures';
+      list_is = sym (first_value-rows found (codes "at")) ∙ sym c.in-Some-Some.ensures;
+      file_is = sym (first_value-rows found (codes "file")) ∙ sym c.in-Some-Some.ensures';
     }

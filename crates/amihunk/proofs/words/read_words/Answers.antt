@@ -1,8 +1,8 @@
 use Rattle.std.proofs.Common.{map, subst, sym}
 use Rattle.clap.specs.Words.{kind_of}
 use Rattle.amihunk.specs.Words.{IsWhole}
-use Rattle.amihunk.proofs.CommandLine.{whole_where_faultless}
-use Rattle.amihunk.proofs.Answered.{asked_by_kind, asked_by_met, asks_load_where}
+use Rattle.amihunk.proofs.CommandLineLemmas.{whole_where_faultless}
+use Rattle.amihunk.proofs.AnswerLemmas.{asked_by_kind, asked_by_met, asks_load_where}
 use Rattle.amihunk.proofs.words.read_words.Goals as goal
 
 pub request_of-requires : goal.request_of-requires

@@ -8,7 +8,7 @@ use Rattle.clap.specs.Simple.{Shape, entered, label_of, names_of, rows_at}
 use Rattle.clap.specs.Takes.{is_given}
 use Rattle.clap.specs.Faults.{check_fault, defaults_fault, entered_fault, level_fault, settle_fault, walk_fault}
 use Rattle.clap.specs.Kinds.{check_kinds}
-use Rattle.amihunk.proofs.Filled.{AllFilling, Filled, or_else-nil, filled-settled, filled-walk, is_some-first_of}
+use Rattle.amihunk.proofs.FilledRowLemmas.{AllFilling, Filled, or_else-nil, filled-settled, filled-walk, is_some-first_of}
 use Rattle.amihunk.specs.Words.{IsWhole, command_line, load_shape}
 
 -- ---- defaults
@@ -82,7 +82,7 @@ whole_by_values rows at_some of_some = go (first_of (codes "at") rows) (first_of
     go (Some list) (Some file) at_is of_is at_has of_has = record {
       list = list;
       file = file;
-      load = record { rows = rows; load = refl; at = at_is; of = of_is };
+      load = record { rows = rows; load = refl; list_is = at_is; file_is = of_is };
     }
 
 whole_load : (words : List Text) → level_fault built_load [] nothing_held words false [] ≡ []

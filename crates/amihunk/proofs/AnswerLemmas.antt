@@ -5,9 +5,9 @@ use Rattle.clap.specs.declared.error.ErrorKind.{ErrorKind}
 use Rattle.clap.specs.declared.error.ErrorKind.TheVariants as error
 use Rattle.amihunk.specs.declared.words.Request.{Request}
 use Rattle.amihunk.specs.declared.words.Request.TheVariants.{Load, Help, Refused, OutOfMemory}
-use Rattle.amihunk.specs.Words.{Answers, AsksLoad, IsAskedBy, IsNoFlag, IsLoad, IsOf, Met, command_line, load_line}
-use Rattle.amihunk.proofs.Values.{IsLoad-same}
-use Rattle.amihunk.proofs.LoadLine.{fault_of-load_line, is_load-load_line}
+use Rattle.amihunk.specs.Words.{Answers, AsksLoad, IsAskedBy, IsNoFlag, IsLoad, Says, Met, command_line, load_line}
+use Rattle.amihunk.proofs.ValueLemmas.{IsLoad-same}
+use Rattle.amihunk.proofs.LoadLineLemmas.{fault_of-load_line, is_load-load_line}
 
 -- an answer by one of the kinds that the words have is the answer to the words
 pub asked_by_kind : (words : List Text) (request : Request) (k : ErrorKind) → (k ≡ error.OutOfMemory) ⊎ IsAmong k (fault_of command_line words)
@@ -21,7 +21,7 @@ asked_by_kind words OutOfMemory k has answers = tt
 
 -- the request that says what was met is the answer to words with which nothing is wrong
 pub asked_by_met : (words : List Text) (met : Met) (request : Request) → fault_of command_line words ≡ []
-    → met ≡ subcommand_of command_line words → IsOf met request → IsAskedBy words request
+    → met ≡ subcommand_of command_line words → Says met request → IsAskedBy words request
 asked_by_met words met (Load list file) quiet is load = (quiet, subst (λ m. IsLoad m list.now file.now) is load)
 asked_by_met words met (Help text) quiet is load = absurd load
 asked_by_met words met (Refused text) quiet is load = absurd load

@@ -15,8 +15,8 @@ pub first_value-load : (f : Found) (list file : Text) → IsLoad (Some (codes "l
 unfolding rows_met
 first_value-load f list file h =
     let same : rows_of f ≡ h.rows = ap rows_met h.load in (
-      first_value-rows f (codes "at") ∙ (ap (first_of (codes "at")) same ∙ h.at),
-      first_value-rows f (codes "file") ∙ (ap (first_of (codes "file")) same ∙ h.of),
+      first_value-rows f (codes "at") ∙ (ap (first_of (codes "at")) same ∙ h.list_is),
+      first_value-rows f (codes "file") ∙ (ap (first_of (codes "file")) same ∙ h.file_is),
     )
 
 -- what was met has one LIST and one FILE
@@ -24,6 +24,6 @@ pub IsLoad-same : (met : Met) (a b c d : Text) → IsLoad met a b → IsLoad met
 unfolding rows_met
 IsLoad-same met a b c d h k =
     let same : h.rows ≡ k.rows = ap rows_met (sym h.load ∙ k.load) in
-    let list_is : Some a ≡ Some c = sym h.at ∙ (ap (first_of (codes "at")) same ∙ k.at) in
-    let file_is : Some b ≡ Some d = sym h.of ∙ (ap (first_of (codes "file")) same ∙ k.of) in
+    let list_is : Some a ≡ Some c = sym h.list_is ∙ (ap (first_of (codes "at")) same ∙ k.list_is) in
+    let file_is : Some b ≡ Some d = sym h.file_is ∙ (ap (first_of (codes "file")) same ∙ k.file_is) in
     (cc, cc)

@@ -8,7 +8,7 @@ use Rattle.clap.specs.Simple.{Shape, names_of}
 use Rattle.clap.specs.Faults.{check_fault, defaults_fault, level_fault, settle_fault, turn_fault, walk_fault}
 use Rattle.clap.specs.Kinds.{or_else}
 use Rattle.clap.proofs.OnLiterals.{clap_on_literals}
-use Rattle.amihunk.proofs.CommandLine.{built_load, line}
+use Rattle.amihunk.proofs.CommandLineLemmas.{built_load, line}
 use Rattle.amihunk.specs.Words.{IsLoad, IsNoFlag, command_line, load_line}
 
 -- ---- the walk over `--at LIST FILE`
@@ -140,6 +140,6 @@ is_load-load_line program list file plain_list plain_file =
       rows = load_rows list file;
       load = subcommand_of-load_line program list file
           ∙ ap (λ rows. Some (codes "load", rows)) (rows_after-load list file plain_list plain_file);
-      at = values.0;
-      of = values.1;
+      list_is = values.0;
+      file_is = values.1;
     }
