@@ -1,1 +1,2 @@
 mod AskingSteps
+mod JudgeLemmas
