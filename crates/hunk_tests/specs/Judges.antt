@@ -4,7 +4,6 @@ use Rattle.hunk_words.specs.Sites.{target_at}
 use Rattle.hunk_words.specs.Takers.{watch_of}
 use Rattle.hunk_words.specs.Watch.{Watch}
 use Rattle.hunk_words.specs.declared.event.Event.{Event}
-use Rattle.hunk_words.specs.declared.event.FileKind.{FileKind}
 use Rattle.hunk_words.specs.declared.event.FileKind.TheVariants.{Object, Load}
 use Rattle.hunk_tests.specs.declared.judges.HunkSites.{HunkSites}
 use Rattle.hunk_tests.specs.declared.judges.ObjectJudge.{ObjectJudge}

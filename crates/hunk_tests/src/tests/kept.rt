@@ -42,7 +42,8 @@ fn is_taken<T: Taker>(rt: &impl Abort, begun: Decoder<T>, bytes: &[u8]) -> bool 
     true
 }
 
-// The bytes of an object file and of a load file with this many sites, four bytes each.
+// The bytes of a file that begins so, with one hunk of this many longwords. Each of them is a
+// site.
 fn sites_of(alloc: Global, begin: &[u32], count: u32) -> Result<Vec<u8>, Fail> {
     let mut words = begin.to_vec(alloc)?;
     words.extend_from_slice(&[0x0000_03E9, count])?;

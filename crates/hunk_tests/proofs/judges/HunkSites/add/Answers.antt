@@ -1,5 +1,5 @@
 -- Its limit is judged here, and the map takes any offset that is apart from its own.
-use Rattle.std.proofs.Common.{arith, ◌∙◌, sym}
+use Rattle.std.proofs.Common.{arith}
 use Rattle.hunk_tests.proofs.JudgeLemmas.{judges-site}
 use Rattle.hunk_tests.proofs.judges.HunkSites.add.Goals as goal
 
