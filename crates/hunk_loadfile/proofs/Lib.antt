@@ -1,3 +1,4 @@
 pub mod ContentLemmas
 pub mod PatchingLemmas
 pub mod RuleLemmas
+pub mod TwiceLemmas

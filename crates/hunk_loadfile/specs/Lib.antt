@@ -1,5 +1,6 @@
 pub mod FileValue
 pub mod Hunks
 pub mod Patching
+pub mod PatchingLaws
 pub mod Rules
 pub mod Written
