@@ -1,1 +1,4 @@
 pub mod RuleLemmas
+pub mod WroteLemmas
+pub mod OneLoadLemmas
+pub mod LengthLemmas

@@ -3,9 +3,11 @@
 //! - `load_hunk`: a hunk of a load file.
 //! - `build`: which hunks make a load file.
 //! - `load_file`: a load file, made of hunks.
+//! - `laws`: what holds of load files and of their written form.
 #![tactic(auto)]
 
 pub mod build;
+pub mod laws;
 pub mod load_file;
 pub mod load_hunk;
 
