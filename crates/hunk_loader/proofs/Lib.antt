@@ -1,3 +1,4 @@
 pub mod LoadingLemmas
+pub mod MemoryLemmas
 pub mod PlacesLemmas
 pub mod RiseLemmas

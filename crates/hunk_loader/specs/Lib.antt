@@ -1,4 +1,5 @@
 pub mod Image
+pub mod Laws
 pub mod Loading
 pub mod Places
 pub mod Sizes

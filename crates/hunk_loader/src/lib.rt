@@ -1,6 +1,7 @@
 //! Load files in memory: at which addresses their hunks are placed.
 //!
 //! - `image`: what the hunks are in memory.
+//! - `laws`: what holds of the definitions of loading.
 //! - `loading`: loading a load file at addresses.
 //! - `places`: whether the addresses that were handed in hold the hunks, and what is wrong with
 //!   them if not.
@@ -8,6 +9,7 @@
 #![tactic(auto)]
 
 pub mod image;
+pub mod laws;
 pub mod loading;
 pub mod places;
 pub mod sizes;

@@ -4,9 +4,11 @@
 //! - `build`: which hunks make a load file.
 //! - `load_file`: a load file, made of hunks.
 //! - `patching`: adding numbers to the longwords at sites.
+//! - `laws`: what holds of load files and of their written form.
 #![tactic(auto)]
 
 pub mod build;
+pub mod laws;
 pub mod load_file;
 pub mod load_hunk;
 pub mod patching;

@@ -154,7 +154,7 @@ names-unique n ws h =
 -- ---- the longwords of a name
 
 -- four bytes, as a longword and back
-big_bytes-of_four : (a b c d : ℕ) (rest : List ℕ) → a < 256 → b < 256 → c < 256 → d < 256
+pub big_bytes-of_four : (a b c d : ℕ) (rest : List ℕ) → a < 256 → b < 256 → c < 256 → d < 256
     → big_bytes 4 (big_number 4 (a ∷ b ∷ c ∷ d ∷ rest)) ≡ a ∷ b ∷ c ∷ d ∷ []
 big_bytes-of_four a b c d rest ha hb hc hd =
     let n : ℕ = big_number 4 (a ∷ b ∷ c ∷ d ∷ rest) in
