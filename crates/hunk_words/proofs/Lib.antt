@@ -32,3 +32,4 @@ pub mod OneValueLemmas
 pub mod FirstOffenceLemmas
 pub mod LongwordBytes
 pub mod CoreLemmas
+pub mod DecoderLemmas

@@ -15,6 +15,7 @@ pub mod View
 pub mod Takers
 pub mod Numbering
 pub mod DecoderCore
+pub mod Decoder
 pub mod Examples
 pub mod Laws
 pub mod EventLaws

@@ -13,6 +13,7 @@
 #![tactic(auto)]
 
 mod block_steps;
+pub mod decoder;
 pub mod decoder_core;
 pub mod event;
 pub mod fault;
@@ -34,6 +35,7 @@ pub mod taker;
 mod type_steps;
 pub mod watched;
 
+pub use decoder::Decoder;
 pub use decoder_core::{Core, CoreState};
 pub use event::{Event, FileKind};
 pub use fault::{DeviceFault, Fault, ReadFault, Reason, Refusal, WriteFault};

@@ -12,10 +12,11 @@ use Rattle.hunk_words.proofs.decoder_core.Core.end.Goals as goal
 pub returns-then-is_complete-clause-answer : goal.returns-then-is_complete-clause-answer
 returns-then-is_complete-clause-answer g c = λ ws stands.
     let b = stands.good c.in-None.is in
-    let s = c.args.self.state.state in
-    (omega arith,
-     TellsFile-complete _ _ c.args.self.state ws b
-     (subst IsComplete b.reached.stack (c.is_complete.ensures.yes c.if-is_complete.true (around s (sizes_told g.T.Taker.KIND (events (fields_read g.T.Taker.KIND ws)))))))
+    let s = c.args.self.state.state in (
+      omega arith,
+      TellsFile-complete _ _ c.args.self.state ws b
+          (subst IsComplete b.reached.stack (c.is_complete.ensures.yes c.if-is_complete.true (around s (sizes_told g.T.Taker.KIND (events (fields_read g.T.Taker.KIND ws)))))),
+    )
 
 pub returns-then-rest-gt0-clause-answer : goal.returns-then-rest-gt0-clause-answer
 returns-then-rest-gt0-clause-answer g c = λ ws stands. rw c.fault.ensures (FirstOffence-partial _ _ c.args.self.state ws c.args.rest (stands.good c.in-None.is) (omega arith))
