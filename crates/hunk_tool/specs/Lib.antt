@@ -1,6 +1,6 @@
 pub mod Bases
-pub mod Loading
 pub mod FaultLine
+pub mod Loading
 pub mod OneHunk
 pub mod Phrase
 pub mod Reading

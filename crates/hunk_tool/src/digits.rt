@@ -1,8 +1,7 @@
-//! The digits of numbers and bytes, in arrays of fixed size, so that they take no memory.
+//! The digits of numbers, in arrays of fixed size, so that they take no memory.
 
-ghost use Rattle.std.specs.Prelude.{◌≡◌, ◌*◌, ◌≤◌, List, [], ℕ, drop, length};
+ghost use Rattle.std.specs.Prelude.{◌≡◌, ◌≤◌, List, [], ℕ, drop, length};
 ghost use Rattle.std.specs.Fmt.{decimal};
-ghost use Rattle.hex.specs.Hex.{encode_lower};
 ghost use Rattle.hunk_tool.specs.Texts.{eight_digits};
 
 use std::marker::Model;

@@ -8,15 +8,14 @@ ghost use Rattle.hunk_tool.specs.FaultLine.{fault_line, fault_text, name_of, pla
 ghost use Rattle.hunk_tool.specs.Phrase.{phrase_text};
 ghost use Rattle.hunk_tool.specs.Texts.{line};
 
-use crate::digits::Digits;
 use crate::phrase::Phrase;
 use crate::printing::write_pieces;
 use crate::tool_fault::ToolFault;
 use hunk_loader::PlaceFault;
 use hunk_words::{Reason, Sink, WriteFault, write_all};
 
-/// Writes the line that tells why an engine stopped, whose inputs have these names. It takes no
-/// memory.
+/// Writes the line that tells why an engine stopped, whose inputs have these names: a `file` in the
+/// fault is an index of `files`. It takes no memory.
 ///
 /// # Errors
 ///
@@ -85,7 +84,7 @@ fn phrases(fault: &ToolFault) -> (Phrase, Phrase)
     let nothing = Phrase::plain("");
     match *fault {
         ToolFault::Input { fault, .. } => (
-            Phrase::around(": longword ", Digits::decimal(fault.place), ": "),
+            Phrase::decimal(": longword ", fault.place, ": "),
             reason_phrase(fault.reason),
         ),
         ToolFault::InputDevice { .. } => (Phrase::plain(": read failed"), nothing),
@@ -105,12 +104,12 @@ fn place_phrases(fault: PlaceFault) -> (Phrase, Phrase)
             Phrase::plain(""),
         ),
         PlaceFault::PastEnd(hunk) => (
-            Phrase::around("places: hunk ", Digits::decimal(hunk as u64), ""),
+            Phrase::decimal("places: hunk ", hunk as u64, ""),
             Phrase::plain(" passes the end of memory"),
         ),
         PlaceFault::Overlap(earlier, later) => (
-            Phrase::around("places: hunks ", Digits::decimal(earlier as u64), " and "),
-            Phrase::around("", Digits::decimal(later as u64), " overlap"),
+            Phrase::decimal("places: hunks ", earlier as u64, " and "),
+            Phrase::decimal("", later as u64, " overlap"),
         ),
     }
 }
@@ -123,47 +122,25 @@ fn reason_phrase(reason: Reason) -> Phrase
         Reason::PartialLongword => Phrase::plain("file ends inside a longword"),
         Reason::UnexpectedEnd => Phrase::plain("file ends too early"),
         Reason::WrongStart => Phrase::plain("wrong first longword"),
-        Reason::UnknownType(number) => {
-            Phrase::around("unknown block type ", Digits::decimal(number as u64), "")
-        }
+        Reason::UnknownType(number) => Phrase::decimal("unknown block type ", number as u64, ""),
         Reason::MisplacedType(number) => {
-            Phrase::around(
-                "block type ",
-                Digits::decimal(number as u64),
-                " not allowed here",
-            )
+            Phrase::decimal("block type ", number as u64, " not allowed here")
         }
         Reason::UnsupportedBlock(number) => {
-            Phrase::around(
-                "block type ",
-                Digits::decimal(number as u64),
-                " not supported",
-            )
+            Phrase::decimal("block type ", number as u64, " not supported")
         }
         Reason::UnsupportedExt(number) => {
-            Phrase::around(
-                "external type ",
-                Digits::decimal(number as u64),
-                " not supported",
-            )
+            Phrase::decimal("external type ", number as u64, " not supported")
         }
         Reason::BothMemoryBits => Phrase::plain("both memory bits set"),
         Reason::ResidentNames => Phrase::plain("resident library names not supported"),
         Reason::HunkTable => Phrase::plain("bad hunk table"),
         Reason::TooLarge => Phrase::plain("too large"),
         Reason::ContentTooLong => Phrase::plain("block longer than its hunk"),
-        Reason::NoSuchHunk(hunk) => Phrase::around("no hunk ", Digits::decimal(hunk as u64), ""),
-        Reason::SiteOutside(offset) => {
-            Phrase::around("site ", Digits::hexadecimal(offset), " outside its hunk")
-        }
-        Reason::SiteOverlap(offset) => {
-            Phrase::around("site ", Digits::hexadecimal(offset), " overlaps another")
-        }
-        Reason::SymbolKind(kind) => Phrase::around(
-            "symbol of kind ",
-            Digits::decimal(kind as u64),
-            "",
-        ),
+        Reason::NoSuchHunk(hunk) => Phrase::decimal("no hunk ", hunk as u64, ""),
+        Reason::SiteOutside(offset) => Phrase::hexadecimal("site ", offset, " outside its hunk"),
+        Reason::SiteOverlap(offset) => Phrase::hexadecimal("site ", offset, " overlaps another"),
+        Reason::SymbolKind(kind) => Phrase::decimal("symbol of kind ", kind as u64, ""),
         Reason::TrailingData => Phrase::plain("data after the last hunk"),
     }
 }

@@ -1,6 +1,8 @@
 //! Texts with at most one number.
 
 ghost use Rattle.std.specs.Prelude.{◌≡◌, ◌++◌, ◌+◌, ◌≤◌, length};
+ghost use Rattle.std.specs.Fmt.{decimal};
+ghost use Rattle.hunk_tool.specs.Texts.{eight_digits};
 
 use crate::digits::Digits;
 
@@ -34,21 +36,38 @@ impl Phrase {
         self.after.as_bytes()
     }
 
+    /// A text without a number.
     pub(crate) fn plain(text: &'static str) -> Phrase
         requires { length text.now ≤ 64 }
         ensures { phrase_text result ≡ text.now }
     {
-        Phrase::around(text, Digits::none(), "")
+        Phrase {
+            before: text,
+            digits: Digits::none(),
+            after: "",
+        }
     }
 
-    pub(crate) fn around(before: &'static str, digits: Digits, after: &'static str) -> Phrase
-        requires around { length before.now + length after.now ≤ 64 }
-        requires digits { length digits ≤ 20 }
-        ensures { phrase_text result ≡ before.now ++ digits ++ after.now }
+    /// A text around a number in decimal digits.
+    pub(crate) fn decimal(before: &'static str, number: u64, after: &'static str) -> Phrase
+        requires { length before.now + length after.now ≤ 64 }
+        ensures { phrase_text result ≡ before.now ++ decimal number ++ after.now }
     {
         Phrase {
             before,
-            digits,
+            digits: Digits::decimal(number),
+            after,
+        }
+    }
+
+    /// A text around a longword in eight hexadecimal digits.
+    pub(crate) fn hexadecimal(before: &'static str, number: u32, after: &'static str) -> Phrase
+        requires { length before.now + length after.now ≤ 64 }
+        ensures { phrase_text result ≡ before.now ++ eight_digits number ++ after.now }
+    {
+        Phrase {
+            before,
+            digits: Digits::hexadecimal(number),
             after,
         }
     }

@@ -4,7 +4,7 @@ use Rattle.hunk_words.specs.Kinds.{Width, Kind, Field, width}
 use Rattle.hunk_words.specs.Kinds.Width.{long, half}
 use Rattle.hunk_words.specs.Machine.{due, IsComplete}
 use Rattle.hunk_words.specs.Reading.{Progress, Reads, start_of, begun, word_next, read_word, read_words, word_labels, labels}
-use Rattle.hunk_words.specs.Files.{AllLong, Tree, spelling, IsFileOf, most_longwords}
+use Rattle.hunk_words.specs.Files.{AllLong, Tree, spelling, IsFileOf, IsFront, most_longwords}
 use Rattle.hunk_words.specs.FirstOffence.{OffendsAt, FirstOffence, end_reason}
 use Rattle.hunk_words.specs.FirstOffence.FirstOffence.{end_offends}
 use Rattle.hunk_words.specs.Events.{event_of, events}
@@ -22,7 +22,7 @@ use Rattle.hunk_words.specs.declared.fault.Refusal.TheVariants as refusal_is
 use Rattle.hunk_words.specs.declared.state.State.{State}
 use Rattle.hunk_words.proofs.ProgressLemmas.{words-read}
 use Rattle.hunk_words.proofs.FirstOffenceLemmas.{offends-at, too-long, ends-early}
-use Rattle.hunk_words.proofs.OffenceLemmas.{complete-file}
+use Rattle.hunk_words.proofs.OffenceLemmas.{complete-file, read-front}
 use Rattle.hunk_words.proofs.FrontLemmas.{spelling-labels}
 use Rattle.hunk_words.proofs.WordLemmas.{length-events_one}
 
@@ -172,10 +172,11 @@ pub few-events : (kind : FileKind) (Stands : List Event → Type 0) (s : CoreSta
     → length (events (fields_read kind ws)) + 1 < 2 ^ 29
 few-events kind Stands s ws b room = omega (arith, length-told (fields_read kind ws), length-labels ws (start_of kind ∷ []), b.place)
 
--- ---- the end
+-- where no refusal is kept, the longwords are a good front
+pub StandsBy-front : (kind : FileKind) (Stands : List Event → Type 0) (s : CoreState) (ws : List ℕ) → s.refusal ≡ None → StandsBy kind Stands s ws → IsFront kind ws
+StandsBy-front kind Stands s ws none stands = let b = stands.good none in read-front kind ws b.progress b.long b.few b.read
 
-pub stands-good : (kind : FileKind) (Stands : List Event → Type 0) (s : CoreState) (ws : List ℕ) → StandsBy kind Stands s ws → s.refusal ≡ None → Behind kind Stands s ws
-stands-good kind Stands s ws stands none = stands.good none
+-- ---- the end
 
 early : (kind : FileKind) (Stands : List Event → Type 0) (s : CoreState) (ws : List ℕ) (rest : ℕ) (b : Behind kind Stands s ws) → (rest ≡ 0 → IsComplete b.progress.stack → ⊥)
     → FirstOffence kind ws rest s.place (end_reason rest)

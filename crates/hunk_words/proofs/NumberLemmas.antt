@@ -1,14 +1,13 @@
 -- One number more: what is taken, what it tells, and how the taker's answer judges it.
-use Rattle.std.proofs.Common.{◌≡◌, ℕ, zero, suc, ◌+◌, ◌<◌, ◌≤◌, ◌^◌, Bool, true, false, List, [], ◌∷◌, ◌++◌, length, Option, Some, None, Result, Ok, Err, nat_le, refl, sym, ap, subst, ◌∙◌, append_assoc, arith, rules, tests}
-use Rattle.std.proofs.lemmas.Grind.{common_steps}
-use Rattle.hunk_words.specs.Kinds.{Kind, Field, Passes, field, judged, width, bound, and_then, low, type_of}
-use Rattle.hunk_words.specs.Kinds.Kind.{object_start, load_start, unit_type, hunk_type, content_type, block_type, past_end, unit_length, name_length, word, value, content_size, reloc_count, hunk_number, offset, debug_length, ext_entry, ref_count, ref_offset, symbol_entry, resident, table_size, first_hunk, last_hunk, header_size, short_count, short_hunk, short_offset, short_pad}
+use Rattle.std.proofs.Common.{◌≡◌, ℕ, zero, suc, List, [], ◌∷◌, ◌++◌, Option, Some, None, Result, Ok, Err, refl, sym, ap, subst, ◌∙◌, rules, tests}
+use Rattle.hunk_words.specs.Kinds.{Kind, Field, Passes, field, judged, and_then, low, type_of}
+use Rattle.hunk_words.specs.Kinds.Kind.{object_start, load_start, block_type, offset, ext_entry, ref_offset, symbol_entry, short_offset}
 use Rattle.hunk_words.specs.Machine.{Takes, due, next, push}
-use Rattle.hunk_words.specs.SiteRules.{limit_of, site_judged, seen_after, seen_all, all_apart}
-use Rattle.hunk_words.specs.Reading.{Progress, start_of, field_judged, field_next}
+use Rattle.hunk_words.specs.SiteRules.{limit_of, site_judged, seen_after, seen_all}
+use Rattle.hunk_words.specs.Reading.{Progress, start_of, field_judged}
 use Rattle.hunk_words.specs.Events.{event_at, event_of, events, with_event, at_end}
 use Rattle.hunk_words.specs.Watch.{Watch, watched, unwatched, place_after, seen_now}
-use Rattle.hunk_words.specs.Takers.{Judges, JudgesEvent, JudgesNone, JudgesSite, watch_of, sizes_told}
+use Rattle.hunk_words.specs.Takers.{JudgesEvent, JudgesNone, JudgesSite, watch_of, sizes_told}
 use Rattle.hunk_words.specs.View.{Steps, IsState, view, sizes_with}
 use Rattle.hunk_words.specs.Numbering.{Reached, MayCome, NumberAnswered}
 use Rattle.hunk_words.specs.declared.event.Event.{Event}

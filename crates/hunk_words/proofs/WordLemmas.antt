@@ -1,9 +1,9 @@
 -- One longword more: one number, or two halves.
 use Rattle.std.proofs.Common.{◌≡◌, ℕ, ◌+◌, ◌<◌, ◌≤◌, ◌/◌, ◌%◌, ◌^◌, Bool, true, false, List, [], ◌∷◌, ◌++◌, length, Option, Some, None, Result, Ok, Err, refl, sym, ap, subst, ◌∙◌, append_assoc, length-append, arith}
-use Rattle.hunk_words.specs.Kinds.{Width, Kind, Field, field, width, bound, halved}
+use Rattle.hunk_words.specs.Kinds.{Width, Field, field, width, bound, halved}
 use Rattle.hunk_words.specs.Kinds.Width.{long, half}
 use Rattle.hunk_words.specs.Machine.{due, next}
-use Rattle.hunk_words.specs.Reading.{Progress, field_judged, field_next, field_step, unless, width_step, read_word, word_labels, ◌>>=◌}
+use Rattle.hunk_words.specs.Reading.{Progress, field_judged, field_next, field_step, unless, width_step, word_labels, ◌>>=◌}
 use Rattle.hunk_words.specs.Events.{event_of, events, with_event}
 use Rattle.hunk_words.specs.Takers.{sizes_told}
 use Rattle.hunk_words.specs.View.{around, due_view}

@@ -1,5 +1,5 @@
 -- What a decoder stands for: the bytes that it was fed, in any pieces.
-use Rattle.std.specs.Prelude.{◌≡◌, ℕ, List, length, Some, None, Result, Ok, Err}
+use Rattle.std.specs.Prelude.{◌≡◌, ℕ, List, length, None, Result, Ok, Err}
 use Rattle.hunk_words.specs.Longwords.{longwords, unfinished, IsWhole}
 use Rattle.hunk_words.specs.Splitter.{StandsFor as SplitterStandsFor}
 use Rattle.hunk_words.specs.FirstOffence.{FirstOffence}

@@ -1,6 +1,6 @@
 -- What a decoder's state and its taker stand for, a number at a time.
 use Rattle.std.specs.Prelude.{◌≡◌, ℕ, ◌<◌, ◌^◌, List, [], ◌∷◌, ◌++◌, length, Some, None, Result, Ok, Err}
-use Rattle.hunk_words.specs.Kinds.{Kind, Field, field, width, bound}
+use Rattle.hunk_words.specs.Kinds.{Field, field, width, bound}
 use Rattle.hunk_words.specs.Machine.{due, Takes}
 use Rattle.hunk_words.specs.SiteRules.{seen_all}
 use Rattle.hunk_words.specs.Reading.{Progress, start_of, field_judged, field_next, read_word, word_labels}

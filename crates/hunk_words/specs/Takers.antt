@@ -1,5 +1,5 @@
 -- What a taker answers to an event, by the events that it took before.
-use Rattle.std.specs.Prelude.{◌≡◌, ℕ, ◌+◌, ◌<◌, ◌≤◌, Bool, true, false, List, Option, Some, None, Result, Ok, Err}
+use Rattle.std.specs.Prelude.{◌≡◌, ℕ, ◌+◌, ◌<◌, ◌≤◌, true, false, List, Option, Some, None, Result, Ok, Err}
 use Rattle.hunk_words.specs.SiteRules.{all_apart}
 use Rattle.hunk_words.specs.Watch.{Watch, watched, unwatched}
 use Rattle.hunk_words.specs.declared.event.FileKind.{FileKind}

@@ -1,7 +1,9 @@
 //! Longwords of a file, judged and told to a taker.
 
-ghost use Rattle.std.specs.Prelude.{◌≡◌, ℕ, List, [], ◌∷◌, ◌++◌, length, Option, Some, None, IsTrue, IsFalse};
+ghost use Rattle.std.specs.Prelude.{◌≡◌, ℕ, List, [], ◌∷◌, ◌++◌, length, Option, Some, None, IsTrue, IsFalse, OnOk};
 ghost use Rattle.hunk_words.specs.DecoderCore.{Behind, StandsBy, StandsFor, EndAnswered, Keeps, kept};
+ghost use Rattle.hunk_words.specs.Files.{IsFront};
+ghost use Rattle.hunk_words.specs.Longwords.{longwords};
 ghost use Rattle.hunk_words.specs.Machine.{IsComplete};
 ghost use Rattle.hunk_words.specs.Reading.{start_of};
 ghost use Rattle.hunk_words.specs.View.{Around, IsState, due_view, view};
@@ -12,6 +14,7 @@ use crate::fault::{Fault, Reason, Refusal};
 use crate::numbers::{Stop, take_word};
 use crate::state::{Due, State};
 use crate::taker::Taker;
+use byteorder::{BigEndian, ByteOrder};
 
 // The longwords that a file may have.
 const MOST_LONGWORDS: u64 = 0x1000_0000;
@@ -124,6 +127,7 @@ impl<T: Taker> Core<T> {
         ensures stands { (ws : List ℕ) → StandsFor T.KIND T.stands_for self.old ws → StandsFor T.KIND T.stands_for self.new (ws ++ word ∷ []) }
         ensures kept { Keeps (kept self.new) result }
         ensures again { (refusal : Refusal) → kept self.old ≡ Some refusal → result ≡ Err refusal }
+        ensures front { OnOk result ((ws : List ℕ) → StandsFor T.KIND T.stands_for self.new ws → IsFront T.KIND ws) }
     {
         match self.state.refusal {
             Some(refusal) => return Err(refusal),
@@ -134,6 +138,30 @@ impl<T: Taker> Core<T> {
             Some(refusal) => Err(refusal),
             None => Ok(()),
         }
+    }
+
+    /// Takes all longwords of these bytes, and leaves out up to three bytes behind them.
+    pub fn words(&mut self, bytes: &[u8]) -> Result<(), Refusal>
+        requires { kept self.old ≡ None }
+        ensures stands { (ws : List ℕ) → StandsFor T.KIND T.stands_for self.old ws → StandsFor T.KIND T.stands_for self.new (ws ++ longwords bytes.now) }
+        ensures kept { Keeps (kept self.new) result }
+    {
+        let count = bytes.len() / 4;
+        for index in 0..count {
+            let at = 4 * index;
+            match self.word(BigEndian::read_u32(&bytes[at..at + 4])) {
+                Ok(()) => {}
+                Err(refusal) => return Err(refusal),
+            }
+        }
+        Ok(())
+    }
+
+    /// The refusal that it keeps.
+    pub fn refusal(&self) -> Option<Refusal>
+        ensures { result ≡ kept self.now }
+    {
+        self.state.refusal
     }
 
     /// The number of longwords taken, which is the place of the next one.

@@ -6,5 +6,5 @@ use Rattle.hunk_tool.proofs.fault_line.phrases.Goals as goal
 
 pub returns-in-Input : goal.returns-in-Input
 returns-in-Input c = λ names.
-    subst (λ fault. name_of names fault ++ (phrase_text c.around.result ++ phrase_text c.reason_phrase.result) ≡ fault_text names fault) (sym c.in-Input.is)
-    (fault_text-Input names c.in-Input.file c.in-Input.fault _ _ (rw c.decimal.ensures.value at c.around.ensures) c.reason_phrase.ensures)
+    subst (λ fault. name_of names fault ++ (phrase_text c.decimal.result ++ phrase_text c.reason_phrase.result) ≡ fault_text names fault) (sym c.in-Input.is)
+    (fault_text-Input names c.in-Input.file c.in-Input.fault _ _ c.decimal.ensures c.reason_phrase.ensures)

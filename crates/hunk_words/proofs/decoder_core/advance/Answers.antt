@@ -1,7 +1,6 @@
 -- One longword further: it is taken, or refused at its place.
-use Rattle.std.proofs.Common.{◌≡◌, ◌<◌, ◌≤◌, ◌+◌, length, sym, subst, arith}
-use Rattle.hunk_words.specs.Events.{events}
-use Rattle.hunk_words.specs.DecoderCore.{Behind, StandsBy, fields_read}
+use Rattle.std.proofs.Common.{arith}
+use Rattle.hunk_words.specs.DecoderCore.{fields_read}
 use Rattle.hunk_words.proofs.CoreLemmas.{StandsBy-taken, StandsBy-refused, StandsBy-too_large, few-events}
 use Rattle.hunk_words.proofs.decoder_core.advance.Goals as goal
 

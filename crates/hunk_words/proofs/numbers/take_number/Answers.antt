@@ -1,13 +1,8 @@
 -- The table lets the number pass, and the taker judges what it tells.
-use Rattle.std.proofs.Common.{◌≡◌, ℕ, List, Option, Some, None, Result, Ok, Err, sym, ap, subst, ◌∙◌}
-use Rattle.hunk_words.specs.Kinds.{Field, and_then}
-use Rattle.hunk_words.specs.Machine.{due}
-use Rattle.hunk_words.specs.SiteRules.{limit_of, site_judged}
-use Rattle.hunk_words.specs.Reading.{Progress, field_judged}
+use Rattle.std.proofs.Common.{Ok, Err}
 use Rattle.hunk_words.specs.Events.{events}
 use Rattle.hunk_words.specs.Takers.{sizes_told}
 use Rattle.hunk_words.specs.View.{Steps}
-use Rattle.hunk_words.specs.Numbering.{Reached, MayCome}
 use Rattle.hunk_words.specs.declared.fault.Reason.TheVariants.{SiteOutside, SiteOverlap}
 use Rattle.hunk_words.specs.declared.sites.SiteRefusal.TheVariants.{Outside, Overlap}
 use Rattle.hunk_words.proofs.NumberLemmas.{number-taken, number-answered, site-refused}

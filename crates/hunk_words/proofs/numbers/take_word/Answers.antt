@@ -1,5 +1,5 @@
 -- One number or two.
-use Rattle.std.proofs.Common.{◌≡◌, ◌+◌, ◌<◌, ◌/◌, ◌%◌, ◌^◌, refl, Ok, ◌∙◌, true, false, arith}
+use Rattle.std.proofs.Common.{◌≡◌, ◌/◌, ◌^◌, refl, ◌∙◌, true, false, arith}
 use Rattle.hunk_words.specs.Kinds.{halved, width, field}
 use Rattle.hunk_words.specs.Machine.{due}
 use Rattle.hunk_words.specs.Events.{events}

@@ -1,5 +1,5 @@
 -- One byte further; a refusal stands for the rest of the piece.
-use Rattle.std.proofs.Common.{◌≡◌, ◌<◌, ◌+◌, ◌++◌, take, drop, length, subst, Err, arith}
+use Rattle.std.proofs.Common.{◌+◌, ◌++◌, take, drop, subst, arith}
 use Rattle.hunk_words.specs.Decoder.{StandsFor}
 use Rattle.hunk_words.proofs.DecoderLemmas.{StandsFor-append, append-next, append-rest}
 use Rattle.hunk_words.proofs.decoder.Decoder.push_all.Goals as goal

@@ -1,9 +1,8 @@
 -- The longwords are a file where it may end, and else end too early.
-use Rattle.std.proofs.Common.{◌≡◌, ◌<◌, ap, sym, subst, arith}
+use Rattle.std.proofs.Common.{sym, subst, arith}
 use Rattle.hunk_words.specs.Machine.{IsComplete}
 use Rattle.hunk_words.specs.Events.{events}
 use Rattle.hunk_words.specs.Takers.{sizes_told}
-use Rattle.hunk_words.specs.FirstOffence.{FirstOffence}
 use Rattle.hunk_words.specs.View.{around}
 use Rattle.hunk_words.specs.DecoderCore.{fields_read}
 use Rattle.hunk_words.proofs.CoreLemmas.{FirstOffence-partial, FirstOffence-unexpected, TellsFile-complete}
