@@ -1,1 +1,4 @@
 pub mod Hunks
+pub mod Rules
+pub mod Written
+pub mod FileValue
