@@ -1,1 +1,3 @@
 pub mod RuleLemmas
+pub mod OpenHunkLemmas
+pub mod BuilderLemmas

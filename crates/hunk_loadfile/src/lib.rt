@@ -6,8 +6,10 @@
 #![tactic(auto)]
 
 pub mod build;
+pub mod load_builder;
 pub mod load_file;
 pub mod load_hunk;
+mod open_hunk;
 
 pub use build::{BuildFault, BuildRefusal};
 pub use hunk_objects::{HunkKind, Memory};

@@ -36,10 +36,10 @@ Opens-ended n ws w is_ended opens =
     let longer = length-bytes_of-push ws w in
     let short : length (name_of ws) < length (bytes_of ws) = opens.ended is_ended in
     record {
-  name = opens.name ∙ sym same;
-  ended = λ e. rw same (omega arith);
-  goes_on = λ e. let wrong : true ≡ false = sym is_ended ∙ e in cc;
-}
+      name = opens.name ∙ sym same;
+      ended = λ e. rw same (omega arith);
+      goes_on = λ e. let wrong : true ≡ false = sym is_ended ∙ e in cc;
+    }
 
 -- One that has not takes the longword's bytes before its first zero byte.
 pub Opens-more : {A : Type 0} (n m : OpenName A) (ws front : List ℕ) (w : ℕ) → n.ended ≡ false → Opens n ws → front ≡ before_first (λ b. b == 0) (big_bytes 4 w)
@@ -51,10 +51,10 @@ Opens-more n m ws front w goes_on opens cut items ends =
     let count : length (name_of (ws ++ (w ∷ []))) ≡ length (name_of ws) + length front = ap length more ∙ length-append (name_of ws) front in
     let longer : length (bytes_of (ws ++ (w ∷ []))) ≡ length (bytes_of ws) + 4 = length-bytes_of-push ws w in
     record {
-  name = items ∙ ap (λ t. t ++ front) opens.name ∙ sym more;
-  ended = λ e. let few : length front < 4 = ltb-true (length front) 4 (sym ends ∙ e) in omega arith;
-  goes_on = λ e. let many : 4 ≤ length front = ltb-false (length front) 4 (sym ends ∙ e) in omega arith;
-}
+      name = items ∙ ap (λ t. t ++ front) opens.name ∙ sym more;
+      ended = λ e. let few : length front < 4 = ltb-true (length front) 4 (sym ends ∙ e) in omega arith;
+      goes_on = λ e. let many : 4 ≤ length front = ltb-false (length front) 4 (sym ends ∙ e) in omega arith;
+    }
 
 -- the bytes of a longword before its first zero byte
 pub front-cut : (w : ℕ) (long front : List ℕ) → long ≡ big_bytes 4 w → front ≡ before_first (λ b. b == 0) long → front ≡ before_first (λ b. b == 0) (big_bytes 4 w)

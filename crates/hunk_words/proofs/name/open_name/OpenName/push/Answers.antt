@@ -12,7 +12,7 @@ returns-then-self-clause-takes g c = λ words opens. Opens-ended _ words c.args.
 pub invariant_of-self-2 : goal.invariant_of-self-2
 invariant_of-self-2 g c = record {
   no_zero = subst (All IsNameByte) (sym c.in_ok-extend_from_slice.ensures.items)
-  (All-append IsNameByte _ _ c.args.self.now.no_zero (subst (All IsNameByte) (sym (front-cut c.args.word _ _ c.big_endian-longword.ensures c.until_zero-front.ensures)) (name_of-bytes (c.args.word ∷ []))));
+      (All-append IsNameByte _ _ c.args.self.now.no_zero (subst (All IsNameByte) (sym (front-cut c.args.word _ _ c.big_endian-longword.ensures c.until_zero-front.ensures)) (name_of-bytes (c.args.word ∷ []))));
 }
 
 pub returns-clause-takes : goal.returns-clause-takes
