@@ -1,3 +1,5 @@
 pub mod RuleLemmas
 pub mod OpenHunkLemmas
 pub mod BuilderLemmas
+pub mod PartialLemmas
+pub mod ReadLoadLemmas

@@ -5,3 +5,4 @@ pub mod FileValue
 pub mod Partial
 pub mod OpenHunk
 pub mod Builder
+pub mod LoadDecoder

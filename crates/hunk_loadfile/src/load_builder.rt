@@ -79,6 +79,13 @@ impl<A: Allocator + Copy> LoadBuilder<A> {
         }
     }
 
+    /// The hunks that ended.
+    pub fn into_hunks(self) -> Vec<LoadHunk<A>, A>
+        ensures { result.items ≡ self.hunks.items }
+    {
+        self.hunks
+    }
+
     fn add_size(&mut self, bits: u8, size: u32) -> Result<(), AllocError>
         ensures { Steps self.old self.new result (Event.HunkSize bits size) }
     {

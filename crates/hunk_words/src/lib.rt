@@ -8,7 +8,7 @@
 //! - `streams`: readers and writers that tell their bytes, their failure and their end.
 //! - `watched`: readers and writers of std that are watched.
 //! - `pieces`, `room`: a reader and a writer over memory, which fail where they are told to.
-//! - `name`: names, as longwords hold them.
+//! - `name`: names, as longwords hold them, whole or one longword after another.
 //! - `sites`: the sites of a hunk, which do not share a byte.
 #![tactic(auto)]
 
