@@ -5,3 +5,7 @@ pub mod TwiceLemmas
 pub mod WroteLemmas
 pub mod OneLoadLemmas
 pub mod LengthLemmas
+pub mod OpenHunkLemmas
+pub mod BuilderLemmas
+pub mod PartialLemmas
+pub mod ReadLoadLemmas

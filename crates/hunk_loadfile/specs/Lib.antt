@@ -6,3 +6,7 @@ pub mod PatchingLaws
 pub mod Rules
 pub mod Writing
 pub mod Written
+pub mod Partial
+pub mod OpenHunk
+pub mod Builder
+pub mod LoadDecoder

@@ -3,18 +3,26 @@
 //! - `load_hunk`: a hunk of a load file.
 //! - `build`: which hunks make a load file.
 //! - `load_file`: a load file, made of hunks.
+//! - `load_builder`: what builds a load file of the events that its longwords tell.
+//! - `load_decoder`: load files from bytes.
+//! - `partial`: the load file that events told so far.
 //! - `patching`: adding numbers to the longwords at sites.
 //! - `laws`: what holds of load files and of their written form.
 #![tactic(auto)]
 
 pub mod build;
 pub mod laws;
+pub mod load_builder;
+pub mod load_decoder;
 pub mod load_file;
 pub mod load_hunk;
+mod open_hunk;
+pub mod partial;
 pub mod patching;
 
 pub use build::{BuildFault, BuildRefusal};
 pub use hunk_objects::{HunkKind, Memory};
+pub use load_decoder::LoadDecoder;
 pub use load_file::LoadFile;
 pub use load_hunk::LoadHunk;
 pub use patching::{add_at, patch};

@@ -34,3 +34,5 @@ pub mod LongwordBytes
 pub mod CoreLemmas
 pub mod DecoderLemmas
 pub mod RunLemmas
+pub mod OpenNameLemmas
+pub mod TakerLemmas

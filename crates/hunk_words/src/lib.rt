@@ -8,7 +8,7 @@
 //! - `streams`: readers and writers that tell their bytes, their failure and their end.
 //! - `watched`: readers and writers of std that are watched.
 //! - `pieces`, `room`: a reader and a writer over memory, which fail where they are told to.
-//! - `name`: names, as longwords hold them.
+//! - `name`: names, as longwords hold them, whole or one longword after another.
 //! - `sites`: the sites of a hunk, which do not share a byte.
 //! - `taker`: what takes the events of a file.
 //! - `decoder_core`, `decoder`: longwords and bytes of a file, judged and told to a taker. What is due
@@ -45,6 +45,7 @@ pub use event::{Event, FileKind};
 pub use fault::{DeviceFault, Fault, ReadFault, Reason, Refusal, WriteFault};
 pub use kinds::{BlockType, ContentType, EntryType, Half};
 pub use name::Name;
+pub use name::open_name::OpenName;
 pub use pieces::Pieces;
 pub use room::Room;
 pub use sites::{SiteRefusal, Sites, Walk};

@@ -1,0 +1,48 @@
+-- What a builder of load files stands for: the events that it took.
+use Rattle.std.specs.Prelude.{◌≡◌, ℕ, ◌≤◌, List, [], ◌∷◌, length, map, Result, MatchResult}
+use Rattle.hunk_words.specs.OpenName.{Opens}
+use Rattle.hunk_words.specs.Values.{Part}
+use Rattle.hunk_words.specs.Building.{Receiver as ToldReceiver, Built, built, load_begun, step}
+use Rattle.hunk_words.specs.Building.Receiver.{nothing_more, to_name, to_content, to_debug, to_symbol}
+use Rattle.hunk_words.specs.Watch.{Watch, place_after, seen_now}
+use Rattle.hunk_words.specs.Takers.{watch_of}
+use Rattle.hunk_words.specs.declared.event.Event.{Event}
+use Rattle.hunk_words.specs.declared.event.FileKind.TheVariants.{Load}
+use Rattle.hunk_loadfile.specs.Hunks.{FileHunk}
+use Rattle.hunk_loadfile.specs.OpenHunk.{Shows}
+use Rattle.hunk_loadfile.specs.Partial.{file_hunks}
+use Rattle.hunk_loadfile.specs.declared.load_builder.LoadBuilder.{LoadBuilder}
+use Rattle.hunk_loadfile.specs.declared.load_builder.Receiver.{Receiver}
+use Rattle.hunk_loadfile.specs.declared.load_builder.Receiver.TheVariants.{Nothing, Content, Debug, Symbol}
+
+-- The next word goes where it is told to. The words of a hunk's name are not kept.
+abbrev pub Receives : {A : Type 0} → Receiver A → ToldReceiver → Type 0
+Receives Nothing nothing_more = Unit {0}
+Receives Nothing to_name = Unit {0}
+Receives Content to_content = Unit {0}
+Receives Debug to_debug = Unit {0}
+Receives (Symbol name) (to_symbol ws) = Opens name ws
+Receives _ _ = ⊥
+
+-- The builder holds what is built, and the sites that were seen.
+pub record Holds {A : Type 0} (b : LoadBuilder A) (told : Built) (watch : Watch) : Type 0 where
+  pub part : Part
+  pub one_part : told.parts ≡ part ∷ []
+  pub hunks : b.hunks.items ≡ file_hunks told.sizes part.hunks
+  pub few : length part.hunks ≤ length told.sizes
+  pub sizes : b.sizes.items ≡ told.sizes
+  pub watched : watch.place.sizes ≡ map (λ s. s.1) told.sizes
+  pub ended : watch.place.ended ≡ length part.hunks
+  pub hunk : Shows b.hunk watch.place.limit watch.seen told.hunk
+  pub receiver : Receives b.receiver told.receiver
+
+abbrev pub watch_after : Watch → Event → Watch
+watch_after v e = record { place = place_after Load v.place e; seen = seen_now v.seen e }
+
+-- It takes the event, or stands as it was.
+abbrev pub Steps : {A E : Type 0} → LoadBuilder A → LoadBuilder A → Result (Unit {0}) E → Event → Type 0
+Steps old new answer event = (told : Built) (watch : Watch) → Holds old told watch
+    → MatchResult answer (λ done. Holds new (step told event) (watch_after watch event)) (λ e. Holds new told watch)
+
+abbrev pub StandsFor : {A : Type 0} → LoadBuilder A → List Event → Type 0
+StandsFor b told = Holds b (built load_begun told) (watch_of Load told)

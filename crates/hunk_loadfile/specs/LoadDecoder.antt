@@ -1,0 +1,47 @@
+-- What a decoder of load files stands for, and what it answers.
+use Rattle.std.specs.Prelude.{◌≡◌, List, ℕ, length, Option, Some, Result, Ok, Err, Bool, IsTrue, Vec, ◌⊎◌}
+use Rattle.hunk_words.specs.Decoder.{StandsFor as DecoderStandsFor}
+use Rattle.hunk_words.specs.DecoderCore.{kept}
+use Rattle.hunk_words.specs.FirstOffence.{FirstOffence, OffendsAt, EndsEarly}
+use Rattle.hunk_words.specs.Longwords.{longwords, unfinished, IsWhole}
+use Rattle.hunk_words.specs.Streams.{HasRead}
+use Rattle.hunk_words.specs.declared.event.FileKind.TheVariants.{Load}
+use Rattle.hunk_words.specs.declared.fault.Refusal.{Refusal}
+use Rattle.hunk_words.specs.declared.fault.Refusal.TheVariants as refusal_is
+use Rattle.hunk_words.specs.declared.fault.ReadFault.{ReadFault}
+use Rattle.hunk_words.specs.declared.fault.ReadFault.TheVariants as read_fault
+use Rattle.hunk_loadfile.specs.Hunks.{FileHunk}
+use Rattle.hunk_loadfile.specs.FileValue.{IsLoad}
+use Rattle.hunk_loadfile.specs.Builder.{StandsFor as BuilderStandsFor}
+use Rattle.hunk_loadfile.specs.declared.load_decoder.LoadDecoder.{LoadDecoder}
+
+-- the bytes that it was fed
+abbrev pub StandsFor : {A : Type 0} → LoadDecoder A → List ℕ → Type 0
+StandsFor d bytes = DecoderStandsFor Load BuilderStandsFor d.decoder bytes
+
+-- the refusal that it keeps
+abbrev pub refusal_of : {A : Type 0} → LoadDecoder A → Option Refusal
+refusal_of d = kept d.decoder.core
+
+-- The bytes are whole, and their longwords are the load file of these hunks.
+abbrev pub IsLoadOf : List FileHunk → List ℕ → Type 0
+IsLoadOf hunks bytes = IsWhole bytes × IsLoad hunks (longwords bytes)
+
+-- The refusal is the first offence of the bytes fed, or want of memory.
+abbrev pub RefusesBytes : List ℕ → Refusal → Type 0
+RefusesBytes bytes (refusal_is.Fault fault) = OffendsAt Load (longwords bytes) fault.place fault.reason
+RefusesBytes bytes refusal_is.OutOfMemory = Unit {0}
+
+-- The same of whole input.
+abbrev pub RefusesInput : List ℕ → Refusal → Type 0
+RefusesInput bytes (refusal_is.Fault fault) = FirstOffence Load (longwords bytes) (length (unfinished bytes)) fault.place fault.reason
+RefusesInput bytes refusal_is.OutOfMemory = Unit {0}
+
+-- What was read is refused for its first offence; for its end only where the reader ended. A device's failure comes from
+-- a read that failed.
+abbrev pub RefusesRead : (old new : Option (List ℕ)) (ended failed : Bool) → ReadFault → Type 0
+RefusesRead old new ended failed (read_fault.Refused (refusal_is.Fault fault)) =
+    HasRead old new (λ bytes. OffendsAt Load (longwords bytes) fault.place fault.reason)
+    ⊎ (IsTrue ended × HasRead old new (λ bytes. EndsEarly Load (longwords bytes) (length (unfinished bytes)) fault.place fault.reason))
+RefusesRead old new ended failed (read_fault.Refused refusal_is.OutOfMemory) = Unit {0}
+RefusesRead old new ended failed read_fault.Device = IsTrue failed

@@ -1,0 +1,253 @@
+//! What builds a load file of the events that its longwords tell.
+ghost use Rattle.std.specs.Prelude.{◌≡◌, ℕ, List, [], ◌∷◌, ◌*◌, ◌<◌, length, map, slice_index, slice_index_or, IfSome, alloc_error, IsErr, Err};
+ghost use Rattle.hunk_words.specs.Events.{content_of};
+ghost use Rattle.hunk_loadfile.specs.FileValue.{kind_of, memory_of};
+ghost use Rattle.hunk_words.specs.declared.event.Event.{Event};
+ghost use Rattle.hunk_words.specs.declared.event.FileKind.TheVariants.{Load};
+
+use crate::load_hunk::LoadHunk;
+use crate::open_hunk::OpenHunk;
+use hunk_objects::{HunkKind, Memory};
+use hunk_words::{Event, FileKind, OpenName, SiteRefusal, Taker};
+use std::alloc::{AllocError, Allocator, Global};
+use std::mem;
+
+// Where the next word goes.
+#[derive(Debug, Drop)]
+enum Receiver<A: Allocator + Copy> {
+    /// It is dropped, as those of a hunk's name are.
+    Nothing,
+    Content,
+    Debug,
+    Symbol(OpenName<A>),
+}
+
+/// Builds a load file of the events that its longwords tell: the hunks that ended, and the one that
+/// has not. A refusal leaves it as it was.
+#[derive(Debug, Drop)]
+pub struct LoadBuilder<A: Allocator + Copy = Global> {
+    alloc: A,
+    // the memory bits and the sizes of the header
+    sizes: Vec<(u8, u32), A>,
+    hunks: Vec<LoadHunk<A>, A>,
+    hunk: OpenHunk<A>,
+    receiver: Receiver<A>,
+}
+
+// What the bits of the header ask for. Both of them together do not pass.
+fn memory_of(bits: u8) -> Memory
+    ensures { result ≡ memory_of bits }
+{
+    match bits {
+        0 => Memory::Any,
+        1 => Memory::Chip,
+        _ => Memory::Fast,
+    }
+}
+
+// The bytes in so many longwords.
+fn bytes_in(longwords: u32) -> u64
+    ensures { result ≡ 4 * longwords }
+{
+    4 * u64::from(longwords)
+}
+
+// What a block of this type holds.
+fn kind_of(number: u32) -> HunkKind
+    ensures { result ≡ kind_of (content_of number) }
+{
+    match number {
+        1001 => HunkKind::Code,
+        1002 => HunkKind::Data,
+        _ => HunkKind::Bss,
+    }
+}
+
+impl<A: Allocator + Copy> LoadBuilder<A> {
+    ghost use Rattle.hunk_loadfile.specs.Builder.{StandsFor, Steps};
+
+    /// A builder that took no event. It takes no memory.
+    pub fn new(alloc: A) -> Self
+        ensures { StandsFor result [] }
+    {
+        LoadBuilder {
+            alloc,
+            sizes: Vec::new(alloc),
+            hunks: Vec::new(alloc),
+            hunk: OpenHunk::new(alloc, 0),
+            receiver: Receiver::Nothing,
+        }
+    }
+
+    /// The hunks that ended.
+    pub fn into_hunks(self) -> Vec<LoadHunk<A>, A>
+        ensures { result.items ≡ self.hunks.items }
+    {
+        self.hunks
+    }
+
+    fn add_size(&mut self, bits: u8, size: u32) -> Result<(), AllocError>
+        ensures { Steps self.old self.new result (Event.HunkSize bits size) }
+    {
+        match self.sizes.push((bits, size)) {
+            Ok(()) => Ok(()),
+            Err(_) => Err(AllocError),
+        }
+    }
+
+    // The size of this hunk in the header.
+    fn size(&self, hunk: usize) -> u32
+        ensures { result ≡ slice_index (map (λ s. s.1) self.now.sizes.items) hunk }
+    {
+        match self.sizes.get(hunk) {
+            Some(header) => header.1,
+            None => 0,
+        }
+    }
+
+    // The bits and the size that the header has for the hunk that has not ended.
+    fn header(&self) -> Option<(u8, u32)>
+        ensures within { IfSome result (λ header. length self.now.hunks.items < length self.now.sizes.items) }
+        ensures value { IfSome result (λ header. header ≡ slice_index_or self.now.sizes.items (length self.now.hunks.items) header) }
+    {
+        match self.sizes.get(self.hunks.len()) {
+            Some(header) => Some(*header),
+            None => None,
+        }
+    }
+
+    fn begin_content(&mut self, kind: u32) -> Result<(), AllocError>
+        ensures { (bits size : ℕ) → Steps self.old self.new result (Event.Content kind bits size) }
+    {
+        let limit = bytes_in(self.size(self.hunks.len()));
+        if !self.hunk.begin(self.alloc, kind_of(kind), limit) {
+            return never_told();
+        }
+        self.receiver = Receiver::Content;
+        Ok(())
+    }
+
+    fn add_word(&mut self, word: u32) -> Result<(), AllocError>
+        ensures { Steps self.old self.new result (Event.Word word) }
+    {
+        match &mut self.receiver {
+            Receiver::Nothing => Ok(()),
+            Receiver::Content => self.hunk.add_content(word),
+            Receiver::Debug => self.hunk.add_debug_word(word),
+            Receiver::Symbol(name) => name.push(word),
+        }
+    }
+
+    fn begin_symbol(&mut self) -> Result<(), AllocError>
+        ensures { Steps self.old self.new result Event.Symbol }
+    {
+        self.receiver = Receiver::Symbol(OpenName::new(self.alloc));
+        Ok(())
+    }
+
+    // Takes the number of a symbol, whose name came before.
+    fn add_value(&mut self, value: u32) -> Result<(), AllocError>
+        ensures { Steps self.old self.new result (Event.Value value) }
+    {
+        match &mut self.receiver {
+            Receiver::Symbol(name) => match self.hunk.add_symbol(self.alloc, name, value) {
+                Ok(()) => {}
+                Err(error) => return Err(error),
+            },
+            _ => return never_told(),
+        }
+        self.receiver = Receiver::Nothing;
+        Ok(())
+    }
+
+    fn begin_debug(&mut self) -> Result<(), AllocError>
+        ensures { (size : ℕ) → Steps self.old self.new result (Event.Debug size) }
+    {
+        match self.hunk.add_debug(self.alloc) {
+            Ok(()) => {
+                self.receiver = Receiver::Debug;
+                Ok(())
+            }
+            Err(error) => Err(error),
+        }
+    }
+
+    fn end_hunk(&mut self) -> Result<(), AllocError>
+        ensures { Steps self.old self.new result Event.HunkEnd }
+    {
+        let (bits, size) = match self.header() {
+            Some(header) => header,
+            None => return never_told(),
+        };
+        let limit = self.hunk.limit();
+        if limit != bytes_in(size) {
+            return never_told();
+        }
+        match self.hunks.reserve(1) {
+            Ok(()) => {}
+            Err(error) => return Err(error),
+        }
+        let hunk = mem::replace(&mut self.hunk, OpenHunk::new(self.alloc, limit));
+        self.hunks.push_reserved(hunk.close(memory_of(bits), size));
+        self.receiver = Receiver::Nothing;
+        Ok(())
+    }
+
+    // Takes an event that is no site.
+    fn build(&mut self, event: Event) -> Result<(), AllocError>
+        ensures steps { Steps self.old self.new result event }
+        ensures no_reference { (offset : ℕ) → event ≡ Event.RefSite offset → IsErr result }
+        ensures no_site { (offset target : ℕ) → event ≡ Event.Site offset target → IsErr result }
+    {
+        match event {
+            Event::Table(_) => Ok(()),
+            Event::HunkSize { bits, size } => self.add_size(bits, size),
+            Event::HunkName => {
+                self.receiver = Receiver::Nothing;
+                Ok(())
+            }
+            Event::Content { kind, .. } => self.begin_content(kind),
+            Event::Word(word) => self.add_word(word),
+            Event::Symbol => self.begin_symbol(),
+            Event::Value(value) => self.add_value(value),
+            Event::Debug(_) => self.begin_debug(),
+            Event::HunkEnd => self.end_hunk(),
+            Event::Unit
+            | Event::Entry(_)
+            | Event::Count(_)
+            | Event::RefSite(_)
+            | Event::Site { .. } => never_told(),
+        }
+    }
+}
+
+// No load file tells this event where it came. It is refused, and changes nothing.
+fn never_told() -> Result<(), AllocError>
+    ensures { result ≡ Err alloc_error }
+{
+    Err(AllocError)
+}
+
+impl<A: Allocator + Copy> Taker for LoadBuilder<A> {
+    ghost use Rattle.hunk_loadfile.specs.Builder.{StandsFor};
+
+    ghost stands_for = { λ builder told. StandsFor builder told };
+
+    ghost KIND = { Load };
+
+    const KIND: FileKind = FileKind::Load;
+
+    fn take(&mut self, event: Event) -> Result<(), SiteRefusal> {
+        match event {
+            Event::Site { offset, target } => self.hunk.add_site(offset, target),
+            _ => match self.build(event) {
+                Ok(()) => Ok(()),
+                Err(_) => Err(SiteRefusal::OutOfMemory),
+            },
+        }
+    }
+
+    fn size_of(&self, hunk: u32) -> u32 {
+        self.size(hunk as usize)
+    }
+}
