@@ -1,2 +1,3 @@
+pub mod LoadingLemmas
 pub mod PlacesLemmas
 pub mod RiseLemmas

@@ -1,3 +1,4 @@
-pub mod Memory
+pub mod Image
+pub mod Loading
 pub mod Places
 pub mod Sizes

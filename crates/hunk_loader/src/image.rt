@@ -1,7 +1,7 @@
 //! The image of a load file: what its hunks are in memory.
 
 ghost use Rattle.std.specs.Prelude.{◌≡◌};
-ghost use Rattle.hunk_loader.specs.Memory.{byte_in, hunks_of, memory_of};
+ghost use Rattle.hunk_loader.specs.Image.{byte_in, hunks_of, memory_of};
 
 use std::alloc::{Allocator, Global};
 use std::marker::Model;
@@ -15,7 +15,7 @@ pub struct Image<A: Allocator + Copy = Global> {
 
 impl<A: Allocator + Copy> Model for Image<A> {
     ghost use Rattle.std.specs.Prelude.{ℕ, List};
-    ghost use Rattle.hunk_loader.specs.Memory.{hunks_of};
+    ghost use Rattle.hunk_loader.specs.Image.{hunks_of};
 
     ghost Value = { List (ℕ × List ℕ) };
 
@@ -23,6 +23,13 @@ impl<A: Allocator + Copy> Model for Image<A> {
 }
 
 impl<A: Allocator + Copy> Image<A> {
+    /// The image of these hunks.
+    pub(crate) fn of_hunks(hunks: Vec<(u32, Vec<u8, A>), A>) -> Self
+        ensures { result ≡ hunks_of hunks.items }
+    {
+        Image { hunks }
+    }
+
     /// The byte at an address, where a hunk has one there.
     ///
     /// It takes no memory, and a time linear in the number of hunks.

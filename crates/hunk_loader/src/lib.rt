@@ -1,15 +1,18 @@
 //! Load files in memory: at which addresses their hunks are placed.
 //!
 //! - `image`: what the hunks are in memory.
+//! - `loading`: loading a load file at addresses.
 //! - `places`: whether the addresses that were handed in hold the hunks, and what is wrong with
 //!   them if not.
 //! - `sizes`: the sizes of hunks, told as numbers or by the hunks themselves.
 #![tactic(auto)]
 
 pub mod image;
+pub mod loading;
 pub mod places;
 pub mod sizes;
 
 pub use image::Image;
+pub use loading::{LoadRefusal, load};
 pub use places::{PlaceFault, check_places, check_sizes};
 pub use sizes::Sizes;

@@ -1,1 +1,2 @@
+pub mod ContentLemmas
 pub mod PatchingLemmas

@@ -1,2 +1,3 @@
 pub mod Hunks
 pub mod Patching
+pub mod Rules

@@ -1,6 +1,6 @@
 -- The hunks that are left have the same byte as all hunks.
 use Rattle.std.proofs.Common.{◌≡◌, drop}
-use Rattle.hunk_loader.specs.Memory.{hunks_of, memory_of}
+use Rattle.hunk_loader.specs.Image.{hunks_of, memory_of}
 use Rattle.hunk_loader.proofs.image.Image.byte.Given as goal
 
 abbrev pub invariant-loop-hunk : goal.invariant-loop-hunk
