@@ -1,2 +1,3 @@
 pub mod ContentLemmas
 pub mod PatchingLemmas
+pub mod RuleLemmas

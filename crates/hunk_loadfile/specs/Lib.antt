@@ -1,3 +1,6 @@
 pub mod Hunks
 pub mod Patching
 pub mod Rules
+pub mod Rules
+pub mod Written
+pub mod FileValue

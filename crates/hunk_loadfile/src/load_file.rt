@@ -1,11 +1,15 @@
 //! A load file, made of hunks.
-ghost use Rattle.std.specs.Prelude.{◌≡◌};
+ghost use Rattle.std.specs.Prelude.{◌≡◌, IfOk, IfErr};
+ghost use Rattle.hunk_loadfile.specs.Rules.{IsLoadFile, build_fault};
 
+use crate::build::{BuildRefusal, build_fault};
 use crate::load_hunk::LoadHunk;
 use std::alloc::{Allocator, Global};
 use std::marker::Model;
 
 /// A load file: its hunks in order.
+///
+/// It is made by `new`, or by reading one.
 #[derive(Debug, Drop)]
 pub struct LoadFile<A: Allocator + Copy = Global> {
     hunks: Vec<LoadHunk<A>, A>,
@@ -14,16 +18,35 @@ pub struct LoadFile<A: Allocator + Copy = Global> {
 impl<A: Allocator + Copy> Model for LoadFile<A> {
     ghost use Rattle.std.specs.Prelude.{List};
     ghost use Rattle.hunk_loadfile.specs.Hunks.{FileHunk};
+    ghost use Rattle.hunk_loadfile.specs.Rules.{IsLoadFile};
 
     ghost Value = { List FileHunk };
 
     ghost view = { λ f. f.hunks.items };
+
+    ghost invariant = { λ f. IsLoadFile f.hunks.items };
 }
 
 impl<A: Allocator + Copy> LoadFile<A> {
+    /// The load file of these hunks, which are handed back where they make none. It takes no memory.
+    ///
+    /// # Errors
+    ///
+    /// The first [`BuildFault`](crate::BuildFault) in the order of their list.
+    pub fn new(hunks: Vec<LoadHunk<A>, A>) -> Result<Self, BuildRefusal<A>>
+        ensures accepted { IfOk result (λ file. (build_fault hunks.items ≡ None) × (file ≡ hunks.items)) }
+        ensures refused { IfErr result (λ r. (build_fault hunks.items ≡ Some r.fault) × (r.hunks.items ≡ hunks.items)) }
+    {
+        match build_fault(&hunks) {
+            None => Ok(LoadFile { hunks }),
+            Some(fault) => Err(BuildRefusal { fault, hunks }),
+        }
+    }
+
     /// The hunks, in order.
     pub fn hunks(&self) -> &[LoadHunk<A>]
         ensures value { result.now ≡ self.now }
+        ensures valid { IsLoadFile self.now }
     {
         &self.hunks
     }

@@ -1,5 +1,7 @@
 //! A hunk of a load file.
 
+ghost use Rattle.std.specs.Prelude.{◌≡◌, ◌≤◌, ◌*◌, ◌%◌, length};
+
 use hunk_objects::{HunkKind, Memory};
 use hunk_words::{Name, Sites};
 use std::alloc::{Allocator, Global};
@@ -33,4 +35,17 @@ impl<A: Allocator + Copy> Model for LoadHunk<A> {
     ghost Value = { FileHunk };
 
     ghost view = { λ h. record { kind = h.kind; memory = h.memory; size = h.size; content = h.content.items; sites = h.sites; symbols = h.symbols.items; debugs = lists_of h.debugs.items } };
+}
+
+impl<A: Allocator + Copy> LoadHunk<A> {
+    /// The longwords that the file has for the hunk: those of its content.
+    pub fn stored(&self) -> u32
+        requires whole { length self.now.content % 4 ≡ 0 }
+        requires within { length self.now.content ≤ 4 * self.now.size }
+        ensures { 4 * result ≡ length self.now.content }
+    {
+        let (size, stored) = (self.size as usize, self.content.len() / 4);
+        prove!(stored <= size);
+        stored as u32
+    }
 }

@@ -1,0 +1,64 @@
+-- What a load file says: the value of its tree, as a list of hunks; and which longwords are the file of which hunks.
+use Rattle.std.specs.Prelude.{◌≡◌, ℕ, zero, suc, ◌*◌, List, [], ◌∷◌, length, map}
+use Rattle.std.specs.BTreeMap.{insert_entry}
+use Rattle.std.specs.Ordering.{nat_cmp}
+use Rattle.hunk_words.specs.Kinds.Within.{in_load}
+use Rattle.hunk_words.specs.Trees.{LoadHunkTree, LoadTree}
+use Rattle.hunk_words.specs.Values.{Adds, Hunk, hunk_value}
+use Rattle.hunk_words.specs.Values.Adds.{to_hunk, to_reference}
+use Rattle.hunk_words.specs.Names.{bytes_of, name_of}
+use Rattle.hunk_words.specs.Files.{IsFileOf}
+use Rattle.hunk_words.specs.declared.event.FileKind.TheVariants.{Load}
+use Rattle.hunk_words.specs.declared.kinds.ContentType.{ContentType}
+use Rattle.hunk_words.specs.declared.kinds.ContentType.TheVariants as content_type
+use Rattle.hunk_objects.specs.declared.hunk_kind.HunkKind.{HunkKind}
+use Rattle.hunk_objects.specs.declared.hunk_kind.HunkKind.TheVariants.{Code, Data, Bss}
+use Rattle.hunk_objects.specs.declared.hunk_kind.Memory.{Memory}
+use Rattle.hunk_objects.specs.declared.hunk_kind.Memory.TheVariants.{Any, Chip, Fast}
+use Rattle.hunk_loadfile.specs.Hunks.{FileHunk}
+
+abbrev pub kind_of : ContentType → HunkKind
+kind_of content_type.Code = Code
+kind_of content_type.Data = Data
+kind_of content_type.Bss = Bss
+
+-- what the two bits above a size ask for; both of them together do not pass
+abbrev pub memory_of : ℕ → Memory
+memory_of zero = Any
+memory_of (suc zero) = Chip
+memory_of (suc (suc n)) = Fast
+
+-- A site more. In a load file none refers to a name.
+abbrev pub with_site : List (ℕ × ℕ) → ℕ → Adds → List (ℕ × ℕ)
+with_site sites o (to_hunk t) = insert_entry nat_cmp sites o t
+with_site sites o (to_reference r) = sites
+
+-- sites in the order of the file, as a map
+abbrev pub with_sites : List (ℕ × ℕ) → List (ℕ × Adds) → List (ℕ × ℕ)
+with_sites sites [] = sites
+with_sites sites (s ∷ ss) = with_sites (with_site sites s.0 s.1) ss
+
+-- A hunk, of which the header tells the memory and the size. Its name and a BSS block's own size are not kept.
+abbrev pub file_hunk : ℕ → ℕ → Hunk → FileHunk
+file_hunk bits size h = record {
+  kind = kind_of h.kind;
+  memory = memory_of bits;
+  size = size;
+  content = bytes_of h.content;
+  sites = record { limit = 4 * size; entries = with_sites [] h.told.sites };
+  symbols = map (λ s. (name_of s.0, s.1)) h.told.symbols;
+  debugs = h.told.debugs;
+}
+
+-- last is the number of the last hunk
+abbrev pub load_hunk_value : ℕ → LoadHunkTree → FileHunk
+load_hunk_value last t = file_hunk t.memory_bits t.size (hunk_value (in_load last t.size) t.hunk)
+
+abbrev pub load_value : LoadTree → List FileHunk
+load_value t = map (λ h. load_hunk_value (length t.others) h) (t.first ∷ t.others)
+
+-- The longwords are the load file of these hunks.
+pub record IsLoad (hunks : List FileHunk) (ws : List ℕ) : Type 0 where
+  pub tree : LoadTree
+  pub is_file : IsFileOf Load tree ws
+  pub value : load_value tree ≡ hunks
