@@ -1,7 +1,8 @@
 pub mod BasesLemmas
-pub mod OneHunkLemmas
 pub mod DecimalLemmas
+pub mod FaultLineLemmas
+pub mod LoadLemmas
+pub mod OneHunkLemmas
 pub mod PrintLemmas
 pub mod ReportExample
-pub mod LoadLemmas
 pub mod ReportLemmas

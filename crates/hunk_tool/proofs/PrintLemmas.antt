@@ -67,3 +67,7 @@ pub DeviceStopped-last : (old between new : Option (List ℕ)) (failed : Bool) (
 DeviceStopped-last old between new failed before text start fault moved stopped =
     subst (λ whole. DeviceStopped old new failed (before ++ whole) start fault) (append-nil text)
     (DeviceStopped-behind old between new failed before text [] start fault moved stopped)
+
+-- the same of a text that is told in another way
+pub DeviceStopped-same : (old new : Option (List ℕ)) (failed : Bool) (text same : List ℕ) (start : ℕ) (fault : WriteFault) → text ≡ same → DeviceStopped old new failed same start fault → DeviceStopped old new failed text start fault
+DeviceStopped-same old new failed text same start fault e stopped = subst (λ told. DeviceStopped old new failed told start fault) (sym e) stopped

@@ -1,8 +1,7 @@
-//! The digits of numbers and bytes, in arrays of fixed size, so that they take no memory.
+//! The digits of numbers, in arrays of fixed size, so that they take no memory.
 
-ghost use Rattle.std.specs.Prelude.{◌≡◌, ◌*◌, ◌≤◌, List, [], ℕ, drop};
+ghost use Rattle.std.specs.Prelude.{◌≡◌, ◌≤◌, List, [], ℕ, drop, length};
 ghost use Rattle.std.specs.Fmt.{decimal};
-ghost use Rattle.hex.specs.Hex.{encode_lower};
 ghost use Rattle.hunk_tool.specs.Texts.{eight_digits};
 
 use std::marker::Model;
@@ -28,7 +27,8 @@ impl Model for Digits {
 impl Digits {
     /// No digits.
     pub(crate) fn none() -> Digits
-        ensures { result ≡ [] }
+        ensures value { result ≡ [] }
+        ensures short { length result ≤ 20 }
     {
         Digits {
             digits: [0; MOST_DIGITS],
@@ -38,7 +38,8 @@ impl Digits {
 
     /// A number in decimal digits, without leading zeros.
     pub(crate) fn decimal(number: u64) -> Digits
-        ensures { result ≡ decimal number }
+        ensures value { result ≡ decimal number }
+        ensures short { length result ≤ 20 }
     {
         let mut digits = [0; MOST_DIGITS];
         let mut start = MOST_DIGITS - 1;
@@ -54,7 +55,8 @@ impl Digits {
 
     /// A longword in eight lower-case hexadecimal digits.
     pub(crate) fn hexadecimal(number: u32) -> Digits
-        ensures { result ≡ eight_digits number }
+        ensures value { result ≡ eight_digits number }
+        ensures short { length result ≤ 20 }
     {
         let mut digits = [0; MOST_DIGITS];
         let start = MOST_DIGITS - 8;

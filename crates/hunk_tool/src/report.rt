@@ -15,7 +15,7 @@ use std::alloc::Allocator;
 const ROW: usize = 16;
 
 /// Writes the report of an image, whose hunks are these: each a base, which is an address, and its
-/// bytes. Every hunk is told, empty ones too. It takes no memory.
+/// bytes, the last of which has an address. Every hunk is told, empty ones too. It takes no memory.
 pub(crate) fn write_report<A: Allocator, W: Sink>(
     hunks: &[(u32, Vec<u8, A>)],
     writer: &mut W,

@@ -1,4 +1,4 @@
--- Whatever is due on a sound stack can be taken: 0 for what is no type, 1 for the size of the hunk table, the number of
+-- Whatever is due on a finishable stack can be taken: 0 for what is no type, 1 for the size of the hunk table, the number of
 -- the last hunk, END where it passes, and empty BSS for each hunk that is still missing.
 use Rattle.std.proofs.Common.{◌≡◌, ℕ, zero, suc, ◌-◌, ◌^◌, ◌<◌, List, [], ◌∷◌, None, Bool, true, refl, ap, sym, subst, arith}
 use Rattle.std.specs.Prelude.{nat_le, ◌==◌}
@@ -12,7 +12,7 @@ use Rattle.hunk_words.specs.declared.kinds.ContentType.{ContentType}
 use Rattle.hunk_words.specs.declared.fault.Reason.{Reason}
 use Rattle.hunk_words.specs.declared.kinds.ContentType.TheVariants.{Code, Data, Bss}
 use Rattle.hunk_words.specs.Machine.{times, short_times, onto, hunks_due, push, Takes, IsComplete}
-use Rattle.hunk_words.proofs.StackLemmas.{Rests, Sound}
+use Rattle.hunk_words.proofs.StackLemmas.{Passable, Finishable}
 
 -- fields that the machine takes from this stack to where a file may end
 pub record Finish (s : List Kind) : Type 0 where
@@ -122,7 +122,7 @@ finish-table_size s f = begin 1 (record { fits = omega arith; passes = refl }) (
 
 -- ---- every kind
 
-finish-kind : (k : Kind) (s : List Kind) → Rests k s → Finish s → Begin k s
+finish-kind : (k : Kind) (s : List Kind) → Passable k s → Finish s → Begin k s
 finish-kind object_start s r f = subst (λ t. Begin object_start t) (sym r) finish-object_start
 finish-kind load_start s r f = begin 1011 (record { fits = omega arith; passes = refl }) (finish-begin (begin 0 (record { fits = omega arith; passes = refl }) (finish-begin (finish-table_size s f))))
 finish-kind unit_type s r f = subst (λ t. Begin unit_type t) (sym r) finish-unit_type
@@ -154,11 +154,11 @@ finish-kind (short_hunk h last limit n) s r f = begin 0 (record { fits = omega a
 finish-kind (short_offset h limit target) s r f = finish-short_offset h limit target s f
 finish-kind short_pad s r f = begin 0 (record { fits = omega arith; passes = refl }) f
 
--- a sound stack has a finish
-pub finish-stack : (h : Half) (s : List Kind) → Sound h s → Finish s
-finish-stack h [] q = done [] tt
-finish-stack h (k ∷ s) q = finish-begin (finish-kind k s q.1 (finish-stack _ s q.2))
+-- a finishable stack has a finish
+pub finish-stack : (s : List Kind) → Finishable s → Finish s
+finish-stack [] q = done [] tt
+finish-stack (k ∷ s) q = finish-begin (finish-kind k s q.0 (finish-stack s q.1))
 
 -- and one with a number in front, where anything is due
-pub begin-stack : (h : Half) (k : Kind) (s : List Kind) → Sound h (k ∷ s) → Begin k s
-begin-stack h k s q = finish-kind k s q.1 (finish-stack _ s q.2)
+pub begin-stack : (k : Kind) (s : List Kind) → Finishable (k ∷ s) → Begin k s
+begin-stack k s q = finish-kind k s q.0 (finish-stack s q.1)

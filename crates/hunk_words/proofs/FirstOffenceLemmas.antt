@@ -12,7 +12,6 @@ use Rattle.hunk_words.specs.OffenceLaws.{Offends}
 use Rattle.hunk_words.specs.declared.event.FileKind.{FileKind}
 use Rattle.hunk_words.specs.declared.fault.Reason.{Reason}
 use Rattle.hunk_words.specs.declared.fault.Reason.TheVariants.{TooLarge}
-use Rattle.hunk_words.proofs.FrontLemmas.{spelled}
 use Rattle.hunk_words.proofs.ProgressLemmas.{Stop, stops, stays}
 use Rattle.hunk_words.proofs.OffenceLemmas.{front-front, file-front, front-read, read-front, complete-file, file-complete}
 use Rattle.hunk_words.proofs.BlameLemmas.{blames-stop, reason-read}
@@ -58,7 +57,7 @@ module _ (kind : FileKind) (ws : List ℕ) (p : ℕ) (r : Reason) (longs : AllLo
   at-place = let e : p ≡ 0 + length s.front = s.place in omega arith
 
   good-front : IsFront kind s.front
-  good-front = read-front kind (spelled kind) s.front s.reached parts-long.0 (let e : p ≡ length s.front = at-place in omega arith) s.comes_to
+  good-front = read-front kind s.front s.reached parts-long.0 (let e : p ≡ length s.front = at-place in omega arith) s.comes_to
 
   no-longer : IsFront kind (s.front ++ (s.bad ∷ [])) → ⊥
   no-longer g =
@@ -90,7 +89,7 @@ module _ (kind : FileKind) (ws : List ℕ) (p : ℕ) (r : Reason) (longs : AllLo
     at_place = at-place;
     good = good-front;
     no_longer = no-longer;
-    blames = blames-stop kind (spelled kind) s.front s.reached.stack s.reached.seen s.bad r parts-long.0 (let e : p ≡ length s.front = at-place in omega arith) parts-long.1 s.comes_to s.reason;
+    blames = blames-stop kind s.front s.reached.stack s.reached.seen s.bad r parts-long.0 (let e : p ≡ length s.front = at-place in omega arith) parts-long.1 s.comes_to s.reason;
   }
 
 pub offends : (kind : FileKind) (ws : List ℕ) (p : ℕ) (r : Reason) → AllLong ws → p < most_longwords → read_words (begun kind) 0 ws ≡ Err (p, r) → Offends kind ws p r
@@ -106,14 +105,14 @@ too-long kind front behind bad d longs long h = record {
   behind = behind;
   parts = refl;
   at_place = sym long;
-  good = read-front kind (spelled kind) front d longs (omega arith) h;
+  good = read-front kind front d longs (omega arith) h;
   no_longer = λ g. let n : length (front ++ (bad ∷ [])) ≤ most_longwords = g.short_enough in let e : length (front ++ (bad ∷ [])) ≡ length front + 1 = length-append front (bad ∷ []) in omega arith;
   blames = too_large long refl;
 }
 
 pub ends-early : (kind : FileKind) (ws : List ℕ) (rest : ℕ) (d : Progress) → AllLong ws → length ws ≤ most_longwords → read_words (begun kind) 0 ws ≡ Ok d → (rest ≡ 0 → IsComplete d.stack → ⊥) → EndsEarly kind ws rest (length ws) (end_reason rest)
 ends-early kind ws rest d longs short h not = record {
-  good = read-front kind (spelled kind) ws d longs short h;
+  good = read-front kind ws d longs short h;
   not_whole = λ z f. not z (file-complete kind ws d longs h f);
   at_place = refl;
   is_reason = refl;
@@ -147,7 +146,7 @@ told-early : (kind : FileKind) (ws : List ℕ) (rest : ℕ) (d : Progress) → A
 told-early kind ws rest d longs short h not = inr (length ws, end_reason rest, end_offends (ends-early kind ws rest d longs short h not))
 
 told-read : (kind : FileKind) (ws : List ℕ) (rest : ℕ) (d : Progress) → AllLong ws → length ws ≤ most_longwords → read_words (begun kind) 0 ws ≡ Ok d → IsComplete d.stack ⊎ (IsComplete d.stack → ⊥) → Told kind ws rest
-told-read kind ws zero d longs short h (inl c) = inl (complete-file kind (spelled kind) ws d longs short h c, refl)
+told-read kind ws zero d longs short h (inl c) = inl (complete-file kind ws d longs short h c, refl)
 told-read kind ws zero d longs short h (inr not) = told-early kind ws 0 d longs short h (λ z c. not c)
 told-read kind ws (suc rest) d longs short h c = told-early kind ws (suc rest) d longs short h (λ z x. omega arith)
 

@@ -3,6 +3,7 @@ pub mod SplitterLemmas
 pub mod StreamLemmas
 pub mod NameLemmas
 pub mod SiteLemmas
+pub mod ViewLemmas
 pub mod PartsLemmas
 pub mod TypeLemmas
 pub mod TakenLemmas
@@ -12,6 +13,8 @@ pub mod SeenLemmas
 pub mod LimitLemmas
 pub mod BuildingLemmas
 pub mod ToldLemmas
+pub mod NumberLemmas
+pub mod WordLemmas
 pub mod StackLemmas
 pub mod FinishLemmas
 pub mod SplitLemmas
@@ -28,3 +31,5 @@ pub mod SameLemmas
 pub mod OneValueLemmas
 pub mod FirstOffenceLemmas
 pub mod LongwordBytes
+pub mod CoreLemmas
+pub mod DecoderLemmas

@@ -1,5 +1,7 @@
 -- Longwords of bytes that come in pieces: lemmas that go four bytes at a time.
-use Rattle.std.proofs.Common.{◌≡◌, ℕ, ◌+◌, ◌*◌, ◌≤◌, List, [], ◌∷◌, ◌++◌, length, refl, ap, arith}
+use Rattle.std.proofs.Common.{◌≡◌, ℕ, ◌+◌, ◌*◌, ◌≤◌, List, [], ◌∷◌, ◌++◌, length, take, drop, refl, sym, ap, ◌∙◌, append_assoc, length-drop, arith}
+use Rattle.std.proofs.Math.Seq.{take-add}
+use Rattle.std.proofs.lemmas.List.{append-nil, take-append-drop, length-take-le}
 use Rattle.byteorder.specs.Endian.{big_number}
 use Rattle.hunk_words.specs.Longwords.{longwords, unfinished}
 
@@ -39,9 +41,58 @@ longwords-short (a ∷ b ∷ []) h = refl
 longwords-short (a ∷ b ∷ c ∷ []) h = refl
 longwords-short (a ∷ b ∷ c ∷ d ∷ bytes) h = absurd (omega arith)
 
-pub length-longwords : (bytes : List ℕ) → 4 * length (longwords bytes) + length (unfinished bytes) ≡ length bytes
-length-longwords [] = omega arith
-length-longwords (a ∷ []) = omega arith
-length-longwords (a ∷ b ∷ []) = omega arith
-length-longwords (a ∷ b ∷ c ∷ []) = omega arith
+-- each longword has four bytes
+pub length-longwords : (bytes : List ℕ) → length bytes ≡ 4 * length (longwords bytes) + length (unfinished bytes)
+length-longwords [] = refl
+length-longwords (a ∷ []) = refl
+length-longwords (a ∷ b ∷ []) = refl
+length-longwords (a ∷ b ∷ c ∷ []) = refl
 length-longwords (a ∷ b ∷ c ∷ d ∷ bytes) = omega (arith, length-longwords bytes)
+
+pub list-none : (bytes : List ℕ) → length bytes ≡ 0 → bytes ≡ []
+list-none [] none = refl
+list-none (b ∷ bytes) none = absurd (omega arith)
+
+pub unfinished-none : (bytes : List ℕ) (n : ℕ) → length bytes ≡ 4 * n → unfinished bytes ≡ []
+unfinished-none bytes n whole = list-none (unfinished bytes) (omega (arith, length-longwords bytes, length-unfinished bytes))
+
+longwords-four : (bytes : List ℕ) → length bytes ≡ 4 → longwords bytes ≡ big_number 4 bytes ∷ []
+longwords-four [] four = absurd (omega arith)
+longwords-four (a ∷ []) four = absurd (omega arith)
+longwords-four (a ∷ b ∷ []) four = absurd (omega arith)
+longwords-four (a ∷ b ∷ c ∷ []) four = absurd (omega arith)
+longwords-four (a ∷ b ∷ c ∷ d ∷ bytes) four = let e : bytes ≡ [] = list-none bytes (omega arith) in rw e refl
+
+-- one longword further
+pub longwords-next : (bytes : List ℕ) (i : ℕ) → 4 * i + 4 ≤ length bytes
+    → longwords (take (4 * (i + 1)) bytes) ≡ longwords (take (4 * i) bytes) ++ big_number 4 (take 4 (drop (4 * i) bytes)) ∷ []
+longwords-next bytes i within =
+    let front = take (4 * i) bytes in
+    let four = take 4 (drop (4 * i) bytes) in
+    let next : 4 * (i + 1) ≡ 4 * i + 4 = omega arith in
+    let none : unfinished front ≡ [] = unfinished-none front i (length-take-le (4 * i) bytes (omega arith)) in
+    ap (λ n. longwords (take n bytes)) next ∙ ap longwords (take-add (4 * i) 4 bytes) ∙ longwords-append front four
+    ∙ ap (λ xs. longwords front ++ longwords (xs ++ four)) none
+    ∙ ap (λ ws. longwords front ++ ws) (longwords-four four (length-take-le 4 (drop (4 * i) bytes) (omega (arith, length-drop (4 * i) bytes))))
+
+-- all longwords stand before the bytes left over
+pub longwords-front : (bytes : List ℕ) (n : ℕ) → 4 * n ≤ length bytes → length bytes ≤ 4 * n + 3 → longwords (take (4 * n) bytes) ≡ longwords bytes
+longwords-front bytes n within few =
+    let front = take (4 * n) bytes in
+    let rest = drop (4 * n) bytes in
+    let none : unfinished front ≡ [] = unfinished-none front n (length-take-le (4 * n) bytes within) in
+    sym (ap longwords (sym (take-append-drop (4 * n) bytes)) ∙ longwords-append front rest ∙ ap (λ xs. longwords front ++ longwords (xs ++ rest)) none
+    ∙ ap (λ ws. longwords front ++ ws) (longwords-short rest (omega (arith, length-drop (4 * n) bytes))) ∙ append-nil (longwords front))
+
+-- one longword further behind others
+pub words-next : (ws bytes : List ℕ) (i word : ℕ) → 4 * i + 4 ≤ length bytes → word ≡ big_number 4 (take 4 (drop (4 * i) bytes))
+    → (ws ++ longwords (take (4 * i) bytes)) ++ word ∷ [] ≡ ws ++ longwords (take (4 * (i + 1)) bytes)
+words-next ws bytes i word within is =
+    append_assoc ws (longwords (take (4 * i) bytes)) (word ∷ [])
+    ∙ ap (λ us. ws ++ us) (ap (λ w. longwords (take (4 * i) bytes) ++ w ∷ []) is ∙ sym (longwords-next bytes i within))
+
+-- the longwords of a front of bytes, and what comes behind them
+pub words-rest : (ws bytes : List ℕ) (n : ℕ) → (ws ++ longwords (take n bytes)) ++ longwords (unfinished (take n bytes) ++ drop n bytes) ≡ ws ++ longwords bytes
+words-rest ws bytes n =
+    append_assoc ws (longwords (take n bytes)) _
+    ∙ ap (λ us. ws ++ us) (sym (longwords-append (take n bytes) (drop n bytes)) ∙ ap longwords (take-append-drop n bytes))

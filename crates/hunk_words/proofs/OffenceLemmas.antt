@@ -1,18 +1,17 @@
--- Good fronts, files, and what each completion of a front bears behind it.
+-- Good fronts and files: the machine reads each, and nothing else.
 use Rattle.std.proofs.Common.{◌≡◌, ℕ, zero, suc, ◌≤◌, List, [], ◌∷◌, ◌++◌, length, Ok, refl, ap, sym, subst, ◌∙◌, append-nil, append_assoc, length-append, arith}
-use Rattle.hunk_words.specs.Kinds.{Kind, Width, Field, width}
+use Rattle.hunk_words.specs.Kinds.{Width, Field, width}
 use Rattle.hunk_words.specs.Kinds.Width.{long, half}
-use Rattle.hunk_words.specs.Words.{longwords_of, fields_from, fields_in, fields_behind}
-use Rattle.hunk_words.specs.Machine.{Takes, IsComplete}
-use Rattle.hunk_words.specs.SiteRules.{seen_after, seen_all, Obeys}
-use Rattle.hunk_words.specs.Reading.{Reads, labels, Progress, start_of, begun, read_words}
+use Rattle.hunk_words.specs.Words.{fields_from, fields_in}
+use Rattle.hunk_words.specs.Machine.{IsComplete}
+use Rattle.hunk_words.specs.SiteRules.{seen_after, Obeys}
+use Rattle.hunk_words.specs.Reading.{Reads, labels, Progress, begun, read_words}
 use Rattle.hunk_words.specs.Files.{AllLong, spelling, most_longwords, IsFile, IsFront}
-use Rattle.hunk_words.specs.FirstOffence.{Completion, seen_before}
 use Rattle.hunk_words.specs.declared.event.FileKind.{FileKind}
 use Rattle.hunk_words.specs.declared.kinds.Half.{Half}
 use Rattle.hunk_words.specs.declared.kinds.Half.TheVariants.{Upper as upper, Lower as lower}
-use Rattle.hunk_words.proofs.SplitLemmas.{reads-one}
-use Rattle.hunk_words.proofs.FrontLemmas.{IsSpelled, taken, sound-start, sound-complete, some-field, behind-split, labels-takes, front, split-front, reads-spelled}
+use Rattle.hunk_words.proofs.SplitLemmas.{reads-split, reads-one}
+use Rattle.hunk_words.proofs.FrontLemmas.{start, end_of, complete-end, spelling-read, spelling-labels, spelling-in, read-spelled, front}
 use Rattle.hunk_words.proofs.ProgressLemmas.{WordsRead, words-read, words-go}
 
 -- ---- fields of longwords
@@ -74,67 +73,37 @@ file-front kind ws g = record {
 -- each good front is read
 pub front-read : (kind : FileKind) (ws : List ℕ) → IsFront kind ws → (d : Progress) × (read_words (begun kind) 0 ws ≡ Ok d) × WordsRead (begun kind) ws d
 front-read kind ws g =
-    let s = split-front kind (taken kind) g.tree g.fits ws g.more g.begins in
-    words-go ws (begun kind) 0 s.between s.reads (subst (λ fs. Obeys [] fs) s.in_front g.sites)
+    let r : Reads (start kind) (ws ++ g.more) (end_of kind) = subst (λ x. Reads (start kind) x (end_of kind)) g.begins (spelling-read kind g.tree g.fits) in
+    let m = reads-split ws g.more (start kind) (end_of kind) r in
+    words-go ws (begun kind) 0 m.0 m.1 (subst (λ fs. Obeys [] fs) (spelling-in kind g.tree ws g.more g.fits g.begins) g.sites)
 
-module _ (kind : FileKind) (spelled : IsSpelled kind) where
-  -- what is read is a good front
-  pub read-front : (ws : List ℕ) (d : Progress) → AllLong ws → length ws ≤ most_longwords → read_words (begun kind) 0 ws ≡ Ok d → IsFront kind ws
-  read-front ws d small short h =
-      let r = words-read ws (begun kind) 0 d small h in
-      let t = front kind spelled ws d.stack r.reads in
-      let s = split-front kind (taken kind) t.1 t.2 ws t.0 t.3 in record {
-        tree = t.1;
-        fits = t.2;
-        more = t.0;
-        begins = t.3;
-        sites = subst (λ fs. Obeys [] fs) (sym s.in_front) r.obeys;
-        short_enough = short;
-      }
+-- what is read is a good front
+pub read-front : (kind : FileKind) (ws : List ℕ) (d : Progress) → AllLong ws → length ws ≤ most_longwords → read_words (begun kind) 0 ws ≡ Ok d → IsFront kind ws
+read-front kind ws d longs short h =
+    let r = words-read ws (begun kind) 0 d longs h in
+    let t = front kind ws d.stack r.reads in record {
+      tree = t.1;
+      fits = t.2;
+      more = t.0;
+      begins = t.3;
+      sites = subst (λ fs. Obeys [] fs) (sym (spelling-in kind t.1 ws t.0 t.2 t.3)) r.obeys;
+      short_enough = short;
+    }
 
-  -- and a file, where it may end there
-  pub complete-file : (ws : List ℕ) (d : Progress) → AllLong ws → length ws ≤ most_longwords → read_words (begun kind) 0 ws ≡ Ok d → IsComplete d.stack → IsFile kind ws
-  complete-file ws d small short h c =
-      let r = words-read ws (begun kind) 0 d small h in
-      let t = spelled ws d.stack r.reads c in
-      let e = taken kind t.0 t.1 in
-      let same : spelling kind t.0 ≡ labels (start_of kind ∷ []) ws =
-      labels-takes (start_of kind ∷ []) (spelling kind t.0) e.0 (sound-start kind) (sound-complete e.0 e.2) e.1 ∙ ap (λ x. labels (start_of kind ∷ []) x) t.2 in record {
-        tree = t.0;
-        is_file = record { fits = t.1; spelled = t.2; sites = subst (λ fs. Obeys [] fs) (sym same) r.obeys; short_enough = short };
-      }
+-- and a file, where it may end there
+pub complete-file : (kind : FileKind) (ws : List ℕ) (d : Progress) → AllLong ws → length ws ≤ most_longwords → read_words (begun kind) 0 ws ≡ Ok d → IsComplete d.stack → IsFile kind ws
+complete-file kind ws d longs short h c =
+    let r = words-read ws (begun kind) 0 d longs h in
+    let t = read-spelled kind ws d.stack r.reads c in
+    let same : spelling kind t.0 ≡ labels (start kind) ws = spelling-labels kind t.0 t.1 ∙ ap (λ x. labels (start kind) x) t.2 in record {
+      tree = t.0;
+      is_file = record { fits = t.1; spelled = t.2; sites = subst (λ fs. Obeys [] fs) (sym same) r.obeys; short_enough = short };
+    }
 
 -- a file is read to where it may end
+pub file-reads : (kind : FileKind) (ws : List ℕ) → IsFile kind ws → Reads (start kind) ws (end_of kind)
+file-reads kind ws g = subst (λ x. Reads (start kind) x (end_of kind)) g.is_file.spelled (spelling-read kind g.tree g.is_file.fits)
+
 pub file-complete : (kind : FileKind) (ws : List ℕ) (d : Progress) → AllLong ws → read_words (begun kind) 0 ws ≡ Ok d → IsFile kind ws → IsComplete d.stack
-file-complete kind ws d small h g =
-    let e = taken kind g.tree g.is_file.fits in
-    let r : Reads (start_of kind ∷ []) ws e.0 = subst (λ x. Reads (start_of kind ∷ []) x e.0) g.is_file.spelled (reads-spelled kind (taken kind) g.tree g.is_file.fits) in
-    subst (λ x. IsComplete x) (reads-one ws (start_of kind ∷ []) e.0 d.stack r (words-read ws (begun kind) 0 d small h).reads) e.2
-
--- ---- what completions bear
-
--- a completion's fields behind the front: the first is of the kind that is due
-pub record Borne (kind : FileKind) (ws : List ℕ) (m : List Kind) (c : Completion kind ws) : Type 0 where
-  pub first : Field
-  pub others : List Field
-  pub after : List Kind
-  pub behind : fields_behind (length ws) (spelling kind c.tree) ≡ first ∷ others
-  pub seen : seen_before (length ws) (spelling kind c.tree) ≡ seen_all [] (labels (start_of kind ∷ []) ws)
-  pub takes : Takes m (first ∷ others) after
-  pub complete : IsComplete after
-  pub longwords : longwords_of (first ∷ others) ≡ c.next ∷ c.more
-
-pub borne : (kind : FileKind) (ws : List ℕ) (m : List Kind) (c : Completion kind ws) → Reads (start_of kind ∷ []) ws m → Borne kind ws m c
-borne kind ws m c r =
-    let s = split-front kind (taken kind) c.tree c.fits ws (c.next ∷ c.more) c.begins in
-    let f = some-field s.behind c.next c.more s.longwords in
-    let e : s.between ≡ m = reads-one ws (start_of kind ∷ []) s.between m s.reads r in record {
-      first = f.0;
-      others = f.1;
-      after = (taken kind c.tree c.fits).0;
-      behind = behind-split s ∙ f.2;
-      seen = ap (λ x. seen_all [] x) s.in_front;
-      takes = subst (λ x. Takes x (f.0 ∷ f.1) (taken kind c.tree c.fits).0) e (subst (λ x. Takes s.between x (taken kind c.tree c.fits).0) f.2 s.takes);
-      complete = (taken kind c.tree c.fits).2;
-      longwords = subst (λ x. longwords_of x ≡ c.next ∷ c.more) f.2 s.longwords;
-    }
+file-complete kind ws d longs h g =
+    subst (λ x. IsComplete x) (reads-one ws (start kind) (end_of kind) d.stack (file-reads kind ws g) (words-read ws (begun kind) 0 d longs h).reads) (complete-end kind)

@@ -11,7 +11,7 @@ use Rattle.hunk_words.specs.declared.fault.Reason.{Reason}
 
 -- ---- a field
 
-and_then-none : (a b : Option Reason) → and_then a b ≡ None → (a ≡ None) × (b ≡ None)
+pub and_then-none : (a b : Option Reason) → and_then a b ≡ None → (a ≡ None) × (b ≡ None)
 and_then-none None b h = (refl, h)
 and_then-none (Some r) b h = absurd (cc)
 

@@ -232,6 +232,11 @@ width (short_offset h limit target) = half h
 width short_pad = half lower
 width _ = long
 
+-- whether it is a half
+abbrev pub halved : Width → Bool
+halved long = false
+halved (half h) = true
+
 abbrev pub bound : Width → ℕ
 bound long = 2 ^ 32
 bound (half h) = 2 ^ 16

@@ -1,29 +1,42 @@
 //! The words of the Amiga hunk format: what object files and load files are made of.
 //!
 //! - `fault`: what is wrong with a file, and where; what a read or a write is refused with.
+//! - `kinds`: the kinds of blocks, of content, of external symbols, and of half longwords.
+//! - `event`: what the longwords of a file tell, one after another.
+//! - `laws`: what holds of the definitions of the format.
 //! - `splitter`: bytes to longwords.
 //! - `streams`: readers and writers that tell their bytes, their failure and their end.
 //! - `watched`: readers and writers of std that are watched.
 //! - `pieces`, `room`: a reader and a writer over memory, which fail where they are told to.
 //! - `name`: names, as longwords hold them.
 //! - `sites`: the sites of a hunk, which do not share a byte.
-//! - `kinds`: the kinds of blocks, of content, of external symbols, and of half longwords.
-//! - `event`: what the longwords of a file tell, one after another.
-//! - `laws`: what holds of the definitions of the format.
 #![tactic(auto)]
 
+mod block_steps;
+pub mod decoder;
+pub mod decoder_core;
 pub mod event;
 pub mod fault;
+mod header_steps;
 pub mod kinds;
 pub mod laws;
+mod longword;
 pub mod name;
+mod numbers;
 pub mod pieces;
 pub mod room;
+mod short_steps;
 pub mod sites;
 pub mod splitter;
+mod state;
+mod step;
 pub mod streams;
+pub mod taker;
+mod type_steps;
 pub mod watched;
 
+pub use decoder::Decoder;
+pub use decoder_core::{Core, CoreState};
 pub use event::{Event, FileKind};
 pub use fault::{DeviceFault, Fault, ReadFault, Reason, Refusal, WriteFault};
 pub use kinds::{BlockType, ContentType, EntryType, Half};
@@ -33,4 +46,5 @@ pub use room::Room;
 pub use sites::{SiteRefusal, Sites, Walk};
 pub use splitter::Splitter;
 pub use streams::{Feed, Sink, Source, read_all, write_all};
+pub use taker::Taker;
 pub use watched::Watched;

@@ -33,6 +33,6 @@ loop-left-preserved c =
           ∙ c.loop-left.invariant.digits;
     }
 
-pub returns : goal.returns
-returns c =
+pub returns-clause-value : goal.returns-clause-value
+returns-clause-value c =
     decimal-first c.loop-left.left c.loop-left.start c.loop-left.digits (omega arith) (omega arith) ∙ c.loop-left.invariant.digits

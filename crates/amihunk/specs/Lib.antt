@@ -1,0 +1,4 @@
+pub mod Ending
+pub mod Failure
+pub mod Loading
+pub mod Words

@@ -1,0 +1,59 @@
+use super::{Failure, ToolFault, report};
+use hunk_words::{Fault, Reason};
+use std::io;
+use std::io::{ErrorKind, Read, Write};
+
+static ONE_HUNK: [u8; 40] = [
+    0, 0, 3, 0xF3, 0, 0, 0, 0, 0, 0, 0, 1, 0, 0, 0, 0, 0, 0, 0, 0, 0, 0, 0, 1, 0, 0, 3, 0xE9, 0, 0,
+    0, 1, 0x4E, 0x75, 0x4E, 0x71, 0, 0, 3, 0xF2,
+];
+
+/// A device that fails.
+#[derive(Drop)]
+struct Broken;
+
+impl Read for Broken {
+    fn read(&mut self, _buf: &mut [u8]) -> io::Result<usize> {
+        Err(io::Error::from(ErrorKind::Other))
+    }
+}
+
+impl Write for Broken {
+    fn write(&mut self, _buf: &[u8]) -> io::Result<usize> {
+        Err(io::Error::from(ErrorKind::Other))
+    }
+
+    fn flush(&mut self) -> io::Result<()> {
+        Ok(())
+    }
+}
+
+#[test]
+fn reports_a_file(rt: HostRuntime) {
+    let alloc = rt.alloc();
+    let lines = "hunk 0 at 00010000 size 4\n00010000 4e754e71\n";
+    let text = report(alloc, ONE_HUNK.as_slice(), &[0x1_0000], Vec::new(alloc));
+    assert!(rt; text.is_ok_and(|bytes| bytes.as_slice() == lines.as_bytes()));
+}
+
+#[test]
+fn tells_why_there_is_no_report(rt: HostRuntime) {
+    let alloc = rt.alloc();
+    let bases = [0x1_0000];
+    let cut = report(alloc, &ONE_HUNK[..38], &bases, Vec::new(alloc));
+    let fault = Fault {
+        place: 9,
+        reason: Reason::PartialLongword,
+    };
+    assert_eq!(rt;
+        cut.err(),
+        Some(Failure::Tool(ToolFault::Input { file: 0, fault }))
+    );
+    let unread = report(alloc, Broken, &bases, Vec::new(alloc));
+    assert_eq!(rt;
+        unread.err(),
+        Some(Failure::Tool(ToolFault::InputDevice { file: 0 }))
+    );
+    let unwritten = report(alloc, ONE_HUNK.as_slice(), &bases, Broken);
+    assert_eq!(rt; unwritten.err(), Some(Failure::Printing));
+}

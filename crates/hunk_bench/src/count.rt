@@ -1,0 +1,48 @@
+//! A taker that counts words.
+
+ghost use Rattle.hunk_words.specs.declared.event.FileKind.TheVariants.{Object};
+
+use hunk_words::{Event, FileKind, SiteRefusal, Taker};
+
+/// Counts the longwords of names, content and debug blocks of an object file without sites.
+#[derive(Drop)]
+pub struct Count {
+    words: u64,
+}
+
+impl Count {
+    /// Nothing is counted yet.
+    pub fn new() -> Count {
+        Count { words: 0 }
+    }
+
+    /// The longwords counted.
+    pub fn words(&self) -> u64 {
+        self.words
+    }
+}
+
+impl Taker for Count {
+    ghost stands_for = { λ _ _. Unit {0} };
+
+    ghost KIND = { Object };
+
+    const KIND: FileKind = FileKind::Object;
+
+    // It keeps no sites, so it has no memory for one.
+    #[inline]
+    fn take(&mut self, event: Event) -> Result<(), SiteRefusal> {
+        match event {
+            Event::Word(_) => {
+                self.words = self.words.wrapping_add(1);
+                Ok(())
+            }
+            Event::Site { .. } | Event::RefSite(_) => Err(SiteRefusal::OutOfMemory),
+            _ => Ok(()),
+        }
+    }
+
+    fn size_of(&self, _hunk: u32) -> u32 {
+        0
+    }
+}

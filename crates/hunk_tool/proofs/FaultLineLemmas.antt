@@ -1,0 +1,28 @@
+-- The text of a refusal, put together from the pieces that are written.
+use Rattle.std.proofs.Common.{◌≡◌, ℕ, List, [], ◌∷◌, ◌++◌, slice_index_or, sym, ap, ◌∙◌, append_assoc}
+use Rattle.std.specs.Prelude.{codes}
+use Rattle.std.specs.Fmt.{decimal}
+use Rattle.hunk_words.specs.declared.fault.Fault.{Fault}
+use Rattle.hunk_tool.specs.FaultLine.{fault_line, fault_text, name_of, reason_text}
+use Rattle.hunk_tool.specs.Texts.{line}
+use Rattle.hunk_tool.specs.declared.tool_fault.ToolFault.{ToolFault}
+use Rattle.hunk_tool.specs.declared.tool_fault.ToolFault.TheVariants.{Input}
+
+five-append : (a b c d e : List ℕ) → a ++ (((b ++ c) ++ d) ++ e) ≡ (((a ++ b) ++ c) ++ d) ++ e
+five-append a b c d e = simp append_assoc
+
+pub fault_text-Input : (names : List (List ℕ)) (file : ℕ) (fault : Fault) (first second : List ℕ)
+    → first ≡ codes ": longword " ++ decimal fault.place ++ codes ": "
+    → second ≡ reason_text fault.reason
+    → name_of names (Input file fault) ++ (first ++ second) ≡ fault_text names (Input file fault)
+fault_text-Input names file fault first second one two =
+    ap (λ front. slice_index_or names file [] ++ (front ++ second)) one
+    ∙ ap (λ back. slice_index_or names file [] ++ ((codes ": longword " ++ decimal fault.place ++ codes ": ") ++ back)) two
+    ∙ five-append (slice_index_or names file []) (codes ": longword ") (decimal fault.place) (codes ": ") (reason_text fault.reason)
+
+-- the line as it is written: the program's name, the input's name, and the rest
+pub fault_line-split : (names : List (List ℕ)) (fault : ToolFault) (name told : List ℕ) → name ≡ name_of names fault → name_of names fault ++ told ≡ fault_text names fault
+    → fault_line names fault ≡ codes "amihunk: " ++ (name ++ line told)
+fault_line-split names fault name told same whole =
+    ap (λ text. line (codes "amihunk: " ++ text)) (sym whole ∙ ap (λ front. front ++ told) (sym same))
+    ∙ ap (λ text. codes "amihunk: " ++ text) (append_assoc name told (10 ∷ []))

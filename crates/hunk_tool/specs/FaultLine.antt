@@ -1,0 +1,65 @@
+-- The line that tells why an engine stopped.
+use Rattle.std.specs.Prelude.{ℕ, ◌<◌, List, [], ◌++◌, slice_index_or, codes}
+use Rattle.std.specs.Fmt.{decimal}
+use Rattle.hunk_words.specs.declared.fault.Reason.{Reason}
+use Rattle.hunk_words.specs.declared.fault.Reason.TheVariants.{PartialLongword, UnexpectedEnd, WrongStart, UnknownType, MisplacedType, UnsupportedBlock, UnsupportedExt, BothMemoryBits, ResidentNames, HunkTable, TooLarge, ContentTooLong, NoSuchHunk, SiteOutside, SiteOverlap, SymbolKind, TrailingData}
+use Rattle.hunk_loader.specs.declared.places.PlaceFault.{PlaceFault}
+use Rattle.hunk_loader.specs.declared.places.PlaceFault.TheVariants.{WrongCount, PastEnd, Overlap}
+use Rattle.hunk_tool.specs.Texts.{line, eight_digits}
+use Rattle.hunk_tool.specs.declared.tool_fault.ToolFault.{ToolFault}
+use Rattle.hunk_tool.specs.declared.tool_fault.ToolFault.TheVariants.{Input, InputDevice, Place, Output, OutOfMemory}
+
+-- why a longword is refused
+abbrev pub reason_text : Reason → List ℕ
+reason_text PartialLongword = codes "file ends inside a longword"
+reason_text UnexpectedEnd = codes "file ends too early"
+reason_text WrongStart = codes "wrong first longword"
+reason_text (UnknownType type) = codes "unknown block type " ++ decimal type
+reason_text (MisplacedType type) = codes "block type " ++ decimal type ++ codes " not allowed here"
+reason_text (UnsupportedBlock type) = codes "block type " ++ decimal type ++ codes " not supported"
+reason_text (UnsupportedExt type) = codes "external type " ++ decimal type ++ codes " not supported"
+reason_text BothMemoryBits = codes "both memory bits set"
+reason_text ResidentNames = codes "resident library names not supported"
+reason_text HunkTable = codes "bad hunk table"
+reason_text TooLarge = codes "too large"
+reason_text ContentTooLong = codes "block longer than its hunk"
+reason_text (NoSuchHunk hunk) = codes "no hunk " ++ decimal hunk
+reason_text (SiteOutside offset) = codes "site " ++ eight_digits offset ++ codes " outside its hunk"
+reason_text (SiteOverlap offset) = codes "site " ++ eight_digits offset ++ codes " overlaps another"
+reason_text (SymbolKind kind) = codes "symbol of kind " ++ decimal kind
+reason_text TrailingData = codes "data after the last hunk"
+
+-- why hunks are not placed
+abbrev pub place_text : PlaceFault → List ℕ
+place_text WrongCount = codes "wrong number of addresses"
+place_text (PastEnd hunk) = codes "hunk " ++ decimal hunk ++ codes " passes the end of memory"
+place_text (Overlap earlier later) = codes "hunks " ++ decimal earlier ++ codes " and " ++ decimal later ++ codes " overlap"
+
+-- the name of the input that is refused, and nothing where none is
+abbrev pub name_of : List (List ℕ) → ToolFault → List ℕ
+name_of names (Input file fault) = slice_index_or names file []
+name_of names (InputDevice file) = slice_index_or names file []
+name_of names (Place fault) = []
+name_of names (Output written) = []
+name_of names (OutOfMemory written) = []
+
+-- why an engine stopped, where its inputs have these names
+abbrev pub fault_text : List (List ℕ) → ToolFault → List ℕ
+fault_text names (Input file fault) =
+    slice_index_or names file [] ++ codes ": longword " ++ decimal fault.place ++ codes ": " ++ reason_text fault.reason
+fault_text names (InputDevice file) = slice_index_or names file [] ++ codes ": read failed"
+fault_text names (Place fault) = codes "places: " ++ place_text fault
+fault_text names (Output written) = codes "output: write failed"
+fault_text names (OutOfMemory written) = codes "out of memory"
+
+-- the whole line
+abbrev pub fault_line : List (List ℕ) → ToolFault → List ℕ
+fault_line names fault = line (codes "amihunk: " ++ fault_text names fault)
+
+-- a file that the refusal names is one of so many
+abbrev pub IsOfInputs : ℕ → ToolFault → Type 0
+IsOfInputs count (Input file fault) = file < count
+IsOfInputs count (InputDevice file) = file < count
+IsOfInputs count (Place fault) = Unit {0}
+IsOfInputs count (Output written) = Unit {0}
+IsOfInputs count (OutOfMemory written) = Unit {0}

@@ -1,0 +1,190 @@
+//! The line that tells why an engine stopped.
+
+ghost use Rattle.std.specs.Prelude.{◌≡◌, ◌++◌, ◌+◌, ◌<◌, ◌^◌, ℕ, List, codes, length, map, IfOk, IfErr, OnOk};
+ghost use Rattle.std.specs.Io.KnownBytes.{Appends};
+ghost use Rattle.std.specs.String.{string_bytes};
+ghost use Rattle.hunk_words.specs.Streams.{DeviceStopped};
+ghost use Rattle.hunk_tool.specs.FaultLine.{fault_line, fault_text, name_of, place_text, reason_text, IsOfInputs};
+ghost use Rattle.hunk_tool.specs.Phrase.{phrase_text};
+ghost use Rattle.hunk_tool.specs.Texts.{line};
+
+use crate::phrase::Phrase;
+use crate::printing::write_pieces;
+use crate::tool_fault::ToolFault;
+use hunk_loader::PlaceFault;
+use hunk_words::{Reason, Sink, WriteFault, write_all};
+
+/// Writes the line that tells why an engine stopped, whose inputs have these names: a `file` in the
+/// fault is an index of `files`. It takes no memory.
+///
+/// # Errors
+///
+/// [`WriteFault::Device`] where a write failed, or took no byte.
+pub fn write_fault<W: Sink>(
+    files: &[String],
+    fault: &ToolFault,
+    writer: &mut W,
+) -> Result<(), WriteFault>
+    requires { IsOfInputs (length files.now) fault.now }
+    ensures text { OnOk result (Appends (W.taken writer.old) (W.taken writer.new) (fault_line (map string_bytes files.now) fault.now)) }
+    ensures quiet { OnOk result (W.failed writer.new ≡ W.failed writer.old) }
+    ensures stopped { IfErr result (DeviceStopped (W.taken writer.old) (W.taken writer.new) (W.failed writer.new) (fault_line (map string_bytes files.now) fault.now) 0) }
+{
+    let name = named_file(files, fault);
+    let (first, second) = phrases(fault);
+    let written = write_all(writer, 0, b"amihunk: ")?;
+    let written = write_all(writer, written, name)?;
+    write_end(writer, written, &first, &second)?;
+    Ok(())
+}
+
+/// Writes what ends a line.
+fn write_end<W: Sink>(
+    writer: &mut W,
+    written: u64,
+    first: &Phrase,
+    second: &Phrase,
+) -> Result<u64, WriteFault>
+    requires { written + length (line (phrase_text first.now ++ phrase_text second.now)) < 2 ^ 64 }
+    ensures count { IfOk result (λ n. n ≡ written + length (line (phrase_text first.now ++ phrase_text second.now))) }
+    ensures text { OnOk result (Appends (W.taken writer.old) (W.taken writer.new) (line (phrase_text first.now ++ phrase_text second.now))) }
+    ensures quiet { OnOk result (W.failed writer.new ≡ W.failed writer.old) }
+    ensures stopped { IfErr result (DeviceStopped (W.taken writer.old) (W.taken writer.new) (W.failed writer.new) (line (phrase_text first.now ++ phrase_text second.now)) written) }
+{
+    write_pieces(
+        writer,
+        written,
+        &[
+            first.before(),
+            first.digits(),
+            first.after(),
+            second.before(),
+            second.digits(),
+            second.after(),
+            b"\n",
+        ],
+    )
+}
+
+/// The name of the input that is refused, and nothing where none is.
+fn named_file<'a>(files: &'a [String], fault: &ToolFault) -> &'a [u8]
+    requires { IsOfInputs (length files.now) fault.now }
+    ensures { result.now ≡ name_of (map string_bytes files.now) fault.now }
+{
+    match *fault {
+        ToolFault::Input { file, .. } | ToolFault::InputDevice { file } => files[file].as_bytes(),
+        ToolFault::Place(_) | ToolFault::Output { .. } | ToolFault::OutOfMemory { .. } => b"",
+    }
+}
+
+/// What is told behind that name.
+fn phrases(fault: &ToolFault) -> (Phrase, Phrase)
+    ensures { (names : List (List ℕ)) → name_of names fault.now ++ (phrase_text result.0 ++ phrase_text result.1) ≡ fault_text names fault.now }
+{
+    let nothing = Phrase::plain("");
+    match *fault {
+        ToolFault::Input { fault, .. } => (
+            Phrase::decimal(": longword ", fault.place, ": "),
+            reason_phrase(fault.reason),
+        ),
+        ToolFault::InputDevice { .. } => (Phrase::plain(": read failed"), nothing),
+        ToolFault::Place(fault) => place_phrases(fault),
+        ToolFault::Output { .. } => (Phrase::plain("output: write failed"), nothing),
+        ToolFault::OutOfMemory { .. } => (Phrase::plain("out of memory"), nothing),
+    }
+}
+
+/// Why addresses are refused.
+fn place_phrases(fault: PlaceFault) -> (Phrase, Phrase)
+    ensures { phrase_text result.0 ++ phrase_text result.1 ≡ codes "places: " ++ place_text fault }
+{
+    match fault {
+        PlaceFault::WrongCount => (
+            Phrase::plain("places: wrong number of addresses"),
+            Phrase::plain(""),
+        ),
+        PlaceFault::PastEnd(hunk) => (
+            Phrase::decimal("places: hunk ", hunk as u64, ""),
+            Phrase::plain(" passes the end of memory"),
+        ),
+        PlaceFault::Overlap(earlier, later) => (
+            Phrase::decimal("places: hunks ", earlier as u64, " and "),
+            Phrase::decimal("", later as u64, " overlap"),
+        ),
+    }
+}
+
+/// Why a longword is refused.
+fn reason_phrase(reason: Reason) -> Phrase
+    ensures { phrase_text result ≡ reason_text reason }
+{
+    match reason {
+        Reason::PartialLongword => Phrase::plain("file ends inside a longword"),
+        Reason::UnexpectedEnd => Phrase::plain("file ends too early"),
+        Reason::WrongStart => Phrase::plain("wrong first longword"),
+        Reason::UnknownType(number) => Phrase::decimal("unknown block type ", number as u64, ""),
+        Reason::MisplacedType(number) => {
+            Phrase::decimal("block type ", number as u64, " not allowed here")
+        }
+        Reason::UnsupportedBlock(number) => {
+            Phrase::decimal("block type ", number as u64, " not supported")
+        }
+        Reason::UnsupportedExt(number) => {
+            Phrase::decimal("external type ", number as u64, " not supported")
+        }
+        Reason::BothMemoryBits => Phrase::plain("both memory bits set"),
+        Reason::ResidentNames => Phrase::plain("resident library names not supported"),
+        Reason::HunkTable => Phrase::plain("bad hunk table"),
+        Reason::TooLarge => Phrase::plain("too large"),
+        Reason::ContentTooLong => Phrase::plain("block longer than its hunk"),
+        Reason::NoSuchHunk(hunk) => Phrase::decimal("no hunk ", hunk as u64, ""),
+        Reason::SiteOutside(offset) => Phrase::hexadecimal("site ", offset, " outside its hunk"),
+        Reason::SiteOverlap(offset) => Phrase::hexadecimal("site ", offset, " overlaps another"),
+        Reason::SymbolKind(kind) => Phrase::decimal("symbol of kind ", kind as u64, ""),
+        Reason::TrailingData => Phrase::plain("data after the last hunk"),
+    }
+}
+
+#[cfg(test)]
+mod tests {
+    use super::*;
+    use hunk_words::{Fault, Room};
+
+    #[test]
+    fn tells_each_refusal(rt: HostRuntime) {
+        let files = [
+            String::from_str(rt.alloc(), "x").expect(&rt, "a name"),
+            String::from_str(rt.alloc(), "y").expect(&rt, "a name"),
+        ];
+        let input = |file, place, reason| ToolFault::Input {
+            file,
+            fault: Fault { place, reason },
+        };
+        for (fault, line) in [
+            (
+                input(0, 7, Reason::ContentTooLong),
+                "amihunk: x: longword 7: block longer than its hunk\n",
+            ),
+            (
+                input(1, 15, Reason::SiteOverlap(4)),
+                "amihunk: y: longword 15: site 00000004 overlaps another\n",
+            ),
+            (
+                ToolFault::InputDevice { file: 1 },
+                "amihunk: y: read failed\n",
+            ),
+            (
+                ToolFault::Place(PlaceFault::Overlap(0, 12)),
+                "amihunk: places: hunks 0 and 12 overlap\n",
+            ),
+            (
+                ToolFault::OutOfMemory { written: 0 },
+                "amihunk: out of memory\n",
+            ),
+        ] {
+            let mut room = Room::new(rt.alloc(), 7, 100, false).expect(&rt, "room");
+            assert_eq!(rt; write_fault(&files, &fault, &mut room), Ok(()));
+            assert_eq!(rt; room.bytes(), line.as_bytes());
+        }
+    }
+}

@@ -1,0 +1,74 @@
+//! Texts with at most one number.
+
+ghost use Rattle.std.specs.Prelude.{◌≡◌, ◌++◌, ◌+◌, ◌≤◌, length};
+ghost use Rattle.std.specs.Fmt.{decimal};
+ghost use Rattle.hunk_tool.specs.Texts.{eight_digits};
+
+use crate::digits::Digits;
+
+/// A text with at most one number in it, and at most 64 bytes around it.
+#[derive(Drop)]
+pub(crate) struct Phrase {
+    before: &'static str,
+    digits: Digits,
+    after: &'static str,
+    ghost short: { length before.now + length digits + length after.now ≤ 84 },
+}
+
+impl Phrase {
+    ghost use Rattle.hunk_tool.specs.Phrase.{phrase_text};
+
+    pub(crate) fn before(&self) -> &[u8]
+        ensures { result.now ≡ self.now.before.now }
+    {
+        self.before.as_bytes()
+    }
+
+    pub(crate) fn digits(&self) -> &[u8]
+        ensures { result.now ≡ self.now.digits }
+    {
+        self.digits.as_bytes()
+    }
+
+    pub(crate) fn after(&self) -> &[u8]
+        ensures { result.now ≡ self.now.after.now }
+    {
+        self.after.as_bytes()
+    }
+
+    /// A text without a number.
+    pub(crate) fn plain(text: &'static str) -> Phrase
+        requires { length text.now ≤ 64 }
+        ensures { phrase_text result ≡ text.now }
+    {
+        Phrase {
+            before: text,
+            digits: Digits::none(),
+            after: "",
+        }
+    }
+
+    /// A text around a number in decimal digits.
+    pub(crate) fn decimal(before: &'static str, number: u64, after: &'static str) -> Phrase
+        requires { length before.now + length after.now ≤ 64 }
+        ensures { phrase_text result ≡ before.now ++ decimal number ++ after.now }
+    {
+        Phrase {
+            before,
+            digits: Digits::decimal(number),
+            after,
+        }
+    }
+
+    /// A text around a longword in eight hexadecimal digits.
+    pub(crate) fn hexadecimal(before: &'static str, number: u32, after: &'static str) -> Phrase
+        requires { length before.now + length after.now ≤ 64 }
+        ensures { phrase_text result ≡ before.now ++ eight_digits number ++ after.now }
+    {
+        Phrase {
+            before,
+            digits: Digits::hexadecimal(number),
+            after,
+        }
+    }
+}

@@ -1,0 +1,11 @@
+-- The bytes so far were taken, and no refusal is kept.
+use Rattle.std.proofs.Common.{◌≡◌, ℕ, List, ◌++◌, take, None}
+use Rattle.hunk_words.specs.Decoder.{StandsFor}
+use Rattle.hunk_words.specs.DecoderCore.{kept}
+use Rattle.hunk_words.proofs.decoder.Decoder.push_all.Given as goal
+
+abbrev pub invariant-loop-byte : goal.invariant-loop-byte
+invariant-loop-byte g l = record {
+  open_yet : kept l.self.core ≡ None;
+  stands : (bytes : List ℕ) → StandsFor g.T.Taker.KIND g.T.Taker.stands_for l.fn.self bytes → StandsFor g.T.Taker.KIND g.T.Taker.stands_for l.self (bytes ++ take l.byte-index l.piece);
+}

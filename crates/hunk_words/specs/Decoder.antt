@@ -1,0 +1,22 @@
+-- What a decoder stands for: the bytes that it was fed, in any pieces.
+use Rattle.std.specs.Prelude.{◌≡◌, ℕ, List, length, None, Result, Ok, Err}
+use Rattle.hunk_words.specs.Longwords.{longwords, unfinished, IsWhole}
+use Rattle.hunk_words.specs.Splitter.{StandsFor as SplitterStandsFor}
+use Rattle.hunk_words.specs.FirstOffence.{FirstOffence}
+use Rattle.hunk_words.specs.DecoderCore.{StandsFor as CoreStandsFor, TellsFile, kept}
+use Rattle.hunk_words.specs.declared.decoder.Decoder.{Decoder}
+use Rattle.hunk_words.specs.declared.event.Event.{Event}
+use Rattle.hunk_words.specs.declared.event.FileKind.{FileKind}
+use Rattle.hunk_words.specs.declared.fault.Refusal.{Refusal}
+use Rattle.hunk_words.specs.declared.fault.Refusal.TheVariants as refusal_is
+
+-- Its core stands for their longwords. Where no refusal is kept, the bytes of an unfinished longword are held.
+pub record StandsFor {T : Type 0} (kind : FileKind) (stands_for : T → List Event → Type 0) (d : Decoder T) (bytes : List ℕ) : Type 0 where
+  pub held : kept d.core ≡ None → SplitterStandsFor d.splitter bytes
+  pub core : CoreStandsFor kind stands_for d.core (longwords bytes)
+
+-- The answer to the end of the bytes: they are whole and a file, or this is their first offence.
+abbrev pub Finished : {T : Type 0} → FileKind → (T → List Event → Type 0) → List ℕ → Result T Refusal → Type 0
+Finished kind stands_for bytes (Ok taker) = IsWhole bytes × TellsFile kind (stands_for taker) (longwords bytes)
+Finished kind stands_for bytes (Err (refusal_is.Fault fault)) = FirstOffence kind (longwords bytes) (length (unfinished bytes)) fault.place fault.reason
+Finished kind stands_for bytes (Err refusal_is.OutOfMemory) = Unit {0}

@@ -1,0 +1,57 @@
+-- What a decoder core stands for: the longwords that it was given.
+use Rattle.std.specs.Prelude.{◌≡◌, ℕ, ◌≤◌, List, [], ◌∷◌, length, Option, Some, None, Result, Ok, Err}
+use Rattle.hunk_words.specs.Kinds.{Field}
+use Rattle.hunk_words.specs.Reading.{Progress, start_of, begun, read_words, labels}
+use Rattle.hunk_words.specs.Files.{AllLong, Tree, spelling, most_longwords, IsFileOf}
+use Rattle.hunk_words.specs.FirstOffence.{OffendsAt, FirstOffence}
+use Rattle.hunk_words.specs.Events.{events}
+use Rattle.hunk_words.specs.Numbering.{Reached}
+use Rattle.hunk_words.specs.declared.event.FileKind.{FileKind}
+use Rattle.hunk_words.specs.declared.event.Event.{Event}
+use Rattle.hunk_words.specs.declared.fault.Fault.{Fault}
+use Rattle.hunk_words.specs.declared.fault.Refusal.{Refusal}
+use Rattle.hunk_words.specs.declared.fault.Refusal.TheVariants as refusal_is
+use Rattle.hunk_words.specs.declared.decoder_core.Core.{Core}
+use Rattle.hunk_words.specs.declared.decoder_core.CoreState.{CoreState}
+
+-- the fields of longwords as the machine reads them
+abbrev pub fields_read : FileKind → List ℕ → List Field
+fields_read kind ws = labels (start_of kind ∷ []) ws
+
+-- The longwords were all read: the state is the one behind them, and the taker stands for their events.
+pub record Behind (kind : FileKind) (Stands : List Event → Type 0) (s : CoreState) (ws : List ℕ) : Type 0 where
+  pub progress : Progress
+  pub read : read_words (begun kind) 0 ws ≡ Ok progress
+  pub reached : Reached kind Stands s.state (fields_read kind ws) progress
+  pub place : s.place ≡ length ws
+  pub few : length ws ≤ most_longwords
+  pub long : AllLong ws
+
+-- Where no refusal is kept, the longwords were all read. A fault that is kept is their first offence.
+pub record StandsBy (kind : FileKind) (Stands : List Event → Type 0) (s : CoreState) (ws : List ℕ) : Type 0 where
+  pub good : s.refusal ≡ None → Behind kind Stands s ws
+  pub faulty : (fault : Fault) → s.refusal ≡ Some (refusal_is.Fault fault) → OffendsAt kind ws fault.place fault.reason
+
+-- the refusal that a core keeps
+abbrev pub kept : {T : Type 0} → Core T → Option Refusal
+kept core = core.state.refusal
+
+abbrev pub StandsFor : {T : Type 0} → FileKind → (T → List Event → Type 0) → Core T → List ℕ → Type 0
+StandsFor kind stands_for core ws = StandsBy kind (stands_for core.taker) core.state ws
+
+-- The answer is the refusal kept.
+abbrev pub Keeps : {A : Type 0} → Option Refusal → Result A Refusal → Type 0
+Keeps refusal (Ok done) = refusal ≡ None
+Keeps refusal (Err e) = refusal ≡ Some e
+
+-- The longwords are a file, and this holds of its events.
+pub record TellsFile (kind : FileKind) (Stands : List Event → Type 0) (ws : List ℕ) : Type 0 where
+  pub tree : Tree kind
+  pub is_file : IsFileOf kind tree ws
+  pub stands : Stands (events (spelling kind tree))
+
+-- the answer at the end of longwords, with this many bytes behind them
+abbrev pub EndAnswered : {T : Type 0} → FileKind → (T → List Event → Type 0) → List ℕ → ℕ → Result T Refusal → Type 0
+EndAnswered kind stands_for ws rest (Ok taker) = (rest ≡ 0) × TellsFile kind (stands_for taker) ws
+EndAnswered kind stands_for ws rest (Err (refusal_is.Fault fault)) = FirstOffence kind ws rest fault.place fault.reason
+EndAnswered kind stands_for ws rest (Err refusal_is.OutOfMemory) = Unit {0}

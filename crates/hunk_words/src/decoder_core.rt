@@ -1,0 +1,201 @@
+//! Longwords of a file, judged and told to a taker.
+
+ghost use Rattle.std.specs.Prelude.{◌≡◌, ℕ, List, [], ◌∷◌, ◌++◌, length, Option, Some, None, IsTrue, IsFalse, OnOk};
+ghost use Rattle.hunk_words.specs.DecoderCore.{Behind, StandsBy, StandsFor, EndAnswered, Keeps, kept};
+ghost use Rattle.hunk_words.specs.Files.{IsFront};
+ghost use Rattle.hunk_words.specs.Longwords.{longwords};
+ghost use Rattle.hunk_words.specs.Machine.{IsComplete};
+ghost use Rattle.hunk_words.specs.Reading.{start_of};
+ghost use Rattle.hunk_words.specs.View.{Around, IsState, due_view, view};
+ghost use Rattle.hunk_words.specs.declared.fault.Refusal.{Refusal};
+
+use crate::event::FileKind;
+use crate::fault::{Fault, Reason, Refusal};
+use crate::numbers::{Stop, take_word};
+use crate::state::{Due, State};
+use crate::taker::Taker;
+use byteorder::{BigEndian, ByteOrder};
+
+// The longwords that a file may have.
+const MOST_LONGWORDS: u64 = 0x1000_0000;
+
+/// What a core keeps beside its taker: what is due, the place, and a refusal.
+#[derive(Clone, Copy, Debug)]
+pub struct CoreState {
+    state: State,
+    place: u64,
+    refusal: Option<Refusal>,
+}
+
+/// The decoder of longwords. It judges each longword by the table of faults and the rules of
+/// sites, and tells its events to the taker.
+#[derive(Drop)]
+pub struct Core<T> {
+    taker: T,
+    state: CoreState,
+}
+
+// What is due at the start of a file.
+fn begun(file: FileKind) -> State
+    ensures file { result.file ≡ file }
+    ensures due { view result [] ≡ start_of file ∷ [] }
+    ensures is_state { IsState result [] }
+{
+    let due = match file {
+        FileKind::Object => Due::ObjectStart,
+        FileKind::Load => Due::LoadStart,
+    };
+    State {
+        due,
+        file,
+        last: 0,
+        hunk: 0,
+        limit: 0,
+    }
+}
+
+// The state behind one more longword, where no refusal is kept.
+fn advance<T: Taker>(taker: &mut T, core: CoreState, word: u32) -> CoreState
+    ensures { (ws : List ℕ) → Behind T.KIND (T.stands_for taker.old) core ws → StandsBy T.KIND (T.stands_for taker.new) result (ws ++ word ∷ []) }
+{
+    let CoreState { state, place, .. } = core;
+    if place >= MOST_LONGWORDS {
+        return refused(core, Reason::TooLarge);
+    }
+    match take_word(taker, state, word) {
+        Ok(state) => CoreState {
+            state,
+            place: place + 1,
+            refusal: None,
+        },
+        Err(Stop::Refused(reason)) => refused(core, reason),
+        Err(Stop::OutOfMemory) => CoreState {
+            state,
+            place,
+            refusal: Some(Refusal::OutOfMemory),
+        },
+    }
+}
+
+fn fault(place: u64, reason: Reason) -> Refusal
+    ensures { result ≡ Refusal.Fault (record { place = place; reason = reason }) }
+{
+    Refusal::Fault(Fault { place, reason })
+}
+
+// It keeps this fault of the longword at its place.
+fn refused(core: CoreState, reason: Reason) -> CoreState
+    ensures { result ≡ record core { refusal = Some (Refusal.Fault (record { place = core.place; reason = reason })) } }
+{
+    CoreState {
+        refusal: Some(fault(core.place, reason)),
+        ..core
+    }
+}
+
+// Whether a file may end here.
+fn is_complete(due: Due) -> bool
+    ensures yes { IsTrue result → (a : Around) → IsComplete (due_view due a) }
+    ensures no { IsFalse result → (a : Around) → IsComplete (due_view due a) → ⊥ }
+{
+    matches!(due, Due::UnitType | Due::PastEnd)
+}
+
+impl<T: Taker> Core<T> {
+    /// A core before the first longword. The taker has taken no event.
+    pub fn new(taker: T) -> Self
+        requires { T.stands_for taker [] }
+        ensures stands { StandsFor T.KIND T.stands_for result [] }
+        ensures none { kept result ≡ None }
+    {
+        Core {
+            taker,
+            state: CoreState {
+                state: begun(T::KIND),
+                place: 0,
+                refusal: None,
+            },
+        }
+    }
+
+    /// Takes the next longword.
+    ///
+    /// A fault comes with the longword that offends first, at its place and for the reason of the
+    /// table of faults or of the rules of sites, and for the longword at place 2^28; `OutOfMemory`
+    /// only where a growth was refused. A refusal is answered again to every later call.
+    pub fn word(&mut self, word: u32) -> Result<(), Refusal>
+        ensures stands { (ws : List ℕ) → StandsFor T.KIND T.stands_for self.old ws → StandsFor T.KIND T.stands_for self.new (ws ++ word ∷ []) }
+        ensures kept { Keeps (kept self.new) result }
+        ensures again { (refusal : Refusal) → kept self.old ≡ Some refusal → result ≡ Err refusal }
+        ensures front { OnOk result ((ws : List ℕ) → StandsFor T.KIND T.stands_for self.new ws → IsFront T.KIND ws) }
+    {
+        match self.state.refusal {
+            Some(refusal) => return Err(refusal),
+            None => {}
+        }
+        self.state = advance(&mut self.taker, self.state, word);
+        match self.state.refusal {
+            Some(refusal) => Err(refusal),
+            None => Ok(()),
+        }
+    }
+
+    /// Takes all longwords of these bytes, and leaves out up to three bytes behind them.
+    pub fn words(&mut self, bytes: &[u8]) -> Result<(), Refusal>
+        requires { kept self.old ≡ None }
+        ensures stands { (ws : List ℕ) → StandsFor T.KIND T.stands_for self.old ws → StandsFor T.KIND T.stands_for self.new (ws ++ longwords bytes.now) }
+        ensures kept { Keeps (kept self.new) result }
+    {
+        let count = bytes.len() / 4;
+        for index in 0..count {
+            let at = 4 * index;
+            match self.word(BigEndian::read_u32(&bytes[at..at + 4])) {
+                Ok(()) => {}
+                Err(refusal) => return Err(refusal),
+            }
+        }
+        Ok(())
+    }
+
+    /// The refusal that it keeps.
+    pub fn refusal(&self) -> Option<Refusal>
+        ensures { result ≡ kept self.now }
+    {
+        self.state.refusal
+    }
+
+    /// The number of longwords taken, which is the place of the next one.
+    pub fn place(&self) -> u64
+        ensures { (ws : List ℕ) → kept self.now ≡ None → StandsFor T.KIND T.stands_for self.now ws → result ≡ length ws }
+    {
+        self.state.place
+    }
+
+    /// The taker of a whole file, where the input ends `rest` bytes behind the longwords taken.
+    ///
+    /// `UnexpectedEnd` comes where the file is not complete, `PartialLongword` where bytes of a
+    /// further longword follow. A refusal that was kept is answered again.
+    pub fn end(self, rest: u8) -> Result<T, Refusal>
+        ensures answer { (ws : List ℕ) → StandsFor T.KIND T.stands_for self ws → EndAnswered T.KIND T.stands_for ws rest result }
+        ensures again { (refusal : Refusal) → kept self ≡ Some refusal → result ≡ Err refusal }
+        ensures memory { result ≡ Err Refusal.OutOfMemory → kept self ≡ Some Refusal.OutOfMemory }
+    {
+        let CoreState {
+            state,
+            place,
+            refusal,
+        } = self.state;
+        match refusal {
+            Some(refusal) => return Err(refusal),
+            None => {}
+        }
+        if rest > 0 {
+            return Err(fault(place, Reason::PartialLongword));
+        }
+        if is_complete(state.due) {
+            Ok(self.taker)
+        } else {
+            Err(fault(place, Reason::UnexpectedEnd))
+        }
+    }
+}

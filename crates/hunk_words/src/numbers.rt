@@ -1,0 +1,94 @@
+//! The numbers of a file, and what they tell a taker.
+
+ghost use Rattle.std.specs.Prelude.{◌≡◌, ℕ, ◌+◌, ◌<◌, ◌^◌, List, [], ◌++◌, length, OnOk};
+ghost use Rattle.hunk_words.specs.Kinds.{Field, halved, width};
+ghost use Rattle.hunk_words.specs.Events.{events, with_event};
+ghost use Rattle.hunk_words.specs.Machine.{due as first_due};
+ghost use Rattle.hunk_words.specs.Reading.{Progress};
+ghost use Rattle.hunk_words.specs.Numbering.{Reached, MayCome, NumberAnswered, WordAnswered};
+ghost use Rattle.hunk_words.specs.Takers.{JudgesEvent, watch_of, sizes_told};
+ghost use Rattle.hunk_words.specs.View.{Around, IsState, SizeIsGiven, due_view};
+ghost use Rattle.hunk_words.specs.declared.event.Event.{Event};
+
+use crate::event::{Event, FileKind};
+use crate::fault::Reason;
+use crate::sites::SiteRefusal;
+use crate::state::{Due, State};
+use crate::step::step;
+use crate::taker::Taker;
+
+/// Why a number was not taken.
+#[derive(Clone, Copy, Debug)]
+pub enum Stop {
+    /// It is not allowed.
+    Refused(Reason),
+    /// A growth of memory was refused.
+    OutOfMemory,
+}
+
+// The size of this hunk in the header, where the size of its content is due.
+fn size_asked<T: Taker>(taker: &T, state: State) -> u32
+    ensures { (told : List Event) → T.stands_for taker.now told → state.file ≡ T.KIND → IsState state (sizes_told T.KIND told) →
+        SizeIsGiven state (sizes_told T.KIND told) result }
+{
+    match state.due {
+        Due::ContentSize { .. } => match state.file {
+            FileKind::Object => 0,
+            FileKind::Load => taker.size_of(state.hunk),
+        },
+        _ => 0,
+    }
+}
+
+// Tells the taker what a number told, if anything.
+fn tell<T: Taker>(taker: &mut T, event: Option<Event>) -> Result<(), SiteRefusal>
+    ensures takes { (told : List Event) → T.stands_for taker.old told → length told < 2 ^ 29 → OnOk result (T.stands_for taker.new (told ++ with_event event [])) }
+    ensures judges { (told : List Event) → T.stands_for taker.old told → length told < 2 ^ 29 → JudgesEvent (watch_of T.KIND told) event result }
+{
+    match event {
+        None => Ok(()),
+        Some(event) => taker.take(event),
+    }
+}
+
+/// Takes a number: judged by the table of faults, and then, where it is a site, by the taker.
+pub fn take_number<T: Taker>(taker: &mut T, state: State, number: u32) -> Result<State, Stop>
+    ensures { (fs : List Field) (at : Progress) → Reached T.KIND (T.stands_for taker.old) state fs at → MayCome fs at number →
+        NumberAnswered T.KIND (T.stands_for taker.new) fs at number result }
+{
+    let size = size_asked(taker, state);
+    match step(state, size, number) {
+        Ok(next) => match tell(taker, next.event) {
+            Ok(()) => Ok(next.state),
+            Err(SiteRefusal::Outside) => Err(Stop::Refused(Reason::SiteOutside(number))),
+            Err(SiteRefusal::Overlap) => Err(Stop::Refused(Reason::SiteOverlap(number))),
+            Err(SiteRefusal::OutOfMemory) => Err(Stop::OutOfMemory),
+        },
+        Err(reason) => Err(Stop::Refused(reason)),
+    }
+}
+
+// Two halves are due: 16-bit words of a list of relocations.
+fn is_halved(due: Due) -> bool
+    ensures { (a : Around) → result ≡ halved (width (first_due (due_view due a))) }
+{
+    matches!(
+        due,
+        Due::ShortCount { .. } | Due::ShortHunk { .. } | Due::ShortOffset { .. } | Due::ShortPad
+    )
+}
+
+/// Takes a longword: one number, or two halves, the upper one first.
+pub fn take_word<T: Taker>(taker: &mut T, state: State, word: u32) -> Result<State, Stop>
+    ensures { (fs : List Field) (at : Progress) → Reached T.KIND (T.stands_for taker.old) state fs at → length (events fs) + 1 < 2 ^ 29 →
+        WordAnswered T.KIND (T.stands_for taker.new) fs at word result }
+{
+    if is_halved(state.due) {
+        match take_number(taker, state, word / 0x1_0000) {
+            Ok(upper) => take_number(taker, upper, word % 0x1_0000),
+            Err(stop) => Err(stop),
+        }
+    } else {
+        take_number(taker, state, word)
+    }
+}
