@@ -33,3 +33,5 @@ pub mod FirstOffenceLemmas
 pub mod LongwordBytes
 pub mod CoreLemmas
 pub mod DecoderLemmas
+pub mod OpenNameLemmas
+pub mod TakerLemmas

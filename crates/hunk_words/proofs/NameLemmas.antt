@@ -88,7 +88,7 @@ pub before_zero-at : (bs : List ℕ) (place : Option ℕ) → place ≡ position
 before_zero-at bs place e = rw e (before_zero-position bs)
 
 -- a list that is cut short hides what follows, and one that is not does not
-before_zero-short : (xs ys : List ℕ) → length (before_zero xs) < length xs → before_zero (xs ++ ys) ≡ before_zero xs
+pub before_zero-short : (xs ys : List ℕ) → length (before_zero xs) < length xs → before_zero (xs ++ ys) ≡ before_zero xs
 before_zero-short [] ys h = absurd (omega arith)
 before_zero-short (zero ∷ xs) ys h = refl
 before_zero-short (suc b ∷ xs) ys h =
@@ -97,7 +97,7 @@ before_zero-short (suc b ∷ xs) ys h =
     let shorter : length (before_zero xs) < length xs = omega arith in
     before_zero-more b (xs ++ ys) ∙ ap (λ (t : List ℕ). suc b ∷ t) (before_zero-short xs ys shorter) ∙ sym e
 
-before_zero-long : (xs ys : List ℕ) → length xs ≤ length (before_zero xs) → before_zero (xs ++ ys) ≡ before_zero xs ++ before_zero ys
+pub before_zero-long : (xs ys : List ℕ) → length xs ≤ length (before_zero xs) → before_zero (xs ++ ys) ≡ before_zero xs ++ before_zero ys
 before_zero-long [] ys h = refl
 before_zero-long (zero ∷ xs) ys h = absurd (omega arith)
 before_zero-long (suc b ∷ xs) ys h =

@@ -27,4 +27,6 @@ pub mod Splitter
 pub mod Streams
 pub mod Watched
 pub mod Names
+pub mod OpenName
 pub mod Sites
+pub mod SeenSites

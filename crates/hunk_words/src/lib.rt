@@ -41,6 +41,7 @@ pub use event::{Event, FileKind};
 pub use fault::{DeviceFault, Fault, ReadFault, Reason, Refusal, WriteFault};
 pub use kinds::{BlockType, ContentType, EntryType, Half};
 pub use name::Name;
+pub use name::open_name::OpenName;
 pub use pieces::Pieces;
 pub use room::Room;
 pub use sites::{SiteRefusal, Sites, Walk};

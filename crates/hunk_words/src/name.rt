@@ -16,6 +16,8 @@ use std::cmp::Ordering;
 use std::hash::{Hash, Hasher};
 use std::marker::Model;
 
+pub mod open_name;
+
 /// A name: bytes, none of which is zero. It may be empty.
 ///
 /// In a file a name stands in longwords (The AmigaDOS Manual, 3rd edition, "Amiga binary file

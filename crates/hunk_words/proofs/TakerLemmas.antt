@@ -1,0 +1,110 @@
+-- What a taker of events that keeps its sites in a map answers, and the lists of events that it took, one event further.
+use Rattle.std.proofs.Common.{◌≡◌, ℕ, ◌+◌, ◌<◌, ◌≤◌, ◌⊎◌, inl, inr, List, [], ◌∷◌, ◌++◌, Bool, true, false, Option, Some, None, IsSome, Result, Ok, Err, ◌==◌, if◌then◌else◌, cond, nat_le, ◌&&◌, ◌↔◌, refl, sym, ap, subst, ◌∙◌, arith, eq-eqb}
+use Rattle.std.proofs.lemmas.Bool.{cases_lt, eqb-true}
+use Rattle.std.proofs.lemmas.Bool.Decides.{leb_tells}
+use Rattle.hunk_words.specs.SiteRules.{apart, all_apart}
+use Rattle.hunk_words.specs.Sites.{Meets, SharesByte, target_at}
+use Rattle.hunk_words.specs.SeenSites.{Has, SameSites}
+use Rattle.hunk_words.specs.Takers.{JudgesSite}
+use Rattle.hunk_words.specs.Building.{Built, built, step}
+use Rattle.hunk_words.specs.Watch.{Watch, watched, place_after, seen_now}
+use Rattle.hunk_words.specs.declared.event.FileKind.{FileKind}
+use Rattle.hunk_words.specs.declared.event.Event.{Event}
+use Rattle.hunk_words.specs.declared.sites.SiteRefusal.{SiteRefusal}
+use Rattle.hunk_words.specs.declared.sites.SiteRefusal.TheVariants.{Outside, Overlap, OutOfMemory}
+
+-- ---- one event further
+
+pub built-append : (b : Built) (es : List Event) (e : Event) → built b (es ++ (e ∷ [])) ≡ step (built b es) e
+built-append b [] e = refl
+built-append b (d ∷ es) e = built-append (step b d) es e
+
+-- the watch behind one event
+abbrev pub watch_after : FileKind → Watch → Event → Watch
+watch_after file v e = record { place = place_after file v.place e; seen = seen_now v.seen e }
+
+pub watched-append : (file : FileKind) (v : Watch) (es : List Event) (e : Event) → watched file v (es ++ (e ∷ [])) ≡ watch_after file (watched file v es) e
+watched-append file v [] e = refl
+watched-append file v (d ∷ es) e = watched-append file (watch_after file v d) es e
+
+-- ---- sites apart
+
+apart-shares : (o p : ℕ) → SharesByte o p → apart o p ≡ false
+apart-shares o p shares = grind (arith, leb_tells)
+
+shares-apart : (o p : ℕ) → apart o p ≡ false → SharesByte o p
+shares-apart o p e = grind (arith, leb_tells)
+
+and-false : (b c : Bool) → c ≡ false → (b && c) ≡ false
+and-false true c e = e
+and-false false c e = refl
+
+-- a site that shares a byte with one of these is not apart from them
+all_apart-shares : (o p : ℕ) (seen : List ℕ) → Has seen p → SharesByte o p → all_apart o seen ≡ false
+all_apart-shares o p [] h shares = elim h [ ]
+all_apart-shares o p (q ∷ seen) (inl e) shares = let first : apart o q ≡ false = apart-shares o q (subst (SharesByte o) (sym e) shares) in rw first refl
+all_apart-shares o p (q ∷ seen) (inr h) shares = and-false (apart o q) (all_apart o seen) (all_apart-shares o p seen h shares)
+
+-- one of them
+abbrev Shared : ℕ → List ℕ → Type 0
+Shared o seen = (p : ℕ) × Has seen p × SharesByte o p
+
+shared-more : (o q : ℕ) (seen : List ℕ) → Shared o seen → Shared o (q ∷ seen)
+shared-more o q seen s = (s.0, inr s.1, s.2)
+
+shared-first : (o q : ℕ) (seen : List ℕ) (b : Bool) → apart o q ≡ b → (b && all_apart o seen) ≡ false → (all_apart o seen ≡ false → Shared o seen) → Shared o (q ∷ seen)
+shared-first o q seen true e h next = shared-more o q seen (next h)
+shared-first o q seen false e h next = (q, inl refl, shares-apart o q e)
+
+all_apart-shared : (o : ℕ) (seen : List ℕ) → all_apart o seen ≡ false → Shared o seen
+all_apart-shared o [] h = let wrong : true ≡ false = h in cc
+all_apart-shared o (q ∷ seen) h = shared-first o q seen (apart o q) refl h (all_apart-shared o seen)
+
+-- ---- a map of sites
+
+pub SameSites-none : {T : Type 0} → SameSites {T = T} [] []
+SameSites-none = record { of_seen = λ o h. elim h [ ]; of_map = λ o h. let wrong : false ≡ true = h in cc }
+
+meets-shared : {T : Type 0} (seen : List ℕ) (entries : List (ℕ × T)) (o : ℕ) → SameSites seen entries → Meets entries o → all_apart o seen ≡ false
+meets-shared seen entries o same m = all_apart-shares o m.0 seen (same.of_map m.0 m.1) m.2
+
+shared-meets : {T : Type 0} (seen : List ℕ) (entries : List (ℕ × T)) (o : ℕ) → SameSites seen entries → Shared o seen → Meets entries o
+shared-meets seen entries o same s = (s.0, same.of_seen s.0 s.1, s.2)
+
+not-false : (b : Bool) → (b ≡ false → ⊥) → b ≡ true
+not-false true h = refl
+not-false false h = absurd (h refl)
+
+-- The answer of a map of sites is what the rules of sites say.
+pub judges-site : {T : Type 0} (limit : ℕ) (seen : List ℕ) (entries : List (ℕ × T)) (o : ℕ) (answer : Result (Unit {0}) SiteRefusal) → SameSites seen entries
+    → ((answer ≡ Err Outside) ↔ (limit < o + 4)) → ((answer ≡ Err Overlap) ↔ ((o + 4 ≤ limit) × Meets entries o)) → JudgesSite limit seen o answer
+judges-site limit seen entries o (Ok done) same outside overlap =
+    let inside : o + 4 ≤ limit = go (cases_lt limit (o + 4)) in
+    (inside, not-false (all_apart o seen) (λ e. let wrong : Ok done ≡ Err Overlap = overlap.1 (inside, shared-meets seen entries o same (all_apart-shared o seen e)) in cc))
+  where
+    go : (limit < o + 4) ⊎ (o + 4 ≤ limit) → o + 4 ≤ limit
+    go (inl below) = let wrong : Ok done ≡ Err Outside = outside.1 below in cc
+    go (inr above) = above
+judges-site limit seen entries o (Err Outside) same outside overlap = outside.0 refl
+judges-site limit seen entries o (Err Overlap) same outside overlap = let both = overlap.0 refl in (both.0, meets-shared seen entries o same both.1)
+judges-site limit seen entries o (Err OutOfMemory) same outside overlap = tt
+
+-- A site that is added is seen.
+pub SameSites-more : {T : Type 0} (seen : List ℕ) (entries more : List (ℕ × T)) (o : ℕ) (target : T) → SameSites seen entries
+    → ((other : ℕ) → target_at more other ≡ (if o == other then Some target else target_at entries other)) → SameSites (o ∷ seen) more
+SameSites-more seen entries more o target same looks = record {
+  of_seen = λ p h. rw (looks p) (seen_here p h);
+  of_map = λ p h. found p (o == p) refl (rw (looks p) at h);
+}
+  where
+    kept : (p : ℕ) (b : Bool) → IsSome (target_at entries p) → IsSome (cond b (Some target) (target_at entries p))
+    kept p true h = refl
+    kept p false h = h
+
+    seen_here : (p : ℕ) → (o ≡ p) ⊎ Has seen p → IsSome (if o == p then Some target else target_at entries p)
+    seen_here p (inl e) = let same_place : (o == p) ≡ true = eq-eqb o p e in rw same_place refl
+    seen_here p (inr h) = kept p (o == p) (same.of_seen p h)
+
+    found : (p : ℕ) (b : Bool) → (o == p) ≡ b → IsSome (cond b (Some target) (target_at entries p)) → (o ≡ p) ⊎ Has seen p
+    found p true e h = inl (eqb-true o p e)
+    found p false e h = inr (same.of_map p h)

@@ -1,0 +1,52 @@
+//! A name whose longwords come one after another.
+ghost use Rattle.std.specs.Prelude.{◌≡◌, ℕ, List, [], ◌∷◌, ◌++◌, OnOk, OnErr};
+ghost use Rattle.std.specs.List.{All};
+ghost use Rattle.hunk_words.specs.Names.{IsNameByte, name_of};
+
+use super::{Name, big_endian, until_zero};
+use std::alloc::{AllocError, Allocator, Global};
+
+/// A name whose longwords come one after another. Behind its first zero byte it takes no memory.
+#[derive(Debug, Drop)]
+pub struct OpenName<A: Allocator + Copy = Global> {
+    bytes: Vec<u8, A>,
+    ended: bool,
+    ghost no_zero: { All IsNameByte bytes.items },
+}
+
+impl<A: Allocator + Copy> OpenName<A> {
+    ghost use Rattle.hunk_words.specs.OpenName.{Opens};
+
+    /// A name before its first longword.
+    pub fn new(alloc: A) -> Self
+        ensures { Opens result [] }
+    {
+        OpenName {
+            bytes: Vec::new(alloc),
+            ended: false,
+        }
+    }
+
+    /// Takes the next longword. `AllocError` comes only where memory was refused, and then the name
+    /// is as it was.
+    pub fn push(&mut self, word: u32) -> Result<(), AllocError>
+        ensures takes { (words : List ℕ) → Opens self.old words → OnOk result (Opens self.new (words ++ word ∷ [])) }
+        ensures refuses { (words : List ℕ) → Opens self.old words → OnErr result (Opens self.new words) }
+    {
+        if self.ended {
+            return Ok(());
+        }
+        let longword = big_endian(word);
+        let front = until_zero(&longword);
+        self.bytes.extend_from_slice(front)?;
+        self.ended = front.len() < longword.len();
+        Ok(())
+    }
+
+    /// The name that the longwords hold.
+    pub fn close(self) -> Name<A>
+        ensures { (words : List ℕ) → Opens self words → result ≡ name_of words }
+    {
+        Name { bytes: self.bytes }
+    }
+}
