@@ -1,5 +1,5 @@
 -- One longword further; a refusal stands for those behind it.
-use Rattle.std.proofs.Common.{◌≡◌, ◌+◌, ◌-◌, ◌*◌, ◌++◌, take, drop, ap, subst, arith}
+use Rattle.std.proofs.Common.{◌≡◌, ◌+◌, ◌-◌, ◌*◌, ◌++◌, take, drop, ap, ◌∙◌, subst, arith}
 use Rattle.byteorder.specs.Endian.{big_number}
 use Rattle.hunk_words.specs.Longwords.{longwords}
 use Rattle.hunk_words.specs.DecoderCore.{StandsFor}
@@ -14,6 +14,7 @@ loop-index-preserved g c =
     let is : c.read_u32.result ≡ big_number 4 (take 4 (drop (4 * i) c.args.bytes.now)) = rw four at c.read_u32.ensures in
     record {
       open_yet = c.in-Ok.ensures.kept;
+      given = c.in-Ok.ensures.given ∙ c.loop-index.invariant.given;
       stands = λ ws stands. subst (λ us. StandsFor g.T.Taker.KIND g.T.Taker.stands_for c.word.new.self us) (words-next ws c.args.bytes.now i c.read_u32.result (omega arith) is)
           (c.in-Ok.ensures.stands _ (c.loop-index.invariant.stands ws stands));
     }
