@@ -49,7 +49,7 @@ impl<A: Allocator + Copy> Image<A> {
     pub fn hunks(&self) -> &[(u32, Vec<u8, A>)]
         ensures { hunks_of result.now ≡ self.now }
     {
-        &self.hunks
+        self.hunks.as_slice()
     }
 }
 

@@ -36,7 +36,11 @@ pub enum LoadRefusal {
 /// [`LoadRefusal::Place`] exactly where [`check_places`](crate::check_places) answers that fault
 /// for the sizes of the hunks, else [`LoadRefusal::OutOfMemory`] only where a growth was refused.
 /// [`LoadRefusal::File`] never comes here.
-pub fn load<A: Allocator + Copy>(alloc: A, file: &LoadFile<A>, bases: &[u32]) -> Result<Image<A>, LoadRefusal>
+pub fn load<A: Allocator + Copy>(
+    alloc: A,
+    file: &LoadFile<A>,
+    bases: &[u32],
+) -> Result<Image<A>, LoadRefusal>
     ensures image { IfOk result (λ image. image ≡ loaded file.now bases.now) }
     ensures placed { IsOk result → Placed (sizes_of file.now) bases.now }
     ensures refused { (fault : PlaceFault) → (result ≡ Err (LoadRefusal.Place fault))
@@ -54,7 +58,11 @@ pub fn load<A: Allocator + Copy>(alloc: A, file: &LoadFile<A>, bases: &[u32]) ->
 }
 
 /// The base and the bytes of each hunk, in order.
-fn load_hunks<A: Allocator + Copy>(alloc: A, hunks: &[LoadHunk<A>], bases: &[u32]) -> Result<Vec<(u32, Vec<u8, A>), A>, AllocError>
+fn load_hunks<A: Allocator + Copy>(
+    alloc: A,
+    hunks: &[LoadHunk<A>],
+    bases: &[u32],
+) -> Result<Vec<(u32, Vec<u8, A>), A>, AllocError>
     requires counted { length hunks.now ≡ length bases.now }
     requires valid { All (IsLoadHunk (length bases.now)) hunks.now }
     ensures { IfOk result (λ made. hunks_of made.items ≡ loaded hunks.now bases.now) }
@@ -68,7 +76,11 @@ fn load_hunks<A: Allocator + Copy>(alloc: A, hunks: &[LoadHunk<A>], bases: &[u32
 }
 
 /// The bytes of a hunk, where the hunks of its file stand at the bases.
-fn load_hunk<A: Allocator + Copy>(alloc: A, hunk: &LoadHunk<A>, bases: &[u32]) -> Result<Vec<u8, A>, AllocError>
+fn load_hunk<A: Allocator + Copy>(
+    alloc: A,
+    hunk: &LoadHunk<A>,
+    bases: &[u32],
+) -> Result<Vec<u8, A>, AllocError>
     requires { IsLoadHunk (length bases.now) hunk.now }
     ensures { IfOk result (λ bytes. bytes.items ≡ loaded_bytes bases.now hunk.now) }
 {
@@ -86,4 +98,91 @@ fn filled<A: Allocator>(alloc: A, content: &[u8], count: usize) -> Result<Vec<u8
     bytes.extend_from_slice(content)?;
     bytes.resize(count, 0)?;
     Ok(bytes)
+}
+
+#[cfg(test)]
+mod tests {
+    use super::*;
+    use hunk_loadfile::{HunkKind, Memory};
+    use hunk_words::Sites;
+    use std::alloc::Global;
+    use std::test::Fail;
+
+    fn hunk(
+        alloc: Global,
+        size: u32,
+        content: &[u8],
+        sites: &[(u32, u32)],
+    ) -> Result<LoadHunk, Fail> {
+        let mut targets = Sites::new(alloc, 4 * u64::from(size));
+        for (offset, target) in sites {
+            targets.try_add(*offset, *target)?;
+        }
+        Ok(LoadHunk {
+            kind: HunkKind::Code,
+            memory: Memory::Any,
+            size,
+            content: Vec::from_slice(alloc, content)?,
+            sites: targets,
+            symbols: Vec::new(alloc),
+            debugs: Vec::new(alloc),
+        })
+    }
+
+    #[test]
+    fn fills_with_zeros_and_relocates_them(rt: HostRuntime) -> Result<(), Fail> {
+        let alloc = rt.alloc();
+        let content = [0x4E, 0x75, 0x4E, 0x71];
+        let hunks = vec![in alloc; hunk(alloc, 3, &content, &[(8, 0)])?]?;
+        let image = load(alloc, &LoadFile::new(hunks)?, &[0x0001_0000])?;
+        let want = [0x4E, 0x75, 0x4E, 0x71, 0, 0, 0, 0, 0, 1, 0, 0];
+        for (base, bytes) in image.hunks() {
+            assert_eq!(rt; *base, 0x0001_0000);
+            assert_eq!(rt; bytes.as_slice(), want.as_slice());
+        }
+        assert_eq!(rt; image.byte(0x0001_0009), Some(1));
+        assert_eq!(rt; image.byte(0x0000_FFFF), None);
+        assert_eq!(rt; image.byte(0x0001_000C), None);
+        Ok(())
+    }
+
+    #[test]
+    fn adds_the_bases_of_later_hunks(rt: HostRuntime) -> Result<(), Fail> {
+        let alloc = rt.alloc();
+        let bases = [0x0001_0000, 0x0002_0000, 0x0003_0000];
+        let mut hunks = Vec::new(alloc);
+        let wrapping = [0x4E, 0xB9, 0xFF, 0xFF, 0xFF, 0xFE, 0x4E, 0x75];
+        hunks.push(hunk(alloc, 2, &wrapping, &[(2, 1)])?)?;
+        hunks.push(hunk(alloc, 1, &[0, 0, 0, 8], &[(0, 2)])?)?;
+        hunks.push(hunk(alloc, 0, &[], &[])?)?;
+        let image = load(alloc, &LoadFile::new(hunks)?, &bases)?;
+        let wants: [&[u8]; 3] = [
+            &[0x4E, 0xB9, 0, 1, 0xFF, 0xFE, 0x4E, 0x75],
+            &[0, 3, 0, 8],
+            &[],
+        ];
+        assert_eq!(rt; image.hunks().len(), wants.len());
+        for ((_, bytes), want) in image.hunks().iter().zip(wants) {
+            assert_eq!(rt; bytes.as_slice(), want);
+        }
+        Ok(())
+    }
+
+    #[test]
+    fn refuses_addresses_that_do_not_hold_the_hunks(rt: HostRuntime) -> Result<(), Fail> {
+        let alloc = rt.alloc();
+        let hunks = vec![in alloc; hunk(alloc, 2, &[], &[])?]?;
+        let file = LoadFile::new(hunks)?;
+        let rows: [(&[u32], PlaceFault); 2] = [
+            (&[], PlaceFault::WrongCount),
+            (&[0xFFFF_FFFC], PlaceFault::PastEnd(0)),
+        ];
+        for (bases, want) in rows {
+            match load(alloc, &file, bases) {
+                Ok(_) => assert!(rt; false, "loaded at {bases:?}"),
+                Err(refusal) => assert_eq!(rt; refusal, LoadRefusal::Place(want)),
+            }
+        }
+        Ok(())
+    }
 }

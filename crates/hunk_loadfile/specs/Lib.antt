@@ -1,6 +1,5 @@
+pub mod FileValue
 pub mod Hunks
 pub mod Patching
 pub mod Rules
-pub mod Rules
 pub mod Written
-pub mod FileValue
