@@ -1,3 +1,7 @@
+pub mod FrugalLemmas
+pub mod ImageBuilderLemmas
+pub mod ImageLoaderLemmas
 pub mod LoadingLemmas
+pub mod OpenImageLemmas
 pub mod PlacesLemmas
 pub mod RiseLemmas

@@ -1,5 +1,5 @@
 -- Memory as a map from addresses to bytes, made of the list of hunks: the base of each, an address, and its bytes.
-use Rattle.std.specs.Prelude.{ℕ, ◌-◌, nat_le, if◌then◌else◌, List, [], ◌∷◌, map, Option, Some, None, MatchOption, Vec, slice_get}
+use Rattle.std.specs.Prelude.{ℕ, ◌-◌, nat_le, if◌then◌else◌, List, [], ◌∷◌, map, Option, Some, None, Vec, slice_get}
 
 -- the byte of one hunk at an address, if it has one there
 abbrev pub byte_in : ℕ → List ℕ → ℕ → Option ℕ

@@ -1,6 +1,7 @@
 //! Load files in memory: at which addresses their hunks are placed.
 //!
 //! - `image`: what the hunks are in memory.
+//! - `image_loader`: loading a load file while its bytes come.
 //! - `loading`: loading a load file at addresses.
 //! - `places`: whether the addresses that were handed in hold the hunks, and what is wrong with
 //!   them if not.
@@ -8,11 +9,16 @@
 #![tactic(auto)]
 
 pub mod image;
+mod image_builder;
+pub mod image_loader;
 pub mod loading;
+mod open_image;
 pub mod places;
+mod placing;
 pub mod sizes;
 
 pub use image::Image;
+pub use image_loader::ImageLoader;
 pub use loading::{LoadRefusal, load};
 pub use places::{PlaceFault, check_places, check_sizes};
 pub use sizes::Sizes;

@@ -1,4 +1,4 @@
-use Rattle.std.proofs.Common.{◌≡◌, ◌-◌, ◌*◌, ◌≤◌, ◌++◌, List, ℕ, ap, length, replicate, subst, sym, ◌∙◌, take, drop, arith}
+use Rattle.std.proofs.Common.{◌≡◌, ◌-◌, ◌*◌, ◌≤◌, ◌++◌, List, ℕ, ap, length, replicate, subst, sym, ◌∙◌, drop, arith}
 use Rattle.std.proofs.lemmas.List.{take_at}
 use Rattle.hunk_loadfile.specs.Rules.{IsLoadHunk}
 use Rattle.hunk_loader.specs.Loading.{loaded_bytes}

@@ -1,0 +1,22 @@
+-- The load file that events told so far: the hunks that ended.
+use Rattle.std.specs.Prelude.{ℕ, List, [], ◌∷◌}
+use Rattle.hunk_words.specs.Values.{Hunk, Part}
+use Rattle.hunk_words.specs.Building.{Built, built, load_begun}
+use Rattle.hunk_words.specs.declared.event.Event.{Event}
+use Rattle.hunk_loadfile.specs.Hunks.{FileHunk}
+use Rattle.hunk_loadfile.specs.FileValue.{file_hunk}
+
+-- hunks, of which the header tells the memory bits and the sizes
+abbrev pub file_hunks : List (ℕ × ℕ) → List Hunk → List FileHunk
+file_hunks [] hs = []
+file_hunks (s ∷ ss) [] = []
+file_hunks (s ∷ ss) (h ∷ hs) = file_hunk s.0 s.1 h ∷ file_hunks ss hs
+
+-- the hunks of the first part
+abbrev pub first_hunks : List Part → List Hunk
+first_hunks [] = []
+first_hunks (p ∷ ps) = p.hunks
+
+-- the partial load file after events
+abbrev pub partial : List Event → List FileHunk
+partial told = file_hunks (built load_begun told).sizes (first_hunks (built load_begun told).parts)
