@@ -1,5 +1,6 @@
 //! A taker that counts and sums words.
 
+ghost use Rattle.std.specs.Prelude.{[]};
 ghost use Rattle.hunk_words.specs.declared.event.FileKind.TheVariants.{Object};
 
 use hunk_words::{Event, FileKind, SiteRefusal, Taker};
@@ -31,6 +32,8 @@ impl Count {
 
 impl Taker for Count {
     ghost stands_for = { λ _ _. Unit {0} };
+
+    ghost given = { λ _. [] };
 
     ghost KIND = { Object };
 

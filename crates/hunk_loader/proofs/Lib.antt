@@ -1,4 +1,8 @@
+pub mod FrugalLemmas
+pub mod ImageBuilderLemmas
+pub mod ImageLoaderLemmas
 pub mod LoadingLemmas
 pub mod MemoryLemmas
+pub mod OpenImageLemmas
 pub mod PlacesLemmas
 pub mod RiseLemmas

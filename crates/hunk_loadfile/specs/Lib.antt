@@ -1,12 +1,12 @@
 pub mod FileValue
 pub mod Hunks
 pub mod LoadLaws
+pub mod Partial
 pub mod Patching
 pub mod PatchingLaws
 pub mod Rules
 pub mod Writing
 pub mod Written
-pub mod Partial
 pub mod OpenHunk
 pub mod Builder
 pub mod LoadDecoder

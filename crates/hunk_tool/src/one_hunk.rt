@@ -217,12 +217,14 @@ impl<A: Allocator> OneHunkReader<A> {
 }
 
 impl<A: Allocator> Feed for OneHunkReader<A> {
-    ghost use Rattle.std.specs.Prelude.{◌≡◌, Some};
+    ghost use Rattle.std.specs.Prelude.{◌≡◌, [], Some};
     ghost use Rattle.hunk_tool.specs.Reading.{StandsFor};
 
     ghost stands_for = { StandsFor };
 
     ghost refused = { λ reader refusal. reader.refusal ≡ Some refusal };
+
+    ghost given = { λ _. [] };
 
     fn feed(&mut self, piece: &[u8]) -> Result<(), Refusal> {
         match self.refusal {

@@ -1,6 +1,6 @@
 //! Bytes of a file, in any pieces.
 
-ghost use Rattle.std.specs.Prelude.{◌≡◌, ℕ, ◌+◌, ◌<◌, ◌^◌, List, [], ◌∷◌, ◌++◌, length, Some, None, OnOk};
+ghost use Rattle.std.specs.Prelude.{◌≡◌, ℕ, ◌+◌, ◌<◌, ◌^◌, List, [], ◌∷◌, ◌++◌, length, Some, None, IfOk, OnOk};
 ghost use Rattle.hunk_words.specs.Decoder.{StandsFor, Finished};
 ghost use Rattle.hunk_words.specs.DecoderCore.{Keeps, kept};
 ghost use Rattle.hunk_words.specs.Files.{IsFront};
@@ -27,6 +27,7 @@ impl<T: Taker> Decoder<T> {
         requires { T.stands_for taker [] }
         ensures stands { StandsFor T.KIND T.stands_for result [] }
         ensures none { kept result.core ≡ None }
+        ensures given { T.given result.core.taker ≡ T.given taker }
     {
         Decoder {
             splitter: Splitter::new(),
@@ -39,6 +40,7 @@ impl<T: Taker> Decoder<T> {
         requires { kept self.old.core ≡ None }
         ensures stands { (bytes : List ℕ) → StandsFor T.KIND T.stands_for self.old bytes → StandsFor T.KIND T.stands_for self.new (bytes ++ byte ∷ []) }
         ensures kept { Keeps (kept self.new.core) result }
+        ensures given { T.given self.new.core.taker ≡ T.given self.old.core.taker }
     {
         match self.splitter.push(byte) {
             Some(word) => self.core.word(word),
@@ -51,6 +53,7 @@ impl<T: Taker> Decoder<T> {
         requires { kept self.old.core ≡ None }
         ensures stands { (bytes : List ℕ) → StandsFor T.KIND T.stands_for self.old bytes → StandsFor T.KIND T.stands_for self.new (bytes ++ piece.now) }
         ensures kept { Keeps (kept self.new.core) result }
+        ensures given { T.given self.new.core.taker ≡ T.given self.old.core.taker }
     {
         for byte in piece {
             match self.push(*byte) {
@@ -66,6 +69,7 @@ impl<T: Taker> Decoder<T> {
         requires { kept self.old.core ≡ None }
         ensures stands { (bytes : List ℕ) → StandsFor T.KIND T.stands_for self.old bytes → StandsFor T.KIND T.stands_for self.new (bytes ++ piece.now) }
         ensures kept { Keeps (kept self.new.core) result }
+        ensures given { T.given self.new.core.taker ≡ T.given self.old.core.taker }
     {
         if self.splitter.rest() > 0 {
             return self.push_all(piece);
@@ -86,6 +90,7 @@ impl<T: Taker> Decoder<T> {
     pub fn feed(&mut self, piece: &[u8]) -> Result<(), Refusal>
         ensures stands { (bytes : List ℕ) → StandsFor T.KIND T.stands_for self.old bytes → StandsFor T.KIND T.stands_for self.new (bytes ++ piece.now) }
         ensures kept { Keeps (kept self.new.core) result }
+        ensures given { T.given self.new.core.taker ≡ T.given self.old.core.taker }
         ensures again { (refusal : Refusal) → kept self.old.core ≡ Some refusal → result ≡ Err refusal }
         ensures front { OnOk result ((bytes : List ℕ) → StandsFor T.KIND T.stands_for self.new bytes → IsFront T.KIND (longwords bytes)) }
         ensures bounded { OnOk result ((bytes : List ℕ) → StandsFor T.KIND T.stands_for self.new bytes → length bytes < 2 ^ 30 + 4) }
@@ -110,6 +115,7 @@ impl<T: Taker> Decoder<T> {
     pub fn finish(self) -> Result<T, Refusal>
         ensures answer { (bytes : List ℕ) → StandsFor T.KIND T.stands_for self bytes → Finished T.KIND T.stands_for bytes result }
         ensures again { (refusal : Refusal) → kept self.core ≡ Some refusal → result ≡ Err refusal }
+        ensures given { IfOk result (λ taker. T.given taker ≡ T.given self.core.taker) }
         ensures memory { result ≡ Err Refusal.OutOfMemory → kept self.core ≡ Some Refusal.OutOfMemory }
     {
         self.core.end(self.splitter.rest())
@@ -120,6 +126,8 @@ impl<T: Taker> Feed for Decoder<T> {
     ghost stands_for = { λ d bytes. StandsFor T.KIND T.stands_for d bytes };
 
     ghost refused = { λ d refusal. kept d.core ≡ Some refusal };
+
+    ghost given = { λ d. T.given d.core.taker };
 
     fn feed(&mut self, piece: &[u8]) -> Result<(), Refusal> {
         self.feed(piece)

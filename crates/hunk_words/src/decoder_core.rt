@@ -1,6 +1,6 @@
 //! Longwords of a file, judged and told to a taker.
 
-ghost use Rattle.std.specs.Prelude.{◌≡◌, ℕ, ◌≤◌, List, [], ◌∷◌, ◌++◌, length, Option, Some, None, IsTrue, IsFalse, OnOk};
+ghost use Rattle.std.specs.Prelude.{◌≡◌, ℕ, ◌≤◌, List, [], ◌∷◌, ◌++◌, length, Option, Some, None, IsTrue, IsFalse, IfOk, OnOk};
 ghost use Rattle.hunk_words.specs.DecoderCore.{Behind, StandsBy, StandsFor, SomeTaken, TakesSome, EndAnswered, Keeps, kept};
 ghost use Rattle.hunk_words.specs.Files.{IsFront};
 ghost use Rattle.hunk_words.specs.Longwords.{longwords};
@@ -56,7 +56,8 @@ fn begun(file: FileKind) -> State
 
 // The state behind one more longword, where no refusal is kept.
 fn advance<T: Taker>(taker: &mut T, core: CoreState, word: u32) -> CoreState
-    ensures { (ws : List ℕ) → Behind T.KIND (T.stands_for taker.old) core ws → StandsBy T.KIND (T.stands_for taker.new) result (ws ++ word ∷ []) }
+    ensures stands { (ws : List ℕ) → Behind T.KIND (T.stands_for taker.old) core ws → StandsBy T.KIND (T.stands_for taker.new) result (ws ++ word ∷ []) }
+    ensures given { T.given taker.new ≡ T.given taker.old }
 {
     let CoreState { state, place, .. } = core;
     if place >= MOST_LONGWORDS {
@@ -107,6 +108,7 @@ impl<T: Taker> Core<T> {
         requires { T.stands_for taker [] }
         ensures stands { StandsFor T.KIND T.stands_for result [] }
         ensures none { kept result ≡ None }
+        ensures given { T.given result.taker ≡ T.given taker }
     {
         Core {
             taker,
@@ -126,6 +128,7 @@ impl<T: Taker> Core<T> {
     pub fn word(&mut self, word: u32) -> Result<(), Refusal>
         ensures stands { (ws : List ℕ) → StandsFor T.KIND T.stands_for self.old ws → StandsFor T.KIND T.stands_for self.new (ws ++ word ∷ []) }
         ensures kept { Keeps (kept self.new) result }
+        ensures given { T.given self.new.taker ≡ T.given self.old.taker }
         ensures again { (refusal : Refusal) → kept self.old ≡ Some refusal → result ≡ Err refusal }
         ensures front { OnOk result ((ws : List ℕ) → StandsFor T.KIND T.stands_for self.new ws → IsFront T.KIND ws) }
     {
@@ -146,6 +149,7 @@ impl<T: Taker> Core<T> {
         ensures stands { (ws : List ℕ) → StandsFor T.KIND T.stands_for self.old ws → SomeTaken T.KIND T.stands_for self.new ws bytes.now result }
         ensures count { TakesSome bytes.now result }
         ensures kept { Keeps (kept self.new) result }
+        ensures given { T.given self.new.taker ≡ T.given self.old.taker }
     {
         match self.word(BigEndian::read_u32(&bytes[..4])) {
             Ok(()) => Ok(1),
@@ -162,6 +166,7 @@ impl<T: Taker> Core<T> {
         ensures stands { (ws : List ℕ) → StandsFor T.KIND T.stands_for self.old ws → SomeTaken T.KIND T.stands_for self.new ws bytes.now result }
         ensures count { TakesSome bytes.now result }
         ensures kept { Keeps (kept self.new) result }
+        ensures given { T.given self.new.taker ≡ T.given self.old.taker }
     {
         let CoreState { state, place, .. } = self.state;
         let room = MOST_LONGWORDS.saturating_sub(place).min(u64::from(more));
@@ -200,6 +205,7 @@ impl<T: Taker> Core<T> {
         ensures stands { (ws : List ℕ) → StandsFor T.KIND T.stands_for self.old ws → SomeTaken T.KIND T.stands_for self.new ws bytes.now result }
         ensures count { TakesSome bytes.now result }
         ensures kept { Keeps (kept self.new) result }
+        ensures given { T.given self.new.taker ≡ T.given self.old.taker }
     {
         match self.state.state.due {
             Due::Word { more, then } => self.run(more, then, bytes),
@@ -213,6 +219,7 @@ impl<T: Taker> Core<T> {
         requires { kept self.old ≡ None }
         ensures stands { (ws : List ℕ) → StandsFor T.KIND T.stands_for self.old ws → StandsFor T.KIND T.stands_for self.new (ws ++ longwords bytes.now) }
         ensures kept { Keeps (kept self.new) result }
+        ensures given { T.given self.new.taker ≡ T.given self.old.taker }
     {
         let count = bytes.len() / 4;
         let mut taken = 0;
@@ -246,6 +253,7 @@ impl<T: Taker> Core<T> {
     pub fn end(self, rest: u8) -> Result<T, Refusal>
         ensures answer { (ws : List ℕ) → StandsFor T.KIND T.stands_for self ws → EndAnswered T.KIND T.stands_for ws rest result }
         ensures again { (refusal : Refusal) → kept self ≡ Some refusal → result ≡ Err refusal }
+        ensures given { IfOk result (λ taker. T.given taker ≡ T.given self.taker) }
         ensures memory { result ≡ Err Refusal.OutOfMemory → kept self ≡ Some Refusal.OutOfMemory }
     {
         let CoreState {

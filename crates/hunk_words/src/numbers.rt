@@ -47,6 +47,7 @@ fn size_asked<T: Taker>(taker: &T, state: State) -> u32
 fn tell<T: Taker>(taker: &mut T, event: Option<Event>) -> Result<(), SiteRefusal>
     ensures takes { (told : List Event) → T.stands_for taker.old told → length told < 2 ^ 29 → OnOk result (T.stands_for taker.new (told ++ with_event event [])) }
     ensures judges { (told : List Event) → T.stands_for taker.old told → length told < 2 ^ 29 → JudgesEvent (watch_of T.KIND told) event result }
+    ensures given { T.given taker.new ≡ T.given taker.old }
 {
     match event {
         None => Ok(()),
@@ -56,8 +57,9 @@ fn tell<T: Taker>(taker: &mut T, event: Option<Event>) -> Result<(), SiteRefusal
 
 /// Takes a number: judged by the table of faults, and then, where it is a site, by the taker.
 pub fn take_number<T: Taker>(taker: &mut T, state: State, number: u32) -> Result<State, Stop>
-    ensures { (fs : List Field) (at : Progress) → Reached T.KIND (T.stands_for taker.old) state fs at → MayCome fs at number →
+    ensures answer { (fs : List Field) (at : Progress) → Reached T.KIND (T.stands_for taker.old) state fs at → MayCome fs at number →
         NumberAnswered T.KIND (T.stands_for taker.new) fs at number result }
+    ensures given { T.given taker.new ≡ T.given taker.old }
 {
     let size = size_asked(taker, state);
     match step(state, size, number) {
@@ -83,8 +85,9 @@ fn is_halved(due: Due) -> bool
 
 /// Takes a longword: one number, or two halves, the upper one first.
 pub fn take_word<T: Taker>(taker: &mut T, state: State, word: u32) -> Result<State, Stop>
-    ensures { (fs : List Field) (at : Progress) → Reached T.KIND (T.stands_for taker.old) state fs at → length (events fs) + 1 < 2 ^ 29 →
+    ensures answer { (fs : List Field) (at : Progress) → Reached T.KIND (T.stands_for taker.old) state fs at → length (events fs) + 1 < 2 ^ 29 →
         WordAnswered T.KIND (T.stands_for taker.new) fs at word result }
+    ensures given { T.given taker.new ≡ T.given taker.old }
 {
     if is_halved(state.due) {
         match take_number(taker, state, word / 0x1_0000) {
@@ -101,6 +104,7 @@ pub fn take_words<T: Taker>(taker: &mut T, bytes: &[u8]) -> Result<(), Stop>
     ensures takes { (told : List Event) → T.stands_for taker.old told → length told + length (longwords bytes.now) < 2 ^ 29 →
         OnOk result (T.stands_for taker.new (told ++ word_events (longwords bytes.now))) }
     ensures long { OnOk result (AllLong (longwords bytes.now)) }
+    ensures given { T.given taker.new ≡ T.given taker.old }
 {
     for index in 0..bytes.len() / 4 {
         let at = 4 * index;

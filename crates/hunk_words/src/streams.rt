@@ -64,10 +64,14 @@ pub trait Feed {
     // It keeps this refusal.
     ghost refused: { Self → Refusal → Type 0 };
 
+    // The numbers that it was given before the first byte. They stay as they are.
+    ghost given: { Self → List ℕ } = { λ _. [] };
+
     /// Takes the next bytes. It refuses a file of more than 2^28 longwords at the latest.
     fn feed(&mut self, piece: &[u8]) -> Result<(), Refusal>
         ensures stands { (bytes : List ℕ) → stands_for self.old bytes → stands_for self.new (bytes ++ piece.now) }
         ensures keeps { IfErr result (λ refusal. refused self.new refusal) }
+        ensures given { given self.new ≡ given self.old }
         ensures bounded { OnOk result ((bytes : List ℕ) → stands_for self.new bytes → length bytes < 2 ^ 30 + 4) };
 }
 
@@ -83,6 +87,7 @@ pub fn read_all<R: Source, D: Feed>(reader: &mut R, decoder: &mut D) -> Result<(
     requires { D.stands_for decoder.old [] }
     ensures whole { OnOk result (HasRead (R.left reader.old) (R.left reader.new) (D.stands_for decoder.new)) }
     ensures ended { OnOk result (IsTrue (R.ended reader.new)) }
+    ensures given { D.given decoder.new ≡ D.given decoder.old }
     ensures stopped { IfErr result (ReadStopped (R.left reader.old) (R.left reader.new) (R.failed reader.new) (D.stands_for decoder.new) (D.refused decoder.new)) }
 {
     let mut buffer = [0; PIECE];

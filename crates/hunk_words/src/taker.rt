@@ -17,6 +17,9 @@ pub trait Taker: Drop {
     // What it holds after these events, in order.
     ghost stands_for: { Self → List Event → Type 0 };
 
+    // The numbers that it was given before the first event. They stay as they are.
+    ghost given: { Self → List ℕ } = { λ _. [] };
+
     ghost KIND: { FileKind };
 
     /// Which kind of file it takes.
@@ -30,7 +33,8 @@ pub trait Taker: Drop {
     fn take(&mut self, event: Event) -> Result<(), SiteRefusal>
         ensures takes { (told : List Event) → stands_for self.old told → length told < 2 ^ 29 → OnOk result (stands_for self.new (told ++ event ∷ [])) }
         ensures refuses { (told : List Event) → stands_for self.old told → length told < 2 ^ 29 → OnErr result (stands_for self.new told) }
-        ensures judges { (told : List Event) → stands_for self.old told → length told < 2 ^ 29 → Judges (watch_of KIND told) event result };
+        ensures judges { (told : List Event) → stands_for self.old told → length told < 2 ^ 29 → Judges (watch_of KIND told) event result }
+        ensures given { given self.new ≡ given self.old };
 
     /// The size of a hunk in the header, in longwords. It is asked of the kind `Load` alone, and
     /// only for a size that was taken.

@@ -4,14 +4,14 @@ use Rattle.hunk_words.specs.DecoderCore.{fields_read}
 use Rattle.hunk_words.proofs.CoreLemmas.{StandsBy-taken, StandsBy-refused, StandsBy-too_large, few-events}
 use Rattle.hunk_words.proofs.decoder_core.advance.Goals as goal
 
-pub returns-then-place-ge-MOST_LONGWORDS : goal.returns-then-place-ge-MOST_LONGWORDS
-returns-then-place-ge-MOST_LONGWORDS g c = λ ws b. rw c.refused.ensures (StandsBy-too_large _ _ _ c.args.core ws c.args.word b (omega arith))
+pub returns-then-place-ge-MOST_LONGWORDS-clause-stands : goal.returns-then-place-ge-MOST_LONGWORDS-clause-stands
+returns-then-place-ge-MOST_LONGWORDS-clause-stands g c = λ ws b. rw c.refused.ensures (StandsBy-too_large _ _ _ c.args.core ws c.args.word b (omega arith))
 
-pub returns-in-Ok : goal.returns-in-Ok
-returns-in-Ok g c = λ ws b. StandsBy-taken _ _ _ c.args.core ws c.args.word c.in-Ok.state b (omega arith) (omega arith)
-    (c.in-Ok.ensures (fields_read g.T.Taker.KIND ws) b.progress b.reached (few-events _ _ c.args.core ws b (omega arith)))
+pub returns-in-Ok-clause-stands : goal.returns-in-Ok-clause-stands
+returns-in-Ok-clause-stands g c = λ ws b. StandsBy-taken _ _ _ c.args.core ws c.args.word c.in-Ok.state b (omega arith) (omega arith)
+    (c.in-Ok.ensures.answer (fields_read g.T.Taker.KIND ws) b.progress b.reached (few-events _ _ c.args.core ws b (omega arith)))
 
-pub returns-in-Err-Refused : goal.returns-in-Err-Refused
-returns-in-Err-Refused g c = λ ws b. rw c.refused-in-Err-Refused.ensures
+pub returns-in-Err-Refused-clause-stands : goal.returns-in-Err-Refused-clause-stands
+returns-in-Err-Refused-clause-stands g c = λ ws b. rw c.refused-in-Err-Refused.ensures
     (StandsBy-refused _ _ _ c.args.core ws c.args.word c.in-Err-Refused.reason b (omega arith) (omega arith)
-    (rw c.in-Err-Refused.field-0-is at (c.in-Err-Refused.ensures (fields_read g.T.Taker.KIND ws) b.progress b.reached (few-events _ _ c.args.core ws b (omega arith)))))
+    (rw c.in-Err-Refused.field-0-is at (c.in-Err-Refused.ensures.answer (fields_read g.T.Taker.KIND ws) b.progress b.reached (few-events _ _ c.args.core ws b (omega arith)))))

@@ -8,8 +8,8 @@ use Rattle.hunk_words.specs.declared.sites.SiteRefusal.TheVariants.{Outside, Ove
 use Rattle.hunk_words.proofs.NumberLemmas.{number-taken, number-answered, site-refused}
 use Rattle.hunk_words.proofs.numbers.take_number.Goals as goal
 
-pub returns-in-Ok-tell : goal.returns-in-Ok-tell
-returns-in-Ok-tell g c = λ fs at reached may.
+pub returns-in-Ok-tell-clause-answer : goal.returns-in-Ok-tell-clause-answer
+returns-in-Ok-tell-clause-answer g c = λ fs at reached may.
     let told = events fs in
     let steps : Steps c.args.state (sizes_told g.T.Taker.KIND told) c.args.number c.in-Ok.next =
     c.in-Ok.ensures (sizes_told g.T.Taker.KIND told) reached.is_state (c.size_asked-size.ensures told reached.stands reached.file reached.is_state) in
@@ -17,16 +17,16 @@ returns-in-Ok-tell g c = λ fs at reached may.
     (number-answered _ _ _ fs at c.args.number c.in-Ok.next (Ok c.in-Ok-tell.field-0) reached steps (c.in-Ok-tell.ensures.judges told reached.stands may.few))
     (c.in-Ok-tell.ensures.takes told reached.stands may.few)
 
-pub returns-in-Err-Outside : goal.returns-in-Err-Outside
-returns-in-Err-Outside g c = λ fs at reached may.
+pub returns-in-Err-Outside-clause-answer : goal.returns-in-Err-Outside-clause-answer
+returns-in-Err-Outside-clause-answer g c = λ fs at reached may.
     let told = events fs in
     let steps : Steps c.args.state (sizes_told g.T.Taker.KIND told) c.args.number c.in-Ok.next =
     c.in-Ok.ensures (sizes_told g.T.Taker.KIND told) reached.is_state (c.size_asked-size.ensures told reached.stands reached.file reached.is_state) in
     site-refused _ _ _ fs at c.args.number c.in-Ok.next (SiteOutside c.args.number) reached steps
     (number-answered _ _ _ fs at c.args.number c.in-Ok.next (Err Outside) reached steps (rw c.in-Err-Outside.field-0-is at (c.in-Err-Outside.ensures.judges told reached.stands may.few)))
 
-pub returns-in-Err-Overlap : goal.returns-in-Err-Overlap
-returns-in-Err-Overlap g c = λ fs at reached may.
+pub returns-in-Err-Overlap-clause-answer : goal.returns-in-Err-Overlap-clause-answer
+returns-in-Err-Overlap-clause-answer g c = λ fs at reached may.
     let told = events fs in
     let steps : Steps c.args.state (sizes_told g.T.Taker.KIND told) c.args.number c.in-Ok.next =
     c.in-Ok.ensures (sizes_told g.T.Taker.KIND told) reached.is_state (c.size_asked-size.ensures told reached.stands reached.file reached.is_state) in

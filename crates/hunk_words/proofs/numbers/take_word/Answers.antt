@@ -9,17 +9,17 @@ use Rattle.hunk_words.specs.Reading.{field_next}
 use Rattle.hunk_words.proofs.WordLemmas.{MayCome-long, MayCome-upper, MayCome-lower, WordAnswered-long, WordAnswered-halves, halved-reached}
 use Rattle.hunk_words.proofs.numbers.take_word.Goals as goal
 
-pub returns-in-Ok : goal.returns-in-Ok
-returns-in-Ok g c = λ fs at reached few.
+pub returns-in-Ok-clause-answer : goal.returns-in-Ok-clause-answer
+returns-in-Ok-clause-answer g c = λ fs at reached few.
     let s = c.args.state in
     let is : halved (width (due at.stack)) ≡ true = halved-reached _ _ s fs at _ reached (c.is_halved.ensures (around s (sizes_told g.T.Taker.KIND (events fs)))) ∙ c.if-is_halved.true in
-    let first = c.in-Ok.ensures fs at reached (MayCome-upper _ fs at c.args.word refl is (omega arith) few) in
+    let first = c.in-Ok.ensures.answer fs at reached (MayCome-upper _ fs at c.args.word refl is (omega arith) few) in
     WordAnswered-halves _ _ fs at c.args.word c.take_number-in-Ok.result is first.0
-    (c.take_number-in-Ok.ensures _ (field_next at (c.args.word / 2 ^ 16)) first.1 (MayCome-lower fs (field (due at.stack) (c.args.word / 2 ^ 16)) (field_next at (c.args.word / 2 ^ 16)) c.args.word few))
+    (c.take_number-in-Ok.ensures.answer _ (field_next at (c.args.word / 2 ^ 16)) first.1 (MayCome-lower fs (field (due at.stack) (c.args.word / 2 ^ 16)) (field_next at (c.args.word / 2 ^ 16)) c.args.word few))
 
-pub returns-else-is_halved : goal.returns-else-is_halved
-returns-else-is_halved g c = λ fs at reached few.
+pub returns-else-is_halved-clause-answer : goal.returns-else-is_halved-clause-answer
+returns-else-is_halved-clause-answer g c = λ fs at reached few.
     let s = c.args.state in
     let is : halved (width (due at.stack)) ≡ false = halved-reached _ _ s fs at _ reached (c.is_halved.ensures (around s (sizes_told g.T.Taker.KIND (events fs)))) ∙ c.if-is_halved.false in
     WordAnswered-long _ _ fs at c.args.word c.take_number-else-is_halved.result is
-    (c.take_number-else-is_halved.ensures fs at reached (MayCome-long fs at c.args.word is (omega arith) few))
+    (c.take_number-else-is_halved.ensures.answer fs at reached (MayCome-long fs at c.args.word is (omega arith) few))

@@ -32,6 +32,7 @@ loop-index-preserved g c =
     let four : 4 * i + 4 - 4 * i ≡ 4 = omega arith in
     let is : c.read_u32-word.result ≡ big_number 4 (take 4 (drop (4 * i) bytes)) = rw four at c.read_u32-word.ensures in
     record {
+      given = c.in-Ok.ensures.given ∙ c.loop-index.invariant.given;
       long = subst AllLong (sym (longwords-next bytes i (omega arith))) (AllLong-append (longwords (take (4 * i) bytes)) _ c.loop-index.invariant.long (rw (← is) (omega arith, tt)));
       takes = λ told stands few. subst (λ es. g.T.Taker.stands_for c.take.new.self es) (next-told told bytes i c.read_u32-word.result (omega arith) is)
           (c.in-Ok.ensures.takes _ (c.loop-index.invariant.takes told stands few) (room told bytes i (omega arith) few));

@@ -1,4 +1,4 @@
-use Rattle.std.proofs.Common.{◌≡◌, sym, subst, true, false, Ok}
+use Rattle.std.proofs.Common.{◌≡◌, refl, sym, subst, true, false, Ok}
 use Rattle.hunk_words.specs.Takers.{Judges, watch_of}
 use Rattle.hunk_words.specs.declared.event.FileKind.TheVariants.{Load}
 use Rattle.std.specs.declared.alloc.AllocError.{AllocError}
@@ -24,4 +24,5 @@ returns-in-Ok g c = record {
   takes = λ told stands few. takes-next {E = AllocError} c.args.self.now c.build.new.self (Ok c.in-Ok.field-0) c.args.event told c.in-Ok.ensures.steps stands;
   refuses = λ told stands few. tt;
   judges = λ told stands few. judges-other (watch_of Load told) c.args.event tt c.in_default.not-Site (λ o e. let wrong : false ≡ true = c.in-Ok.ensures.no_reference o e in cc);
+  given = refl;
 }

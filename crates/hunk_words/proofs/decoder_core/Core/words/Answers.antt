@@ -1,5 +1,5 @@
 -- Some longwords further.
-use Rattle.std.proofs.Common.{◌≡◌, ◌≤◌, ◌-◌, ◌*◌, ◌++◌, take, drop, length, ap, subst, length-drop, arith}
+use Rattle.std.proofs.Common.{◌≡◌, ◌≤◌, ◌-◌, ◌*◌, ◌++◌, take, drop, length, ap, ◌∙◌, subst, length-drop, arith}
 use Rattle.std.proofs.lemmas.List.{take_all}
 use Rattle.hunk_words.specs.Longwords.{longwords}
 use Rattle.hunk_words.specs.DecoderCore.{StandsFor}
@@ -16,6 +16,7 @@ loop-taken-preserved g c =
     record {
       open_yet = c.in-Ok.ensures.kept;
       within = let few = c.in-Ok.ensures.count in omega (arith, few.1, ap length rest, length-drop (4 * i) bytes);
+      given = c.in-Ok.ensures.given ∙ c.loop-taken.invariant.given;
       stands = λ ws stands. subst (λ us. StandsFor g.T.Taker.KIND g.T.Taker.stands_for c.some.new.self us) (words-more ws bytes i n within)
           (subst (λ xs. StandsFor g.T.Taker.KIND g.T.Taker.stands_for c.some.new.self ((ws ++ longwords (take (4 * i) bytes)) ++ longwords (take (4 * n) xs))) rest
           (c.in-Ok.ensures.stands _ (c.loop-taken.invariant.stands ws stands)));

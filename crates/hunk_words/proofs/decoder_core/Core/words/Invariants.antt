@@ -8,6 +8,7 @@ abbrev pub invariant-loop-taken : goal.invariant-loop-taken
 invariant-loop-taken g l = record {
   open_yet : kept l.self ≡ None;
   within : 4 * l.taken ≤ length l.bytes;
+  given : g.T.Taker.given l.self.taker ≡ g.T.Taker.given l.fn.self.taker;
   stands : (ws : List ℕ) → StandsFor g.T.Taker.KIND g.T.Taker.stands_for l.fn.self ws → StandsFor g.T.Taker.KIND g.T.Taker.stands_for l.self (ws ++ longwords (take (4 * l.taken) l.bytes));
 }
 

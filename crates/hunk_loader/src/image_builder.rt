@@ -1,0 +1,242 @@
+//! The image of a load file while its events come.
+
+ghost use Rattle.std.specs.Prelude.{◌≡◌, [], None, OnOk, OnErr};
+ghost use Rattle.hunk_words.specs.declared.event.Event.{Event};
+ghost use Rattle.hunk_words.specs.declared.event.FileKind.TheVariants.{Load};
+ghost use Rattle.hunk_loader.specs.ImageBuilder.{IsImage, KeepsHunk, Settled, StandsFor, TakesEvent, passed};
+ghost use Rattle.hunk_loader.specs.declared.placing.Placing.{Placing};
+
+use crate::image::Image;
+use crate::loading::LoadRefusal;
+use crate::open_image::OpenImage;
+use crate::placing::{Placing, decide};
+use hunk_words::{Event, FileKind, SiteRefusal, Taker};
+use std::alloc::{AllocError, Allocator};
+use std::marker::Model;
+
+/// Makes the image of the hunks whose events come.
+///
+/// It keeps the bases, the sizes of the header, the hunks that ended and the one that has not, and
+/// of names, symbols and debug blocks nothing. Where the hunks cannot stand at the bases, it only
+/// judges sites, and takes no memory for hunks.
+///
+/// A refusal leaves it as it was. It answers `OutOfMemory` too where it is told what the decoder
+/// tells of no load file.
+#[derive(Drop)]
+pub(crate) struct ImageBuilder<A: Allocator + Copy> {
+    alloc: A,
+    bases: Vec<u32, A>,
+    sizes: Vec<u32, A>,
+    placing: Placing,
+    ended: usize,
+    made: Vec<(u32, Vec<u8, A>), A>,
+    current: Option<OpenImage<A>>,
+}
+
+impl<A: Allocator + Copy> Model for ImageBuilder<A> {
+    ghost use Rattle.hunk_loader.specs.Image.{hunks_of};
+    ghost use Rattle.hunk_loader.specs.ImageBuilder.{Making};
+
+    ghost Value = { Making };
+
+    ghost view = { λ b. record { bases = b.bases.items; sizes = b.sizes.items; placing = b.placing; ended = b.ended; made = hunks_of b.made.items; current = b.current } };
+}
+
+impl<A: Allocator + Copy> ImageBuilder<A> {
+    /// A builder for hunks at these bases, before the first event.
+    pub(crate) fn new(alloc: A, bases: Vec<u32, A>) -> Self
+        ensures { result ≡ record { bases = bases.items; sizes = []; placing = Placing.Unknown; ended = 0; made = []; current = None } }
+    {
+        ImageBuilder {
+            alloc,
+            bases,
+            sizes: Vec::new(alloc),
+            placing: Placing::Unknown,
+            ended: 0,
+            made: Vec::new(alloc),
+            current: None,
+        }
+    }
+
+    /// The image of the hunks that ended, or what is wrong with the bases.
+    pub(crate) fn image(self) -> Result<Image<A>, LoadRefusal>
+        ensures { IsImage self result }
+    {
+        match self.placing {
+            Placing::Refused(fault) => Err(LoadRefusal::Place(fault)),
+            Placing::Unknown | Placing::Placed => Ok(Image::of_hunks(self.made)),
+        }
+    }
+
+    /// Takes the size of one more hunk, as long as none began.
+    fn add_size(&mut self, bits: u8, size: u32) -> Result<(), SiteRefusal>
+        ensures { TakesEvent self.old self.new result (Event.HunkSize bits size) }
+    {
+        match self.placing {
+            Placing::Unknown => match self.sizes.push(size) {
+                Ok(()) => Ok(()),
+                Err(_) => Err(SiteRefusal::OutOfMemory),
+            },
+            _ => Err(SiteRefusal::OutOfMemory),
+        }
+    }
+
+    /// Whether the hunks can stand at the bases, all sizes being told.
+    fn settled(&self) -> Placing
+        ensures { Settled self.now.placing self.now.sizes self.now.bases result }
+    {
+        match self.placing {
+            Placing::Unknown => decide(&self.sizes, &self.bases),
+            Placing::Placed => Placing::Placed,
+            Placing::Refused(fault) => Placing::Refused(fault),
+        }
+    }
+
+    /// Begins the next hunk of the header.
+    fn begin_hunk(&mut self, kind: u32, bits: u8, size: u32) -> Result<(), SiteRefusal>
+        ensures { TakesEvent self.old self.new result (Event.Content kind bits size) }
+    {
+        match &self.current {
+            Some(_) => return Err(SiteRefusal::OutOfMemory),
+            None => {}
+        }
+        if self.ended >= self.sizes.len() {
+            return Err(SiteRefusal::OutOfMemory);
+        }
+        let placing = self.settled();
+        let keeps = matches!(placing, Placing::Placed);
+        match OpenImage::new(self.alloc, keeps, self.sizes[self.ended], self.sizes.len()) {
+            Ok(current) => {
+                self.placing = placing;
+                self.current = Some(current);
+                Ok(())
+            }
+            Err(_) => Err(SiteRefusal::OutOfMemory),
+        }
+    }
+
+    /// Takes a word. Content is kept where the hunks are placed.
+    fn add_word(&mut self, word: u32) -> Result<(), SiteRefusal>
+        ensures { TakesEvent self.old self.new result (Event.Word word) }
+    {
+        match self.placing {
+            Placing::Placed => {}
+            _ => return Ok(()),
+        }
+        match &mut self.current {
+            Some(current) => {
+                if !current.takes_words() {
+                    return Ok(());
+                }
+                match current.add_word(word) {
+                    Ok(()) => Ok(()),
+                    Err(_) => Err(SiteRefusal::OutOfMemory),
+                }
+            }
+            None => Ok(()),
+        }
+    }
+
+    /// Takes a site of the hunk that has not ended.
+    fn add_site(&mut self, offset: u32, target: u32) -> Result<(), SiteRefusal>
+        ensures { TakesEvent self.old self.new result (Event.Site offset target) }
+    {
+        match &mut self.current {
+            Some(current) => current.add_site(offset, target),
+            None => Err(SiteRefusal::OutOfMemory),
+        }
+    }
+
+    /// Keeps the hunk that has not ended, loaded at its base.
+    fn keep_hunk(&mut self) -> Result<(), AllocError>
+        ensures kept { OnOk result (KeepsHunk self.old self.new) }
+        ensures refused { OnErr result (self.new ≡ self.old) }
+    {
+        match self.bases.get(self.ended) {
+            None => Err(AllocError),
+            Some(base) => {
+                let base = *base;
+                self.made.reserve(1)?;
+                match &mut self.current {
+                    None => Err(AllocError),
+                    Some(current) => {
+                        let bytes = current.close(self.alloc, &self.bases)?;
+                        self.made.push_reserved((base, bytes));
+                        Ok(())
+                    }
+                }
+            }
+        }
+    }
+
+    /// Ends the hunk.
+    fn end_hunk(&mut self) -> Result<(), SiteRefusal>
+        ensures { TakesEvent self.old self.new result Event.HunkEnd }
+    {
+        match &self.current {
+            Some(_) => {}
+            None => return Err(SiteRefusal::OutOfMemory),
+        }
+        if self.ended >= self.sizes.len() {
+            return Err(SiteRefusal::OutOfMemory);
+        }
+        match self.placing {
+            Placing::Placed => match self.keep_hunk() {
+                Ok(()) => {}
+                Err(_) => return Err(SiteRefusal::OutOfMemory),
+            },
+            _ => {}
+        }
+        self.current = None;
+        self.ended += 1;
+        Ok(())
+    }
+
+    /// Takes an event behind which words are no content.
+    fn pass(&mut self)
+        ensures { self.new ≡ record self.old { current = passed self.old.current } }
+    {
+        match &mut self.current {
+            Some(current) => current.pass_words(),
+            None => {}
+        }
+    }
+}
+
+impl<A: Allocator + Copy> Taker for ImageBuilder<A> {
+    ghost stands_for = { StandsFor };
+
+    ghost given = { λ b. b.bases };
+
+    ghost KIND = { Load };
+
+    const KIND: FileKind = FileKind::Load;
+
+    fn take(&mut self, event: Event) -> Result<(), SiteRefusal> {
+        match event {
+            Event::Table(_) => Ok(()),
+            Event::HunkSize { bits, size } => self.add_size(bits, size),
+            Event::Content { kind, bits, size } => self.begin_hunk(kind, bits, size),
+            Event::Word(word) => self.add_word(word),
+            Event::Site { offset, target } => self.add_site(offset, target),
+            Event::HunkEnd => self.end_hunk(),
+            Event::Unit | Event::RefSite(_) => Err(SiteRefusal::OutOfMemory),
+            Event::HunkName
+            | Event::Symbol
+            | Event::Entry(_)
+            | Event::Value(_)
+            | Event::Count(_)
+            | Event::Debug(_) => {
+                self.pass();
+                Ok(())
+            }
+        }
+    }
+
+    fn size_of(&self, hunk: u32) -> u32 {
+        match self.sizes.get(hunk as usize) {
+            Some(size) => *size,
+            None => 0,
+        }
+    }
+}

@@ -1,0 +1,183 @@
+//! Loading a load file at given addresses while its bytes come, in any pieces.
+
+ghost use Rattle.std.specs.Prelude.{◌≡◌, ℕ, ◌++◌, List, [], Some, None, IfOk, OnOk};
+ghost use Rattle.hunk_words.specs.DecoderCore.{kept};
+ghost use Rattle.hunk_words.specs.declared.fault.Refusal.{Refusal};
+ghost use Rattle.hunk_loader.specs.Refusals.{load_refusal};
+ghost use Rattle.hunk_loader.specs.declared.loading.LoadRefusal.{LoadRefusal};
+
+use crate::image::Image;
+use crate::image_builder::ImageBuilder;
+use crate::loading::LoadRefusal;
+use hunk_words::{Decoder, Feed, Refusal};
+use std::alloc::{AllocError, Allocator, Global};
+
+/// Makes the image of a load file from its bytes, in any pieces, without keeping the file.
+///
+/// Beside the image it keeps the bases, one number for each size in the header, and the sites of
+/// the current hunk, at most one for each of its longwords. Names, symbols and debug blocks pass
+/// by. Where the hunks cannot stand at the bases it takes no memory for the image.
+///
+/// What is wrong with the file is answered before what is wrong with the bases. A refusal is
+/// answered again to every later call.
+#[derive(Drop)]
+pub struct ImageLoader<A: Allocator + Copy = Global> {
+    decoder: Decoder<ImageBuilder<A>>,
+}
+
+/// A refusal of the bytes, as one of loading.
+fn load_refusal(refusal: Refusal) -> LoadRefusal
+    ensures { result ≡ load_refusal refusal }
+{
+    match refusal {
+        Refusal::Fault(fault) => LoadRefusal::File(fault),
+        Refusal::OutOfMemory => LoadRefusal::OutOfMemory,
+    }
+}
+
+impl<A: Allocator + Copy> ImageLoader<A> {
+    ghost use Rattle.hunk_loader.specs.ImageBuilder.{Frugal};
+    ghost use Rattle.hunk_loader.specs.Refusals.{Keeps};
+    ghost use Rattle.hunk_loader.specs.ImageLoader.{StandsFor, Fed, Finished, bases_of, events_told, holds_of, refusal_of};
+
+    /// A loader of hunks at these bases, which are addresses, before the first byte. It keeps a copy
+    /// of the bases.
+    ///
+    /// # Errors
+    ///
+    /// [`AllocError`] only where a growth was refused.
+    pub fn new(alloc: A, bases: &[u32]) -> Result<Self, AllocError>
+        ensures stands { IfOk result (λ loader. StandsFor loader []) }
+        ensures given { IfOk result (λ loader. bases_of loader ≡ bases.now) }
+        ensures none { IfOk result (λ loader. refusal_of loader ≡ None) }
+    {
+        let mut copy = Vec::with_capacity(alloc, bases.len())?;
+        copy.extend_from_slice(bases)?;
+        Ok(ImageLoader {
+            decoder: Decoder::new(ImageBuilder::new(alloc, copy)),
+        })
+    }
+
+    /// Takes the next bytes of the file.
+    ///
+    /// # Errors
+    ///
+    /// [`LoadRefusal::File`] with the piece that has the last byte of the longword that offends
+    /// first, at its place and for the reason of the table of faults or of the rules of sites;
+    /// [`LoadRefusal::OutOfMemory`] only where a growth was refused. [`LoadRefusal::Place`] never
+    /// comes here.
+    pub fn feed(&mut self, piece: &[u8]) -> Result<(), LoadRefusal>
+        ensures stands { (bytes : List ℕ) → StandsFor self.old bytes → StandsFor self.new (bytes ++ piece.now) }
+        ensures given { bases_of self.new ≡ bases_of self.old }
+        ensures fed { (bytes : List ℕ) → StandsFor self.new bytes → Fed bytes result }
+        ensures keeps { Keeps (refusal_of self.new) result }
+        ensures frugal { OnOk result ((bytes : List ℕ) → StandsFor self.new bytes → Frugal (holds_of self.new) (events_told bytes)) }
+        ensures again { (refusal : LoadRefusal) → refusal_of self.old ≡ Some refusal → result ≡ Err refusal }
+    {
+        match self.decoder.feed(piece) {
+            Ok(()) => Ok(()),
+            Err(refusal) => Err(load_refusal(refusal)),
+        }
+    }
+
+    /// The image of a whole file.
+    ///
+    /// # Errors
+    ///
+    /// [`LoadRefusal::File`] where the bytes are no load file: `PartialLongword` where bytes of a
+    /// longword are left, `UnexpectedEnd` where the file is not complete. Else
+    /// [`LoadRefusal::Place`] exactly where [`check_places`](crate::check_places) answers that fault
+    /// for the sizes of the hunks. It takes no memory.
+    pub fn finish(self) -> Result<Image<A>, LoadRefusal>
+        ensures answer { (bytes : List ℕ) → StandsFor self bytes → Finished (bases_of self) bytes result }
+        ensures again { (refusal : LoadRefusal) → refusal_of self ≡ Some refusal → result ≡ Err refusal }
+        ensures memory { result ≡ Err LoadRefusal.OutOfMemory → refusal_of self ≡ Some LoadRefusal.OutOfMemory }
+    {
+        match self.decoder.finish() {
+            Ok(builder) => builder.image(),
+            Err(refusal) => Err(load_refusal(refusal)),
+        }
+    }
+}
+
+impl<A: Allocator + Copy> Feed for ImageLoader<A> {
+    ghost use Rattle.hunk_loader.specs.ImageLoader.{StandsFor, bases_of};
+
+    ghost stands_for = { StandsFor };
+
+    ghost refused = { λ loader refusal. kept loader.decoder.core ≡ Some refusal };
+
+    ghost given = { bases_of };
+
+    fn feed(&mut self, piece: &[u8]) -> Result<(), Refusal> {
+        self.decoder.feed(piece)
+    }
+}
+
+#[cfg(test)]
+mod tests {
+    use super::*;
+    use crate::places::PlaceFault;
+    use hunk_words::{Fault, Reason};
+    use std::test::Fail;
+
+    /// A load file of two hunks: eight bytes of code, at whose offset 2 the base of hunk 1 is
+    /// added, and one longword of zeros.
+    const FILE: [u8; 88] = [
+        0, 0, 3, 0xF3, 0, 0, 0, 0, 0, 0, 0, 2, 0, 0, 0, 0, 0, 0, 0, 1, 0, 0, 0, 2, 0, 0, 0, 1, //
+        0, 0, 3, 0xE9, 0, 0, 0, 2, 0x4E, 0xB9, 0, 0, 0, 0, 0x4E, 0x75, //
+        0, 0, 3, 0xEC, 0, 0, 0, 1, 0, 0, 0, 1, 0, 0, 0, 2, 0, 0, 0, 0, 0, 0, 3, 0xF2, //
+        0, 0, 3, 0xEB, 0, 0, 0, 1, 0, 0, 3, 0xF1, 0, 0, 0, 0, 0, 0, 3, 0xF2,
+    ];
+
+    #[test]
+    fn loads_in_any_pieces(rt: HostRuntime) -> Result<(), Fail> {
+        let bases = [0x0001_0000, 0x0002_0000];
+        let wants: [&[u8]; 2] = [&[0x4E, 0xB9, 0, 2, 0, 0, 0x4E, 0x75], &[0, 0, 0, 0]];
+        for count in [1, 3, 5, 88] {
+            let mut loader = ImageLoader::new(rt.alloc(), &bases)?;
+            for piece in FILE.chunks(count) {
+                loader.feed(piece)?;
+            }
+            let image = loader.finish()?;
+            assert_eq!(rt; image.hunks().len(), 2);
+            for (number, (base, bytes)) in image.hunks().iter().enumerate() {
+                assert_eq!(rt; *base, bases[number]);
+                assert_eq!(rt; bytes.as_slice(), wants[number]);
+            }
+        }
+        Ok(())
+    }
+
+    #[test]
+    fn answers_the_file_before_the_bases(rt: HostRuntime) -> Result<(), Fail> {
+        let place = |fault| Some(LoadRefusal::Place(fault));
+        let rows: [(&[u32], usize, Option<LoadRefusal>); 4] = [
+            (&[], 88, place(PlaceFault::WrongCount)),
+            (
+                &[0x0001_0000, 0xFFFF_FFFE],
+                88,
+                place(PlaceFault::PastEnd(1)),
+            ),
+            (
+                &[0x0001_0000, 0x0001_0004],
+                88,
+                place(PlaceFault::Overlap(0, 1)),
+            ),
+            (
+                &[],
+                84,
+                Some(LoadRefusal::File(Fault {
+                    place: 21,
+                    reason: Reason::UnexpectedEnd,
+                })),
+            ),
+        ];
+        for (bases, count, want) in rows {
+            let mut loader = ImageLoader::new(rt.alloc(), bases)?;
+            loader.feed(&FILE[..count])?;
+            assert_eq!(rt; loader.finish().err(), want);
+        }
+        Ok(())
+    }
+}
