@@ -136,6 +136,7 @@ mod tests {
         let wants: [&[u8]; 2] = [&[0x4E, 0xB9, 0, 2, 0, 0, 0x4E, 0x75], &[0, 0, 0, 0]];
         for count in [1, 3, 5, 88] {
             let mut loader = ImageLoader::new(rt.alloc(), &bases)?;
+            assert_ne!(rt; count, 0);
             for piece in FILE.chunks(count) {
                 loader.feed(piece)?;
             }

@@ -1,5 +1,5 @@
 -- One event further.
-use Rattle.std.proofs.Common.{◌∙◌, [], ◌∷◌, ◌++◌, length, sym, ap, subst, arith}
+use Rattle.std.proofs.Common.{◌∙◌, [], ◌∷◌, ◌++◌, length, sym, ap, subst, arith, refl}
 use Rattle.std.proofs.lemmas.Result.{on_ok_weaker}
 use Rattle.hunk_words.specs.Takers.{watch_of}
 use Rattle.hunk_words.specs.declared.event.Event.TheVariants as event_is
@@ -51,4 +51,5 @@ returns-in_default g c =
           (subst (λ w. LoadHolds w c.args.self.now) (sym (quiet-watch Load (watch_of Load told) c.args.event quiet c.in_default.not-HunkSize)) stands.holds) (omega arith);
       refuses = λ told stands few. tt;
       judges = λ told stands few. quiet-judged (watch_of Load told) c.args.event quiet;
+      given = refl;
     }

@@ -1,5 +1,5 @@
 -- One event further.
-use Rattle.std.proofs.Common.{◌∙◌, subst, slice_index}
+use Rattle.std.proofs.Common.{◌∙◌, subst, slice_index, refl}
 use Rattle.std.proofs.lemmas.Result.{on_ok_weaker}
 use Rattle.hunk_words.specs.Takers.{watch_of}
 use Rattle.hunk_words.specs.Events.{content_of}
@@ -40,4 +40,5 @@ returns-in_default g c =
           (quiet-seen Object (watch_of Object told) c.args.event quiet (λ limit seen. HoldsSites limit seen c.args.self.now.hunk) stands);
       refuses = λ told stands few. tt;
       judges = λ told stands few. quiet-judged (watch_of Object told) c.args.event quiet;
+      given = refl;
     }
