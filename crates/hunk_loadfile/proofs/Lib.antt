@@ -9,3 +9,11 @@ pub mod OpenHunkLemmas
 pub mod BuilderLemmas
 pub mod PartialLemmas
 pub mod ReadLoadLemmas
+pub mod InsertLemmas
+pub mod ClearLemmas
+pub mod WrittenTree
+pub mod WrittenContentLemmas
+pub mod SpellsLemmas
+pub mod WrittenSpellsLemmas
+pub mod WrittenValueLemmas
+pub mod WrittenLemmas
