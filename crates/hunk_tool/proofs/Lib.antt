@@ -1,4 +1,5 @@
 pub mod BasesLemmas
+pub mod BlockLemmas
 pub mod DecimalLemmas
 pub mod FaultLineLemmas
 pub mod LoadLemmas
