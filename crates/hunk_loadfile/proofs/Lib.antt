@@ -9,3 +9,5 @@ pub mod OpenHunkLemmas
 pub mod BuilderLemmas
 pub mod PartialLemmas
 pub mod ReadLoadLemmas
+pub mod LoadSpellingLemmas
+pub mod LoadRulesLemmas
