@@ -17,3 +17,5 @@ pub mod SpellsLemmas
 pub mod WrittenSpellsLemmas
 pub mod WrittenValueLemmas
 pub mod WrittenLemmas
+pub mod LoadSpellingLemmas
+pub mod LoadRulesLemmas

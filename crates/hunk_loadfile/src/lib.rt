@@ -22,7 +22,7 @@ pub mod patching;
 
 pub use build::{BuildFault, BuildRefusal};
 pub use hunk_objects::{HunkKind, Memory};
-pub use load_decoder::LoadDecoder;
+pub use load_decoder::{LoadDecoder, read_load};
 pub use load_file::LoadFile;
 pub use load_hunk::LoadHunk;
 pub use patching::{add_at, patch};
