@@ -19,3 +19,4 @@ pub mod WrittenValueLemmas
 pub mod WrittenLemmas
 pub mod LoadSpellingLemmas
 pub mod LoadRulesLemmas
+pub mod RelocationLemmas

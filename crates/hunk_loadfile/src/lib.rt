@@ -6,6 +6,8 @@
 //! - `load_builder`: what builds a load file of the events that its longwords tell.
 //! - `load_decoder`: load files from bytes.
 //! - `partial`: the load file that events told so far.
+//! - `longword_writer`: bytes and longwords of a text that is written.
+//! - `relocation_writer`: the relocation block of a hunk, as it is written.
 //! - `patching`: adding numbers to the longwords at sites.
 //! - `laws`: what holds of load files and of their written form.
 #![tactic(auto)]
@@ -16,9 +18,11 @@ pub mod load_builder;
 pub mod load_decoder;
 pub mod load_file;
 pub mod load_hunk;
+mod longword_writer;
 mod open_hunk;
 pub mod partial;
 pub mod patching;
+mod relocation_writer;
 
 pub use build::{BuildFault, BuildRefusal};
 pub use hunk_objects::{HunkKind, Memory};
