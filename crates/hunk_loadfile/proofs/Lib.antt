@@ -5,6 +5,8 @@ pub mod TwiceLemmas
 pub mod WroteLemmas
 pub mod OneLoadLemmas
 pub mod LengthLemmas
+pub mod WriterLemmas
+pub mod LoadWriterLemmas
 pub mod OpenHunkLemmas
 pub mod BuilderLemmas
 pub mod PartialLemmas
