@@ -60,6 +60,7 @@ impl<A: Allocator + Copy> LoadDecoder<A> {
         ensures again { (refusal : Refusal) → refusal_of self.old ≡ Some refusal → result ≡ Err refusal }
         ensures front { OnOk result ((bytes : List ℕ) → StandsFor self.new bytes → IsFront Load (longwords bytes)) }
         ensures refused { IfErr result (λ refusal. (bytes : List ℕ) → StandsFor self.new bytes → RefusesBytes bytes refusal) }
+        ensures empty { piece.now ≡ [] → self.new ≡ self.old }
     {
         self.decoder.feed(piece)
     }
