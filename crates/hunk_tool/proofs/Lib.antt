@@ -3,7 +3,6 @@ pub mod BlockLemmas
 pub mod DecimalLemmas
 pub mod FaultLineLemmas
 pub mod LoadLemmas
-pub mod OneHunkLemmas
 pub mod PrintLemmas
 pub mod ReportExample
 pub mod ReportLemmas

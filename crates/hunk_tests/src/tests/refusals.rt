@@ -29,7 +29,6 @@ fn refuses_a_longword(rt: HostRuntime) -> Result<(), Fail> {
         (1, 1, Reason::ResidentNames),
         (1, 0xFFFF_FFFF, Reason::ResidentNames),
         (2, 0, Reason::HunkTable),
-        (2, 2, Reason::HunkTable),
         (2, 0x0001_0000, Reason::HunkTable),
         (2, 0xFFFF_FFFF, Reason::HunkTable),
         (3, 1, Reason::HunkTable),
@@ -44,22 +43,42 @@ fn refuses_a_longword(rt: HostRuntime) -> Result<(), Fail> {
         (6, 0x0000_03F2, Reason::MisplacedType(1010)),
         (6, 0x0000_03F5, Reason::UnsupportedBlock(1013)),
         (6, 0x0000_03FC, Reason::MisplacedType(1020)),
+        (6, 0x0000_03EC, Reason::MisplacedType(1004)),
         (7, 2, Reason::ContentTooLong),
         (7, 0xFFFF_FFFF, Reason::ContentTooLong),
         (9, 0x0000_03E9, Reason::MisplacedType(1001)),
+        (9, 0x0000_03EF, Reason::MisplacedType(1007)),
         (9, 0x0000_03F7, Reason::UnsupportedBlock(1015)),
         (9, 0xFFFF_FFFF, Reason::UnknownType(1_073_741_823)),
-        // Blocks that are not read yet.
-        (6, 0x0000_03E8, Reason::UnsupportedBlock(1000)),
-        (6, 0x0000_03EA, Reason::UnsupportedBlock(1002)),
-        (6, 0x0000_03EB, Reason::UnsupportedBlock(1003)),
-        (9, 0x0000_03EC, Reason::UnsupportedBlock(1004)),
-        (9, 0x0000_03F0, Reason::UnsupportedBlock(1008)),
-        (9, 0x0000_03F1, Reason::UnsupportedBlock(1009)),
     ];
     for (place, word, reason) in rows {
         let bytes = with_word(rt.alloc(), place, word)?;
         is_refused(&rt, rt.alloc(), &bytes, place as u64, reason)?;
+    }
+    Ok(())
+}
+
+// A longword passes, and makes another one due behind it than the file has there.
+#[test]
+fn refuses_a_later_longword(rt: HostRuntime) -> Result<(), Fail> {
+    let rows = [
+        // A table of two hunks, whose last one is not hunk 0.
+        (2, 2, 4, Reason::HunkTable),
+        // A name of one longword, behind which no hunk may end.
+        (6, 0x0000_03E8, 9, Reason::MisplacedType(1010)),
+        // Memory without content, behind which the content is no block.
+        (6, 0x0000_03EB, 8, Reason::UnknownType(0x0E75_4E71)),
+        // No content, behind which the content is no block.
+        (7, 0, 8, Reason::UnknownType(0x0E75_4E71)),
+        // Blocks that do not end: relocations, symbols, a debug block, relocations in 16-bit words.
+        (9, 0x0000_03EC, 10, Reason::UnexpectedEnd),
+        (9, 0x0000_03F0, 10, Reason::UnexpectedEnd),
+        (9, 0x0000_03F1, 10, Reason::UnexpectedEnd),
+        (9, 0x0000_03FC, 10, Reason::UnexpectedEnd),
+    ];
+    for (place, word, refused, reason) in rows {
+        let bytes = with_word(rt.alloc(), place, word)?;
+        is_refused(&rt, rt.alloc(), &bytes, refused, reason)?;
     }
     Ok(())
 }

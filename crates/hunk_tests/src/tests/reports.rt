@@ -1,6 +1,7 @@
 //! Files that are loaded.
 
 use super::files::{BASE, REPORT, bytes_of, loads_to, with_word};
+use super::words::{BEHIND_CONTENT, LINKED, LINKED_ALONE, SCATTERED, SHORT, WRITTEN};
 use std::test::Fail;
 
 // A longword of the file that is not judged, or not judged in full, changes no more than its own bytes.
@@ -10,6 +11,7 @@ fn loads_the_file_and_its_like(rt: HostRuntime) -> Result<(), Fail> {
         (0, 0x0000_03F3, REPORT),
         (5, 0x4000_0001, REPORT),
         (6, 0xC000_03E9, REPORT),
+        (6, 0x0000_03EA, REPORT),
         (7, 0xC000_0001, REPORT),
         (9, 0x8000_03F2, REPORT),
         (
@@ -67,6 +69,51 @@ fn loads_hunks_of_other_sizes(rt: HostRuntime) -> Result<(), Fail> {
         words.push(0x0000_03F2)?;
         let bytes = bytes_of(rt.alloc(), &words, &[])?;
         loads_to(&rt, rt.alloc(), &bytes, &[base], Ok(()), text)?;
+    }
+    Ok(())
+}
+
+#[test]
+fn loads_what_is_relocated(rt: HostRuntime) -> Result<(), Fail> {
+    let scattered = "hunk 0 at 00010000 size 12\n\
+                     00010000 000200000001000000020004\n\
+                     hunk 1 at 00020000 size 4\n\
+                     00020000 00000000\n";
+    let rows: [(&[u32], &[u32], &str); 6] = [
+        (
+            &LINKED,
+            &[BASE, 0x0002_0000],
+            "hunk 0 at 00010000 size 8\n\
+             00010000 4eb9000200044e75\n\
+             hunk 1 at 00020000 size 8\n\
+             00020000 4e714e714e754e71\n",
+        ),
+        (
+            &LINKED_ALONE,
+            &[BASE, 0x0002_0000],
+            "hunk 0 at 00010000 size 8\n\
+             00010000 4eb9000200004e75\n\
+             hunk 1 at 00020000 size 8\n\
+             00020000 0000000000000000\n",
+        ),
+        (&SCATTERED, &[BASE, 0x0002_0000], scattered),
+        (&WRITTEN, &[BASE, 0x0002_0000], scattered),
+        (
+            &BEHIND_CONTENT,
+            &[BASE],
+            "hunk 0 at 00010000 size 12\n\
+             00010000 4e754e710000000000010000\n",
+        ),
+        (
+            &SHORT,
+            &[BASE],
+            "hunk 0 at 00010000 size 8\n\
+             00010000 0001000400010000\n",
+        ),
+    ];
+    for (words, bases, text) in rows {
+        let bytes = bytes_of(rt.alloc(), words, &[])?;
+        loads_to(&rt, rt.alloc(), &bytes, bases, Ok(()), text)?;
     }
     Ok(())
 }
