@@ -17,7 +17,7 @@ loop-hunk-preserved g c =
       | then-size-gt0+else-end_of-lowest w ↦
           let sized : 0 < slice_index sizes hunk = omega (arith, w.if-size-gt0.true, c.size.ensures) in
           let under : end_of sizes bases hunk ≤ lowest = omega (arith, w.if-end_of-lowest.false, w.end_of.ensures) in
-          subst (λ f. FallTo sizes bases (hunk + 1) f) (sym (w.lowest-is ∙ w.from.ensures)) (FallTo-sized sizes bases hunk lowest c.loop-hunk.invariant sized under)
+          subst (λ f. FallTo sizes bases (hunk + 1) f) (sym (w.lowest-is ∙ w.from-lowest.ensures)) (FallTo-sized sizes bases hunk lowest c.loop-hunk.invariant sized under)
       | else-size-gt0 w ↦
           let empty : slice_index sizes hunk ≡ 0 = omega (arith, w.if-size-gt0.false, c.size.ensures) in
           subst (λ f. FallTo sizes bases (hunk + 1) f) (sym w.lowest-is) (FallTo-empty sizes bases hunk lowest c.loop-hunk.invariant empty)
