@@ -1,3 +1,4 @@
+pub mod FallLemmas
 pub mod FrugalLemmas
 pub mod ImageBuilderLemmas
 pub mod ImageLoaderLemmas
