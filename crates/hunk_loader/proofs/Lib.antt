@@ -1,4 +1,4 @@
-pub mod FrugalLemmas
+pub mod FrugalBuilderLemmas
 pub mod ImageBuilderLemmas
 pub mod ImageLoaderLemmas
 pub mod LoadingLemmas
