@@ -1,5 +1,4 @@
 pub mod FallLemmas
-pub mod FrugalLemmas
 pub mod FrugalBuilderLemmas
 pub mod ImageBuilderLemmas
 pub mod ImageLoaderLemmas
