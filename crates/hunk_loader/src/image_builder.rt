@@ -116,6 +116,7 @@ impl<A: Allocator + Copy> ImageBuilder<A> {
     }
 
     /// Takes a word. Content is kept where the hunks are placed.
+    #[inline(always)]
     fn add_word(&mut self, word: u32) -> Result<(), SiteRefusal>
         ensures { TakesEvent self.old self.new result (Event.Word word) }
     {
@@ -212,6 +213,8 @@ impl<A: Allocator + Copy> Taker for ImageBuilder<A> {
 
     const KIND: FileKind = FileKind::Load;
 
+    // Content is most of a file, so a run of words is to make no call a word.
+    #[inline(always)]
     fn take(&mut self, event: Event) -> Result<(), SiteRefusal> {
         match event {
             Event::Table(_) => Ok(()),
