@@ -2,6 +2,7 @@ pub mod BasesLemmas
 pub mod BlockLemmas
 pub mod DecimalLemmas
 pub mod FaultLineLemmas
+pub mod LawLemmas
 pub mod LoadLemmas
 pub mod PrintLemmas
 pub mod ReportExample
