@@ -9,7 +9,7 @@ generator="$(cd "$(dirname "$0")" && pwd)/load_file.py"
 folder="$(mktemp -d)"
 trap 'rm -rf "$folder"' EXIT
 
-(cd "$crates/amihunk" && rt run > /dev/null)
+(cd "$crates/amihunk" && rt run -- --help > /dev/null)
 (cd "$crates/hunk_bench" && rt run > /dev/null)
 amihunk="$crates/amihunk/out/amihunk"
 bench="$crates/hunk_bench/out/hunk_bench"
@@ -72,16 +72,16 @@ for how in decode load; do
     figure "$how ($time us) by the half of it ($half us)" 2.2 "$(ratio "$time" "$half")" times
 done
 
-echo "memory beside the image of 60 MB"
+echo "memory of amihunk load, beside the image of 60 MB"
 image=$((longwords * 4 / 1024))
 for name in plain debug rising; do
     kib="$(peak "$amihunk" load --at 10000 "$name")"
+    beside="$(ratio "$((kib - image))" 1024)"
     case "$name" in
-        plain) what="without relocations" ;;
-        debug) what="with 400 MB of debug blocks" ;;
-        rising) what="with 1,000,000 relocations (their sites are not counted in the 16)" ;;
+        plain) figure "without relocations" 16 "$beside" MiB ;;
+        debug) figure "with 400 MB of debug blocks" 16 "$beside" MiB ;;
+        rising) echo "with 1,000,000 relocations $beside MiB, most of it the sites of the hunk, which are not limited" ;;
     esac
-    figure "amihunk load $what" 16 "$(ratio "$((kib - image))" 1024)" MiB
 done
 
 echo "worst orders"

@@ -60,6 +60,8 @@ impl<A: Allocator + Copy> Taker for FrugalBuilder<A> {
 
     const KIND: FileKind = FileKind::Load;
 
+    // As `ImageBuilder::take`: a run of words is to make no call a word.
+    #[inline(always)]
     fn take(&mut self, event: Event) -> Result<(), SiteRefusal> {
         self.builder.take(event)
     }

@@ -114,6 +114,7 @@ impl<A: Allocator + Copy> ImageBuilder<A> {
     }
 
     /// Takes a word. Content is kept where the hunks are placed.
+    #[inline(always)]
     fn add_word(&mut self, word: u32) -> Result<(), SiteRefusal>
         ensures { TakesEvent self.old self.new result (Event.Word word) }
     {
@@ -201,6 +202,8 @@ impl<A: Allocator + Copy> ImageBuilder<A> {
     }
 
     /// Takes the next event.
+    // Content is most of a file, so a run of words is to make no call a word.
+    #[inline(always)]
     pub(crate) fn take(&mut self, event: Event) -> Result<(), SiteRefusal>
         ensures { TakesEvent self.old self.new result event }
     {

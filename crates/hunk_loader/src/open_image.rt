@@ -41,6 +41,7 @@ impl<A: Allocator + Copy> Model for OpenImage<A> {
 }
 
 // The bytes of a longword, the most significant one first.
+#[inline(always)]
 fn big_endian(word: u32) -> [u8; 4]
     ensures { result ≡ big_bytes 4 word }
 {
@@ -66,6 +67,7 @@ impl<A: Allocator + Copy> OpenImage<A> {
     }
 
     /// Whether the next word is content.
+    #[inline(always)]
     pub(crate) fn takes_words(&self) -> bool
         ensures { result ≡ self.now.words }
     {
@@ -81,6 +83,7 @@ impl<A: Allocator + Copy> OpenImage<A> {
 
     /// Takes a longword of content. It is refused where memory is, and where the hunk is full, for
     /// which the decoder refuses the file.
+    #[inline(always)]
     pub(crate) fn add_word(&mut self, word: u32) -> Result<(), AllocError>
         ensures adds { OnOk result (self.new ≡ record self.old { bytes = self.old.bytes ++ big_bytes 4 word }) }
         ensures fits { OnOk result (length self.new.bytes ≤ self.new.sites.limit) }

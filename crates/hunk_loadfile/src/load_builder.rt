@@ -127,6 +127,7 @@ impl<A: Allocator + Copy> LoadBuilder<A> {
         Ok(())
     }
 
+    #[inline(always)]
     fn add_word(&mut self, word: u32) -> Result<(), AllocError>
         ensures { Steps self.old self.new result (Event.Word word) }
     {
@@ -194,6 +195,7 @@ impl<A: Allocator + Copy> LoadBuilder<A> {
     }
 
     // Takes an event that is no site.
+    #[inline(always)]
     fn build(&mut self, event: Event) -> Result<(), AllocError>
         ensures steps { Steps self.old self.new result event }
         ensures no_reference { (offset : ℕ) → event ≡ Event.RefSite offset → IsErr result }
@@ -237,6 +239,8 @@ impl<A: Allocator + Copy> Taker for LoadBuilder<A> {
 
     const KIND: FileKind = FileKind::Load;
 
+    // Content is most of a file, so a run of words is to make no call a word.
+    #[inline(always)]
     fn take(&mut self, event: Event) -> Result<(), SiteRefusal> {
         match event {
             Event::Site { offset, target } => self.hunk.add_site(offset, target),

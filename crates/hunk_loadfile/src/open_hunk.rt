@@ -25,6 +25,7 @@ pub(crate) struct OpenHunk<A: Allocator + Copy> {
 }
 
 // The bytes of a longword, the most significant one first.
+#[inline(always)]
 fn big_endian(word: u32) -> [u8; 4]
     ensures { result ≡ big_bytes 4 word }
 {
@@ -72,6 +73,7 @@ impl<A: Allocator + Copy> OpenHunk<A> {
     }
 
     /// Takes a longword of content.
+    #[inline(always)]
     pub(crate) fn add_content(&mut self, word: u32) -> Result<(), AllocError>
         ensures { Takes self.old self.new result (λ told. record told { content = told.content ++ word ∷ [] }) }
     {
