@@ -5,6 +5,9 @@
 //! - `load_file`: a load file, made of hunks.
 //! - `load_builder`: what builds a load file of the events that its longwords tell.
 //! - `load_decoder`: load files from bytes.
+//! - `load_writer`: load files as bytes.
+//! - `debug_writer`: symbols and debug blocks, as they are written.
+//! - `relocation_writer`: relocation blocks, as they are written.
 //! - `partial`: the load file that events told so far.
 //! - `longword_writer`: bytes and longwords of a text that is written.
 //! - `patching`: adding numbers to the longwords at sites.
@@ -12,19 +15,23 @@
 #![tactic(auto)]
 
 pub mod build;
+mod debug_writer;
 pub mod laws;
 pub mod load_builder;
 pub mod load_decoder;
 pub mod load_file;
 pub mod load_hunk;
+pub mod load_writer;
 mod longword_writer;
 mod open_hunk;
 pub mod partial;
 pub mod patching;
+mod relocation_writer;
 
 pub use build::{BuildFault, BuildRefusal};
 pub use hunk_objects::{HunkKind, Memory};
 pub use load_decoder::LoadDecoder;
 pub use load_file::LoadFile;
 pub use load_hunk::LoadHunk;
+pub use load_writer::write_load;
 pub use patching::{add_at, patch};
