@@ -1,4 +1,4 @@
-//! Files of both kinds through the generic decoder: where they are refused, why, and when.
+//! Files of both kinds through all that reads them: where they are refused, why, and when.
 
 use super::decoders::{Answer, is_judged};
 use super::files::{FILE, bytes_of};
@@ -40,7 +40,7 @@ fn judges_each_front(rt: HostRuntime) -> Result<(), Fail> {
             } else {
                 Some((place, PartialLongword))
             };
-            is_judged(&rt, rt.alloc(), kind, &bytes[..count], answer);
+            is_judged(&rt, rt.alloc(), kind, &bytes[..count], answer)?;
         }
     }
     Ok(())
@@ -153,7 +153,7 @@ fn judges_other_longwords(rt: HostRuntime) -> Result<(), Fail> {
         let mut other = words.to_vec(rt.alloc())?;
         *other.get_mut(place).ok_or("no such place")? = word;
         let bytes = bytes_of(rt.alloc(), &other, &[])?;
-        is_judged(&rt, rt.alloc(), kind, &bytes, answer);
+        is_judged(&rt, rt.alloc(), kind, &bytes, answer)?;
     }
     Ok(())
 }
@@ -213,7 +213,7 @@ fn judges_files_and_what_follows_them(rt: HostRuntime) -> Result<(), Fail> {
     ];
     for (kind, words, rest, answer) in rows {
         let bytes = bytes_of(rt.alloc(), words, rest)?;
-        is_judged(&rt, rt.alloc(), kind, &bytes, answer);
+        is_judged(&rt, rt.alloc(), kind, &bytes, answer)?;
     }
     Ok(())
 }
