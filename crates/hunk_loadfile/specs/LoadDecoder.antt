@@ -13,15 +13,20 @@ use Rattle.hunk_words.specs.declared.fault.ReadFault.TheVariants as read_fault
 use Rattle.hunk_loadfile.specs.Hunks.{FileHunk}
 use Rattle.hunk_loadfile.specs.FileValue.{IsLoad}
 use Rattle.hunk_loadfile.specs.Builder.{StandsFor as BuilderStandsFor}
-use Rattle.hunk_loadfile.specs.declared.load_decoder.LoadDecoder.{LoadDecoder}
+use Rattle.hunk_words.specs.declared.decoder.Decoder.{Decoder}
+use Rattle.hunk_loadfile.specs.declared.load_builder.LoadBuilder.{LoadBuilder}
 
 -- the bytes that it was fed
-abbrev pub StandsFor : {A : Type 0} → LoadDecoder A → List ℕ → Type 0
-StandsFor d bytes = DecoderStandsFor Load BuilderStandsFor d.decoder bytes
+abbrev pub StandsFor : {A : Type 0} → Decoder (LoadBuilder A) → List ℕ → Type 0
+StandsFor d bytes = DecoderStandsFor Load BuilderStandsFor d bytes
+
+-- it was fed some bytes, or none
+abbrev pub WasFed : {A : Type 0} → Decoder (LoadBuilder A) → Type 0
+WasFed d = (bytes : List ℕ) × StandsFor d bytes
 
 -- the refusal that it keeps
-abbrev pub refusal_of : {A : Type 0} → LoadDecoder A → Option Refusal
-refusal_of d = kept d.decoder.core
+abbrev pub refusal_of : {A : Type 0} → Decoder (LoadBuilder A) → Option Refusal
+refusal_of d = kept d.core
 
 -- The bytes are whole, and their longwords are the load file of these hunks.
 abbrev pub IsLoadOf : List FileHunk → List ℕ → Type 0

@@ -30,7 +30,7 @@ mod relocation_writer;
 
 pub use build::{BuildFault, BuildRefusal};
 pub use hunk_objects::{HunkKind, Memory};
-pub use load_decoder::LoadDecoder;
+pub use load_decoder::{LoadDecoder, read_load};
 pub use load_file::LoadFile;
 pub use load_hunk::LoadHunk;
 pub use load_writer::write_load;

@@ -9,14 +9,29 @@ ghost use Rattle.hunk_words.specs.declared.event.FileKind.TheVariants.{Load};
 ghost use Rattle.hunk_words.specs.declared.fault.Refusal.{Refusal};
 
 use crate::load_builder::LoadBuilder;
-use crate::load_hunk::LoadHunk;
+use crate::load_file::LoadFile;
 use hunk_words::{Decoder, ReadFault, Refusal, Source, read_all};
 use std::alloc::{Allocator, Global};
+use std::marker::Model;
 
 /// A decoder of a load file's bytes, in any pieces.
 #[derive(Drop)]
 pub struct LoadDecoder<A: Allocator + Copy = Global> {
     decoder: Decoder<LoadBuilder<A>>,
+}
+
+impl<A: Allocator + Copy> Model for LoadDecoder<A> {
+    ghost use Rattle.hunk_words.specs.declared.decoder.Decoder.{Decoder};
+    ghost use Rattle.hunk_loadfile.specs.declared.load_builder.LoadBuilder.{LoadBuilder};
+
+    ghost Value = { Decoder (LoadBuilder A) };
+
+    ghost use Rattle.hunk_loadfile.specs.LoadDecoder.{WasFed};
+
+    ghost view = { λ d. d.decoder };
+
+    // it was fed some bytes
+    ghost invariant = { λ d. WasFed d.decoder };
 }
 
 impl<A: Allocator + Copy> LoadDecoder<A> {
@@ -49,33 +64,43 @@ impl<A: Allocator + Copy> LoadDecoder<A> {
         self.decoder.feed(piece)
     }
 
-    // The hunks of a whole load file.
-    fn finish_hunks(self) -> Result<Vec<LoadHunk<A>, A>, Refusal>
-        ensures file { IfOk result (λ hunks. (bytes : List ℕ) → StandsFor self bytes → IsLoadOf hunks.items bytes) }
+    /// The load file of all bytes. It takes no memory.
+    ///
+    /// # Errors
+    ///
+    /// `PartialLongword` where bytes of a longword are left, `UnexpectedEnd` where the file is not
+    /// complete. A refusal that was kept is answered again, and `OutOfMemory` comes in no other way.
+    pub fn finish(self) -> Result<LoadFile<A>, Refusal>
+        ensures file { IfOk result (λ file. (bytes : List ℕ) → StandsFor self bytes → IsLoadOf file bytes) }
         ensures refused { IfErr result (λ refusal. (bytes : List ℕ) → StandsFor self bytes → RefusesInput bytes refusal) }
         ensures again { (refusal : Refusal) → refusal_of self ≡ Some refusal → result ≡ Err refusal }
         ensures memory { result ≡ Err Refusal.OutOfMemory → refusal_of self ≡ Some Refusal.OutOfMemory }
     {
         match self.decoder.finish() {
-            Ok(builder) => Ok(builder.into_hunks()),
+            Ok(builder) => Ok(LoadFile::of_hunks(builder.into_hunks())),
             Err(refusal) => Err(refusal),
         }
     }
 }
 
-// The hunks of the load file that `reader` has.
-fn read_hunks<R: Source, A: Allocator + Copy>(
+/// The load file that `reader` has: reads to its end, and keeps no more of the bytes than one buffer.
+///
+/// # Errors
+///
+/// [`ReadFault::Refused`] for the first offence of the bytes read, as [`LoadDecoder::feed`] and
+/// [`LoadDecoder::finish`] tell it; [`ReadFault::Device`] only where a read failed.
+pub fn read_load<R: Source, A: Allocator + Copy>(
     alloc: A,
     reader: &mut R,
-) -> Result<Vec<LoadHunk<A>, A>, ReadFault>
-    ensures file { IfOk result (λ hunks. HasRead (R.left reader.old) (R.left reader.new) (IsLoadOf hunks.items)) }
+) -> Result<LoadFile<A>, ReadFault>
+    ensures file { IfOk result (λ file. HasRead (R.left reader.old) (R.left reader.new) (IsLoadOf file)) }
     ensures ended { OnOk result (IsTrue (R.ended reader.new)) }
     ensures refused { IfErr result (RefusesRead (R.left reader.old) (R.left reader.new) (R.ended reader.new) (R.failed reader.new)) }
 {
     let mut decoder = LoadDecoder::new(alloc);
     match read_all(reader, &mut decoder.decoder) {
-        Ok(()) => match decoder.finish_hunks() {
-            Ok(hunks) => Ok(hunks),
+        Ok(()) => match decoder.finish() {
+            Ok(file) => Ok(file),
             Err(refusal) => Err(ReadFault::Refused(refusal)),
         },
         Err(fault) => Err(fault),

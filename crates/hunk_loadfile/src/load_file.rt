@@ -9,7 +9,8 @@ use std::marker::Model;
 
 /// A load file: its hunks in order.
 ///
-/// It is made by `new`, or by reading one.
+/// It is made by [`LoadFile::new`], or by reading one with [`LoadDecoder`](crate::LoadDecoder) or
+/// [`read_load`](crate::read_load).
 #[derive(Debug, Drop)]
 pub struct LoadFile<A: Allocator + Copy = Global> {
     hunks: Vec<LoadHunk<A>, A>,
@@ -41,6 +42,14 @@ impl<A: Allocator + Copy> LoadFile<A> {
             None => Ok(LoadFile { hunks }),
             Some(fault) => Err(BuildRefusal { fault, hunks }),
         }
+    }
+
+    /// The load file of hunks that are known to make one. It takes no memory.
+    pub(crate) fn of_hunks(hunks: Vec<LoadHunk<A>, A>) -> Self
+        requires { IsLoadFile hunks.items }
+        ensures { result ≡ hunks.items }
+    {
+        LoadFile { hunks }
     }
 
     /// The hunks, in order.

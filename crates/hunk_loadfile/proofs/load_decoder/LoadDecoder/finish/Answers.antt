@@ -2,7 +2,7 @@ use Rattle.std.proofs.Common.{◌≡◌, sym, subst, ◌∙◌, Ok, Err}
 use Rattle.hunk_words.specs.Longwords.{longwords}
 use Rattle.hunk_loadfile.specs.FileValue.{IsLoad}
 use Rattle.hunk_loadfile.proofs.PartialLemmas.{tells-load}
-use Rattle.hunk_loadfile.proofs.load_decoder.LoadDecoder.finish_hunks.Goals as goal
+use Rattle.hunk_loadfile.proofs.load_decoder.LoadDecoder.finish.Goals as goal
 
 pub returns-in-Ok-clause-file : goal.returns-in-Ok-clause-file
 returns-in-Ok-clause-file g c = λ bytes stands.
