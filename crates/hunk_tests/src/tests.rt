@@ -11,7 +11,7 @@
 //! - `load_words`: the longwords of further load files.
 //! - `loaded`: load files in memory.
 //! - `memory`: growths that are refused.
-//! - `refusals`: bytes that are no file, and addresses that are refused.
+//! - `refusals`: addresses that are refused.
 //! - `reports`: files that are loaded.
 //! - `streaming`: what the loader that streams asks for.
 //! - `values`: what the hunks of a load file are to be.

@@ -1,11 +1,12 @@
 //! What judges the bytes of a file: where it is refused, why, and when.
 
-use super::files::{BASE, CHUNKS};
+use super::files::{BASE, CHUNKS, ROOM};
 use crate::{LoadJudge, ObjectJudge};
 use hunk_loader::{ImageLoader, LoadRefusal, PlaceFault};
 use hunk_loadfile::{LoadDecoder, read_load};
+use hunk_tool::{ToolFault, load_run};
 use hunk_words::FileKind::{Load, Object};
-use hunk_words::{Decoder, Fault, FileKind, Pieces, ReadFault, Reason, Refusal, Taker};
+use hunk_words::{Decoder, Fault, FileKind, Pieces, ReadFault, Reason, Refusal, Room, Taker};
 use std::alloc::{Allocator, Global};
 use std::process::Abort;
 use std::test::Fail;
@@ -144,6 +145,34 @@ fn is_read_so(
     Ok(())
 }
 
+// A run over a reader of these bytes is answered so. It writes nothing where they are refused.
+fn is_run_so(
+    rt: &impl Abort,
+    alloc: Global,
+    bytes: &[u8],
+    chunk: usize,
+    answer: Answer,
+) -> Result<(), Fail> {
+    let wanted = match fault_of(answer) {
+        Some(fault) => Err(ToolFault::Input { file: 0, fault }),
+        None => match placed_at(bytes, &[BASE]) {
+            Ok(()) => Ok(()),
+            Err(_) => Err(ToolFault::Place(PlaceFault::WrongCount)),
+        },
+    };
+    assert!(rt; 1 <= chunk);
+    let mut reader = Pieces::new(bytes.to_vec(alloc)?, chunk, None);
+    let mut writer = Room::new(alloc, ROOM, ROOM, false)?;
+    let got = load_run(alloc, &mut reader, &[BASE], &mut writer);
+    assert_eq!(rt; got, wanted, "{bytes:?} run by {chunk}");
+    assert_eq!(rt;
+        writer.bytes().is_empty(),
+        got.is_err(),
+        "{bytes:?} run by {chunk}"
+    );
+    Ok(())
+}
+
 // These bytes are answered so by all that reads a load file.
 fn is_load_judged(
     rt: &impl Abort,
@@ -161,7 +190,8 @@ fn is_load_judged(
         let placed = placed_at(bytes, bases);
         answers_in_time(rt, loader, bytes, chunk, answer, placed);
     }
-    is_read_so(rt, alloc, bytes, chunk, answer)
+    is_read_so(rt, alloc, bytes, chunk, answer)?;
+    is_run_so(rt, alloc, bytes, chunk, answer)
 }
 
 /// These bytes are answered so in any pieces, by all that reads a file of this kind.
