@@ -2,7 +2,6 @@ pub mod BasesLemmas
 pub mod DecimalLemmas
 pub mod FaultLineLemmas
 pub mod LoadLemmas
-pub mod OneHunkLemmas
 pub mod PrintLemmas
 pub mod ReportExample
 pub mod ReportLemmas

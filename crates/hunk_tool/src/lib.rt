@@ -2,7 +2,6 @@
 //!
 //! - `bases`: the list of addresses on the command line.
 //! - `load`: loads a file and writes the report of its memory.
-//! - `one_hunk`: reads load files of one hunk.
 //! - `report`: the report of an image.
 //! - `tool_fault`: what an engine is refused with.
 //! - `fault_line`: the line that tells why an engine stopped.
@@ -13,7 +12,6 @@ pub mod bases;
 mod digits;
 pub mod fault_line;
 pub mod load;
-mod one_hunk;
 mod phrase;
 mod printing;
 mod report;

@@ -1,25 +1,32 @@
 //! Loads a file at the addresses handed in, and writes the report of its memory.
 
-ghost use Rattle.std.specs.Prelude.{◌≡◌, ◌≤◌, ◌-◌, ◌*◌, [], ◌∷◌, ◌++◌, length, replicate, IsTrue, IfOk, OnOk, IfErr};
+ghost use Rattle.std.specs.Prelude.{◌≡◌, IsTrue, IfOk, OnOk, IfErr};
 ghost use Rattle.hunk_words.specs.Streams.{HasRead};
-ghost use Rattle.hunk_tool.specs.Loading.{ends_of, fault_of, IsLoadFault, IsReadFault, IsReported};
-ghost use Rattle.hunk_tool.specs.Reading.{IsFileWith};
-ghost use Rattle.hunk_tool.specs.Report.{lent};
+ghost use Rattle.hunk_loader.specs.ImageLoader.{LoadsAs};
+ghost use Rattle.hunk_tool.specs.Loading.{ends_of, fault_of, load_fault_of, IsLoadFault, IsReadFault, IsReported};
 
-use crate::one_hunk::OneHunkReader;
 use crate::report::write_report;
 use crate::tool_fault::ToolFault;
-use hunk_loader::check_places;
+use hunk_loader::{Image, ImageLoader, LoadRefusal};
 use hunk_words::{ReadFault, Refusal, Sink, Source, WriteFault, read_all};
-use std::alloc::{AllocError, Allocator};
+use std::alloc::Allocator;
 
 /// Reads a load file to the reader's end, loads it at these bases, and writes the report of its
 /// memory. The bases are addresses, one for each hunk.
 ///
-/// Only files of one hunk that are spelled by HEADER, CODE and END alone are read so far. Nothing is
-/// written before the whole file was read and placed. `Input` comes with no file that begins so, or
-/// none at the reader's end; `InputDevice` where a read failed; `Place` as `check_places` answers
-/// it; `Output` where a write failed or took no byte. It does not flush.
+/// It keeps the image, and not the file. Nothing is written before the whole file was read and
+/// placed. It does not flush.
+///
+/// # Errors
+///
+/// - [`ToolFault::Input`] with the place and the reason of the first offence of what was read, as
+///   [`ImageLoader`] answers it; where the file ends too early, at the reader's end.
+/// - [`ToolFault::InputDevice`] where a read failed.
+/// - [`ToolFault::Place`] at the end of a load file, as `check_places` answers it for the sizes of
+///   its hunks.
+/// - [`ToolFault::Output`] where a write failed or took no byte, with the number of bytes of the
+///   report that were written.
+/// - [`ToolFault::OutOfMemory`] where a growth was refused, with nothing written.
 pub fn load_run<A: Allocator + Copy, R: Source, W: Sink>(
     alloc: A,
     reader: &mut R,
@@ -32,41 +39,40 @@ pub fn load_run<A: Allocator + Copy, R: Source, W: Sink>(
         (R.left reader.old) (R.left reader.new) (R.failed reader.new) (R.ended reader.new)
         (W.taken writer.old) (W.taken writer.new) (W.failed writer.new))) }
 {
-    let (size, bytes) = read_hunk(alloc, reader)?;
-    match check_places(&[size], bases) {
-        Ok(()) => {}
-        Err(fault) => return Err(ToolFault::Place(fault)),
-    }
-    let hunks = match image_of(alloc, size, bytes, bases[0]) {
-        Ok(hunks) => hunks,
-        Err(_) => return Err(ToolFault::OutOfMemory { written: 0 }),
-    };
-    match write_report(&hunks, writer) {
+    let image = read_image(alloc, reader, bases)?;
+    match write_report(image.hunks(), writer) {
         Ok(()) => Ok(()),
         Err(WriteFault::Device { written }) => Err(ToolFault::Output { written }),
         Err(WriteFault::OutOfMemory { written }) => Err(ToolFault::OutOfMemory { written }),
     }
 }
 
-// The image of one hunk: its content, and zeros behind it up to its size in longwords, at its base.
-fn image_of<A: Allocator>(
+// Reads a load file to the reader's end, and makes its image at these bases.
+fn read_image<A: Allocator + Copy, R: Source>(
     alloc: A,
-    size: u32,
-    content: Vec<u8, A>,
-    base: u32,
-) -> Result<Vec<(u32, Vec<u8, A>), A>, AllocError>
-    requires { length content.items ≤ 4 * size }
-    ensures { IfOk result (λ hunks. lent hunks.items ≡
-        (base, content.items ++ replicate (4 * size - length content.items) 0) ∷ []) }
+    reader: &mut R,
+    bases: &[u32],
+) -> Result<Image<A>, ToolFault>
+    ensures ok { IfOk result (λ image. HasRead (R.left reader.old) (R.left reader.new) (λ bytes. LoadsAs bases.now bytes image)) }
+    ensures ended { OnOk result (IsTrue (R.ended reader.new)) }
+    ensures err { IfErr result (IsReadFault bases.now (R.left reader.old) (R.left reader.new) (R.failed reader.new) (R.ended reader.new)) }
 {
-    let mut bytes = content;
-    bytes.resize(4 * size as usize, 0)?;
-    let mut hunks = Vec::new(alloc);
-    hunks.push((base, bytes))?;
-    Ok(hunks)
+    let mut loader = match ImageLoader::new(alloc, bases) {
+        Ok(loader) => loader,
+        Err(_) => return Err(ToolFault::OutOfMemory { written: 0 }),
+    };
+    match read_all(reader, &mut loader) {
+        Ok(()) => {}
+        Err(ReadFault::Refused(refusal)) => return Err(input_fault(refusal)),
+        Err(ReadFault::Device) => return Err(ToolFault::InputDevice { file: 0 }),
+    }
+    match loader.finish() {
+        Ok(image) => Ok(image),
+        Err(refusal) => Err(load_fault(refusal)),
+    }
 }
 
-// What the only input was refused with, before anything was written.
+// What a refusal of the only input is told as, before anything is written.
 fn input_fault(refusal: Refusal) -> ToolFault
     ensures { result ≡ fault_of refusal }
 {
@@ -76,24 +82,13 @@ fn input_fault(refusal: Refusal) -> ToolFault
     }
 }
 
-// Reads a file of one hunk to the reader's end: the hunk's size in longwords, and the bytes of its
-// content.
-fn read_hunk<R: Source, A: Allocator>(
-    alloc: A,
-    reader: &mut R,
-) -> Result<(u32, Vec<u8, A>), ToolFault>
-    ensures ok { IfOk result (λ hunk. HasRead (R.left reader.old) (R.left reader.new) (IsFileWith hunk.0 hunk.1.items)) }
-    ensures ended { OnOk result (IsTrue (R.ended reader.new)) }
-    ensures err { IfErr result (IsReadFault (R.left reader.old) (R.left reader.new) (R.failed reader.new) (R.ended reader.new)) }
+// The same of a refusal of loading it.
+fn load_fault(refusal: LoadRefusal) -> ToolFault
+    ensures { result ≡ load_fault_of refusal }
 {
-    let mut decoder = OneHunkReader::new(alloc);
-    match read_all(reader, &mut decoder) {
-        Ok(()) => {}
-        Err(ReadFault::Refused(refusal)) => return Err(input_fault(refusal)),
-        Err(ReadFault::Device) => return Err(ToolFault::InputDevice { file: 0 }),
-    }
-    match decoder.finish() {
-        Ok(hunk) => Ok(hunk),
-        Err(refusal) => Err(input_fault(refusal)),
+    match refusal {
+        LoadRefusal::File(fault) => ToolFault::Input { file: 0, fault },
+        LoadRefusal::Place(fault) => ToolFault::Place(fault),
+        LoadRefusal::OutOfMemory => ToolFault::OutOfMemory { written: 0 },
     }
 }

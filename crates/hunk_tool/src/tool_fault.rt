@@ -10,7 +10,7 @@ use hunk_words::Fault;
 /// taken exactly the first `written` bytes.
 #[derive(Clone, Copy, Debug, PartialEq, Eq)]
 pub enum ToolFault {
-    /// No file of its kind begins with the bytes of an input, or they are none at its end.
+    /// An input is no file of its kind: the place and the reason of its first offence.
     Input { file: usize, fault: Fault },
     /// A read of an input failed.
     InputDevice { file: usize },

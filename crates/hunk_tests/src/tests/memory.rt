@@ -26,7 +26,7 @@ fn runs_with_each_growth_refused(
         if heap.asked() <= number {
             assert_eq!(rt; got, Ok(()));
             assert_eq!(rt; writer.bytes(), text.as_bytes());
-            assert!(rt; 2 <= number, "the content and the hunks grow");
+            assert!(rt; 4 <= number, "bases, sizes, content and hunks grow");
             return Ok(());
         }
         let fault = ToolFault::OutOfMemory { written: 0 };

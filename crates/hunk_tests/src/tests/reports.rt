@@ -10,6 +10,7 @@ fn loads_the_file_and_its_like(rt: HostRuntime) -> Result<(), Fail> {
         (0, 0x0000_03F3, REPORT),
         (5, 0x4000_0001, REPORT),
         (6, 0xC000_03E9, REPORT),
+        (6, 0x0000_03EA, REPORT),
         (7, 0xC000_0001, REPORT),
         (9, 0x8000_03F2, REPORT),
         (

@@ -48,7 +48,7 @@ fn judges_each_front(rt: HostRuntime) -> Result<(), Fail> {
 
 #[test]
 fn judges_other_longwords(rt: HostRuntime) -> Result<(), Fail> {
-    let rows: [(FileKind, &[u32], usize, u32, Answer); 72] = [
+    let rows: [(FileKind, &[u32], usize, u32, Answer); 74] = [
         (Load, &FILE, 0, ONES, Some((0, WrongStart))),
         (Load, &FILE, 1, ONES, Some((1, ResidentNames))),
         (Load, &FILE, 2, ONES, Some((2, HunkTable))),
@@ -100,6 +100,7 @@ fn judges_other_longwords(rt: HostRuntime) -> Result<(), Fail> {
             Some((6, UnknownType(536_871_913))),
         ),
         (Load, &FILE, 0, 0x0000_03E7, Some((0, WrongStart))),
+        (Load, &FILE, 6, 0x0000_03EC, Some((6, MisplacedType(1004)))),
         (Load, &FILE, 6, 0x0000_03F2, Some((6, MisplacedType(1010)))),
         (
             Load,
@@ -143,6 +144,7 @@ fn judges_other_longwords(rt: HostRuntime) -> Result<(), Fail> {
         (Load, &FILE, 9, 0x0000_03F1, Some((10, UnexpectedEnd))),
         (Load, &FILE, 9, 0x0000_03FC, Some((10, UnexpectedEnd))),
         // sizes of content
+        (Load, &FILE, 7, 0, Some((8, UnknownType(0x0E75_4E71)))),
         (Load, &FILE, 7, 2, Some((7, ContentTooLong))),
         (Load, &FILE, 7, 0xC000_0001, None),
         // symbols
