@@ -21,14 +21,15 @@ pub(crate) fn has_bytes<A: Allocator + Copy>(
     bases: &[u32],
     wanted: &[&[u8]],
 ) {
-    assert_eq!(rt; image.hunks().len(), wanted.len());
-    assert_eq!(rt; bases.len(), wanted.len());
-    for (number, (base, bytes)) in image.hunks().iter().enumerate() {
-        assert_eq!(rt; *base, bases[number]);
-        assert_eq!(rt; bytes.as_slice(), wanted[number], "hunk {number}");
-        for (offset, byte) in wanted[number].iter().enumerate() {
-            let address = base.wrapping_add(offset as u32);
-            assert_eq!(rt; image.byte(address), Some(*byte), "hunk {number}, {offset}");
+    let hunks = image.hunks();
+    assert_eq!(rt; (hunks.len(), bases.len()), (wanted.len(), wanted.len()));
+    for (((base, bytes), at), want) in hunks.iter().zip(bases).zip(wanted) {
+        assert_eq!(rt; *base, *at);
+        assert_eq!(rt; bytes.as_slice(), *want, "at {base:x}");
+        let mut address = *base;
+        for byte in *want {
+            assert_eq!(rt; image.byte(address), Some(*byte), "at {address:x}");
+            address = address.wrapping_add(1);
         }
     }
 }
