@@ -163,35 +163,51 @@ fn loads_one_hunk(rt: HostRuntime) -> Result<(), Fail> {
     are_loaded(&rt, rt.alloc(), &rows)
 }
 
+// The bytes of hunks in memory, and a report of two of them.
+const RELOCATED: [u8; 12] = [0, 0, 0x20, 0, 0, 0, 0x10, 0, 0, 0, 0x20, 4];
+
+const RETURNS: [u8; 8] = [0x4E, 0x71, 0x4E, 0x71, 0x4E, 0x75, 0x4E, 0x71];
+
+const CALLS: [u8; 8] = [0x4E, 0xB9, 0, 2, 0, 4, 0x4E, 0x75];
+
+const CALLS_ZEROS: [u8; 8] = [0x4E, 0xB9, 0, 2, 0, 0, 0x4E, 0x75];
+
+const SCATTERED_REPORT: &str = "hunk 0 at 00001000 size 12\n00001000 000020000000100000002004\n\
+                                hunk 1 at 00002000 size 4\n00002000 00000000\n";
+
 #[test]
 fn loads_some_hunks(rt: HostRuntime) -> Result<(), Fail> {
-    let scattered: [&[u8]; 2] = [&[0, 0, 0x20, 0, 0, 0, 0x10, 0, 0, 0, 0x20, 4], &[0; 4]];
-    let report = "hunk 0 at 00001000 size 12\n00001000 000020000000100000002004\n\
-                  hunk 1 at 00002000 size 4\n00002000 00000000\n";
-    let returns: &[u8] = &[0x4E, 0x71, 0x4E, 0x71, 0x4E, 0x75, 0x4E, 0x71];
-    let calls: &[u8] = &[0x4E, 0xB9, 0, 2, 0, 4, 0x4E, 0x75];
-    let calls_zeros: &[u8] = &[0x4E, 0xB9, 0, 2, 0, 0, 0x4E, 0x75];
     let rows: [Row<'_>; 5] = [
-        (&SCATTERED, &[0x1000, 0x2000], &scattered, report),
-        (&WRITTEN, &[0x1000, 0x2000], &scattered, report),
+        (
+            &SCATTERED,
+            &[0x1000, 0x2000],
+            &[&RELOCATED, &[0; 4]],
+            SCATTERED_REPORT,
+        ),
+        (
+            &WRITTEN,
+            &[0x1000, 0x2000],
+            &[&RELOCATED, &[0; 4]],
+            SCATTERED_REPORT,
+        ),
         (
             &LINKED,
             &[BASE, 0x0002_0000],
-            &[calls, returns],
+            &[&CALLS, &RETURNS],
             "hunk 0 at 00010000 size 8\n00010000 4eb9000200044e75\n\
              hunk 1 at 00020000 size 8\n00020000 4e714e714e754e71\n",
         ),
         (
             &LINKED_ALONE,
             &[BASE, 0x0002_0000],
-            &[calls_zeros, &[0; 8]],
+            &[&CALLS_ZEROS, &[0; 8]],
             "hunk 0 at 00010000 size 8\n00010000 4eb9000200004e75\n\
              hunk 1 at 00020000 size 8\n00020000 0000000000000000\n",
         ),
         (
             &THREE_HUNKS,
             &[0x1000, 0x2000, 0x3000],
-            &[returns, &[0, 0, 0x30, 8], &[0; 16]],
+            &[&RETURNS, &[0, 0, 0x30, 8], &[0; 16]],
             "hunk 0 at 00001000 size 8\n00001000 4e714e714e754e71\n\
              hunk 1 at 00002000 size 4\n00002000 00003008\n\
              hunk 2 at 00003000 size 16\n00003000 00000000000000000000000000000000\n",
