@@ -7,7 +7,7 @@ use super::words::{SCATTERED, WRITTEN};
 use super::written::file_of;
 use crate::Refusing;
 use hunk_loader::{LoadRefusal, load};
-use hunk_loadfile::{LoadFile, read_load, write_load};
+use hunk_loadfile::{read_load, write_load};
 use hunk_tool::{ToolFault, load_run};
 use hunk_words::{Pieces, ReadFault, Refusal, Room, WriteFault};
 use std::alloc::Global;
@@ -33,106 +33,99 @@ enum Call {
     Run,
 }
 
-// Whether the file was read. It was, or memory was refused; and so for the other calls.
-fn is_read(
-    rt: &impl Abort,
-    alloc: Global,
-    heap: &Refusing<Global>,
-    bytes: &[u8],
-) -> Result<bool, Fail> {
-    let mut reader = Pieces::new(bytes.to_vec(alloc)?, ROOM, None);
-    match read_load(heap, &mut reader) {
-        Ok(file) => {
-            has_hunks(rt, &file, &SCATTERED_HUNKS);
-            Ok(true)
-        }
-        Err(fault) => {
-            assert_eq!(rt; fault, ReadFault::Refused(Refusal::OutOfMemory));
-            Ok(false)
-        }
-    }
+/// The growths of reading the file.
+pub(crate) fn growths_of_reading(alloc: Global, bytes: &[u8]) -> Result<u64, Fail> {
+    let heap = Refusing::new(alloc, u64::MAX);
+    let _file = file_of(&heap, bytes.to_vec(alloc)?)?;
+    Ok(heap.asked())
 }
 
-fn is_loaded<'a>(
-    rt: &impl Abort,
-    heap: &'a Refusing<Global>,
-    file: &LoadFile<&'a Refusing<Global>>,
-) -> bool {
-    match load(heap, file, &BASES) {
+// Whether the file was read with this growth refused. It was, or memory was refused; and so for the
+// other calls.
+fn is_read(rt: &impl Abort, alloc: Global, bytes: &[u8], refused: u64) -> Result<bool, Fail> {
+    let heap = Refusing::new(alloc, refused);
+    let mut reader = Pieces::new(bytes.to_vec(alloc)?, ROOM, None);
+    match read_load(&heap, &mut reader) {
+        Ok(file) => has_hunks(rt, &file, &SCATTERED_HUNKS),
+        Err(fault) => {
+            assert_eq!(rt; fault, ReadFault::Refused(Refusal::OutOfMemory));
+            assert!(rt; refused < heap.asked(), "growth {refused}");
+            return Ok(false);
+        }
+    }
+    assert!(rt; heap.asked() <= refused, "growth {refused}");
+    Ok(true)
+}
+
+fn is_loaded(rt: &impl Abort, alloc: Global, bytes: &[u8], refused: u64) -> Result<bool, Fail> {
+    let heap = Refusing::new(alloc, refused);
+    let file = file_of(&heap, bytes.to_vec(alloc)?)?;
+    match load(&heap, &file, &BASES) {
         Ok(image) => {
             let wanted: [&[u8]; 2] = [&[0, 0, 0x20, 0, 0, 0, 0x10, 0, 0, 0, 0x20, 4], &[0; 4]];
             has_bytes(rt, &image, &BASES, &wanted);
-            true
         }
         Err(refusal) => {
             assert_eq!(rt; refusal, LoadRefusal::OutOfMemory);
-            false
+            assert!(rt; refused < heap.asked(), "growth {refused}");
+            return Ok(false);
         }
     }
+    assert!(rt; heap.asked() <= refused, "growth {refused}");
+    Ok(true)
 }
 
-fn is_written<'a>(
-    rt: &impl Abort,
-    alloc: Global,
-    heap: &'a Refusing<Global>,
-    file: &LoadFile<&'a Refusing<Global>>,
-) -> Result<bool, Fail> {
+fn is_written(rt: &impl Abort, alloc: Global, bytes: &[u8], refused: u64) -> Result<bool, Fail> {
+    let heap = Refusing::new(alloc, refused);
+    let file = file_of(&heap, bytes.to_vec(alloc)?)?;
     let text = bytes_of(alloc, &WRITTEN, &[])?;
     let mut writer = Room::new(alloc, ROOM, ROOM, false)?;
-    match write_load(heap, file, &mut writer) {
-        Ok(()) => {
-            assert_eq!(rt; writer.bytes(), text.as_slice());
-            Ok(true)
-        }
-        Err(WriteFault::OutOfMemory { written }) => {
-            assert_eq!(rt; text.get(..written as usize), Some(writer.bytes()));
-            Ok(false)
-        }
+    match write_load(&heap, &file, &mut writer) {
+        Ok(()) => assert_eq!(rt; writer.bytes(), text.as_slice()),
         Err(fault) => {
-            assert!(rt; false, "{fault:?}");
-            Ok(false)
+            let written = writer.bytes().len() as u64;
+            assert_eq!(rt; fault, WriteFault::OutOfMemory { written });
+            assert!(rt; text.starts_with(writer.bytes()), "growth {refused}");
+            assert!(rt; refused < heap.asked(), "growth {refused}");
+            return Ok(false);
         }
     }
+    assert!(rt; heap.asked() <= refused, "growth {refused}");
+    Ok(true)
 }
 
-fn is_run(
-    rt: &impl Abort,
-    alloc: Global,
-    heap: &Refusing<Global>,
-    bytes: &[u8],
-) -> Result<bool, Fail> {
+fn is_run(rt: &impl Abort, alloc: Global, bytes: &[u8], refused: u64) -> Result<bool, Fail> {
+    let heap = Refusing::new(alloc, refused);
     let mut reader = Pieces::new(bytes.to_vec(alloc)?, ROOM, None);
     let mut writer = Room::new(alloc, ROOM, ROOM, false)?;
-    match load_run(heap, &mut reader, &BASES, &mut writer) {
-        Ok(()) => {
-            assert_eq!(rt; writer.bytes(), TEXT.as_bytes());
-            Ok(true)
-        }
+    match load_run(&heap, &mut reader, &BASES, &mut writer) {
+        Ok(()) => assert_eq!(rt; writer.bytes(), TEXT.as_bytes()),
         Err(fault) => {
             assert_eq!(rt; fault, ToolFault::OutOfMemory { written: 0 });
             assert_eq!(rt; writer.bytes(), b"".as_slice());
-            Ok(false)
+            assert!(rt; refused < heap.asked(), "growth {refused}");
+            return Ok(false);
         }
     }
+    assert!(rt; heap.asked() <= refused, "growth {refused}");
+    Ok(true)
 }
 
-// The growths of the call that has them all: each one before was refused, and answered so.
-fn growths_of<'a>(
-    rt: &impl Abort,
-    alloc: Global,
-    call: Call,
-    bytes: &[u8],
-    file: &LoadFile<&'a Refusing<Global>>,
-) -> Result<u64, Fail> {
+// The growths of the call that has them all: each one before was refused, and answered so. Those of
+// reading the file that is loaded or written come before.
+fn growths_of(rt: &impl Abort, alloc: Global, call: Call, bytes: &[u8]) -> Result<u64, Fail> {
+    let before = match call {
+        Call::Read | Call::Run => 0,
+        Call::Load | Call::Write => growths_of_reading(alloc, bytes)?,
+    };
     for number in 0..MOST_GROWTHS {
-        let heap = Refusing::new(alloc, number);
+        let refused = before.saturating_add(number);
         let done = match call {
-            Call::Read => is_read(rt, alloc, &heap, bytes)?,
-            Call::Load => is_loaded(rt, &heap, file),
-            Call::Write => is_written(rt, alloc, &heap, file)?,
-            Call::Run => is_run(rt, alloc, &heap, bytes)?,
+            Call::Read => is_read(rt, alloc, bytes, refused)?,
+            Call::Load => is_loaded(rt, alloc, bytes, refused)?,
+            Call::Write => is_written(rt, alloc, bytes, refused)?,
+            Call::Run => is_run(rt, alloc, bytes, refused)?,
         };
-        assert_eq!(rt; done, heap.asked() <= number, "{call:?}, growth {number}");
         if done {
             return Ok(number);
         }
@@ -144,8 +137,6 @@ fn growths_of<'a>(
 #[test]
 fn refuses_each_growth_of_a_call(rt: HostRuntime) -> Result<(), Fail> {
     let bytes = bytes_of(rt.alloc(), &SCATTERED, &[])?;
-    let ample = Refusing::new(rt.alloc(), u64::MAX);
-    let file = file_of(&ample, bytes.clone()?)?;
     let rows = [
         // sizes, hunks, content, sites, symbols, a name, debug blocks, and one of them
         (Call::Read, 8),
@@ -157,7 +148,7 @@ fn refuses_each_growth_of_a_call(rt: HostRuntime) -> Result<(), Fail> {
         (Call::Run, 5),
     ];
     for (call, least) in rows {
-        let growths = growths_of(&rt, rt.alloc(), call, &bytes, &file)?;
+        let growths = growths_of(&rt, rt.alloc(), call, &bytes)?;
         assert!(rt; least <= growths, "{call:?} met {growths} growths");
     }
     Ok(())

@@ -46,9 +46,9 @@ fn answers_the_file_before_the_addresses(rt: HostRuntime) -> Result<(), Fail> {
         place: 9,
         reason: Reason::UnexpectedEnd,
     }));
-    assert_eq!(rt; bytes.len(), 40);
+    let front = bytes.get(..36).ok_or("too short")?;
     for bases in [[].as_slice(), &[BASE, 0x0002_0000]] {
-        growths(&rt, rt.alloc(), &bytes[..36], bases, unended)?;
+        growths(&rt, rt.alloc(), front, bases, unended)?;
         growths(&rt, rt.alloc(), &bytes, bases, wrong)?;
     }
     Ok(())
