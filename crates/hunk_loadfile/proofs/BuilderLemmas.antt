@@ -1,7 +1,7 @@
 -- What a builder of load files holds, one event further.
-use Rattle.std.proofs.Common.{◌≡◌, ℕ, zero, suc, ◌+◌, ◌*◌, ◌<◌, ◌≤◌, List, [], ◌∷◌, ◌++◌, length, length-append, map, Vec, get_or, slice_index, slice_index_or, Result, Ok, Err, MatchResult, OnOk, OnErr, refl, sym, ap, subst, ◌∙◌, arith}
+use Rattle.std.proofs.Common.{◌≡◌, ℕ, suc, ◌+◌, ◌*◌, ◌<◌, ◌≤◌, List, [], ◌∷◌, ◌++◌, length, length-append, map, Vec, get_or, slice_index, slice_index_or, Result, Ok, Err, MatchResult, OnOk, OnErr, refl, sym, ap, subst, ◌∙◌, arith}
 use Rattle.std.proofs.lemmas.List.{map_push}
-use Rattle.hunk_words.specs.Values.{Hunk, Part, empty, tells, one_site, one_symbol}
+use Rattle.hunk_words.specs.Values.{Hunk, empty, tells, one_site, one_symbol}
 use Rattle.hunk_words.specs.Values.Adds.{to_hunk}
 use Rattle.hunk_words.specs.Building.{Receiver as ToldReceiver, Built, step, on_last, value_to, built, load_begun}
 use Rattle.hunk_words.specs.Building.Receiver.{nothing_more, to_unit_name, to_name, to_content, to_debug, to_symbol, to_entry}

@@ -59,27 +59,27 @@ length-groups_words-le count xs = omega (arith, groups-le 0 count xs, at_least-l
 
 -- ---- the parts of a hunk
 
-length-content_words-le : (kind : HunkKind) (size : ℕ) (content : List ℕ) → length content ≤ most_content kind size → length (content_words kind size (longwords content)) ≤ 2 + size
+pub length-content_words-le : (kind : HunkKind) (size : ℕ) (content : List ℕ) → length content ≤ most_content kind size → length (content_words kind size (longwords content)) ≤ 2 + size
 length-content_words-le Code size content fits = omega (arith, length-longwords content)
 length-content_words-le Data size content fits = omega (arith, length-longwords content)
 length-content_words-le Bss size content fits = omega arith
 
-length-site_words-le : (count : ℕ) (sites : List (ℕ × ℕ)) → length (site_words count sites) ≤ 2 + 3 * length sites
+pub length-site_words-le : (count : ℕ) (sites : List (ℕ × ℕ)) → length (site_words count sites) ≤ 2 + 3 * length sites
 length-site_words-le count [] = omega arith
 length-site_words-le count (e ∷ es) = omega (arith, length-groups_words-le count (e ∷ es), length-append (groups_words count (e ∷ es)) (0 ∷ []))
 
 length-symbol_words : (s : List ℕ × ℕ) → length (symbol_words s) ≡ symbol_longwords s
 length-symbol_words s = omega (arith, length-name_words s.0, length-append (name_words s.0) (s.1 ∷ []))
 
-length-symbols : (ss : List (List ℕ × ℕ)) → length (flat_map symbol_words ss) ≡ sum_by symbol_longwords ss
+pub length-symbols : (ss : List (List ℕ × ℕ)) → length (flat_map symbol_words ss) ≡ sum_by symbol_longwords ss
 length-symbols [] = refl
 length-symbols (s ∷ ss) = omega (arith, length-symbol_words s, length-symbols ss, length-append (symbol_words s) (flat_map symbol_words ss), sum_by-cons symbol_longwords s ss)
 
-length-symbols_words-le : (ss : List (List ℕ × ℕ)) → length (symbols_words ss) ≤ 2 + sum_by symbol_longwords ss
+pub length-symbols_words-le : (ss : List (List ℕ × ℕ)) → length (symbols_words ss) ≤ 2 + sum_by symbol_longwords ss
 length-symbols_words-le [] = omega arith
 length-symbols_words-le (s ∷ ss) = omega (arith, length-symbols (s ∷ ss), length-append (flat_map symbol_words (s ∷ ss)) (0 ∷ []))
 
-length-debugs : (ds : List (List ℕ)) → length (flat_map debug_words ds) ≡ sum_by debug_longwords ds
+pub length-debugs : (ds : List (List ℕ)) → length (flat_map debug_words ds) ≡ sum_by debug_longwords ds
 length-debugs [] = refl
 length-debugs (d ∷ ds) = omega (arith, length-debugs ds, length-append (debug_words d) (flat_map debug_words ds), sum_by-cons debug_longwords d ds)
 
@@ -104,7 +104,7 @@ length-hunk_words-le count h valid =
       length-append debugs (1010 ∷ []),
     )
 
-length-hunks-le : (count : ℕ) (hunks : List FileHunk) → All (IsLoadHunk count) hunks → length (flat_map (hunk_words count) hunks) ≤ 7 * length hunks + 4 * size_of hunks + carried hunks
+pub length-hunks-le : (count : ℕ) (hunks : List FileHunk) → All (IsLoadHunk count) hunks → length (flat_map (hunk_words count) hunks) ≤ 7 * length hunks + 4 * size_of hunks + carried hunks
 length-hunks-le count [] valid = omega arith
 length-hunks-le count (h ∷ hs) valid =
     let here = length-hunk_words-le count h (All-head (IsLoadHunk count) h hs valid) in

@@ -1,5 +1,5 @@
 -- What a hunk that has not ended shows, one thing further.
-use Rattle.std.proofs.Common.{◌≡◌, ℕ, zero, suc, ◌+◌, ◌<◌, ◌≤◌, List, [], ◌∷◌, ◌++◌, length, map, Option, Some, Result, Ok, Err, OnOk, OnErr, Vec, if◌then◌else◌, ◌==◌, ◌↔◌, get_or, slice_set, slice_index_or, refl, sym, ap, subst, ◌∙◌, append-nil, arith}
+use Rattle.std.proofs.Common.{◌≡◌, ℕ, zero, suc, ◌+◌, ◌<◌, ◌≤◌, List, [], ◌∷◌, ◌++◌, length, map, Some, Result, Ok, Err, OnOk, OnErr, Vec, if◌then◌else◌, ◌==◌, ◌↔◌, get_or, slice_set, refl, sym, ap, subst, ◌∙◌, append-nil, arith}
 use Rattle.std.specs.BTreeMap.{insert_entry}
 use Rattle.std.specs.Ordering.{nat_cmp}
 use Rattle.hunk_words.specs.Sites.{SiteMap, Meets, target_at}
@@ -7,9 +7,9 @@ use Rattle.hunk_words.specs.Takers.{JudgesSite}
 use Rattle.hunk_words.specs.Building.{on_last}
 use Rattle.hunk_words.specs.Names.{name_of}
 use Rattle.hunk_words.specs.Values.{Hunk, Adds, tells, one_site}
-use Rattle.hunk_words.specs.Values.Adds.{to_hunk, to_reference}
+use Rattle.hunk_words.specs.Values.Adds.{to_hunk}
 use Rattle.hunk_words.specs.declared.sites.SiteRefusal.{SiteRefusal}
-use Rattle.hunk_words.specs.declared.sites.SiteRefusal.TheVariants.{Outside, Overlap, OutOfMemory}
+use Rattle.hunk_words.specs.declared.sites.SiteRefusal.TheVariants.{Outside, Overlap}
 use Rattle.hunk_words.proofs.TakerLemmas.{judges-site, SameSites-more}
 use Rattle.hunk_loadfile.specs.Hunks.{lists_of}
 use Rattle.hunk_loadfile.specs.FileValue.{with_site, with_sites}

@@ -1,16 +1,15 @@
 -- The partial load file after the events of a whole file is that file.
 use Rattle.std.proofs.Common.{◌≡◌, ℕ, List, [], ◌∷◌, length, map, refl, sym, ap, ◌∙◌}
-use Rattle.hunk_words.specs.Kinds.Within.{in_load}
 use Rattle.hunk_words.specs.Trees.{LoadHunkTree, LoadTree}
 use Rattle.hunk_words.specs.Spelling.{load_spelling, LoadFits}
 use Rattle.hunk_words.specs.Events.{events}
-use Rattle.hunk_words.specs.Values.{load_sizes, load_hunk_values, hunk_value}
+use Rattle.hunk_words.specs.Values.{load_sizes, load_hunk_values}
 use Rattle.hunk_words.specs.Building.{built, load_begun}
 use Rattle.hunk_words.specs.DecoderCore.{TellsFile}
 use Rattle.hunk_words.specs.declared.event.Event.{Event}
 use Rattle.hunk_words.specs.declared.event.FileKind.TheVariants.{Load}
 use Rattle.hunk_words.proofs.ToldLemmas.{load-told}
-use Rattle.hunk_loadfile.specs.FileValue.{file_hunk, load_hunk_value, load_value, IsLoad}
+use Rattle.hunk_loadfile.specs.FileValue.{load_hunk_value, load_value, IsLoad}
 use Rattle.hunk_loadfile.specs.Partial.{file_hunks, first_hunks, partial}
 use Rattle.hunk_loadfile.specs.Builder.{StandsFor}
 use Rattle.hunk_loadfile.specs.declared.load_builder.LoadBuilder.{LoadBuilder}

@@ -72,6 +72,16 @@ pub Wrote-stop : (old new : Option (List ℕ)) (before after : Bool) (text rest 
 Wrote-stop old new before after text rest start (Device written) (took, fails) = (TookFront-before old new text rest start written took, fails)
 Wrote-stop old new before after text rest start (OutOfMemory written) (took, quiet) = (TookFront-before old new text rest start written took, quiet)
 
+-- it stopped inside a text, in the part behind the first one
+pub Wrote-inside : (old between new : Option (List ℕ)) (before halfway after : Bool) (first part rest whole : List ℕ) (start middle : ℕ) (fault : WriteFault)
+    → first ++ (part ++ rest) ≡ whole
+    → Wrote old between before halfway first start (Ok middle)
+    → Wrote between new halfway after part middle (Err fault)
+    → Wrote old new before after whole start (Err fault)
+Wrote-inside old between new before halfway after first part rest whole start middle fault is one next =
+    subst (λ t. Wrote old new before after t start (Err fault)) is
+    (Wrote-then old between new before halfway after first (part ++ rest) start middle (Err fault) one (Wrote-stop between new halfway after part rest middle fault next))
+
 -- what `write_all` says
 pub Wrote-all : (old new : Option (List ℕ)) (before after : Bool) (text : List ℕ) (start : ℕ) (r : Result ℕ WriteFault)
     → IfOk r (λ n. n ≡ start + length text) → OnOk r (Appends old new text) → OnOk r (after ≡ before) → IfErr r (DeviceStopped old new after text start)

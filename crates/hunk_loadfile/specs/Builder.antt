@@ -1,5 +1,5 @@
 -- What a builder of load files stands for: the events that it took.
-use Rattle.std.specs.Prelude.{◌≡◌, ℕ, ◌≤◌, List, [], ◌∷◌, length, map, Result, MatchResult}
+use Rattle.std.specs.Prelude.{◌≡◌, ◌≤◌, List, [], ◌∷◌, length, map, Result, MatchResult}
 use Rattle.hunk_words.specs.OpenName.{Opens}
 use Rattle.hunk_words.specs.Values.{Part}
 use Rattle.hunk_words.specs.Building.{Receiver as ToldReceiver, Built, built, load_begun, step}
@@ -8,7 +8,6 @@ use Rattle.hunk_words.specs.Watch.{Watch, place_after, seen_now}
 use Rattle.hunk_words.specs.Takers.{watch_of}
 use Rattle.hunk_words.specs.declared.event.Event.{Event}
 use Rattle.hunk_words.specs.declared.event.FileKind.TheVariants.{Load}
-use Rattle.hunk_loadfile.specs.Hunks.{FileHunk}
 use Rattle.hunk_loadfile.specs.OpenHunk.{Shows}
 use Rattle.hunk_loadfile.specs.Partial.{file_hunks}
 use Rattle.hunk_loadfile.specs.declared.load_builder.LoadBuilder.{LoadBuilder}

@@ -1,5 +1,5 @@
 -- What a decoder of load files stands for, and what it answers.
-use Rattle.std.specs.Prelude.{◌≡◌, List, ℕ, length, Option, Some, Result, Ok, Err, Bool, IsTrue, Vec, ◌⊎◌}
+use Rattle.std.specs.Prelude.{List, ℕ, length, Option, Bool, IsTrue, ◌⊎◌}
 use Rattle.hunk_words.specs.Decoder.{StandsFor as DecoderStandsFor}
 use Rattle.hunk_words.specs.DecoderCore.{kept}
 use Rattle.hunk_words.specs.FirstOffence.{FirstOffence, OffendsAt, EndsEarly}

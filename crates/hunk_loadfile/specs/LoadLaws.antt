@@ -13,3 +13,7 @@ OneLoad = (one other : List FileHunk) (ws : List ℕ) → IsLoad one ws → IsLo
 -- The written form of a load file that carries no more than hunks may that are handed in is no longer than a file.
 abbrev pub WrittenIsShort : Type 0
 WrittenIsShort = (hunks : List FileHunk) → IsLoadFile hunks → carried hunks ≤ most_carried → length (written hunks) ≤ most_longwords
+
+-- The written form of a load file is that file, where it is no longer than a file may be.
+abbrev pub WrittenIsLoad : Type 0
+WrittenIsLoad = (hunks : List FileHunk) → IsLoadFile hunks → length (written hunks) ≤ most_longwords → IsLoad hunks (written hunks)

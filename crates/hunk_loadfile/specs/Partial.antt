@@ -4,7 +4,7 @@ use Rattle.hunk_words.specs.Trees.{LoadTree}
 use Rattle.hunk_words.specs.Spelling.{load_spelling, LoadFits}
 use Rattle.hunk_words.specs.Events.{events}
 use Rattle.hunk_words.specs.Values.{Hunk, Part}
-use Rattle.hunk_words.specs.Building.{Built, built, load_begun}
+use Rattle.hunk_words.specs.Building.{built, load_begun}
 use Rattle.hunk_words.specs.declared.event.Event.{Event}
 use Rattle.hunk_loadfile.specs.Hunks.{FileHunk}
 use Rattle.hunk_loadfile.specs.FileValue.{file_hunk, load_value}

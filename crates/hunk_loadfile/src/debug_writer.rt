@@ -1,5 +1,5 @@
 //! Symbols and debug blocks, as they are written.
-ghost use Rattle.std.specs.Prelude.{◌+◌, ◌*◌, ◌<◌, ◌≤◌, ◌^◌, length, sum_by};
+ghost use Rattle.std.specs.Prelude.{◌≡◌, ◌+◌, ◌*◌, ◌<◌, ◌≤◌, ◌^◌, length, sum_by};
 ghost use Rattle.std.specs.List.{All, flat_map};
 ghost use Rattle.hunk_words.specs.Names.{bytes_of, longword_count, name_words};
 ghost use Rattle.hunk_loadfile.specs.Hunks.{lists_of};

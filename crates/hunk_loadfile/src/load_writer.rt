@@ -1,10 +1,10 @@
 //! Load files as bytes: writing one, hunk by hunk.
-ghost use Rattle.std.specs.Prelude.{◌≡◌, ◌+◌, ◌*◌, ◌%◌, ◌<◌, ◌≤◌, ◌^◌, ◌++◌, ℕ, length, map, IfErr, OnOk};
+ghost use Rattle.std.specs.Prelude.{◌≡◌, ◌+◌, ◌*◌, ◌<◌, ◌≤◌, ◌^◌, ◌++◌, ℕ, length, map, IfErr, OnOk};
 ghost use Rattle.std.specs.Io.KnownBytes.{Appends};
 ghost use Rattle.std.specs.List.{All, flat_map};
 ghost use Rattle.hunk_words.specs.Longwords.{longwords};
 ghost use Rattle.hunk_words.specs.Names.{bytes_of};
-ghost use Rattle.hunk_loadfile.specs.Rules.{IsLoadFile, carried_by, has_names, most_content, most_hunks, most_name, most_size};
+ghost use Rattle.hunk_loadfile.specs.Rules.{IsLoadFile, IsLoadHunk, carried_by, most_hunks, most_size};
 ghost use Rattle.hunk_loadfile.specs.Writing.{WriteStopped, Wrote};
 ghost use Rattle.hunk_loadfile.specs.Written.{content_words, header_words, hunk_words, size_word, written};
 
@@ -17,8 +17,9 @@ use hunk_objects::{HunkKind, Memory};
 use hunk_words::{Sink, WriteFault};
 use std::alloc::Allocator;
 
-/// Writes the written form of a load file. It keeps nothing beside the file but what the relocation
-/// block of the hunk that is written takes, and does not flush.
+/// Writes a load file (The AmigaDOS Manual, 3rd edition, "Amiga binary file structure"; which of the
+/// forms of a file is written is our own). Beside the file it keeps the sites of one hunk at most,
+/// and it does not flush.
 ///
 /// # Errors
 ///
@@ -54,9 +55,9 @@ fn write_header<A: Allocator + Copy, W: Sink>(
 }
 
 /// Hunks whose sizes are written at once.
-const CHUNK: usize = 256;
+const CHUNK: usize = 64;
 
-/// Writes the sizes of a header. Each asks for a hunk's memory.
+/// Writes the sizes of a header. They go through an array of fixed size.
 fn write_sizes<A: Allocator + Copy, W: Sink>(
     writer: &mut W,
     written: u64,
@@ -82,8 +83,8 @@ fn fill_sizes<A: Allocator + Copy>(words: &mut [u32], hunks: &[LoadHunk<A>])
     requires small { All (λ h. h.size ≤ most_size) hunks.now }
     ensures { words.new ≡ map size_word hunks.now }
 {
-    for (word, hunk) in words.iter_mut().zip(hunks) {
-        *word = size_word(hunk);
+    for (number, hunk) in hunks.iter().enumerate() {
+        words[number] = size_word(hunk);
     }
 }
 
@@ -125,10 +126,8 @@ fn write_hunk<A: Allocator + Copy, W: Sink>(
     written: u64,
     hunk: &LoadHunk<A>,
 ) -> Result<u64, WriteFault>
-    requires whole { length hunk.now.content % 4 ≡ 0 }
-    requires content { length hunk.now.content ≤ most_content hunk.now.kind hunk.now.size }
-    requires limit { hunk.now.sites.limit ≡ 4 * hunk.now.size }
-    requires names { All (λ s. length s.0 ≤ most_name) hunk.now.symbols }
+    requires valid { IsLoadHunk most_hunks hunk.now }
+    requires small { hunk.now.size ≤ most_size }
     requires carries { carried_by hunk.now ≤ 2 ^ 28 }
     requires room { written < 2 ^ 36 }
     ensures wrote { (count : ℕ) → All (λ site. site.1 < count) hunk.now.sites.entries → Wrote (W.taken writer.old) (W.taken writer.new) (W.failed writer.old) (W.failed writer.new) (bytes_of (hunk_words count hunk.now)) written result }
@@ -146,8 +145,7 @@ fn write_content<A: Allocator + Copy, W: Sink>(
     written: u64,
     hunk: &LoadHunk<A>,
 ) -> Result<u64, WriteFault>
-    requires whole { length hunk.now.content % 4 ≡ 0 }
-    requires content { length hunk.now.content ≤ most_content hunk.now.kind hunk.now.size }
+    requires valid { IsLoadHunk most_hunks hunk.now }
     requires room { written + 4 * (2 + hunk.now.size) < 2 ^ 64 }
     ensures wrote { Wrote (W.taken writer.old) (W.taken writer.new) (W.failed writer.old) (W.failed writer.new) (bytes_of (content_words hunk.now.kind hunk.now.size (longwords hunk.now.content))) written result }
 {
@@ -157,8 +155,7 @@ fn write_content<A: Allocator + Copy, W: Sink>(
 
 /// The longwords of a content before its own.
 fn content_head<A: Allocator + Copy>(hunk: &LoadHunk<A>) -> [u32; 2]
-    requires whole { length hunk.now.content % 4 ≡ 0 }
-    requires content { length hunk.now.content ≤ most_content hunk.now.kind hunk.now.size }
+    requires valid { IsLoadHunk most_hunks hunk.now }
     ensures { result ++ longwords hunk.now.content ≡ content_words hunk.now.kind hunk.now.size (longwords hunk.now.content) }
 {
     match hunk.kind {

@@ -1,6 +1,8 @@
 pub mod BasesLemmas
+pub mod BlockLemmas
 pub mod DecimalLemmas
 pub mod FaultLineLemmas
+pub mod LawLemmas
 pub mod LoadLemmas
 pub mod PrintLemmas
 pub mod ReportExample

@@ -1,11 +1,11 @@
 -- The lines of a report, around one of them, and how long they are.
-use Rattle.std.proofs.Common.{◌≡◌, ◌<◌, ◌≤◌, ◌+◌, ◌-◌, ◌*◌, ◌^◌, min, ℕ, zero, suc, List, [], ◌∷◌, ◌++◌, length, take, drop, length-drop, length-take, slice_index_or, Vec, refl, sym, ap, subst, ◌∙◌, add-one, add-zero, zero-add, append-nil, arith}
+use Rattle.std.proofs.Common.{◌≡◌, ◌<◌, ◌≤◌, ◌+◌, ◌-◌, ◌*◌, ◌^◌, min, ℕ, zero, suc, List, [], ◌∷◌, ◌++◌, length, take, drop, length-drop, length-take, slice_index_or, Vec, sym, ap, subst, ◌∙◌, add-one, add-zero, zero-add, append-nil, arith}
 use Rattle.std.specs.Int.{bytes_high_first}
 use Rattle.std.specs.List.{All, enumerate_from, flat_map, range_with_len}
 use Rattle.std.proofs.lemmas.Grind.{flat_map-append}
 use Rattle.std.proofs.lemmas.List.{get_or-map, length-append, length-map, take_all, take_min, take_more}
 use Rattle.std.proofs.lemmas.List.Elements.{All-head, All-tail}
-use Rattle.std.proofs.lemmas.List.FromFn.{get_or-enumerate_from, get_or-range_with_len, length-enumerate_from, length-range_with_len}
+use Rattle.std.proofs.lemmas.List.FromFn.{get_or-enumerate_from, length-enumerate_from, length-range_with_len}
 use Rattle.hex.specs.Hex.{lower_digits}
 use Rattle.hex.proofs.HexLemmas.{length-encode_with}
 use Rattle.hunk_tool.specs.Report.{EndsInside, first_row_lines, hunk_line, hunk_lines, lent, numbered_lines, report, row_count, row_line, row_lines, row_of}
@@ -14,11 +14,6 @@ use Rattle.hunk_tool.proofs.DecimalLemmas.{length-decimal}
 use Rattle.hunk_tool.proofs.PrintLemmas.{flat_map-around, length-front-le}
 
 -- ---- rows
-
-take-range_with_len : (from count index : ℕ) → index ≤ count → take index (range_with_len from count) ≡ range_with_len from index
-take-range_with_len from count zero within = refl
-take-range_with_len from zero (suc index) within = absurd (omega arith)
-take-range_with_len from (suc count) (suc index) within = ap (λ rest. from ∷ rest) (take-range_with_len (from + 1) count index (omega arith))
 
 range_with_len-suc : (from count : ℕ) → range_with_len from (suc count) ≡ range_with_len from count ++ (from + count) ∷ []
 range_with_len-suc from zero = ap (λ last. last ∷ []) (sym (add-zero from))
@@ -39,26 +34,6 @@ first_row_lines-more base bytes index =
     ∙ ap (flat_map line_of) (range_with_len-suc 0 index)
     ∙ flat_map-append line_of (range_with_len 0 index) ((0 + index) ∷ [])
     ∙ ap (λ last. first_row_lines base bytes index ++ last) (append-nil (line_of (0 + index)) ∙ ap line_of (zero-add index))
-
--- what stands behind the row of an index
-pub rows_behind : ℕ → List ℕ → ℕ → List ℕ
-rows_behind base bytes index = flat_map (λ row. row_line (base + 16 * row) (row_of bytes row)) (drop (index + 1) (range_with_len 0 (row_count bytes)))
-
-pub row_lines-around : (base : ℕ) (bytes : List ℕ) (index : ℕ) → index < row_count bytes → row_lines base bytes ≡ first_row_lines base bytes index ++ (row_line (base + 16 * index) (row_of bytes index) ++ rows_behind base bytes index)
-unfolding rows_behind
-row_lines-around base bytes index within =
-    let line_of = λ (row : ℕ). row_line (base + 16 * row) (row_of bytes row) in
-    let rows = range_with_len 0 (row_count bytes) in
-    let inside : index < length rows = omega (arith, length-range_with_len 0 (row_count bytes)) in
-    let here : slice_index_or rows index 0 ≡ index = get_or-range_with_len 0 (row_count bytes) index 0 within ∙ zero-add index in
-    let before : take index rows ≡ range_with_len 0 index = take-range_with_len 0 (row_count bytes) index (omega arith) in
-    flat_map-around line_of rows index 0 inside
-    ∙ ap (λ front. flat_map line_of front ++ (line_of (slice_index_or rows index 0) ++ flat_map line_of (drop (index + 1) rows))) before
-    ∙ ap (λ row. first_row_lines base bytes index ++ (line_of row ++ flat_map line_of (drop (index + 1) rows))) here
-
-pub length-row_line-le : (base : ℕ) (bytes : List ℕ) (index : ℕ) → index < row_count bytes → length (first_row_lines base bytes index) + length (row_line (base + 16 * index) (row_of bytes index)) ≤ length (row_lines base bytes)
-length-row_line-le base bytes index within =
-    length-front-le (row_lines base bytes) (first_row_lines base bytes index) (row_line (base + 16 * index) (row_of bytes index)) (rows_behind base bytes index) (row_lines-around base bytes index within)
 
 -- ---- hunks
 

@@ -1,5 +1,6 @@
 pub mod Bases
 pub mod FaultLine
+pub mod Laws
 pub mod Loading
 pub mod Phrase
 pub mod Report

@@ -1,6 +1,7 @@
 //! The engines of `amihunk` and the texts that it reads and prints.
 //!
 //! - `bases`: the list of addresses on the command line.
+//! - `laws`: what holds of the answers of the engines.
 //! - `load`: loads a file and writes the report of its memory.
 //! - `report`: the report of an image.
 //! - `tool_fault`: what an engine is refused with.
@@ -11,6 +12,7 @@
 pub mod bases;
 mod digits;
 pub mod fault_line;
+pub mod laws;
 pub mod load;
 mod phrase;
 mod printing;

@@ -1,18 +1,25 @@
 //! The report of an image, line by line as it is written.
 
-ghost use Rattle.std.specs.Prelude.{◌≡◌, ◌+◌, ◌*◌, ◌<◌, ◌≤◌, ◌^◌, ℕ, List, length, IfOk, IfErr, OnOk};
+ghost use Rattle.std.specs.Prelude.{◌≡◌, ◌+◌, ◌*◌, ◌<◌, ◌≤◌, ◌^◌, ℕ, List, length, take, IfOk, IfErr, OnOk};
 ghost use Rattle.std.specs.Io.KnownBytes.{Appends};
 ghost use Rattle.std.specs.List.{All};
+ghost use Rattle.hex.specs.Hex.{encode_lower};
 ghost use Rattle.hunk_words.specs.Streams.{DeviceStopped};
-ghost use Rattle.hunk_tool.specs.Report.{hunk_line, hunk_lines, lent, report, row_line, row_lines, EndsInside};
+ghost use Rattle.hunk_tool.specs.Report.{hunk_line, hunk_lines, lent, report, row_count, row_line, row_lines, EndsInside};
 
 use crate::digits::Digits;
 use crate::printing::write_pieces;
-use hunk_words::{Sink, WriteFault};
+use hunk_words::{Sink, WriteFault, write_all};
 use std::alloc::Allocator;
 
 /// Bytes in a row of the report.
 const ROW: usize = 16;
+
+/// Bytes of the rows that are written at once: 64 rows.
+const BLOCK: usize = 64 * ROW;
+
+/// The most bytes of their lines: 42 for a row of 16 bytes.
+const MOST_LINES: usize = 64 * 42;
 
 /// Writes the report of an image, whose hunks are these: each a base, which is an address, and its
 /// bytes, the last of which has an address. Every hunk is told, empty ones too. It takes no memory.
@@ -99,34 +106,83 @@ fn write_rows<W: Sink>(
     ensures stopped { IfErr result (DeviceStopped (W.taken writer.old) (W.taken writer.new) (W.failed writer.new) (row_lines base bytes.now) written) }
 {
     let mut written = written;
-    for index in 0..bytes.len().div_ceil(ROW) {
-        let start = ROW * index;
-        let end = bytes.len().min(start + ROW);
-        written = write_row(writer, written, base + start as u32, &bytes[start..end])?;
+    for index in 0..bytes.len().div_ceil(BLOCK) {
+        let start = BLOCK * index;
+        let end = bytes.len().min(start + BLOCK);
+        written = write_block(writer, written, base + start as u32, &bytes[start..end])?;
     }
     Ok(written)
 }
 
-/// Writes a row of at most 16 bytes, the first of which stands at that address.
-fn write_row<W: Sink>(
+/// Writes the lines of the rows of a block at once. The first byte of the block stands at that address.
+fn write_block<W: Sink>(
     writer: &mut W,
     written: u64,
     address: u32,
-    row: &[u8],
+    block: &[u8],
 ) -> Result<u64, WriteFault>
-    requires short { length row.now ≤ 16 }
-    requires room { written + length (row_line address row.now) < 2 ^ 64 }
-    ensures count { IfOk result (λ n. n ≡ written + length (row_line address row.now)) }
-    ensures text { OnOk result (Appends (W.taken writer.old) (W.taken writer.new) (row_line address row.now)) }
+    requires inside { address + length block.now ≤ 2 ^ 32 }
+    requires short { length block.now ≤ 1024 }
+    requires room { written + length (row_lines address block.now) < 2 ^ 64 }
+    ensures count { IfOk result (λ n. n ≡ written + length (row_lines address block.now)) }
+    ensures text { OnOk result (Appends (W.taken writer.old) (W.taken writer.new) (row_lines address block.now)) }
     ensures quiet { OnOk result (W.failed writer.new ≡ W.failed writer.old) }
-    ensures stopped { IfErr result (DeviceStopped (W.taken writer.old) (W.taken writer.new) (W.failed writer.new) (row_line address row.now) written) }
+    ensures stopped { IfErr result (DeviceStopped (W.taken writer.old) (W.taken writer.new) (W.failed writer.new) (row_lines address block.now) written) }
 {
-    let address = Digits::hexadecimal(address);
-    let mut digits = [0; 2 * ROW];
-    let digits = &mut digits[..2 * row.len()];
+    let mut lines = [0; MOST_LINES];
+    let end = put_rows(&mut lines, address, block);
+    write_all(writer, written, &lines[..end])
+}
+
+/// Puts the lines of the rows of a block at the front of `lines`, and gives their length.
+fn put_rows(lines: &mut [u8], address: u32, block: &[u8]) -> usize
+    requires inside { address + length block.now ≤ 2 ^ 32 }
+    requires room { 42 * row_count block.now ≤ length lines.old }
+    ensures within { result ≤ length lines.new }
+    ensures lines { take result lines.new ≡ row_lines address block.now }
+{
+    let mut end = 0;
+    for index in 0..block.len().div_ceil(ROW) {
+        let start = ROW * index;
+        let stop = block.len().min(start + ROW);
+        let next = end + line_length(stop - start);
+        put_row(
+            &mut lines[end..next],
+            address + start as u32,
+            &block[start..stop],
+        );
+        end = next;
+    }
+    end
+}
+
+/// The length of the line of a row of so many bytes.
+fn line_length(count: usize) -> usize
+    requires { count ≤ 16 }
+    ensures { result ≡ 10 + 2 * count }
+{
+    10 + 2 * count
+}
+
+/// Puts the line of a row, the first byte of which stands at that address, into a place of its length.
+fn put_row(line: &mut [u8], address: u32, row: &[u8])
+    requires { length line.old ≡ 10 + 2 * length row.now }
+    ensures { line.new ≡ row_line address row.now }
+{
+    let last = line.len() - 1;
+    put_digits(&mut line[..8], &address.to_be_bytes());
+    line[8] = b' ';
+    put_digits(&mut line[9..last], row);
+    line[last] = b'\n';
+}
+
+/// Puts two lower-case hexadecimal digits a byte into a place of their length.
+fn put_digits(place: &mut [u8], bytes: &[u8])
+    requires { length place.old ≡ 2 * length bytes.now }
+    ensures { place.new ≡ encode_lower bytes.now }
+{
     // There are two places for each byte, so this can't fail.
-    let _ = hex::encode_to_slice(row, digits);
-    write_pieces(writer, written, &[address.as_bytes(), b" ", digits, b"\n"])
+    let _ = hex::encode_to_slice(bytes, place);
 }
 
 #[cfg(test)]

@@ -94,10 +94,14 @@ impl<T: Taker> Decoder<T> {
         ensures again { (refusal : Refusal) → kept self.old.core ≡ Some refusal → result ≡ Err refusal }
         ensures front { OnOk result ((bytes : List ℕ) → StandsFor T.KIND T.stands_for self.new bytes → IsFront T.KIND (longwords bytes)) }
         ensures bounded { OnOk result ((bytes : List ℕ) → StandsFor T.KIND T.stands_for self.new bytes → length bytes < 2 ^ 30 + 4) }
+        ensures empty { piece.now ≡ [] → self.new ≡ self.old }
     {
         match self.core.refusal() {
             Some(refusal) => return Err(refusal),
             None => {}
+        }
+        if piece.is_empty() {
+            return Ok(());
         }
         // to the end of a longword that is begun
         let begun = usize::from(self.splitter.rest());

@@ -1,6 +1,6 @@
 //! The numbers of a file, and what they tell a taker.
 
-ghost use Rattle.std.specs.Prelude.{◌≡◌, ℕ, ◌+◌, ◌<◌, ◌^◌, List, [], ◌++◌, length, OnOk};
+ghost use Rattle.std.specs.Prelude.{◌≡◌, ℕ, ◌+◌, ◌<◌, ◌^◌, List, [], ◌++◌, length, IfErr, OnOk};
 ghost use Rattle.hunk_words.specs.Kinds.{Field, halved, width};
 ghost use Rattle.hunk_words.specs.Events.{events, with_event, word_events};
 ghost use Rattle.hunk_words.specs.Files.{AllLong};
@@ -11,6 +11,7 @@ ghost use Rattle.hunk_words.specs.Numbering.{Reached, MayCome, NumberAnswered, W
 ghost use Rattle.hunk_words.specs.Takers.{JudgesEvent, watch_of, sizes_told};
 ghost use Rattle.hunk_words.specs.View.{Around, IsState, SizeIsGiven, due_view};
 ghost use Rattle.hunk_words.specs.declared.event.Event.{Event};
+ghost use Rattle.hunk_words.specs.declared.numbers.Stop.{Stop};
 
 use crate::event::{Event, FileKind};
 use crate::fault::Reason;
@@ -104,6 +105,7 @@ pub fn take_words<T: Taker>(taker: &mut T, bytes: &[u8]) -> Result<(), Stop>
     ensures takes { (told : List Event) → T.stands_for taker.old told → length told + length (longwords bytes.now) < 2 ^ 29 →
         OnOk result (T.stands_for taker.new (told ++ word_events (longwords bytes.now))) }
     ensures long { OnOk result (AllLong (longwords bytes.now)) }
+    ensures memory { IfErr result (λ stop. stop ≡ Stop.OutOfMemory) }
     ensures given { T.given taker.new ≡ T.given taker.old }
 {
     for index in 0..bytes.len() / 4 {

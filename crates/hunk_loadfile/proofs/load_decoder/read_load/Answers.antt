@@ -1,6 +1,10 @@
+use Rattle.std.proofs.Common.{[], sym, subst}
 use Rattle.hunk_loadfile.specs.LoadDecoder.{StandsFor}
 use Rattle.hunk_loadfile.proofs.ReadLoadLemmas.{read-weaker, read-stopped, read-refused}
 use Rattle.hunk_loadfile.proofs.load_decoder.read_load.Goals as goal
+
+pub read_all-requires : goal.read_all-requires
+read_all-requires g c = subst (λ d. StandsFor d []) (sym c.decoder.view_is) c.new-decoder.ensures.stands
 
 pub returns-in-Ok-finish-clause-file : goal.returns-in-Ok-finish-clause-file
 returns-in-Ok-finish-clause-file g c = read-weaker _ _ _ _ c.in-Ok-finish.ensures.file c.in-Ok.ensures.whole

@@ -1,4 +1,4 @@
-use Rattle.std.proofs.Common.{◌≡◌, ◌*◌, ◌∙◌, ap, length, refl}
+use Rattle.std.proofs.Common.{◌≡◌, ◌*◌, ◌∙◌, ap, length}
 use Rattle.hunk_words.specs.Events.{content_of}
 use Rattle.hunk_loadfile.proofs.BuilderLemmas.{Holds-hunk, Holds-content, size-watched}
 use Rattle.hunk_loadfile.proofs.load_builder.LoadBuilder.begin_content.Goals as goal

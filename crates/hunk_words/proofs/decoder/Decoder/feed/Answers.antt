@@ -1,5 +1,5 @@
 -- To the end of a longword that is begun, and then longword by longword.
-use Rattle.std.proofs.Common.{sym, subst, arith}
+use Rattle.std.proofs.Common.{sym, subst, arith, rules}
 use Rattle.hunk_words.specs.Decoder.{StandsFor}
 use Rattle.hunk_words.proofs.DecoderLemmas.{StandsFor-append, StandsFor-rest, StandsFor-front, StandsFor-bounded, OnOk-kept, append-tail}
 use Rattle.hunk_words.proofs.decoder.Decoder.feed.Goals as goal
@@ -24,3 +24,9 @@ returns-in-Ok-clause-stands g c = λ bytes stands.
 pub returns-in-Err-clause-stands : goal.returns-in-Err-clause-stands
 returns-in-Err-clause-stands g c = λ bytes stands.
     StandsFor-rest _ _ c.push_all.new.self bytes c.args.piece.now c.min-lead.result c.in-Err.refusal c.in-Err.ensures.kept (c.in-Err.ensures.stands bytes stands)
+
+pub returns-then-is_empty-clause-front : goal.returns-then-is_empty-clause-front
+returns-then-is_empty-clause-front g c = λ bytes stands. StandsFor-front _ _ c.args.self.now bytes (search rules) stands
+
+pub returns-then-is_empty-clause-bounded : goal.returns-then-is_empty-clause-bounded
+returns-then-is_empty-clause-bounded g c = λ bytes stands. StandsFor-bounded _ _ c.args.self.now bytes (search rules) stands

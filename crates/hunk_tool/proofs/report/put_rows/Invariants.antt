@@ -1,0 +1,10 @@
+-- The lines of the rows so far stand at the front, and there is room for as many longest lines.
+use Rattle.std.proofs.Common.{◌≡◌, ◌≤◌, ◌*◌, take}
+use Rattle.hunk_tool.specs.Report.{first_row_lines}
+use Rattle.hunk_tool.proofs.report.put_rows.Given as goal
+
+abbrev pub invariant-loop-index : goal.invariant-loop-index
+invariant-loop-index l = record {
+  room : l.end ≤ 42 * l.index;
+  lines : take l.end l.lines ≡ first_row_lines l.address l.block l.index;
+}
