@@ -1,71 +1,31 @@
-//! Measures the decoder beside a plain sum of the same longwords: `hunk_bench decode`.
+//! What the scripts of bench/ measure. The first word says what:
 //!
-//! It prints times, so it is run by bench/decode.sh and not by the gate: with no word it prints
-//! nothing.
+//! - `decode`: the decoder beside a plain sum of the same longwords (`words`).
+//! - `read-file FILE`, `decode-file FILE`, `load-file FILE`: a file read to its end by nothing
+//!   else, by the decoder of load files, by the loader that streams (`files`).
+//! - `falling`: the most hunks that a load file may have, at bases that fall (`falling`).
+//!
+//! It prints times, so it is run by bench/ and not by the gate: with no word it prints nothing.
 #![tactic(auto)]
 
 mod count;
+mod falling;
+mod files;
+mod words;
 
-use crate::count::Count;
-use byteorder::{BigEndian, ByteOrder};
-use hunk_words::{Decoder, Feed, Refusal};
-use std::time::Instant;
 use std::{env, io};
 
-// An object file of one unit with one hunk, up to its content of 2^24 longwords.
-const START: [u8; 16] = [0, 0, 3, 0xE7, 0, 0, 0, 0, 0, 0, 3, 0xE9, 1, 0, 0, 0];
-
-// Bytes of its content, and of the pieces that are fed.
-const CONTENT: usize = 0x0400_0000;
-
-const PIECE: usize = 65536;
-
 fn main(rt: HostRuntime) -> io::Result<()> {
-    for word in env::args(&rt)? {
-        if word.as_str() == "decode" {
-            return measure(&rt);
-        }
+    let given: Vec<String> = env::args(&rt)?.collect(rt.alloc())?;
+    let (Some(what), name) = (given.get(1), given.get(2)) else {
+        return Ok(());
+    };
+    match (what.as_str(), name) {
+        ("decode", _) => words::measure(&rt),
+        ("falling", _) => falling::measure(&rt),
+        ("read-file", Some(name)) => files::read_file(&rt, name.as_str()),
+        ("decode-file", Some(name)) => files::decode_file(&rt, name.as_str()),
+        ("load-file", Some(name)) => files::load_file(&rt, name.as_str()),
+        _ => Ok(()),
     }
-    Ok(())
-}
-
-// Sums the longwords of 64 MB of content, and decodes them.
-fn measure(rt: &HostRuntime) -> io::Result<()> {
-    let content = vec![in rt.alloc(); 0x4E; CONTENT]?;
-    let start = Instant::now(rt)?;
-    let total = sum_all(&content);
-    let sum_time = start.elapsed(rt)?.as_nanos();
-    let start = Instant::now(rt)?;
-    let counted = decode_all(&content);
-    let decode_time = start.elapsed(rt)?.as_nanos();
-    match counted {
-        Ok((words, decoded)) => rt.println(format_args!(
-            "sum {total}: {sum_time} ns; decoder, {words} longwords, {decoded}: {decode_time} ns"
-        )),
-        Err(_) => rt.println("the decoder refused the file"),
-    }
-}
-
-// The sum of the longwords.
-#[inline(never)]
-fn sum_all(content: &[u8]) -> u64 {
-    let mut total = 0u64;
-    for word in content.chunks_exact(4) {
-        total = total.wrapping_add(u64::from(BigEndian::read_u32(word)));
-    }
-    total
-}
-
-// The longwords that a taker counts, and their sum.
-#[inline(never)]
-fn decode_all(content: &[u8]) -> Result<(u64, u64), Refusal> {
-    let mut decoder = Decoder::new(Count::new());
-    decoder.feed(&START)?;
-    for piece in content.chunks(PIECE) {
-        decoder.feed(piece)?;
-    }
-    // END
-    decoder.feed(&[0, 0, 3, 0xF2])?;
-    let taker = decoder.finish()?;
-    Ok((taker.words(), taker.total()))
 }

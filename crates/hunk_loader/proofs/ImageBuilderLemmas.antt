@@ -10,7 +10,7 @@ use Rattle.hunk_words.specs.Building.{Built, Receiver, built, step, word_to, val
 use Rattle.hunk_words.specs.Building.Receiver.{nothing_more, to_unit_name, to_name, to_content, to_debug, to_symbol, to_entry}
 use Rattle.hunk_words.specs.Names.{bytes_of}
 use Rattle.hunk_words.specs.SeenSites.{SameSites}
-use Rattle.hunk_words.specs.Sites.{SiteMap}
+use Rattle.hunk_words.specs.Sites.{SiteMap, AreApart}
 use Rattle.hunk_words.specs.Takers.{Judges, JudgesSite, watch_of}
 use Rattle.hunk_words.specs.Values.{Adds, Hunk, Part}
 use Rattle.hunk_words.specs.Values.Adds.{to_hunk}
@@ -104,6 +104,7 @@ Shows-same p (Some o) b c w same words s = record {
   limit = s.limit;
   within = s.within;
   same = s.same;
+  apart = s.apart;
   count = s.count;
   content = λ is. s.content is ∙ ap bytes_of (sym same.content);
   none = s.none;
@@ -118,6 +119,7 @@ Shows-passed p (Some o) b c w same words s = record {
   limit = s.limit;
   within = s.within;
   same = s.same;
+  apart = s.apart;
   count = s.count;
   content = λ is. s.content is ∙ ap bytes_of (sym same.content);
   none = s.none;
@@ -282,6 +284,7 @@ Holds-word-unkept m b w n unplaced is h = Holds-shows m m.current b (with_word b
       limit = s.limit;
       within = s.within;
       same = s.same;
+      apart = s.apart;
       count = s.count;
       content = λ placed. absurd (unplaced placed);
       none = s.none;
@@ -298,6 +301,7 @@ Holds-word-kept m b w n o placed current is fits h =
       limit = s.limit;
       within = s.within;
       same = s.same;
+      apart = s.apart;
       count = s.count;
       content = λ q. ap (λ bytes. bytes ++ big_bytes 4 n) (s.content q) ∙ sym (bytes_of-append b.hunk.content n);
       none = λ q. absurd (q placed);
@@ -450,6 +454,7 @@ Holds-begin m p b w kind bits size none within settled h =
         limit = refl;
         within = subst (λ n. n < length w.place.sizes) h.ended (subst (λ ss. m.ended < length ss) h.sizes within);
         same = subst (λ seen. SameSites seen (begun_open m).sites.entries) (sym s.seen) SameSites-none;
+        apart = tt;
         count = ap length h.sizes;
         content = λ placed. ap bytes_of (sym s.content);
         none = λ unplaced. refl;
@@ -476,9 +481,9 @@ abbrev pub with_one : Opened → ℕ → ℕ → Opened
 with_one o at target = record o { sites = record o.sites { entries = insert_entry nat_cmp o.sites.entries at target } }
 
 Holds-site : (m : Making) (b : Built) (w : Watch) (o : Opened) (at target : ℕ) → m.current ≡ Some o
-    → SameSites (at ∷ w.seen) (insert_entry nat_cmp o.sites.entries at target)
+    → SameSites (at ∷ w.seen) (insert_entry nat_cmp o.sites.entries at target) → AreApart (with_one o at target).sites
     → Holds m b w → Holds (record m { current = Some (with_one o at target) }) (step b (event.Site at target)) (watch_after w (event.Site at target))
-Holds-site m b w o at target current seen h =
+Holds-site m b w o at target current seen apart h =
     let s : ShowsOpen m.placing o b w = subst (λ q. Shows m.placing q b w) current h.shows in
     Holds-shows m (Some (with_one o at target)) b (step b (event.Site at target)) w (at ∷ w.seen) h (λ none. let wrong : Some o ≡ None = sym current ∙ none in cc) refl (same-part h.part b.parts h.parts) (record {
       words = s.words;
@@ -486,6 +491,7 @@ Holds-site m b w o at target current seen h =
       limit = s.limit;
       within = s.within;
       same = seen;
+      apart = apart;
       count = s.count;
       content = s.content;
       none = s.none;
@@ -496,13 +502,14 @@ Holds-site m b w o at target current seen h =
 pub record OpenTakes (o n : Opened) (answer : Result (Unit {0}) SiteRefusal) (at target : ℕ) : Type 0 where
   pub adds : OnOk answer (n ≡ with_one o at target)
   pub seen : (seen : List ℕ) → SameSites seen o.sites.entries → OnOk answer (SameSites (at ∷ seen) n.sites.entries)
+  pub apart : AreApart o.sites → AreApart n.sites
   pub judges : (seen : List ℕ) → SameSites seen o.sites.entries → JudgesSite o.sites.limit seen at answer
   pub refused : OnErr answer (n ≡ o)
 
 pub TakesEvent-site : (m : Making) (o n : Opened) (answer : Result (Unit {0}) SiteRefusal) (at target : ℕ) → m.current ≡ Some o → OpenTakes o n answer at target
     → TakesEvent m (record m { current = Some n }) answer (event.Site at target)
 TakesEvent-site m o n answer at target current t = record {
-  takes = λ b w holds. taken answer t.adds b w holds (t.seen w.seen (shown b w holds).same);
+  takes = λ b w holds. taken answer t.adds b w holds (t.seen w.seen (shown b w holds).same) (t.apart (shown b w holds).apart);
   refuses = λ b w holds. left answer t.refused b w holds;
   judges = λ b w holds. let s = shown b w holds in subst (λ l. JudgesSite l w.seen at answer) (ap (λ q. q.limit) s.sites) (t.judges w.seen s.same);
   bases = refl;
@@ -511,11 +518,11 @@ TakesEvent-site m o n answer at target current t = record {
     shown : (b : Built) (w : Watch) → Holds m b w → ShowsOpen m.placing o b w
     shown b w h = subst (λ q. Shows m.placing q b w) current h.shows
 
-    taken : (r : Result (Unit {0}) SiteRefusal) → OnOk r (n ≡ with_one o at target) → (b : Built) (w : Watch) → Holds m b w → OnOk r (SameSites (at ∷ w.seen) n.sites.entries)
+    taken : (r : Result (Unit {0}) SiteRefusal) → OnOk r (n ≡ with_one o at target) → (b : Built) (w : Watch) → Holds m b w → OnOk r (SameSites (at ∷ w.seen) n.sites.entries) → AreApart n.sites
         → OnOk r (Holds (record m { current = Some n }) (step b (event.Site at target)) (watch_after w (event.Site at target)))
-    taken (Ok d) is b w h seen = subst (λ q. Holds (record m { current = Some q }) (step b (event.Site at target)) (watch_after w (event.Site at target))) (sym is)
-        (Holds-site m b w o at target current (subst (λ q. SameSites (at ∷ w.seen) q.sites.entries) is seen) h)
-    taken (Err e) is b w h seen = tt
+    taken (Ok d) is b w h seen apart = subst (λ q. Holds (record m { current = Some q }) (step b (event.Site at target)) (watch_after w (event.Site at target))) (sym is)
+        (Holds-site m b w o at target current (subst (λ q. SameSites (at ∷ w.seen) q.sites.entries) is seen) (subst (λ q. AreApart q.sites) is apart) h)
+    taken (Err e) is b w h seen apart = tt
 
     left : (r : Result (Unit {0}) SiteRefusal) → OnErr r (n ≡ o) → (b : Built) (w : Watch) → Holds m b w → OnErr r (Holds (record m { current = Some n }) b w)
     left (Ok d) is b w h = tt

@@ -1,4 +1,5 @@
-pub mod FrugalLemmas
+pub mod FallLemmas
+pub mod FrugalBuilderLemmas
 pub mod ImageBuilderLemmas
 pub mod ImageLoaderLemmas
 pub mod LoadingLemmas

@@ -1,10 +1,11 @@
 -- What a builder of an image holds after events: the partial load file of these events, loaded at the bases.
-use Rattle.std.specs.Prelude.{◌≡◌, ◌≢◌, ℕ, ◌+◌, ◌*◌, ◌<◌, ◌≤◌, Bool, true, false, List, [], ◌∷◌, ◌++◌, length, map, Option, Some, None, Result, Ok, Err, OnOk, OnErr, slice_index, sum_by}
+use Rattle.std.specs.Prelude.{◌≡◌, ◌≢◌, ℕ, ◌*◌, ◌<◌, ◌≤◌, Bool, true, false, List, [], ◌∷◌, ◌++◌, length, map, Option, Some, None, Result, Ok, Err, OnOk, OnErr, slice_index}
 use Rattle.hunk_words.specs.Building.{Built, Receiver, built, step, load_begun}
 use Rattle.hunk_words.specs.Building.Receiver.{to_content}
 use Rattle.hunk_words.specs.Names.{bytes_of}
 use Rattle.hunk_words.specs.SeenSites.{SameSites}
-use Rattle.hunk_words.specs.Takers.{Judges, watch_of, sizes_told}
+use Rattle.hunk_words.specs.Sites.{AreApart}
+use Rattle.hunk_words.specs.Takers.{Judges, watch_of}
 use Rattle.hunk_words.specs.Values.{Hunk, Part}
 use Rattle.hunk_words.specs.Watch.{Watch, place_after, seen_now}
 use Rattle.hunk_words.specs.declared.event.Event.{Event}
@@ -31,6 +32,10 @@ pub record Making : Type 0 where
   pub ended : ℕ
   pub made : List (ℕ × List ℕ)
   pub current : Option Opened
+
+-- what is made for hunks at these bases before the first event
+abbrev pub begun_at : List ℕ → Making
+begun_at bases = record { bases = bases; sizes = []; placing = Unknown; ended = 0; made = []; current = None }
 
 -- the answer to whether hunks of these sizes can stand at these bases
 abbrev pub Decides : (sizes bases : List ℕ) → Placing → Type 0
@@ -64,6 +69,7 @@ pub record ShowsOpen (placing : Placing) (o : Opened) (b : Built) (w : Watch) : 
   pub limit : w.place.limit ≡ 4 * slice_index w.place.sizes w.place.ended
   pub within : w.place.ended < length w.place.sizes
   pub same : SameSites w.seen o.sites.entries
+  pub apart : AreApart o.sites
   pub count : o.count ≡ length w.place.sizes
   pub content : placing ≡ Placed → o.bytes ≡ bytes_of b.hunk.content
   pub none : placing ≢ Placed → o.bytes ≡ []
@@ -114,27 +120,6 @@ pub record KeepsHunk (old new : Making) : Type 0 where
   pub current : old.current ≡ Some hunk
   pub based : old.ended < length old.bases
   pub keeps : new ≡ record old { made = old.made ++ ((slice_index old.bases old.ended, bytes_loaded old.bases hunk) ∷ []); current = new.current }
-
--- the bytes that are kept of hunks
-abbrev pub current_bytes : Option Opened → ℕ
-current_bytes None = 0
-current_bytes (Some o) = length o.bytes
-
-abbrev pub bytes_kept : Making → ℕ
-bytes_kept m = sum_by (λ h. length h.1) m.made + current_bytes m.current
-
--- the sites lie in the hunk that has not ended
-abbrev pub SitesInside : Making → Option Opened → Type 0
-SitesInside m None = Unit {0}
-SitesInside m (Some o) = o.sites.limit ≡ 4 * slice_index m.sizes m.ended
-
--- What is kept after events, counted in items: one number for each size in the header, no more bytes than all sizes, none
--- where the hunks are not placed, and the sites of the hunk that has not ended alone.
-pub record Frugal (m : Making) (told : List Event) : Type 0 where
-  pub sizes : m.sizes ≡ sizes_told Load told
-  pub bytes : bytes_kept m ≤ 4 * sum_by (λ n. n) m.sizes
-  pub none : ¬ ArePlaced m.sizes m.bases → bytes_kept m ≡ 0
-  pub sites : SitesInside m m.current
 
 -- the answer when no event is to come
 abbrev pub IsImage : Making → Result (List (ℕ × List ℕ)) LoadRefusal → Type 0

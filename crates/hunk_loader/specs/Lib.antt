@@ -1,3 +1,4 @@
+pub mod FrugalBuilder
 pub mod Image
 pub mod Laws
 pub mod ImageBuilder

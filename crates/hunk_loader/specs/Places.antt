@@ -56,6 +56,15 @@ Rise sizes bases =
     0 < slice_index sizes later →
     end_of sizes bases earlier ≤ slice_index bases later
 
+-- each hunk that is not empty stands before all earlier ones that are not
+abbrev pub Fall : (sizes bases : List ℕ) → Type 0
+Fall sizes bases =
+    (earlier later : ℕ) →
+    earlier < later →
+    0 < slice_index sizes earlier →
+    0 < slice_index sizes later →
+    end_of sizes bases later ≤ slice_index bases earlier
+
 -- the lowest hunk that ends behind the last address
 pub record IsFirstPastEnd (sizes bases : List ℕ) (hunk : ℕ) : Type 0 where
   pub is_hunk : hunk < length bases

@@ -1,16 +1,14 @@
 //! The image of a load file while its events come.
 
-ghost use Rattle.std.specs.Prelude.{◌≡◌, [], None, OnOk, OnErr};
+ghost use Rattle.std.specs.Prelude.{◌≡◌, OnOk, OnErr, slice_index};
 ghost use Rattle.hunk_words.specs.declared.event.Event.{Event};
-ghost use Rattle.hunk_words.specs.declared.event.FileKind.TheVariants.{Load};
-ghost use Rattle.hunk_loader.specs.ImageBuilder.{IsImage, KeepsHunk, Settled, StandsFor, TakesEvent, passed};
-ghost use Rattle.hunk_loader.specs.declared.placing.Placing.{Placing};
+ghost use Rattle.hunk_loader.specs.ImageBuilder.{IsImage, KeepsHunk, Settled, TakesEvent, begun_at, passed};
 
 use crate::image::Image;
 use crate::loading::LoadRefusal;
 use crate::open_image::OpenImage;
 use crate::placing::{Placing, decide};
-use hunk_words::{Event, FileKind, SiteRefusal, Taker};
+use hunk_words::{Event, SiteRefusal};
 use std::alloc::{AllocError, Allocator};
 use std::marker::Model;
 
@@ -45,7 +43,7 @@ impl<A: Allocator + Copy> Model for ImageBuilder<A> {
 impl<A: Allocator + Copy> ImageBuilder<A> {
     /// A builder for hunks at these bases, before the first event.
     pub(crate) fn new(alloc: A, bases: Vec<u32, A>) -> Self
-        ensures { result ≡ record { bases = bases.items; sizes = []; placing = Placing.Unknown; ended = 0; made = []; current = None } }
+        ensures { result ≡ begun_at bases.items }
     {
         ImageBuilder {
             alloc,
@@ -201,18 +199,11 @@ impl<A: Allocator + Copy> ImageBuilder<A> {
             None => {}
         }
     }
-}
 
-impl<A: Allocator + Copy> Taker for ImageBuilder<A> {
-    ghost stands_for = { StandsFor };
-
-    ghost given = { λ b. b.bases };
-
-    ghost KIND = { Load };
-
-    const KIND: FileKind = FileKind::Load;
-
-    fn take(&mut self, event: Event) -> Result<(), SiteRefusal> {
+    /// Takes the next event.
+    pub(crate) fn take(&mut self, event: Event) -> Result<(), SiteRefusal>
+        ensures { TakesEvent self.old self.new result event }
+    {
         match event {
             Event::Table(_) => Ok(()),
             Event::HunkSize { bits, size } => self.add_size(bits, size),
@@ -233,7 +224,10 @@ impl<A: Allocator + Copy> Taker for ImageBuilder<A> {
         }
     }
 
-    fn size_of(&self, hunk: u32) -> u32 {
+    /// The size of a hunk in the header, in longwords, or 0 where none was told.
+    pub(crate) fn size_of(&self, hunk: u32) -> u32
+        ensures { result ≡ slice_index self.now.sizes hunk }
+    {
         match self.sizes.get(hunk as usize) {
             Some(size) => *size,
             None => 0,

@@ -6,8 +6,8 @@ ghost use Rattle.hunk_words.specs.declared.fault.Refusal.{Refusal};
 ghost use Rattle.hunk_loader.specs.Refusals.{load_refusal};
 ghost use Rattle.hunk_loader.specs.declared.loading.LoadRefusal.{LoadRefusal};
 
+use crate::frugal_builder::FrugalBuilder;
 use crate::image::Image;
-use crate::image_builder::ImageBuilder;
 use crate::loading::LoadRefusal;
 use hunk_words::{Decoder, Feed, Refusal};
 use std::alloc::{AllocError, Allocator, Global};
@@ -16,13 +16,14 @@ use std::alloc::{AllocError, Allocator, Global};
 ///
 /// Beside the image it keeps the bases, one number for each size in the header, and the sites of
 /// the current hunk, at most one for each of its longwords. Names, symbols and debug blocks pass
-/// by. Where the hunks cannot stand at the bases it takes no memory for the image.
+/// by. Where the hunks cannot stand at the bases it takes no memory for the image. This is so behind
+/// a refusal too.
 ///
 /// What is wrong with the file is answered before what is wrong with the bases. A refusal is
 /// answered again to every later call.
 #[derive(Drop)]
 pub struct ImageLoader<A: Allocator + Copy = Global> {
-    decoder: Decoder<ImageBuilder<A>>,
+    decoder: Decoder<FrugalBuilder<A>>,
 }
 
 /// A refusal of the bytes, as one of loading.
@@ -36,7 +37,7 @@ fn load_refusal(refusal: Refusal) -> LoadRefusal
 }
 
 impl<A: Allocator + Copy> ImageLoader<A> {
-    ghost use Rattle.hunk_loader.specs.ImageBuilder.{Frugal};
+    ghost use Rattle.hunk_loader.specs.FrugalBuilder.{Frugal};
     ghost use Rattle.hunk_loader.specs.Refusals.{Keeps};
     ghost use Rattle.hunk_loader.specs.ImageLoader.{StandsFor, Fed, Finished, bases_of, events_told, holds_of, refusal_of};
 
@@ -54,11 +55,11 @@ impl<A: Allocator + Copy> ImageLoader<A> {
         let mut copy = Vec::with_capacity(alloc, bases.len())?;
         copy.extend_from_slice(bases)?;
         Ok(ImageLoader {
-            decoder: Decoder::new(ImageBuilder::new(alloc, copy)),
+            decoder: Decoder::new(FrugalBuilder::new(alloc, copy)),
         })
     }
 
-    /// Takes the next bytes of the file.
+    /// Takes the next bytes of the file. An empty piece changes nothing.
     ///
     /// # Errors
     ///
@@ -73,6 +74,7 @@ impl<A: Allocator + Copy> ImageLoader<A> {
         ensures keeps { Keeps (refusal_of self.new) result }
         ensures frugal { OnOk result ((bytes : List ℕ) → StandsFor self.new bytes → Frugal (holds_of self.new) (events_told bytes)) }
         ensures again { (refusal : LoadRefusal) → refusal_of self.old ≡ Some refusal → result ≡ Err refusal }
+        ensures empty { piece.now ≡ [] → self.new ≡ self.old }
     {
         match self.decoder.feed(piece) {
             Ok(()) => Ok(()),

@@ -5,6 +5,7 @@ ghost use Rattle.std.specs.BTreeMap.{insert_entry};
 ghost use Rattle.std.specs.Ordering.{nat_cmp};
 ghost use Rattle.byteorder.specs.Endian.{big_bytes};
 ghost use Rattle.hunk_words.specs.SeenSites.{SameSites};
+ghost use Rattle.hunk_words.specs.Sites.{AreApart};
 ghost use Rattle.hunk_words.specs.Takers.{JudgesSite};
 ghost use Rattle.hunk_loadfile.specs.Patching.{patched_bytes};
 
@@ -96,6 +97,7 @@ impl<A: Allocator + Copy> OpenImage<A> {
     pub(crate) fn add_site(&mut self, offset: u32, target: u32) -> Result<(), SiteRefusal>
         ensures adds { OnOk result (self.new ≡ record self.old { sites = record self.old.sites { entries = insert_entry nat_cmp self.old.sites.entries offset target } }) }
         ensures seen { (seen : List ℕ) → SameSites seen self.old.sites.entries → OnOk result (SameSites (offset ∷ seen) self.new.sites.entries) }
+        ensures apart { AreApart self.old.sites → AreApart self.new.sites }
         ensures judges { (seen : List ℕ) → SameSites seen self.old.sites.entries → JudgesSite self.old.sites.limit seen offset result }
         ensures refused { OnErr result (self.new ≡ self.old) }
     {

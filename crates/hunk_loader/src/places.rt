@@ -4,7 +4,7 @@
 //! base; any address may be a base, an odd one too (own rule). A hunk of no longwords takes none.
 
 ghost use Rattle.std.specs.Prelude.{◌≡◌, ◌<◌, ◌↔◌, length, IsOk, IsTrue, MatchOption};
-ghost use Rattle.hunk_loader.specs.Places.{end_of, ShareAddress, Rise, IsLeastEarlier};
+ghost use Rattle.hunk_loader.specs.Places.{end_of, ShareAddress, Rise, Fall, IsLeastEarlier};
 ghost use Rattle.hunk_loader.specs.Places.{Placed, IsFirstPastEnd, AllEndWithin, IsFirstOverlap};
 ghost use Rattle.hunk_loader.specs.Places.{AllApart, ApartFromEarlier, IsFirstRefusal};
 
@@ -34,8 +34,8 @@ pub enum PlaceFault {
 /// Tests whether the hunks of these sizes, in longwords, can stand at these bases, which are
 /// addresses: one base for each hunk, no hunk beyond the last address, and no address in two hunks.
 ///
-/// Takes no memory. Where the hunks that are not empty stand in rising order, the time is linear
-/// in their number, else quadratic.
+/// Takes no memory. Where the hunks that are not empty stand in rising order, or in falling order,
+/// the time is linear in their number, else quadratic.
 ///
 /// # Errors
 ///
@@ -64,6 +64,9 @@ pub fn check_sizes<S: Sizes>(sizes: &S, bases: &[u32]) -> Result<(), PlaceFault>
         return Err(PlaceFault::PastEnd(hunk));
     }
     if rise(sizes, bases) {
+        return Ok(());
+    }
+    if fall(sizes, bases) {
         return Ok(());
     }
     match first_overlap(sizes, bases) {
@@ -107,6 +110,24 @@ fn rise<S: Sizes>(sizes: &S, bases: &[u32]) -> bool
                 return false;
             }
             free = end_of(sizes, bases, hunk);
+        }
+    }
+    true
+}
+
+/// Whether each hunk that is not empty stands before all earlier ones that are not.
+fn fall<S: Sizes>(sizes: &S, bases: &[u32]) -> bool
+    requires counted { length (S.sizes sizes.now) ≡ length bases.now }
+    requires within { AllEndWithin (S.sizes sizes.now) bases.now }
+    ensures { IsTrue result ↔ Fall (S.sizes sizes.now) bases.now }
+{
+    let mut lowest = ADDRESSES;
+    for (hunk, base) in bases.iter().enumerate() {
+        if sizes.size(hunk) > 0 {
+            if end_of(sizes, bases, hunk) > lowest {
+                return false;
+            }
+            lowest = u64::from(*base);
         }
     }
     true

@@ -1,12 +1,12 @@
 -- The tree of the written form of a load file spells that form.
-use Rattle.std.proofs.Common.{◌≡◌, ◌∙◌, ℕ, suc, ◌+◌, ◌-◌, ◌*◌, ◌^◌, ◌<◌, ◌≤◌, ◌==◌, ◌&&◌, nat_le, nat_lt, true, Option, None, List, [], ◌∷◌, ◌++◌, length, map, append_assoc, refl, ap, sym, subst, arith}
+use Rattle.std.proofs.Common.{◌≡◌, ◌∙◌, ℕ, suc, ◌+◌, ◌-◌, ◌*◌, ◌^◌, ◌<◌, ◌≤◌, nat_le, nat_lt, Option, None, List, [], ◌∷◌, ◌++◌, length, map, append_assoc, refl, ap, sym, subst, arith}
 use Rattle.std.specs.List.{All, AllByRecursion, flat_map}
 use Rattle.std.proofs.lemmas.Bool.{and_from, eq-eqb, le-leb, lt-ltb}
 use Rattle.std.proofs.lemmas.List.{length-map}
 use Rattle.std.proofs.lemmas.List.Elements.{All-head, All-tail, recursion_from_All}
 use Rattle.std.proofs.lemmas.List.Sums.{sum_by-cons}
 use Rattle.hunk_words.specs.Longwords.{longwords}
-use Rattle.hunk_words.specs.Kinds.{Field, low, bits, and_then}
+use Rattle.hunk_words.specs.Kinds.{Field, field, low, bits, and_then}
 use Rattle.hunk_words.specs.Kinds.Within.{in_load}
 use Rattle.hunk_words.specs.Kinds.Kind.{load_start, hunk_type, resident, table_size, first_hunk, last_hunk, header_size}
 use Rattle.hunk_words.specs.declared.kinds.ContentType.TheVariants as content_type
@@ -85,45 +85,54 @@ memory_bits-le Fast = omega arith
 both-pass : (first second : Option Reason) → first ≡ None → second ≡ None → and_then first second ≡ None
 both-pass first second one two = ap (λ o. and_then o second) one ∙ two
 
+spells-header_size : (last room left : ℕ) (before : List ℕ) (memory size : ℕ) (fs : List Field) (ws : List ℕ) → memory ≤ 2 → size ≤ room → room ≤ 2 ^ 24
+    → Spells [] fs ws → Spells [] (field (header_size last room left before) (typed memory size) ∷ fs) ((memory * 2 ^ 30 + size) ∷ ws)
+spells-header_size last room left before memory size fs ws known within small rest =
+    let is : typed memory size ≡ memory * 2 ^ 30 + size = typed-is memory size (omega arith) in
+    let fits : typed memory size < 2 ^ 32 = omega arith in
+    let memory_passes = ap (λ b. nat_lt b 3) (typed-bits memory size fits) ∙ lt-ltb memory 3 (omega arith) in
+    let size_passes = ap (λ n. nat_le n room) (typed-low memory size fits) ∙ le-leb size room within in
+    let passes = both-pass _ _ (needs-holds BothMemoryBits memory_passes) (needs-holds TooLarge size_passes) in
+    subst (λ n. Spells [] (field (header_size last room left before) (typed memory size) ∷ fs) (n ∷ ws)) is
+    (spells-next (header_size last room left before) (typed memory size) [] fs ws refl (record { fits = fits; passes = passes }) refl rest)
+
 spells-sizes : (count last room : ℕ) (before : List ℕ) (hunks : List FileHunk) (fs : List Field) (ws : List ℕ) → size_of hunks ≤ room → room ≤ 2 ^ 24
     → Spells [] fs ws → Spells [] (sizes_at last room before (map (hunk_tree count) hunks) fs) (map size_word hunks ++ ws)
 spells-sizes count last room before [] fs ws fit small rest = rest
 spells-sizes count last room before (h ∷ hs) fs ws fit small rest =
-    let n : ℕ = typed (memory_bits h.memory) h.size in
     let sizes = sum_by-cons (λ (k : FileHunk). k.size) h hs in
-    let memory = memory_bits-le h.memory in
-    let is : typed (memory_bits h.memory) h.size ≡ size_word h = typed-is (memory_bits h.memory) h.size (omega arith) in
-    let fits : typed (memory_bits h.memory) h.size < 2 ^ 32 = omega arith in
-    let memory_passes : nat_lt (bits (typed (memory_bits h.memory) h.size)) 3 ≡ true = ap (λ b. nat_lt b 3) (typed-bits (memory_bits h.memory) h.size fits) ∙ lt-ltb (memory_bits h.memory) 3 (omega arith) in
-    let size_passes : nat_le (low (typed (memory_bits h.memory) h.size)) room ≡ true = ap (λ s. nat_le s room) (typed-low (memory_bits h.memory) h.size fits) ∙ le-leb h.size room (omega arith) in
-    let passes = both-pass _ _ (needs-holds BothMemoryBits memory_passes) (needs-holds TooLarge size_passes) in
-    let whole = sizes_at last room before (map (hunk_tree count) (h ∷ hs)) fs in
-    subst (λ m. Spells [] whole (m ∷ (map size_word hs ++ ws))) is
-    (spells-next (header_size last room (length (map (hunk_tree count) hs)) before) (typed (memory_bits h.memory) h.size) [] _ _ refl (record { fits = fits; passes = passes }) refl
-    (spells-sizes count last (room - h.size) (h.size ∷ before) hs fs ws (omega arith) (omega arith) rest))
+    let left = length (map (hunk_tree count) hs) in
+    spells-header_size last room left before (memory_bits h.memory) h.size _ _ (memory_bits-le h.memory) (omega arith) small
+    (spells-sizes count last (room - h.size) (h.size ∷ before) hs fs ws (omega arith) (omega arith) rest)
+
+-- what stands before the sizes
+spells-start : (last : ℕ) (fs : List Field) (ws : List ℕ) → suc last ≤ 65535 → Spells [] fs ws
+    → Spells [] (field load_start (typed 0 1011) ∷ field resident 0 ∷ field table_size (suc last) ∷ field first_hunk 0 ∷ field (last_hunk last) last ∷ fs) (1011 ∷ 0 ∷ suc last ∷ 0 ∷ last ∷ ws)
+spells-start last fs ws few rest =
+    let plain : typed 0 1011 ≡ 1011 = typed-plain 1011 (omega arith) in
+    let start = eq-eqb (low (typed 0 1011)) 1011 (typed-low 0 1011 (omega arith)) in
+    let table = and_from (nat_le 1 (suc last)) (nat_le (suc last) 65535) (le-leb 1 (suc last) (omega arith)) (le-leb (suc last) 65535 few) in
+    let behind = field resident 0 ∷ field table_size (suc last) ∷ field first_hunk 0 ∷ field (last_hunk last) last ∷ fs in
+    subst (λ n. Spells [] (field load_start (typed 0 1011) ∷ behind) (n ∷ 0 ∷ suc last ∷ 0 ∷ last ∷ ws)) plain
+    (spells-next load_start (typed 0 1011) [] _ _ refl (record { fits = omega arith; passes = needs-holds WrongStart start }) refl
+    (spells-next resident 0 [] _ _ refl (record { fits = omega arith; passes = refl }) refl
+    (spells-next table_size (suc last) [] _ _ refl (record { fits = omega arith; passes = needs-holds HunkTable table }) refl
+    (spells-next first_hunk 0 [] _ _ refl (record { fits = omega arith; passes = refl }) refl
+    (spells-next (last_hunk last) last [] fs ws refl (record { fits = omega arith; passes = needs-holds HunkTable (eq-eqb last last refl) }) refl rest)))))
 
 -- ---- the whole file
 
 pub spells-file : (h : FileHunk) (hs : List FileHunk) → IsLoadFile (h ∷ hs) → Spells [] (load_spelling (file_tree h hs)) (written (h ∷ hs))
 spells-file h hs valid =
-    let count = length (h ∷ hs) in
-    let last = length (map (hunk_tree (length (h ∷ hs))) hs) in
-    let same : length (map (hunk_tree (length (h ∷ hs))) hs) ≡ length hs = length-map hs (hunk_tree (length (h ∷ hs))) in
+    let hunks = h ∷ hs in
+    let count = length hunks in
+    let last : ℕ = length (map (hunk_tree (length (h ∷ hs))) hs) in
+    let same : last ≡ length hs = length-map hs (hunk_tree (length (h ∷ hs))) in
     let few : length (h ∷ hs) ≤ 65535 = valid.few in
-    let one_less : length hs ≡ length (h ∷ hs) - 1 = omega arith in
-    let body = map size_word (h ∷ hs) ++ flat_map (hunk_words (length (h ∷ hs))) (h ∷ hs) in
-    let start : typed 0 1011 ≡ 1011 = typed-plain 1011 (omega arith) in
-    let start_passes : (low (typed 0 1011) == 1011) ≡ true = eq-eqb (low (typed 0 1011)) 1011 (typed-low 0 1011 (omega arith)) in
-    let table_passes : (nat_le 1 (suc (length (map (hunk_tree (length (h ∷ hs))) hs))) && nat_le (suc (length (map (hunk_tree (length (h ∷ hs))) hs))) 65535) ≡ true =
-    and_from _ _ (le-leb 1 (suc (length (map (hunk_tree (length (h ∷ hs))) hs))) (omega arith)) (le-leb (suc (length (map (hunk_tree (length (h ∷ hs))) hs))) 65535 (omega arith)) in
-    let words : 1011 ∷ 0 ∷ suc (length (map (hunk_tree (length (h ∷ hs))) hs)) ∷ 0 ∷ length (map (hunk_tree (length (h ∷ hs))) hs) ∷ body ≡ written (h ∷ hs) =
-    ap (λ n. 1011 ∷ 0 ∷ suc n ∷ 0 ∷ n ∷ body) same ∙ ap (λ n. 1011 ∷ 0 ∷ length (h ∷ hs) ∷ 0 ∷ n ∷ body) one_less in
-    subst (λ ws. Spells [] (load_spelling (file_tree h hs)) ws) words
-    (subst (λ n. Spells [] (load_spelling (file_tree h hs)) (n ∷ 0 ∷ suc last ∷ 0 ∷ last ∷ body)) start
-    (spells-next load_start (typed 0 1011) [] _ _ refl (record { fits = omega arith; passes = needs-holds WrongStart start_passes }) refl
-    (spells-next resident 0 [] _ _ refl (record { fits = omega arith; passes = refl }) refl
-    (spells-next table_size (suc last) [] _ _ refl (record { fits = omega arith; passes = needs-holds HunkTable table_passes }) refl
-    (spells-next first_hunk 0 [] _ _ refl (record { fits = omega arith; passes = refl }) refl
-    (spells-next (last_hunk last) last [] _ _ refl (record { fits = omega arith; passes = needs-holds HunkTable (eq-eqb last last refl) }) refl
-    (spells-sizes count last (2 ^ 24) [] (h ∷ hs) (load_hunks last (map (hunk_tree count) (h ∷ hs)) []) (flat_map (hunk_words count) (h ∷ hs)) valid.small (omega arith)
-    (spells-hunks count last (h ∷ hs) (omega arith) (omega arith) valid.small valid.carries valid.each))))))))
+    let less : length hs ≡ length (h ∷ hs) - 1 = omega arith in
+    let body = map size_word hunks ++ flat_map (hunk_words count) hunks in
+    subst (λ ws. Spells [] (load_spelling (file_tree h hs)) ws)
+    (ap (λ n. 1011 ∷ 0 ∷ suc n ∷ 0 ∷ n ∷ body) same ∙ ap (λ n. 1011 ∷ 0 ∷ count ∷ 0 ∷ n ∷ body) less)
+    (spells-start last _ body (omega arith)
+    (spells-sizes count last (2 ^ 24) [] hunks (load_hunks last (map (hunk_tree count) hunks) []) (flat_map (hunk_words count) hunks) valid.small (omega arith)
+    (spells-hunks count last hunks (omega arith) (omega arith) valid.small valid.carries valid.each)))

@@ -15,10 +15,10 @@ RefusedBeginsNone =
 abbrev pub RefusedForOne : Type 0
 RefusedForOne = (fault other : Fault) (ended also_ended : Bool) (bytes : List ℕ) → IsRefused fault ended bytes → IsRefused other also_ended bytes → fault ≡ other
 
--- A file is reported where its hunks are placed, and nowhere else.
+-- What is reported has hunks that are placed, and is not refused for its bases.
 abbrev pub ReportedIsPlaced : Type 0
 ReportedIsPlaced = (bases : List ℕ) (old new : Option (List ℕ)) (fault : PlaceFault) (bytes : List ℕ) → IsReported bases old new bytes → IsNotPlaced bases bytes fault → ⊥
 
--- Where they are not, there is one fault.
+-- Bases are refused for one fault.
 abbrev pub NotPlacedForOne : Type 0
 NotPlacedForOne = (bases bytes : List ℕ) (fault other : PlaceFault) → IsNotPlaced bases bytes fault → IsNotPlaced bases bytes other → fault ≡ other

@@ -2,8 +2,8 @@
 
 ghost use Rattle.hunk_tool.specs.Laws.{NotPlacedForOne, RefusedBeginsNone, RefusedForOne, ReportedIsPlaced};
 
-/// What was read has one answer at the same bases: what is refused is no load file and begins none,
-/// and for one fault; a file is reported or its hunks are not placed, for one fault.
+/// What was read has at most one answer at the same bases. What is refused is no load file and
+/// begins none, and there is one fault. A file is reported, or its bases are refused for one fault.
 pub fn answers_exclude_each_other()
     ensures refused { RefusedBeginsNone }
     ensures one_refusal { RefusedForOne }

@@ -9,6 +9,6 @@ returns g c = rw (sym c.self.view_is) (elim c.match-self.branch [
   | in-Some w ↦
       let e = w.add_site.ensures in
       rw (w.result-is, w.self-inside-is)
-      (TakesEvent-site _ _ _ _ _ _ w.in-Some.is (record { adds = e.adds; seen = e.seen; judges = e.judges; refused = e.refused }))
+      (TakesEvent-site _ _ _ _ _ _ w.in-Some.is (record { adds = e.adds; seen = e.seen; apart = e.apart; judges = e.judges; refused = e.refused }))
   | in-None w ↦ rw (w.result-is, w.self-inside-is) (TakesEvent-refused _ _ _ refl)
 ])

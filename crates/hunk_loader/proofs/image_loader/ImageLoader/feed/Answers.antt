@@ -1,6 +1,6 @@
 -- Where no refusal is kept, the builder stands for the events of the bytes.
 use Rattle.hunk_loader.specs.ImageLoader.{events_told}
-use Rattle.hunk_loader.proofs.FrugalLemmas.{frugal}
+use Rattle.hunk_loader.proofs.FrugalBuilderLemmas.{frugal}
 use Rattle.hunk_loader.proofs.image_loader.ImageLoader.feed.Goals as goal
 
 pub returns-in-Ok-clause-frugal : goal.returns-in-Ok-clause-frugal

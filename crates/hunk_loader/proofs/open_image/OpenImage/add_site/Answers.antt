@@ -1,9 +1,9 @@
 -- The map of sites judges, and takes no site of a hunk that is none.
-use Rattle.std.proofs.Common.{ℕ, List, subst, arith}
+use Rattle.std.proofs.Common.{ℕ, List, sym, subst, arith}
 use Rattle.hunk_words.specs.SeenSites.{SameSites}
 use Rattle.hunk_words.specs.Takers.{JudgesSite}
 use Rattle.hunk_words.proofs.TakerLemmas.{judges-site}
-use Rattle.hunk_loader.proofs.OpenImageLemmas.{IsOpen-site}
+use Rattle.hunk_loader.proofs.OpenImageLemmas.{AreApart-site, IsOpen-site}
 use Rattle.hunk_loader.proofs.open_image.OpenImage.add_site.Goals as goal
 
 pub invariant_of-self : goal.invariant_of-self
@@ -16,3 +16,8 @@ returns-clause-judges g c =
     let e = c.try_add.ensures in
     subst (λ h. (seen : List ℕ) → SameSites seen h.sites.entries → JudgesSite h.sites.limit seen c.args.offset c.try_add.result) c.self.view_is
     (λ seen same. judges-site c.self.inside.sites.limit seen c.self.inside.sites.entries c.args.offset c.try_add.result same e.outside e.overlap)
+
+pub returns-clause-apart : goal.returns-clause-apart
+returns-clause-apart g c =
+    let e = c.try_add.ensures in
+    rw (sym c.self.view_is) (AreApart-site c.self.inside.sites c.try_add.new.self c.args.offset c.args.target c.try_add.result e.outside e.overlap e.adds e.refused)

@@ -1,5 +1,5 @@
 -- How much a builder of an image keeps.
-use Rattle.std.proofs.Common.{◌≡◌, ◌≢◌, ℕ, ◌+◌, ◌*◌, ◌≤◌, List, [], ◌∷◌, length, map, Option, Some, None, slice_index, sum_by, refl, ap, subst, ◌∙◌, arith}
+use Rattle.std.proofs.Common.{◌≡◌, ◌≢◌, ℕ, ◌+◌, ◌*◌, ◌≤◌, List, [], ◌∷◌, ◌++◌, length, map, Option, Some, None, Result, Ok, Err, slice_index, sum_by, refl, ap, subst, ◌∙◌, arith}
 use Rattle.std.proofs.lemmas.List.Sums.{sum_by-cons}
 use Rattle.hunk_words.specs.Building.{Built, built, load_begun}
 use Rattle.hunk_words.specs.Takers.{watch_of}
@@ -8,16 +8,19 @@ use Rattle.hunk_words.specs.Watch.{Watch}
 use Rattle.hunk_words.specs.Names.{bytes_of}
 use Rattle.hunk_words.specs.declared.event.Event.{Event}
 use Rattle.hunk_words.specs.declared.event.FileKind.TheVariants.{Load}
+use Rattle.hunk_words.specs.declared.sites.SiteRefusal.{SiteRefusal}
+use Rattle.hunk_words.proofs.SiteLemmas.{AreApart-few}
 use Rattle.hunk_loadfile.proofs.PatchingLemmas.{length-patched_bytes}
 use Rattle.hunk_loadfile.specs.FileValue.{file_hunk, with_sites}
 use Rattle.hunk_loadfile.specs.Partial.{file_hunks}
-use Rattle.hunk_loader.specs.ImageBuilder.{Making, Loads, Shows, StandsFor, Frugal, bytes_kept, current_bytes, SitesInside}
+use Rattle.hunk_loader.specs.FrugalBuilder.{Frugal, KeepsLittle, SitesInside, bytes_kept, current_bytes}
+use Rattle.hunk_loader.specs.ImageBuilder.{Making, Loads, Shows, StandsFor, TakesEvent, begun_at}
 use Rattle.hunk_loader.specs.Loading.{loaded_bytes}
 use Rattle.hunk_loader.specs.OpenImage.{Opened}
 use Rattle.hunk_loader.specs.Places.{Placed as ArePlaced}
 use Rattle.hunk_loader.specs.declared.placing.Placing.{Placing}
 use Rattle.hunk_loader.specs.declared.placing.Placing.TheVariants.{Unknown, Placed, Refused}
-use Rattle.hunk_loader.proofs.ImageBuilderLemmas.{loaded_at, file_hunks-none, zip-none}
+use Rattle.hunk_loader.proofs.ImageBuilderLemmas.{StandsFor-takes, loaded_at, file_hunks-none, zip-none}
 
 -- ---- the hunks that ended
 
@@ -74,7 +77,9 @@ current-fits p (Some o) b w s =
 
 sites-inside : (m : Making) (p : Placing) (o : Option Opened) (b : Built) (w : Watch) → m.sizes ≡ w.place.sizes → m.ended ≡ w.place.ended → Shows p o b w → SitesInside m o
 sites-inside m p None b w sizes ended s = tt
-sites-inside m p (Some o) b w sizes ended s = rw (sizes, ended) (ap (λ q. q.limit) s.sites ∙ s.limit)
+sites-inside m p (Some o) b w sizes ended s =
+    let limit : o.sites.limit ≡ 4 * slice_index m.sizes m.ended = rw (sizes, ended) (ap (λ q. q.limit) s.sites ∙ s.limit) in
+    record { limit = limit; few = omega (arith, limit, AreApart-few o.sites s.apart) }
 
 -- ---- both
 
@@ -111,3 +116,29 @@ frugal m told h =
       none = λ unplaced. kept-none m.placing m b w h.part.hunks (not-placed m.placing m b h.part.hunks unplaced h.loads) h.loads h.shows;
       sites = sites-inside m m.placing m.current b w h.sizes h.ended h.shows;
     }
+
+-- ---- one event further
+
+pub StandsFor-begun : (bases : List ℕ) → StandsFor (begun_at bases) []
+StandsFor-begun bases = record {
+  sizes = refl;
+  header = refl;
+  ended = refl;
+  within = omega arith;
+  part = record { name = []; hunks = [] };
+  parts = refl;
+  counted = refl;
+  loads = record { ended = refl; made = refl; current = refl };
+  shows = record { content = refl; sites = refl; words = refl; seen = refl };
+}
+
+keeps-little : (m : Making) (told : List Event) → StandsFor m told → KeepsLittle m
+keeps-little m told h = record { told = told; stands = h; frugal = frugal m told h }
+
+pub KeepsLittle-begun : (bases : List ℕ) → KeepsLittle (begun_at bases)
+KeepsLittle-begun bases = keeps-little (begun_at bases) [] (StandsFor-begun bases)
+
+-- whether it took the event or refused it
+pub KeepsLittle-takes : (m n : Making) (answer : Result (Unit {0}) SiteRefusal) (e : Event) → TakesEvent m n answer e → KeepsLittle m → KeepsLittle n
+KeepsLittle-takes m n (Ok d) e t k = keeps-little n (k.told ++ (e ∷ [])) (StandsFor-takes m n (Ok d) e t k.told k.stands)
+KeepsLittle-takes m n (Err r) e t k = keeps-little n k.told (t.refuses (built load_begun k.told) (watch_of Load k.told) k.stands)
