@@ -1,95 +1,225 @@
-//! Decoders of the tests: where a file is refused, why, and when.
+//! What judges the bytes of a file: where it is refused, why, and when.
 
+use super::files::{BASE, CHUNKS, ROOM};
 use crate::{LoadJudge, ObjectJudge};
+use hunk_loader::{ImageLoader, LoadRefusal, PlaceFault};
+use hunk_loadfile::{LoadDecoder, read_load};
+use hunk_tool::{ToolFault, load_run};
 use hunk_words::FileKind::{Load, Object};
-use hunk_words::{Decoder, Fault, FileKind, Reason, Refusal, Taker};
-use std::alloc::Global;
+use hunk_words::{Decoder, Fault, FileKind, Pieces, ReadFault, Reason, Refusal, Room, Taker};
+use std::alloc::{Allocator, Global};
 use std::process::Abort;
+use std::test::Fail;
 
 /// Where a file is refused, and why; nothing for a file.
 pub(crate) type Answer = Option<(u64, Reason)>;
 
-/// The answer of a decoder.
-pub(crate) fn answered(answer: Answer) -> Result<(), Refusal> {
-    match answer {
-        Some((place, reason)) => Err(Refusal::Fault(Fault { place, reason })),
-        None => Ok(()),
+/// What judges the bytes of a file, in any pieces.
+pub(crate) trait Judge: Drop {
+    /// The answer to the next bytes.
+    fn judge(&mut self, piece: &[u8]) -> Result<(), LoadRefusal>;
+
+    /// The answer at the end of the bytes.
+    fn close(self) -> Result<(), LoadRefusal>;
+}
+
+// A refusal of bytes, as one of loading.
+fn refusal_of(refusal: Refusal) -> LoadRefusal {
+    match refusal {
+        Refusal::Fault(fault) => LoadRefusal::File(fault),
+        Refusal::OutOfMemory => LoadRefusal::OutOfMemory,
     }
 }
 
-/// The answer at the end of the bytes.
-pub(crate) fn finished<T: Taker>(decoder: Decoder<T>) -> Result<(), Refusal> {
-    match decoder.finish() {
-        Ok(_) => Ok(()),
-        Err(refusal) => Err(refusal),
+impl<T: Taker> Judge for Decoder<T> {
+    fn judge(&mut self, piece: &[u8]) -> Result<(), LoadRefusal> {
+        match self.feed(piece) {
+            Ok(()) => Ok(()),
+            Err(refusal) => Err(refusal_of(refusal)),
+        }
+    }
+
+    fn close(self) -> Result<(), LoadRefusal> {
+        match self.finish() {
+            Ok(_) => Ok(()),
+            Err(refusal) => Err(refusal_of(refusal)),
+        }
+    }
+}
+
+impl<A: Allocator + Copy> Judge for LoadDecoder<A> {
+    fn judge(&mut self, piece: &[u8]) -> Result<(), LoadRefusal> {
+        match self.feed(piece) {
+            Ok(()) => Ok(()),
+            Err(refusal) => Err(refusal_of(refusal)),
+        }
+    }
+
+    fn close(self) -> Result<(), LoadRefusal> {
+        match self.finish() {
+            Ok(_) => Ok(()),
+            Err(refusal) => Err(refusal_of(refusal)),
+        }
+    }
+}
+
+impl<A: Allocator + Copy> Judge for ImageLoader<A> {
+    fn judge(&mut self, piece: &[u8]) -> Result<(), LoadRefusal> {
+        self.feed(piece)
+    }
+
+    fn close(self) -> Result<(), LoadRefusal> {
+        match self.finish() {
+            Ok(_) => Ok(()),
+            Err(refusal) => Err(refusal),
+        }
+    }
+}
+
+/// The fault of an answer.
+pub(crate) fn fault_of(answer: Answer) -> Option<Fault> {
+    match answer {
+        Some((place, reason)) => Some(Fault { place, reason }),
+        None => None,
     }
 }
 
 // Each piece is taken, up to the one with the last byte of the longword that offends. From there on
-// the same refusal is answered. An empty piece changes nothing.
-fn answers_in_time<T: Taker>(
+// the same refusal is answered. An empty piece changes nothing. Behind a whole file comes `placed`.
+fn answers_in_time<J: Judge>(
     rt: &impl Abort,
-    begun: Decoder<T>,
+    begun: J,
     bytes: &[u8],
     chunk: usize,
     answer: Answer,
+    placed: Result<(), LoadRefusal>,
 ) {
-    let known = match answer {
-        Some((place, _)) => place.saturating_add(1).saturating_mul(4),
-        None => u64::MAX,
+    let (known, refused) = match fault_of(answer) {
+        Some(fault) => (
+            fault.place.saturating_add(1).saturating_mul(4),
+            Err(LoadRefusal::File(fault)),
+        ),
+        None => (u64::MAX, placed),
     };
-    let mut decoder = begun;
+    let mut judge = begun;
     let mut fed: u64 = 0;
     assert!(rt; 1 <= chunk);
     for piece in bytes.chunks(chunk) {
         fed = fed.saturating_add(piece.len() as u64);
-        let wanted = if fed < known {
-            Ok(())
-        } else {
-            answered(answer)
-        };
+        let wanted = if fed < known { Ok(()) } else { refused };
         assert_eq!(rt;
-            decoder.feed(piece),
+            judge.judge(piece),
             wanted,
             "{bytes:?}, {fed} fed by {chunk}"
         );
-        assert_eq!(rt;
-            decoder.feed(&[]),
-            wanted,
-            "{bytes:?}, {fed} fed by {chunk}"
-        );
+        assert_eq!(rt; judge.judge(&[]), wanted, "{bytes:?}, {fed} fed by {chunk}");
     }
-    assert_eq!(rt; finished(decoder), answered(answer), "{bytes:?} by {chunk}");
+    assert_eq!(rt; judge.close(), refused, "{bytes:?} by {chunk}");
 }
 
-/// These bytes are answered so in any pieces.
+// What comes behind a whole load file for hunks at these addresses: whether there is one for each
+// of its hunks, of which the tests have fewer than 256.
+fn placed_at(bytes: &[u8], bases: &[u32]) -> Result<(), LoadRefusal> {
+    match bytes.get(11) {
+        Some(count) if usize::from(*count) == bases.len() => Ok(()),
+        _ => Err(LoadRefusal::Place(PlaceFault::WrongCount)),
+    }
+}
+
+// A reader of these bytes is answered so.
+fn is_read_so(
+    rt: &impl Abort,
+    alloc: Global,
+    bytes: &[u8],
+    chunk: usize,
+    answer: Answer,
+) -> Result<(), Fail> {
+    let wanted = match fault_of(answer) {
+        Some(fault) => Some(ReadFault::Refused(Refusal::Fault(fault))),
+        None => None,
+    };
+    assert!(rt; 1 <= chunk);
+    let mut reader = Pieces::new(bytes.to_vec(alloc)?, chunk, None);
+    let got = read_load(alloc, &mut reader).err();
+    assert_eq!(rt; got, wanted, "{bytes:?} read by {chunk}");
+    Ok(())
+}
+
+// A run over a reader of these bytes is answered so. It writes nothing where they are refused.
+fn is_run_so(
+    rt: &impl Abort,
+    alloc: Global,
+    bytes: &[u8],
+    chunk: usize,
+    answer: Answer,
+) -> Result<(), Fail> {
+    let wanted = match fault_of(answer) {
+        Some(fault) => Err(ToolFault::Input { file: 0, fault }),
+        None => match placed_at(bytes, &[BASE]) {
+            Ok(()) => Ok(()),
+            Err(_) => Err(ToolFault::Place(PlaceFault::WrongCount)),
+        },
+    };
+    assert!(rt; 1 <= chunk);
+    let mut reader = Pieces::new(bytes.to_vec(alloc)?, chunk, None);
+    let mut writer = Room::new(alloc, ROOM, ROOM, false)?;
+    let got = load_run(alloc, &mut reader, &[BASE], &mut writer);
+    assert_eq!(rt; got, wanted, "{bytes:?} run by {chunk}");
+    assert_eq!(rt;
+        writer.bytes().is_empty(),
+        got.is_err(),
+        "{bytes:?} run by {chunk}"
+    );
+    Ok(())
+}
+
+// These bytes are answered so by all that reads a load file.
+fn is_load_judged(
+    rt: &impl Abort,
+    alloc: Global,
+    bytes: &[u8],
+    chunk: usize,
+    answer: Answer,
+) -> Result<(), Fail> {
+    let judge = Decoder::new(LoadJudge::new(alloc));
+    answers_in_time(rt, judge, bytes, chunk, answer, Ok(()));
+    answers_in_time(rt, LoadDecoder::new(alloc), bytes, chunk, answer, Ok(()));
+    let places: [&[u32]; 3] = [&[], &[BASE], &[BASE, 0x0002_0000]];
+    for bases in places {
+        let loader = ImageLoader::new(alloc, bases)?;
+        let placed = placed_at(bytes, bases);
+        answers_in_time(rt, loader, bytes, chunk, answer, placed);
+    }
+    is_read_so(rt, alloc, bytes, chunk, answer)?;
+    is_run_so(rt, alloc, bytes, chunk, answer)
+}
+
+/// These bytes are answered so in any pieces, by all that reads a file of this kind.
 pub(crate) fn is_judged(
     rt: &impl Abort,
     alloc: Global,
     kind: FileKind,
     bytes: &[u8],
     answer: Answer,
-) {
-    for chunk in [bytes.len().max(1), 1, 3, 5] {
+) -> Result<(), Fail> {
+    for chunk in CHUNKS {
         match kind {
             Object => {
-                let decoder = Decoder::new(ObjectJudge::new(alloc));
-                answers_in_time(rt, decoder, bytes, chunk, answer);
+                let judge = Decoder::new(ObjectJudge::new(alloc));
+                answers_in_time(rt, judge, bytes, chunk, answer, Ok(()));
             }
-            Load => {
-                let decoder = Decoder::new(LoadJudge::new(alloc));
-                answers_in_time(rt, decoder, bytes, chunk, answer);
-            }
+            Load => is_load_judged(rt, alloc, bytes, chunk, answer)?,
         }
     }
+    Ok(())
 }
 
 /// A refusal is answered again to every later call.
-pub(crate) fn answers_again<T: Taker>(rt: &impl Abort, begun: Decoder<T>, refusal: Refusal) {
-    let mut decoder = begun;
+pub(crate) fn answers_again<J: Judge>(rt: &impl Abort, begun: J, refusal: LoadRefusal) {
+    let mut judge = begun;
     let pieces: [&[u8]; 4] = [&[], &[0], &[0, 0, 3, 0xF2], &[0, 0, 3, 0xE7, 0, 0, 0, 0]];
     for piece in pieces {
-        assert_eq!(rt; decoder.feed(piece), Err(refusal));
+        assert_eq!(rt; judge.judge(piece), Err(refusal));
     }
-    assert_eq!(rt; finished(decoder), Err(refusal));
+    assert_eq!(rt; judge.close(), Err(refusal));
 }

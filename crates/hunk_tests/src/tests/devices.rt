@@ -2,8 +2,9 @@
 
 use super::files::{BASE, FILE, REPORT, bytes_of};
 use crate::Refusing;
+use hunk_loadfile::read_load;
 use hunk_tool::{ToolFault, load_run};
-use hunk_words::{Pieces, Room, Sink, Source, Watched};
+use hunk_words::{Pieces, ReadFault, Room, Sink, Source, Watched};
 use std::io;
 use std::io::{ErrorKind, Read};
 use std::test::Fail;
@@ -28,6 +29,27 @@ fn tells_a_read_that_failed(rt: HostRuntime) -> Result<(), Fail> {
                 assert_eq!(rt; writer.bytes(), REPORT.as_bytes());
                 assert!(rt; !Source::failed(&reader));
             }
+        }
+    }
+    Ok(())
+}
+
+#[test]
+fn tells_a_read_of_a_file_that_failed(rt: HostRuntime) -> Result<(), Fail> {
+    let bytes = bytes_of(rt.alloc(), &FILE, &[])?;
+    for (chunk, reads) in [(64, 2), (1, 41), (3, 15), (5, 9)] {
+        assert!(rt; 1 <= chunk);
+        for number in 0..=reads {
+            let mut reader = Pieces::new(bytes.clone()?, chunk, Some(number));
+            let got = read_load(rt.alloc(), &mut reader).err();
+            let fails = number < reads;
+            assert_eq!(rt;
+                got,
+                fails.then_some(ReadFault::Device),
+                "read {number} of {chunk}"
+            );
+            assert_eq!(rt; Source::failed(&reader), fails, "read {number} of {chunk}");
+            assert_eq!(rt; Source::ended(&reader), !fails, "read {number} of {chunk}");
         }
     }
     Ok(())

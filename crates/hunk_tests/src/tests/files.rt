@@ -26,11 +26,11 @@ pub(crate) const BASE: u32 = 0x0001_0000;
 /// The report of its memory there, 44 bytes.
 pub(crate) const REPORT: &str = "hunk 0 at 00010000 size 4\n00010000 4e754e71\n";
 
-/// Bytes a read: whole, or in pieces.
-pub(crate) const CHUNKS: [usize; 4] = [64, 1, 3, 5];
+/// Bytes a read: whole, or in pieces. No file of the tests has more bytes, and no report of them.
+pub(crate) const CHUNKS: [usize; 4] = [ROOM, 1, 3, 5];
 
-// More bytes than a report of the tests has.
-const ROOM: usize = 256;
+/// More bytes than a file of the tests has, or its report.
+pub(crate) const ROOM: usize = 512;
 
 /// The bytes of these longwords, and of what follows the last one.
 pub(crate) fn bytes_of(alloc: Global, words: &[u32], rest: &[u8]) -> Result<Vec<u8>, AllocError> {

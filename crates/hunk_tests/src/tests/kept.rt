@@ -1,45 +1,67 @@
-//! What a decoder keeps: refusals that are answered again, and growths that are refused.
+//! What a judge of bytes keeps: refusals that are answered again, and growths that are refused.
 
-use super::decoders::{answers_again, finished};
-use super::files::bytes_of;
-use super::words::PAST_CONTENT;
+use super::decoders::{Judge, answers_again};
+use super::files::{BASE, FILE, bytes_of};
+use super::words::{PAST_CONTENT, SCATTERED};
 use crate::{LoadJudge, ObjectJudge, Refusing};
-use hunk_words::{CoreState, Decoder, Fault, Reason, Refusal, Splitter, Taker};
+use hunk_loader::{ImageLoader, LoadRefusal};
+use hunk_loadfile::LoadDecoder;
+use hunk_words::{CoreState, Decoder, Fault, Reason, Splitter};
 use std::alloc::Global;
 use std::process::Abort;
 use std::test::Fail;
 
 // More growths than a file of the tests asks for.
-const MOST_GROWTHS: u64 = 64;
+const MOST_GROWTHS: u64 = 128;
 
 #[test]
 fn answers_a_refusal_again(rt: HostRuntime) -> Result<(), Fail> {
     let bytes = bytes_of(rt.alloc(), &PAST_CONTENT, &[])?;
-    let mut decoder = Decoder::new(ObjectJudge::new(rt.alloc()));
-    let refusal = Refusal::Fault(Fault {
+    let refusal = LoadRefusal::File(Fault {
         place: 9,
         reason: Reason::SiteOutside(5),
     });
-    assert_eq!(rt; decoder.feed(&bytes), Err(refusal));
+    let mut decoder = Decoder::new(ObjectJudge::new(rt.alloc()));
+    assert_eq!(rt; decoder.judge(&bytes), Err(refusal));
     answers_again(&rt, decoder, refusal);
+
+    let bytes = bytes_of(rt.alloc(), &FILE, &[0, 0, 3, 0xF5])?;
+    let refusal = LoadRefusal::File(Fault {
+        place: 10,
+        reason: Reason::UnsupportedBlock(1013),
+    });
+    let mut decoder = LoadDecoder::new(rt.alloc());
+    assert_eq!(rt; decoder.judge(&bytes), Err(refusal));
+    answers_again(&rt, decoder, refusal);
+    let mut loader = ImageLoader::new(rt.alloc(), &[BASE])?;
+    assert_eq!(rt; loader.judge(&bytes), Err(refusal));
+    answers_again(&rt, loader, refusal);
     Ok(())
 }
 
 // Whether a file was taken with a growth refused, which is answered again.
-fn is_taken<T: Taker>(rt: &impl Abort, begun: Decoder<T>, bytes: &[u8]) -> bool {
-    let mut decoder = begun;
+fn is_taken<J: Judge>(rt: &impl Abort, begun: J, bytes: &[u8]) -> bool {
+    let mut judge = begun;
     for piece in bytes.chunks(5) {
-        match decoder.feed(piece) {
+        match judge.judge(piece) {
             Ok(()) => {}
             Err(refusal) => {
-                assert_eq!(rt; refusal, Refusal::OutOfMemory);
-                answers_again(rt, decoder, refusal);
+                assert_eq!(rt; refusal, LoadRefusal::OutOfMemory);
+                answers_again(rt, judge, refusal);
                 return false;
             }
         }
     }
-    assert_eq!(rt; finished(decoder), Ok(()));
+    assert_eq!(rt; judge.close(), Ok(()));
     true
+}
+
+// The same for a loader, which may be refused its bases.
+fn is_loaded(rt: &impl Abort, heap: &Refusing<Global>, bases: &[u32], bytes: &[u8]) -> bool {
+    match ImageLoader::new(heap, bases) {
+        Ok(loader) => is_taken(rt, loader, bytes),
+        Err(_) => false,
+    }
 }
 
 // The bytes of a file that begins so, with one hunk of this many longwords. Each of them is a
@@ -75,6 +97,43 @@ fn refuses_each_growth(rt: HostRuntime) -> Result<(), Fail> {
         ended = [taken, also];
     }
     assert_eq!(rt; ended, [true, true]);
+    Ok(())
+}
+
+// A file is judged with each of its growths refused, and with none.
+fn is_judged_with_each_growth_refused(
+    rt: &impl Abort,
+    alloc: Global,
+    bytes: &[u8],
+    bases: &[u32],
+    least: u64,
+) {
+    let mut ended = [false, false];
+    for number in 0..MOST_GROWTHS {
+        let heap = Refusing::new(alloc, number);
+        let decoded = is_taken(rt, LoadDecoder::new(&heap), bytes);
+        assert_eq!(rt; decoded, heap.asked() <= number, "growth {number}");
+        assert!(rt; !decoded || least <= number, "{number} growths");
+        let heap = Refusing::new(alloc, number);
+        let loaded = is_loaded(rt, &heap, bases, bytes);
+        assert_eq!(rt; loaded, heap.asked() <= number, "growth {number}");
+        assert!(rt;
+            !loaded || 3 <= number,
+            "the bases, the sizes and the image grow"
+        );
+        ended = [decoded, loaded];
+    }
+    assert_eq!(rt; ended, [true, true]);
+}
+
+#[test]
+fn refuses_each_growth_of_a_load_file(rt: HostRuntime) -> Result<(), Fail> {
+    let bytes = bytes_of(rt.alloc(), &SCATTERED, &[])?;
+    let bases = [0x0000_1000, 0x0000_2000];
+    // sizes, hunks, content, sites, symbols, a name, debug blocks, and one of them
+    is_judged_with_each_growth_refused(&rt, rt.alloc(), &bytes, &bases, 8);
+    let bytes = sites_of(rt.alloc(), &[0x0000_03F3, 0, 1, 0, 0, 20], 20)?;
+    is_judged_with_each_growth_refused(&rt, rt.alloc(), &bytes, &[BASE], 4);
     Ok(())
 }
 

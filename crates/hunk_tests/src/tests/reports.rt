@@ -1,7 +1,6 @@
 //! Files that are loaded.
 
 use super::files::{BASE, REPORT, bytes_of, loads_to, with_word};
-use super::words::{BEHIND_CONTENT, LINKED, LINKED_ALONE, SCATTERED, SHORT, WRITTEN};
 use std::test::Fail;
 
 // A longword of the file that is not judged, or not judged in full, changes no more than its own bytes.
@@ -69,51 +68,6 @@ fn loads_hunks_of_other_sizes(rt: HostRuntime) -> Result<(), Fail> {
         words.push(0x0000_03F2)?;
         let bytes = bytes_of(rt.alloc(), &words, &[])?;
         loads_to(&rt, rt.alloc(), &bytes, &[base], Ok(()), text)?;
-    }
-    Ok(())
-}
-
-#[test]
-fn loads_what_is_relocated(rt: HostRuntime) -> Result<(), Fail> {
-    let scattered = "hunk 0 at 00010000 size 12\n\
-                     00010000 000200000001000000020004\n\
-                     hunk 1 at 00020000 size 4\n\
-                     00020000 00000000\n";
-    let rows: [(&[u32], &[u32], &str); 6] = [
-        (
-            &LINKED,
-            &[BASE, 0x0002_0000],
-            "hunk 0 at 00010000 size 8\n\
-             00010000 4eb9000200044e75\n\
-             hunk 1 at 00020000 size 8\n\
-             00020000 4e714e714e754e71\n",
-        ),
-        (
-            &LINKED_ALONE,
-            &[BASE, 0x0002_0000],
-            "hunk 0 at 00010000 size 8\n\
-             00010000 4eb9000200004e75\n\
-             hunk 1 at 00020000 size 8\n\
-             00020000 0000000000000000\n",
-        ),
-        (&SCATTERED, &[BASE, 0x0002_0000], scattered),
-        (&WRITTEN, &[BASE, 0x0002_0000], scattered),
-        (
-            &BEHIND_CONTENT,
-            &[BASE],
-            "hunk 0 at 00010000 size 12\n\
-             00010000 4e754e710000000000010000\n",
-        ),
-        (
-            &SHORT,
-            &[BASE],
-            "hunk 0 at 00010000 size 8\n\
-             00010000 0001000400010000\n",
-        ),
-    ];
-    for (words, bases, text) in rows {
-        let bytes = bytes_of(rt.alloc(), words, &[])?;
-        loads_to(&rt, rt.alloc(), &bytes, bases, Ok(()), text)?;
     }
     Ok(())
 }

@@ -1,4 +1,4 @@
-//! Files of both kinds through the generic decoder: where they are refused, why, and when.
+//! Files of both kinds through all that reads them: where they are refused, why, and when.
 
 use super::decoders::{Answer, is_judged};
 use super::files::{FILE, bytes_of};
@@ -40,7 +40,7 @@ fn judges_each_front(rt: HostRuntime) -> Result<(), Fail> {
             } else {
                 Some((place, PartialLongword))
             };
-            is_judged(&rt, rt.alloc(), kind, &bytes[..count], answer);
+            is_judged(&rt, rt.alloc(), kind, &bytes[..count], answer)?;
         }
     }
     Ok(())
@@ -48,7 +48,7 @@ fn judges_each_front(rt: HostRuntime) -> Result<(), Fail> {
 
 #[test]
 fn judges_other_longwords(rt: HostRuntime) -> Result<(), Fail> {
-    let rows: [(FileKind, &[u32], usize, u32, Answer); 56] = [
+    let rows: [(FileKind, &[u32], usize, u32, Answer); 74] = [
         (Load, &FILE, 0, ONES, Some((0, WrongStart))),
         (Load, &FILE, 1, ONES, Some((1, ResidentNames))),
         (Load, &FILE, 2, ONES, Some((2, HunkTable))),
@@ -85,6 +85,9 @@ fn judges_other_longwords(rt: HostRuntime) -> Result<(), Fail> {
         (Load, &FILE, 3, 1, Some((3, HunkTable))),
         (Load, &FILE, 4, 1, Some((4, HunkTable))),
         (Load, &FILE, 5, 0xC000_0001, Some((5, BothMemoryBits))),
+        (Load, &FILE, 2, 2, Some((4, HunkTable))),
+        (Load, &FILE, 5, 0x8000_0001, None),
+        (Load, &FILE, 5, 0x0100_0001, Some((5, TooLarge))),
         (Load, &TOO_LARGE, 6, 1, Some((7, UnexpectedEnd))),
         (Load, &TOO_LARGE, 6, 2, Some((6, TooLarge))),
         // types, and the memory that they ask for
@@ -95,6 +98,16 @@ fn judges_other_longwords(rt: HostRuntime) -> Result<(), Fail> {
             6,
             0x2000_03E9,
             Some((6, UnknownType(536_871_913))),
+        ),
+        (Load, &FILE, 0, 0x0000_03E7, Some((0, WrongStart))),
+        (Load, &FILE, 6, 0x0000_03EC, Some((6, MisplacedType(1004)))),
+        (Load, &FILE, 6, 0x0000_03F2, Some((6, MisplacedType(1010)))),
+        (
+            Load,
+            &FILE,
+            6,
+            0x0000_03F5,
+            Some((6, UnsupportedBlock(1013))),
         ),
         (Load, &FILE, 6, 0x0000_03FC, Some((6, MisplacedType(1020)))),
         (
@@ -113,7 +126,25 @@ fn judges_other_longwords(rt: HostRuntime) -> Result<(), Fail> {
             0x0000_03F7,
             Some((9, UnsupportedBlock(1015))),
         ),
+        (Load, &FILE, 9, 0x8000_03F2, None),
+        (Load, &FILE, 9, 0x0000_03EF, Some((9, MisplacedType(1007)))),
+        (Load, &FILE, 9, 0x0000_03F3, Some((9, MisplacedType(1011)))),
+        // other blocks in the place of CODE, and in that of END
+        (Load, &FILE, 6, 0x0000_03E8, Some((9, MisplacedType(1010)))),
+        (Load, &FILE, 6, 0x0000_03EA, None),
+        (
+            Load,
+            &FILE,
+            6,
+            0x0000_03EB,
+            Some((8, UnknownType(0x0E75_4E71))),
+        ),
+        (Load, &FILE, 9, 0x0000_03EC, Some((10, UnexpectedEnd))),
+        (Load, &FILE, 9, 0x0000_03F0, Some((10, UnexpectedEnd))),
+        (Load, &FILE, 9, 0x0000_03F1, Some((10, UnexpectedEnd))),
+        (Load, &FILE, 9, 0x0000_03FC, Some((10, UnexpectedEnd))),
         // sizes of content
+        (Load, &FILE, 7, 0, Some((8, UnknownType(0x0E75_4E71)))),
         (Load, &FILE, 7, 2, Some((7, ContentTooLong))),
         (Load, &FILE, 7, 0xC000_0001, None),
         // symbols
@@ -153,7 +184,7 @@ fn judges_other_longwords(rt: HostRuntime) -> Result<(), Fail> {
         let mut other = words.to_vec(rt.alloc())?;
         *other.get_mut(place).ok_or("no such place")? = word;
         let bytes = bytes_of(rt.alloc(), &other, &[])?;
-        is_judged(&rt, rt.alloc(), kind, &bytes, answer);
+        is_judged(&rt, rt.alloc(), kind, &bytes, answer)?;
     }
     Ok(())
 }
@@ -213,7 +244,7 @@ fn judges_files_and_what_follows_them(rt: HostRuntime) -> Result<(), Fail> {
     ];
     for (kind, words, rest, answer) in rows {
         let bytes = bytes_of(rt.alloc(), words, rest)?;
-        is_judged(&rt, rt.alloc(), kind, &bytes, answer);
+        is_judged(&rt, rt.alloc(), kind, &bytes, answer)?;
     }
     Ok(())
 }

@@ -1,0 +1,155 @@
+//! Growths of the calls on load files that are refused, each in turn.
+
+use super::files::{ROOM, bytes_of};
+use super::loaded::has_bytes;
+use super::values::{SCATTERED_HUNKS, has_hunks};
+use super::words::{SCATTERED, WRITTEN};
+use super::written::file_of;
+use crate::Refusing;
+use hunk_loader::{LoadRefusal, load};
+use hunk_loadfile::{read_load, write_load};
+use hunk_tool::{ToolFault, load_run};
+use hunk_words::{Pieces, ReadFault, Refusal, Room, WriteFault};
+use std::alloc::Global;
+use std::process::Abort;
+use std::test::Fail;
+
+// More growths than a call of the tests asks for.
+const MOST_GROWTHS: u64 = 64;
+
+// Where the hunks are loaded.
+const BASES: [u32; 2] = [0x0000_1000, 0x0000_2000];
+
+// Their report there.
+const TEXT: &str = "hunk 0 at 00001000 size 12\n00001000 000020000000100000002004\n\
+                    hunk 1 at 00002000 size 4\n00002000 00000000\n";
+
+// What is called.
+#[derive(Clone, Copy, Debug)]
+enum Call {
+    Read,
+    Load,
+    Write,
+    Run,
+}
+
+/// The growths of reading the file.
+pub(crate) fn growths_of_reading(alloc: Global, bytes: &[u8]) -> Result<u64, Fail> {
+    let heap = Refusing::new(alloc, u64::MAX);
+    let _file = file_of(&heap, bytes.to_vec(alloc)?)?;
+    Ok(heap.asked())
+}
+
+// Whether the file was read with this growth refused. It was, or memory was refused; and so for the
+// other calls.
+fn is_read(rt: &impl Abort, alloc: Global, bytes: &[u8], refused: u64) -> Result<bool, Fail> {
+    let heap = Refusing::new(alloc, refused);
+    let mut reader = Pieces::new(bytes.to_vec(alloc)?, ROOM, None);
+    match read_load(&heap, &mut reader) {
+        Ok(file) => has_hunks(rt, &file, &SCATTERED_HUNKS),
+        Err(fault) => {
+            assert_eq!(rt; fault, ReadFault::Refused(Refusal::OutOfMemory));
+            assert!(rt; refused < heap.asked(), "growth {refused}");
+            return Ok(false);
+        }
+    }
+    assert!(rt; heap.asked() <= refused, "growth {refused}");
+    Ok(true)
+}
+
+fn is_loaded(rt: &impl Abort, alloc: Global, bytes: &[u8], refused: u64) -> Result<bool, Fail> {
+    let heap = Refusing::new(alloc, refused);
+    let file = file_of(&heap, bytes.to_vec(alloc)?)?;
+    match load(&heap, &file, &BASES) {
+        Ok(image) => {
+            let wanted: [&[u8]; 2] = [&[0, 0, 0x20, 0, 0, 0, 0x10, 0, 0, 0, 0x20, 4], &[0; 4]];
+            has_bytes(rt, &image, &BASES, &wanted);
+        }
+        Err(refusal) => {
+            assert_eq!(rt; refusal, LoadRefusal::OutOfMemory);
+            assert!(rt; refused < heap.asked(), "growth {refused}");
+            return Ok(false);
+        }
+    }
+    assert!(rt; heap.asked() <= refused, "growth {refused}");
+    Ok(true)
+}
+
+fn is_written(rt: &impl Abort, alloc: Global, bytes: &[u8], refused: u64) -> Result<bool, Fail> {
+    let heap = Refusing::new(alloc, refused);
+    let file = file_of(&heap, bytes.to_vec(alloc)?)?;
+    let text = bytes_of(alloc, &WRITTEN, &[])?;
+    let mut writer = Room::new(alloc, ROOM, ROOM, false)?;
+    match write_load(&heap, &file, &mut writer) {
+        Ok(()) => assert_eq!(rt; writer.bytes(), text.as_slice()),
+        Err(fault) => {
+            let written = writer.bytes().len() as u64;
+            assert_eq!(rt; fault, WriteFault::OutOfMemory { written });
+            assert!(rt; text.starts_with(writer.bytes()), "growth {refused}");
+            assert!(rt; refused < heap.asked(), "growth {refused}");
+            return Ok(false);
+        }
+    }
+    assert!(rt; heap.asked() <= refused, "growth {refused}");
+    Ok(true)
+}
+
+fn is_run(rt: &impl Abort, alloc: Global, bytes: &[u8], refused: u64) -> Result<bool, Fail> {
+    let heap = Refusing::new(alloc, refused);
+    let mut reader = Pieces::new(bytes.to_vec(alloc)?, ROOM, None);
+    let mut writer = Room::new(alloc, ROOM, ROOM, false)?;
+    match load_run(&heap, &mut reader, &BASES, &mut writer) {
+        Ok(()) => assert_eq!(rt; writer.bytes(), TEXT.as_bytes()),
+        Err(fault) => {
+            assert_eq!(rt; fault, ToolFault::OutOfMemory { written: 0 });
+            assert_eq!(rt; writer.bytes(), b"".as_slice());
+            assert!(rt; refused < heap.asked(), "growth {refused}");
+            return Ok(false);
+        }
+    }
+    assert!(rt; heap.asked() <= refused, "growth {refused}");
+    Ok(true)
+}
+
+// The growths of the call that has them all: each one before was refused, and answered so. Those of
+// reading the file that is loaded or written come before.
+fn growths_of(rt: &impl Abort, alloc: Global, call: Call, bytes: &[u8]) -> Result<u64, Fail> {
+    let before = match call {
+        Call::Read | Call::Run => 0,
+        Call::Load | Call::Write => growths_of_reading(alloc, bytes)?,
+    };
+    for number in 0..MOST_GROWTHS {
+        let refused = before.saturating_add(number);
+        let done = match call {
+            Call::Read => is_read(rt, alloc, bytes, refused)?,
+            Call::Load => is_loaded(rt, alloc, bytes, refused)?,
+            Call::Write => is_written(rt, alloc, bytes, refused)?,
+            Call::Run => is_run(rt, alloc, bytes, refused)?,
+        };
+        if done {
+            return Ok(number);
+        }
+    }
+    assert!(rt; false, "each of {MOST_GROWTHS} runs was refused a growth");
+    Ok(0)
+}
+
+#[test]
+fn refuses_each_growth_of_a_call(rt: HostRuntime) -> Result<(), Fail> {
+    let bytes = bytes_of(rt.alloc(), &SCATTERED, &[])?;
+    let rows = [
+        // sizes, hunks, content, sites, symbols, a name, debug blocks, and one of them
+        (Call::Read, 8),
+        // the hunks and the bytes of each
+        (Call::Load, 3),
+        // the sites of the first hunk
+        (Call::Write, 1),
+        // the bases, the sizes, the hunks and the bytes of each
+        (Call::Run, 5),
+    ];
+    for (call, least) in rows {
+        let growths = growths_of(&rt, rt.alloc(), call, &bytes)?;
+        assert!(rt; least <= growths, "{call:?} met {growths} growths");
+    }
+    Ok(())
+}

@@ -1,0 +1,87 @@
+//! What the loader that streams asks for, and which of two refusals it answers.
+
+use super::decoders::Judge;
+use super::files::{BASE, FILE, REPORT, ROOM, bytes_of};
+use crate::Refusing;
+use hunk_loader::{ImageLoader, LoadRefusal, PlaceFault};
+use hunk_tool::load_run;
+use hunk_words::{Fault, Pieces, Reason, Room};
+use std::alloc::Global;
+use std::process::Abort;
+use std::test::Fail;
+
+// The longwords of a long debug block.
+const DEBUG_LONGWORDS: u32 = 100_000;
+
+// The growths that the bytes ask for at these addresses, which answer so.
+fn growths(
+    rt: &impl Abort,
+    alloc: Global,
+    bytes: &[u8],
+    bases: &[u32],
+    answer: Result<(), LoadRefusal>,
+) -> Result<u64, Fail> {
+    let heap = Refusing::new(alloc, u64::MAX);
+    let mut loader = ImageLoader::new(&heap, bases)?;
+    assert_eq!(rt; loader.judge(bytes), Ok(()));
+    assert_eq!(rt; loader.close(), answer, "{bases:?}");
+    Ok(heap.asked())
+}
+
+// The growths of a whole run with the report.
+fn growths_of_run(rt: &impl Abort, alloc: Global, bytes: &[u8]) -> Result<u64, Fail> {
+    let heap = Refusing::new(alloc, u64::MAX);
+    let mut reader = Pieces::new(bytes.to_vec(alloc)?, 4096, None);
+    let mut writer = Room::new(alloc, ROOM, ROOM, false)?;
+    assert_eq!(rt; load_run(&heap, &mut reader, &[BASE], &mut writer), Ok(()));
+    assert_eq!(rt; writer.bytes(), REPORT.as_bytes());
+    Ok(heap.asked())
+}
+
+#[test]
+fn answers_the_file_before_the_addresses(rt: HostRuntime) -> Result<(), Fail> {
+    let bytes = bytes_of(rt.alloc(), &FILE, &[])?;
+    let wrong = Err(LoadRefusal::Place(PlaceFault::WrongCount));
+    let unended = Err(LoadRefusal::File(Fault {
+        place: 9,
+        reason: Reason::UnexpectedEnd,
+    }));
+    let front = bytes.get(..36).ok_or("too short")?;
+    for bases in [[].as_slice(), &[BASE, 0x0002_0000]] {
+        growths(&rt, rt.alloc(), front, bases, unended)?;
+        growths(&rt, rt.alloc(), &bytes, bases, wrong)?;
+    }
+    Ok(())
+}
+
+#[test]
+fn takes_no_image_that_cannot_be_placed(rt: HostRuntime) -> Result<(), Fail> {
+    let bytes = bytes_of(rt.alloc(), &FILE, &[])?;
+    let past = Err(LoadRefusal::Place(PlaceFault::PastEnd(0)));
+    let refused = growths(&rt, rt.alloc(), &bytes, &[0xFFFF_FFFE], past)?;
+    let placed = growths(&rt, rt.alloc(), &bytes, &[BASE], Ok(()))?;
+    assert!(rt; refused < placed, "{refused} of {placed} growths");
+    Ok(())
+}
+
+#[test]
+fn keeps_no_debug_block(rt: HostRuntime) -> Result<(), Fail> {
+    let bytes = bytes_of(rt.alloc(), &FILE, &[])?;
+    let mut words = FILE[..9].to_vec(rt.alloc())?;
+    words.extend_from_slice(&[0x0000_03F1, DEBUG_LONGWORDS])?;
+    for number in 0..DEBUG_LONGWORDS {
+        words.push(number)?;
+    }
+    words.push(0x0000_03F2)?;
+    let longer = bytes_of(rt.alloc(), &words, &[])?;
+    assert_eq!(rt; longer.len(), 400_048);
+    assert_eq!(rt;
+        growths(&rt, rt.alloc(), &bytes, &[BASE], Ok(()))?,
+        growths(&rt, rt.alloc(), &longer, &[BASE], Ok(()))?
+    );
+    assert_eq!(rt;
+        growths_of_run(&rt, rt.alloc(), &bytes)?,
+        growths_of_run(&rt, rt.alloc(), &longer)?
+    );
+    Ok(())
+}

@@ -1,0 +1,120 @@
+//! Load files that are written: their bytes, and writers that fail.
+
+use super::files::{FILE, ROOM, bytes_of};
+use super::growths::growths_of_reading;
+use super::load_words::{THREE_HUNKS, TWO_HUNKS, ZEROS};
+use super::words::{BEHIND_CONTENT, LINKED, LINKED_ALONE, SCATTERED, SHORT, WRITTEN};
+use crate::Refusing;
+use hunk_loadfile::{LoadFile, read_load, write_load};
+use hunk_words::{Pieces, Room, Sink, WriteFault};
+use std::alloc::{Allocator, Global};
+use std::test::Fail;
+
+// More growths than a file of the tests asks for when it is written.
+const MOST_GROWTHS: u64 = 64;
+
+/// The load file of these bytes.
+pub(crate) fn file_of<A: Allocator + Copy>(alloc: A, bytes: Vec<u8>) -> Result<LoadFile<A>, Fail> {
+    let mut reader = Pieces::new(bytes, ROOM, None);
+    Ok(read_load(alloc, &mut reader)?)
+}
+
+#[test]
+fn writes_files(rt: HostRuntime) -> Result<(), Fail> {
+    let mut other = FILE;
+    other[5] = 0x8000_0001;
+    other[6] = 0xC000_03EA;
+    other[7] = 0xC000_0001;
+    let mut fast = FILE;
+    fast[5] = 0x8000_0001;
+    fast[6] = 0x0000_03EA;
+    let longer = [
+        0x3F3, 0, 1, 0, 0, 2, 0x3E9, 2, 4, 0, 0x3EC, 2, 0, 0, 4, 0, 0x3F2,
+    ];
+    let example = [
+        0x3F3, 0, 2, 0, 1, 4, 0x40000002, //
+        0x3E9, 4, 0x207C0000, 0x00004EB9, 0x0000000E, 0x4E754E75, //
+        0x3EC, 1, 0, 8, 1, 1, 2, 0, //
+        0x3F0, 1, 0x6D61696E, 0, 1, 0x73756200, 0x0E, 0, //
+        0x3F1, 2, 0x6C696E65, 0x00010002, 0x3F2, //
+        0x3EA, 1, 0x68756E6B, 0x3F1, 0, 0x3F2,
+    ];
+    let rows: [(&[u32], &[u32]); 11] = [
+        (&FILE, &FILE),
+        (&other, &fast),
+        (&BEHIND_CONTENT, &BEHIND_CONTENT),
+        (&LINKED, &LINKED),
+        (&LINKED_ALONE, &LINKED_ALONE),
+        (&SCATTERED, &WRITTEN),
+        (&WRITTEN, &WRITTEN),
+        (&ZEROS, &ZEROS),
+        (&THREE_HUNKS, &THREE_HUNKS),
+        (&SHORT, &longer),
+        (&TWO_HUNKS, &example),
+    ];
+    for (words, wanted) in rows {
+        let file = file_of(rt.alloc(), bytes_of(rt.alloc(), words, &[])?)?;
+        let text = bytes_of(rt.alloc(), wanted, &[])?;
+        for most in [ROOM, 1, 3, 5] {
+            assert!(rt; 1 <= most);
+            let mut writer = Room::new(rt.alloc(), most, ROOM, false)?;
+            assert_eq!(rt; write_load(rt.alloc(), &file, &mut writer), Ok(()));
+            assert_eq!(rt;
+                writer.bytes(),
+                text.as_slice(),
+                "{words:?}, {most} a write"
+            );
+            assert!(rt; !Sink::failed(&writer));
+        }
+    }
+    Ok(())
+}
+
+// A writer that has room for each front of the file.
+#[test]
+fn tells_what_a_writer_took_of_a_file(rt: HostRuntime) -> Result<(), Fail> {
+    let text = bytes_of(rt.alloc(), &LINKED, &[])?;
+    let file = file_of(rt.alloc(), text.clone()?)?;
+    assert_eq!(rt; text.len(), 88);
+    for room in 0..88 {
+        for (most, zero) in [(ROOM, false), (ROOM, true), (1, false), (7, true)] {
+            assert!(rt; 1 <= most);
+            let mut writer = Room::new(rt.alloc(), most, room, zero)?;
+            let got = write_load(rt.alloc(), &file, &mut writer);
+            let written = room as u64;
+            assert_eq!(rt; got, Err(WriteFault::Device { written }), "room for {room}");
+            assert_eq!(rt; writer.bytes(), &text[..room], "room for {room}");
+            assert!(rt; Sink::failed(&writer));
+        }
+    }
+    Ok(())
+}
+
+// The header and the first hunk, which has no site, take no memory. They are written whatever is
+// refused. The growths of reading the file come before those of writing it.
+#[test]
+fn writes_hunk_by_hunk(rt: HostRuntime) -> Result<(), Fail> {
+    let text = bytes_of(rt.alloc(), &THREE_HUNKS, &[])?;
+    let before = growths_of_reading(rt.alloc(), &text)?;
+    let mut growths = 0;
+    for number in 0..MOST_GROWTHS {
+        let refused = before.saturating_add(number);
+        let heap = Refusing::new(rt.alloc(), refused);
+        let file = file_of(&heap, text.clone()?)?;
+        let mut writer = Room::new(rt.alloc(), 64, ROOM, false)?;
+        let got = write_load(&heap, &file, &mut writer);
+        if heap.asked() <= refused {
+            assert_eq!(rt; got, Ok(()));
+            assert_eq!(rt; writer.bytes(), text.as_slice());
+            growths = number;
+            break;
+        }
+        let written = writer.bytes().len() as u64;
+        assert_eq!(rt; got, Err(WriteFault::OutOfMemory { written }));
+        assert!(rt; 52 <= written && written < 100, "growth {number}");
+        assert!(rt; text.starts_with(writer.bytes()), "growth {number}");
+        assert!(rt; !Sink::failed(&writer));
+    }
+    assert!(rt; 1 <= growths, "the sites grow");
+    Ok(())
+}
