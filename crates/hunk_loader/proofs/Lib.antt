@@ -1,5 +1,6 @@
 pub mod FrugalBuilderLemmas
 pub mod ImageBuilderLemmas
+pub mod ImageHunkLemmas
 pub mod ImageLoaderLemmas
 pub mod LoadingLemmas
 pub mod MemoryLemmas
