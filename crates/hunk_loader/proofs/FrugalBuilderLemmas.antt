@@ -20,7 +20,8 @@ use Rattle.hunk_loader.specs.OpenImage.{Opened}
 use Rattle.hunk_loader.specs.Places.{Placed as ArePlaced}
 use Rattle.hunk_loader.specs.declared.placing.Placing.{Placing}
 use Rattle.hunk_loader.specs.declared.placing.Placing.TheVariants.{Unknown, Placed, Refused}
-use Rattle.hunk_loader.proofs.ImageBuilderLemmas.{StandsFor-takes, loaded_at, file_hunks-none, zip-none}
+use Rattle.hunk_loader.proofs.ImageBuilderLemmas.{StandsFor-takes}
+use Rattle.hunk_loader.proofs.ImageHunkLemmas.{loaded_at, file_hunks-none, zip-none}
 
 -- ---- the hunks that ended
 

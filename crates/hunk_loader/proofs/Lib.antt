@@ -1,6 +1,7 @@
 pub mod FallLemmas
 pub mod FrugalBuilderLemmas
 pub mod ImageBuilderLemmas
+pub mod ImageHunkLemmas
 pub mod ImageLoaderLemmas
 pub mod LoadingLemmas
 pub mod MemoryLemmas

@@ -3,7 +3,7 @@ use Rattle.std.proofs.Common.{sym, refl, subst, length, arith}
 use Rattle.std.proofs.lemmas.List.{get_or_read_under}
 use Rattle.hunk_loader.specs.Image.{hunks_of}
 use Rattle.hunk_loader.specs.ImageBuilder.{Making, Settled}
-use Rattle.hunk_loader.proofs.ImageBuilderLemmas.{TakesEvent-begin, begun-is}
+use Rattle.hunk_loader.proofs.ImageHunkLemmas.{TakesEvent-begin, begun-is}
 use Rattle.hunk_loader.proofs.image_builder.ImageBuilder.begin_hunk.Goals as goal
 
 pub returns-in-Ok : goal.returns-in-Ok

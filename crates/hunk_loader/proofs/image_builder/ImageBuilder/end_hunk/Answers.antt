@@ -2,8 +2,8 @@
 use Rattle.std.proofs.Common.{◌≡◌, ap, sym, subst, ◌+◌, None, Some, refl}
 use Rattle.hunk_loader.specs.ImageBuilder.{Making}
 use Rattle.hunk_loader.specs.declared.placing.Placing.TheVariants.{Placed}
-use Rattle.hunk_loader.proofs.ImageBuilderLemmas.{Closes, TakesEvent-end}
-use Rattle.hunk_loader.proofs.ImageBuilderLemmas.Closes.{kept, unkept}
+use Rattle.hunk_loader.proofs.ImageHunkLemmas.{Closes, TakesEvent-end}
+use Rattle.hunk_loader.proofs.ImageHunkLemmas.Closes.{kept, unkept}
 use Rattle.hunk_loader.proofs.image_builder.ImageBuilder.end_hunk.Goals as goal
 use Rattle.hunk_loader.proofs.image_builder.ImageBuilder.end_hunk.Goals.{in-Placed+in-Ok, in_default}
 
