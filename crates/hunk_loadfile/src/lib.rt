@@ -17,7 +17,7 @@
 pub mod build;
 mod debug_writer;
 pub mod laws;
-pub mod load_builder;
+mod load_builder;
 pub mod load_decoder;
 pub mod load_file;
 pub mod load_hunk;
