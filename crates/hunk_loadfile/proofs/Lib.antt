@@ -11,3 +11,4 @@ pub mod OpenHunkLemmas
 pub mod BuilderLemmas
 pub mod PartialLemmas
 pub mod ReadLoadLemmas
+pub mod RelocationLemmas

@@ -10,3 +10,4 @@ pub mod Written
 pub mod OpenHunk
 pub mod Builder
 pub mod LoadDecoder
+pub mod RelocationWriter

@@ -10,6 +10,7 @@
 //! - `relocation_writer`: relocation blocks, as they are written.
 //! - `partial`: the load file that events told so far.
 //! - `longword_writer`: bytes and longwords of a text that is written.
+//! - `relocation_writer`: the relocation block of a hunk, as it is written.
 //! - `patching`: adding numbers to the longwords at sites.
 //! - `laws`: what holds of load files and of their written form.
 #![tactic(auto)]

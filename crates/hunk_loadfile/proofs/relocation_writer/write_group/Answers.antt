@@ -1,0 +1,27 @@
+-- A group is its two first longwords and its offsets.
+use Rattle.std.proofs.Common.{ℕ, List, [], ◌∷◌, length, map}
+use Rattle.std.proofs.lemmas.Result.{err_from_is_err_and}
+use Rattle.hunk_loadfile.specs.Written.{group_words}
+use Rattle.hunk_loadfile.proofs.RelocationLemmas.{Wrote-words, Wrote-words_front, group_words-some, offset_of}
+use Rattle.hunk_loadfile.proofs.relocation_writer.write_group.Goals as goal
+
+pub returns-in_err-begun : goal.returns-in_err-begun
+returns-in_err-begun g c =
+    let p = err_from_is_err_and c.from_residual.result c.from_residual.ensures.1 in
+    let taken = g.W.Sink.taken in
+    let failed = g.W.Sink.failed in
+    let group = c.args.group.now in
+    record {
+      wrote =
+          rw (p.1, p.2)
+          (Wrote-words_front (taken c.args.writer.now) (taken c.write_longwords.new.writer) (failed c.args.writer.now) (failed c.write_longwords.new.writer) (length group ∷ c.args.target ∷ []) (map offset_of group) (group_words c.args.target (map offset_of group)) c.args.written _ (group_words-some c.args.target group c.requires.some) c.in_err-begun.ensures.wrote);
+    }
+
+pub returns : goal.returns
+returns g c =
+    let taken = g.W.Sink.taken in
+    let failed = g.W.Sink.failed in
+    let group = c.args.group.now in
+    record {
+      wrote = Wrote-words (taken c.args.writer.now) (taken c.write_longwords.new.writer) (taken c.write_offsets.new.writer) (failed c.args.writer.now) (failed c.write_longwords.new.writer) (failed c.write_offsets.new.writer) (length group ∷ c.args.target ∷ []) (map offset_of group) (group_words c.args.target (map offset_of group)) c.args.written c.in_ok-begun.begun c.write_offsets.result (group_words-some c.args.target group c.requires.some) c.in_ok-begun.ensures.wrote c.write_offsets.ensures.wrote;
+    }

@@ -1,0 +1,22 @@
+-- The longwords so far and the groups of the sites that are left are the groups of all.
+use Rattle.std.proofs.Common.{◌≡◌, ◌≤◌, ◌<◌, ◌+◌, ◌*◌, ◌++◌, ℕ, List, length, Ok}
+use Rattle.std.specs.List.{All}
+use Rattle.std.specs.List.Sorted.{IsNonDecreasingBy}
+use Rattle.hunk_words.specs.Names.{bytes_of}
+use Rattle.hunk_loadfile.specs.Writing.{Wrote}
+use Rattle.hunk_loadfile.specs.Written.{groups_words}
+use Rattle.hunk_loadfile.proofs.relocation_writer.write_groups.Given as goal
+
+abbrev pub invariant-groups : goal.invariant-groups
+invariant-groups g l = record {
+  rise : IsNonDecreasingBy (λ (pair : ℕ × ℕ). pair.1) l.rest;
+  few : length l.rest ≤ length l.pairs;
+  room : l.written + 12 * length l.rest ≤ l.fn.written + 12 * length l.pairs;
+  below : (count : ℕ) → All (λ (pair : ℕ × ℕ). pair.1 < count) l.pairs → All (λ (pair : ℕ × ℕ). pair.1 < count) l.rest;
+  words : List ℕ;
+  whole : (count : ℕ) → All (λ (pair : ℕ × ℕ). pair.1 < count) l.pairs → words ++ groups_words count l.rest ≡ groups_words count l.pairs;
+  wrote : Wrote (g.W.Sink.taken l.fn.writer) (g.W.Sink.taken l.writer) (g.W.Sink.failed l.fn.writer) (g.W.Sink.failed l.writer) (bytes_of words) l.fn.written (Ok l.written);
+}
+
+abbrev pub decreases-groups : goal.decreases-groups
+decreases-groups g l = length l.rest

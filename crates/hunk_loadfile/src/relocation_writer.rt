@@ -1,0 +1,277 @@
+//! The relocation block of a hunk, as it is written.
+ghost use Rattle.std.specs.Prelude.{◌≡◌, ◌≢◌, ◌+◌, ◌*◌, ◌<◌, ◌≤◌, ◌^◌, ℕ, length, map, slice_index_or, IfOk};
+ghost use Rattle.std.specs.List.{All};
+ghost use Rattle.std.specs.List.Sorted.{IsNonDecreasingBy};
+ghost use Rattle.hunk_words.specs.Names.{bytes_of};
+ghost use Rattle.hunk_loadfile.specs.RelocationWriter.{AreByTarget, IsGroup};
+ghost use Rattle.hunk_loadfile.specs.Writing.{Wrote};
+ghost use Rattle.hunk_loadfile.specs.Written.{group_words, groups_words, site_words};
+
+use crate::longword_writer::write_longwords;
+use hunk_words::{Sink, Sites, WriteFault};
+use std::alloc::{AllocError, Allocator};
+
+/// Writes the relocation block of a hunk, where it has sites: a group for each target, by rising
+/// number, with its offsets by rising number (The AmigaDOS Manual, 3rd edition, "Amiga binary file
+/// structure"; the order is our own). It keeps the pairs of offset and target of this hunk alone,
+/// and takes their memory before it writes.
+pub(crate) fn write_sites<W: Sink, A: Allocator + Copy>(
+    alloc: A,
+    writer: &mut W,
+    written: u64,
+    sites: &Sites<u32, A>,
+) -> Result<u64, WriteFault>
+    requires room { written + 4 * (2 + 3 * length sites.now.entries) < 2 ^ 64 }
+    ensures wrote { (count : ℕ) → All (λ site. site.1 < count) sites.now.entries → Wrote (W.taken writer.old) (W.taken writer.new) (W.failed writer.old) (W.failed writer.new) (bytes_of (site_words count sites.now.entries)) written result }
+{
+    let Ok(pairs) = by_target(alloc, sites) else {
+        return Err(WriteFault::OutOfMemory { written });
+    };
+    if pairs.is_empty() {
+        return Ok(written);
+    }
+    let begun = write_longwords(writer, written, &[1004])?;
+    let grouped = write_groups(writer, begun, &pairs)?;
+    write_longwords(writer, grouped, &[0])
+}
+
+/// The sites by rising target, those of one target by rising offset.
+fn by_target<A: Allocator + Copy>(
+    alloc: A,
+    sites: &Sites<u32, A>,
+) -> Result<Vec<(u32, u32), A>, AllocError>
+    ensures order { IfOk result (λ pairs. AreByTarget sites.now.entries pairs.items) }
+    ensures few { IfOk result (λ pairs. length pairs.items ≤ 2 ^ 30) }
+{
+    let mut pairs = Vec::with_capacity(alloc, sites.walk().count())?;
+    for (offset, target) in sites.walk() {
+        pairs.push((offset, *target))?;
+    }
+    pairs.sort_by_key(|pair| pair.1)?;
+    Ok(pairs)
+}
+
+/// Writes the groups of sites that stand by rising target.
+fn write_groups<W: Sink>(
+    writer: &mut W,
+    written: u64,
+    pairs: &[(u32, u32)],
+) -> Result<u64, WriteFault>
+    requires rise { IsNonDecreasingBy (λ pair. pair.1) pairs.now }
+    requires few { length pairs.now < 2 ^ 32 }
+    requires room { written + 12 * length pairs.now < 2 ^ 64 }
+    ensures wrote { (count : ℕ) → All (λ pair. pair.1 < count) pairs.now → Wrote (W.taken writer.old) (W.taken writer.new) (W.failed writer.old) (W.failed writer.new) (bytes_of (groups_words count pairs.now)) written result }
+    ensures bound { IfOk result (λ end. end ≤ written + 12 * length pairs.now) }
+{
+    let mut written = written;
+    let mut rest = pairs;
+    'groups: while !rest.is_empty() {
+        let target = rest[0].1;
+        let (group, behind) = split_group(rest, target);
+        written = write_group(writer, written, target, group)?;
+        rest = behind;
+    }
+    Ok(written)
+}
+
+/// The sites of the first target, and those behind them.
+fn split_group(pairs: &[(u32, u32)], target: u32) -> (&[(u32, u32)], &[(u32, u32)])
+    requires rise { IsNonDecreasingBy (λ pair. pair.1) pairs.now }
+    requires some { 0 < length pairs.now }
+    requires first { (slice_index_or pairs.now 0 (0, 0)).1 ≡ target }
+    ensures { IsGroup target result.0.now result.1.now pairs.now }
+{
+    pairs.split_at(group_length(pairs, target))
+}
+
+/// The number of sites in front that have this target.
+fn group_length(pairs: &[(u32, u32)], target: u32) -> usize
+    ensures within { result ≤ length pairs.now }
+    ensures before { (k : ℕ) (d : ℕ × ℕ) → k < result → (slice_index_or pairs.now k d).1 ≡ target }
+    ensures stops { (d : ℕ × ℕ) → result < length pairs.now → (slice_index_or pairs.now result d).1 ≢ target }
+{
+    for (index, pair) in pairs.iter().enumerate() {
+        if pair.1 != target {
+            return index;
+        }
+    }
+    pairs.len()
+}
+
+/// Writes a group: the number of its sites, the target and the offsets.
+fn write_group<W: Sink>(
+    writer: &mut W,
+    written: u64,
+    target: u32,
+    group: &[(u32, u32)],
+) -> Result<u64, WriteFault>
+    requires some { 0 < length group.now }
+    requires few { length group.now < 2 ^ 32 }
+    requires room { written + 4 * (2 + length group.now) < 2 ^ 64 }
+    ensures wrote { Wrote (W.taken writer.old) (W.taken writer.new) (W.failed writer.old) (W.failed writer.new) (bytes_of (group_words target (map (λ pair. pair.0) group.now))) written result }
+{
+    let begun = write_longwords(writer, written, &[group.len() as u32, target])?;
+    write_offsets(writer, begun, group)
+}
+
+/// Offsets that are written at once.
+const CHUNK: usize = 256;
+
+/// Writes the offsets of these sites. They go through an array of fixed size.
+fn write_offsets<W: Sink>(
+    writer: &mut W,
+    written: u64,
+    group: &[(u32, u32)],
+) -> Result<u64, WriteFault>
+    requires room { written + 4 * length group.now < 2 ^ 64 }
+    ensures wrote { Wrote (W.taken writer.old) (W.taken writer.new) (W.failed writer.old) (W.failed writer.new) (bytes_of (map (λ pair. pair.0) group.now)) written result }
+{
+    let mut room = [0; CHUNK];
+    let mut written = written;
+    for chunk in group.chunks(CHUNK) {
+        let offsets = &mut room[..chunk.len()];
+        fill_offsets(offsets, chunk);
+        written = write_longwords(writer, written, offsets)?;
+    }
+    Ok(written)
+}
+
+/// Makes these the offsets of the sites.
+fn fill_offsets(offsets: &mut [u32], pairs: &[(u32, u32)])
+    requires each { length offsets.old ≡ length pairs.now }
+    ensures { offsets.new ≡ map (λ pair. pair.0) pairs.now }
+{
+    for (index, pair) in pairs.iter().enumerate() {
+        offsets[index] = pair.0;
+    }
+}
+
+#[cfg(test)]
+mod tests {
+    use super::*;
+    use hunk_words::Room;
+    use std::cell::Cell;
+    use std::test::Fail;
+
+    /// An allocator that refuses each growth after the first ones.
+    struct Limited<B: Allocator> {
+        inner: B,
+        left: Cell<u32>,
+    }
+
+    impl<B: Allocator> Drop for Limited<B> {
+        fn drop(self) {
+            let Self { inner: _, left: _ } = self;
+        }
+    }
+
+    unsafe impl<B: Allocator> Allocator for Limited<B> {
+        ghost dealloc_token = { λ heap ty ptr. B.dealloc_token heap.inner ty ptr };
+
+        fn allocate(&self, size: usize, align: usize) -> Result<*mut u8, AllocError> {
+            let left = self.left.get();
+            if left == 0 {
+                return Err(AllocError);
+            }
+            self.left.set(left - 1);
+            self.inner.allocate(size, align)
+        }
+
+        unsafe fn deallocate(&self, ptr: *mut u8, size: usize, align: usize) {
+            self.inner.deallocate(ptr, size, align);
+        }
+    }
+
+    // The relocation block of three sites: 0 and 8 for hunk 1, and 4 for hunk 0.
+    const PAIRS: [(u32, u32); 3] = [(8, 1), (0, 1), (4, 0)];
+
+    const BLOCK: [u8; 36] = [
+        0, 0, 3, 0xEC, 0, 0, 0, 1, 0, 0, 0, 0, 0, 0, 0, 4, 0, 0, 0, 2, 0, 0, 0, 1, 0, 0, 0, 0, 0,
+        0, 0, 8, 0, 0, 0, 0,
+    ];
+
+    fn add<A: Allocator + Copy>(sites: &mut Sites<u32, A>, pairs: &[(u32, u32)]) -> bool {
+        pairs
+            .iter()
+            .all(|(offset, target)| sites.try_add(*offset, *target).is_ok())
+    }
+
+    #[test]
+    fn writes_groups_by_rising_target(rt: HostRuntime) -> Result<(), Fail> {
+        let mut sites = Sites::new(rt.alloc(), 12);
+        assert!(rt; add(&mut sites, &PAIRS));
+        let mut room = Room::new(rt.alloc(), 36, 36, false)?;
+        assert_eq!(rt; write_sites(rt.alloc(), &mut room, 0, &sites), Ok(36));
+        assert_eq!(rt; room.bytes(), BLOCK.as_slice());
+        Ok(())
+    }
+
+    #[test]
+    fn writes_nothing_without_sites(rt: HostRuntime) -> Result<(), Fail> {
+        let sites = Sites::new(rt.alloc(), 12);
+        let mut room = Room::new(rt.alloc(), 1, 0, false)?;
+        assert_eq!(rt; write_sites(rt.alloc(), &mut room, 7, &sites), Ok(7));
+        assert!(rt; room.bytes().is_empty());
+        Ok(())
+    }
+
+    #[test]
+    fn tells_how_much_a_full_writer_has_taken(rt: HostRuntime) -> Result<(), Fail> {
+        let mut sites = Sites::new(rt.alloc(), 12);
+        assert!(rt; add(&mut sites, &PAIRS));
+        for (count, taken) in (0..BLOCK.len()).zip(100..) {
+            let mut room = Room::new(rt.alloc(), 5, count, false)?;
+            let written = write_sites(rt.alloc(), &mut room, 100, &sites);
+            assert_eq!(rt; written, Err(WriteFault::Device { written: taken }));
+            assert_eq!(rt; room.bytes(), &BLOCK[..count]);
+        }
+        Ok(())
+    }
+
+    // Neither the pairs nor what sorting them takes can be had; nothing is written then.
+    #[test]
+    fn tells_that_memory_was_refused(rt: HostRuntime) -> Result<(), Fail> {
+        for left in [0, 1] {
+            let limited = Limited {
+                inner: rt.alloc(),
+                left: Cell::new(u32::MAX),
+            };
+            let mut sites = Sites::new(&limited, 400);
+            for site in 0..100 {
+                assert_eq!(rt; sites.try_add(4 * site, 37 * site % 100), Ok(()));
+            }
+            limited.left.set(left);
+            let mut room = Room::new(rt.alloc(), 36, 36, false)?;
+            let written = write_sites(&limited, &mut room, 7, &sites);
+            assert_eq!(rt; written, Err(WriteFault::OutOfMemory { written: 7 }));
+            assert!(rt; room.bytes().is_empty());
+        }
+        Ok(())
+    }
+
+    // Six hundred sites, in turn for hunk 0 and for hunk 1.
+    #[test]
+    fn writes_many_offsets_of_two_targets(rt: HostRuntime) -> Result<(), Fail> {
+        let mut sites = Sites::new(rt.alloc(), 2400);
+        for site in 0..600 {
+            assert_eq!(rt; sites.try_add(4 * site, site % 2), Ok(()));
+        }
+        let mut words = vec![in rt.alloc(); 0x3EC]?;
+        for target in 0..2 {
+            words.push(300)?;
+            words.push(target)?;
+            for site in 0..300 {
+                words.push(8 * site + 4 * target)?;
+            }
+        }
+        words.push(0)?;
+        let mut bytes = Vec::new(rt.alloc());
+        for word in &words {
+            bytes.extend_from_slice(&u32::to_be_bytes(*word))?;
+        }
+        let mut room = Room::new(rt.alloc(), 1000, 2424, false)?;
+        assert_eq!(rt; write_sites(rt.alloc(), &mut room, 0, &sites), Ok(2424));
+        assert_eq!(rt; room.bytes(), bytes.as_slice());
+        Ok(())
+    }
+}
