@@ -5,12 +5,11 @@
 //! - `load_file`: a load file, made of hunks.
 //! - `load_builder`: what builds a load file of the events that its longwords tell.
 //! - `load_decoder`: load files from bytes.
-//! - `load_writer`: load files as bytes.
-//! - `debug_writer`: symbols and debug blocks, as they are written.
-//! - `relocation_writer`: relocation blocks, as they are written.
 //! - `partial`: the load file that events told so far.
 //! - `longword_writer`: bytes and longwords of a text that is written.
 //! - `relocation_writer`: the relocation block of a hunk, as it is written.
+//! - `debug_writer`: the symbols and debug blocks of a hunk, as they are written.
+//! - `load_writer`: load files as bytes.
 //! - `patching`: adding numbers to the longwords at sites.
 //! - `laws`: what holds of load files and of their written form.
 #![tactic(auto)]
