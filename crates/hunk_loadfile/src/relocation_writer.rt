@@ -11,10 +11,18 @@ use crate::longword_writer::write_longwords;
 use hunk_words::{Sink, Sites, WriteFault};
 use std::alloc::{AllocError, Allocator};
 
-/// Writes the relocation block of a hunk, where it has sites: a group for each target, by rising
-/// number, with its offsets by rising number (The AmigaDOS Manual, 3rd edition, "Amiga binary file
-/// structure"; the order is our own). It keeps the pairs of offset and target of this hunk alone,
-/// and takes their memory before it writes.
+/// Writes the relocation block of a hunk, where it has sites, and gives the number of bytes written
+/// then. The block has a group for each target, by rising number, with its offsets by rising number
+/// (The AmigaDOS Manual, 3rd edition, "Amiga binary file structure"; the order is our own).
+///
+/// It keeps the pairs of offset and target of this hunk alone, and takes their memory before it
+/// writes.
+///
+/// # Errors
+///
+/// `OutOfMemory` only where memory was refused: nothing of the block is written then. `Device` only
+/// where a write failed or took no byte. The writer has then taken exactly the first `written`
+/// bytes of the text.
 pub(crate) fn write_sites<W: Sink, A: Allocator + Copy>(
     alloc: A,
     writer: &mut W,
@@ -150,37 +158,7 @@ fn fill_offsets(offsets: &mut [u32], pairs: &[(u32, u32)])
 mod tests {
     use super::*;
     use hunk_words::Room;
-    use std::cell::Cell;
     use std::test::Fail;
-
-    /// An allocator that refuses each growth after the first ones.
-    struct Limited<B: Allocator> {
-        inner: B,
-        left: Cell<u32>,
-    }
-
-    impl<B: Allocator> Drop for Limited<B> {
-        fn drop(self) {
-            let Self { inner: _, left: _ } = self;
-        }
-    }
-
-    unsafe impl<B: Allocator> Allocator for Limited<B> {
-        ghost dealloc_token = { λ heap ty ptr. B.dealloc_token heap.inner ty ptr };
-
-        fn allocate(&self, size: usize, align: usize) -> Result<*mut u8, AllocError> {
-            let left = self.left.get();
-            if left == 0 {
-                return Err(AllocError);
-            }
-            self.left.set(left - 1);
-            self.inner.allocate(size, align)
-        }
-
-        unsafe fn deallocate(&self, ptr: *mut u8, size: usize, align: usize) {
-            self.inner.deallocate(ptr, size, align);
-        }
-    }
 
     // The relocation block of three sites: 0 and 8 for hunk 1, and 4 for hunk 0.
     const PAIRS: [(u32, u32); 3] = [(8, 1), (0, 1), (4, 0)];
@@ -201,6 +179,7 @@ mod tests {
         let mut sites = Sites::new(rt.alloc(), 12);
         assert!(rt; add(&mut sites, &PAIRS));
         let mut room = Room::new(rt.alloc(), 36, 36, false)?;
+        assert_eq!(rt; sites.limit(), 12);
         assert_eq!(rt; write_sites(rt.alloc(), &mut room, 0, &sites), Ok(36));
         assert_eq!(rt; room.bytes(), BLOCK.as_slice());
         Ok(())
@@ -219,32 +198,34 @@ mod tests {
     fn tells_how_much_a_full_writer_has_taken(rt: HostRuntime) -> Result<(), Fail> {
         let mut sites = Sites::new(rt.alloc(), 12);
         assert!(rt; add(&mut sites, &PAIRS));
-        for (count, taken) in (0..BLOCK.len()).zip(100..) {
+        assert_eq!(rt; sites.limit(), 12);
+        for count in 0..BLOCK.len() {
             let mut room = Room::new(rt.alloc(), 5, count, false)?;
-            let written = write_sites(rt.alloc(), &mut room, 100, &sites);
-            assert_eq!(rt; written, Err(WriteFault::Device { written: taken }));
+            let written = 100 + count as u64;
+            let answer = write_sites(rt.alloc(), &mut room, 100, &sites);
+            assert_eq!(rt; answer, Err(WriteFault::Device { written }));
             assert_eq!(rt; room.bytes(), &BLOCK[..count]);
         }
         Ok(())
     }
 
-    // Neither the pairs nor what sorting them takes can be had; nothing is written then.
+    // `rt try --test --fail-alloc N` refuses the memory of the pairs, or that of their sort.
     #[test]
-    fn tells_that_memory_was_refused(rt: HostRuntime) -> Result<(), Fail> {
-        for left in [0, 1] {
-            let limited = Limited {
-                inner: rt.alloc(),
-                left: Cell::new(u32::MAX),
-            };
-            let mut sites = Sites::new(&limited, 400);
-            for site in 0..100 {
-                assert_eq!(rt; sites.try_add(4 * site, 37 * site % 100), Ok(()));
+    fn writes_nothing_where_memory_is_refused(rt: HostRuntime) -> Result<(), Fail> {
+        let mut sites = Sites::new(rt.alloc(), 400);
+        for site in 0..100 {
+            if sites.try_add(4 * site, 37 * site % 100).is_err() {
+                return Ok(());
             }
-            limited.left.set(left);
-            let mut room = Room::new(rt.alloc(), 36, 36, false)?;
-            let written = write_sites(&limited, &mut room, 7, &sites);
-            assert_eq!(rt; written, Err(WriteFault::OutOfMemory { written: 7 }));
-            assert!(rt; room.bytes().is_empty());
+        }
+        let mut room = Room::new(rt.alloc(), 1000, 1208, false)?;
+        assert_eq!(rt; sites.limit(), 400);
+        match write_sites(rt.alloc(), &mut room, 7, &sites) {
+            Ok(written) => assert_eq!(rt; written, 1215),
+            Err(fault) => {
+                assert_eq!(rt; fault, WriteFault::OutOfMemory { written: 7 });
+                assert!(rt; room.bytes().is_empty());
+            }
         }
         Ok(())
     }
@@ -270,6 +251,7 @@ mod tests {
             bytes.extend_from_slice(&u32::to_be_bytes(*word))?;
         }
         let mut room = Room::new(rt.alloc(), 1000, 2424, false)?;
+        assert_eq!(rt; sites.limit(), 2400);
         assert_eq!(rt; write_sites(rt.alloc(), &mut room, 0, &sites), Ok(2424));
         assert_eq!(rt; room.bytes(), bytes.as_slice());
         Ok(())

@@ -1,5 +1,5 @@
 -- A group is its two first longwords and its offsets.
-use Rattle.std.proofs.Common.{ℕ, List, [], ◌∷◌, length, map}
+use Rattle.std.proofs.Common.{[], ◌∷◌, length, map}
 use Rattle.std.proofs.lemmas.Result.{err_from_is_err_and}
 use Rattle.hunk_loadfile.specs.Written.{group_words}
 use Rattle.hunk_loadfile.proofs.RelocationLemmas.{Wrote-words, Wrote-words_front, group_words-some, offset_of}

@@ -1,5 +1,5 @@
 -- The offsets of each chunk are the next ones.
-use Rattle.std.proofs.Common.{◌∙◌, ◌++◌, ℕ, List, map, Ok, refl, append_assoc, arith}
+use Rattle.std.proofs.Common.{◌∙◌, ◌++◌, map, Ok, refl, append_assoc, arith}
 use Rattle.std.proofs.lemmas.Result.{err_from_is_err_and}
 use Rattle.std.specs.Slice.Iter.{chunks_rest}
 use Rattle.hunk_loadfile.proofs.RelocationLemmas.{Wrote-words, Wrote-words_stop, offset_of, offsets-around, offsets-room}
