@@ -11,7 +11,8 @@ use Rattle.hunk_loadfile.specs.Hunks.{FileHunk}
 use Rattle.hunk_loadfile.specs.Rules.{IsLoadFile, IsLoadHunk, carried_by, debug_longwords, most_size, size_of, symbol_longwords}
 use Rattle.hunk_loadfile.specs.Written.{content_words, debug_words, header_words, hunk_words, site_words, size_word, symbols_words}
 use Rattle.hunk_loadfile.proofs.LengthLemmas.{length-content_words-le, length-debugs, length-hunks-le, length-site_words-le, length-symbols_words-le}
-use Rattle.hunk_loadfile.proofs.WriterLemmas.{bytes_of-append, bytes_of-longwords, length-bytes_of}
+use Rattle.hunk_loadfile.proofs.WroteLemmas.{bytes_of-append, length-bytes_of}
+use Rattle.hunk_loadfile.proofs.WriterLemmas.{bytes_of-longwords}
 
 -- ---- sizes
 

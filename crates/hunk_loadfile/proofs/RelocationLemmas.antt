@@ -18,16 +18,9 @@ use Rattle.hunk_words.specs.declared.fault.WriteFault.{WriteFault}
 use Rattle.hunk_loadfile.specs.RelocationWriter.{AreByTarget, IsGroup}
 use Rattle.hunk_loadfile.specs.Writing.{Wrote}
 use Rattle.hunk_loadfile.specs.Written.{group_words, groups_words, offsets_to, site_words}
-use Rattle.hunk_loadfile.proofs.WroteLemmas.{Wrote-inside, Wrote-stop, Wrote-then}
+use Rattle.hunk_loadfile.proofs.WroteLemmas.{Wrote-inside, Wrote-stop, Wrote-then, bytes_of-append, length-bytes_of}
 
 -- ---- longwords behind longwords
-
-pub length-bytes_of : (ws : List ℕ) → length (bytes_of ws) ≡ 4 * length ws
-length-bytes_of [] = refl
-length-bytes_of (w ∷ ws) = omega (arith, length-bytes_of ws)
-
-bytes_of-append : (ws more : List ℕ) → bytes_of (ws ++ more) ≡ bytes_of ws ++ bytes_of more
-bytes_of-append ws more = flat_map-append (big_bytes 4) ws more
 
 -- longwords, and then others
 pub Wrote-words : (old between new : Option (List ℕ)) (before halfway after : Bool) (first rest whole : List ℕ) (start middle : ℕ) (r : Result ℕ WriteFault)

@@ -14,16 +14,9 @@ use Rattle.hunk_objects.specs.declared.hunk_kind.HunkKind.TheVariants.{Code, Dat
 use Rattle.hunk_loadfile.specs.Hunks.{lists_of}
 use Rattle.hunk_loadfile.specs.Writing.{Wrote}
 use Rattle.hunk_loadfile.specs.Written.{content_words, symbol_words, symbols_words}
-use Rattle.hunk_loadfile.proofs.WroteLemmas.{Wrote-more, Wrote-part, Wrote-stop, Wrote-then}
+use Rattle.hunk_loadfile.proofs.WroteLemmas.{Wrote-more, Wrote-part, Wrote-stop, Wrote-then, bytes_of-append, length-bytes_of}
 
 -- ---- longwords behind longwords
-
-pub length-bytes_of : (ws : List ℕ) → length (bytes_of ws) ≡ 4 * length ws
-length-bytes_of [] = refl
-length-bytes_of (w ∷ ws) = omega (arith, length-bytes_of ws)
-
-pub bytes_of-append : (ws more : List ℕ) → bytes_of (ws ++ more) ≡ bytes_of ws ++ bytes_of more
-bytes_of-append ws more = flat_map-append (big_bytes 4) ws more
 
 -- a text, and then another one
 pub text-then : {W : Type 0} (taken : W → Option (List ℕ)) (failed : W → Bool) (old between new : W) (text first rest : List ℕ) (start middle : ℕ) (r : Result ℕ WriteFault)
