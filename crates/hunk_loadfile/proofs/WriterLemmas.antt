@@ -1,10 +1,8 @@
 -- Longwords that are written one behind the other, and what the parts of a load file come to.
-use Rattle.std.proofs.Common.{◌≡◌, ◌==◌, ◌<◌, ◌≤◌, ◌+◌, ◌*◌, ◌/◌, ◌%◌, ◌-◌, ◌∙◌, ℕ, zero, suc, List, [], ◌∷◌, ◌++◌, length, take, drop, get_or, max, replicate, Bool, false, Option, Result, Ok, Err, Vec, sym, ap, refl, subst, arith}
-use Rattle.std.proofs.lemmas.Grind.{flat_map-append}
-use Rattle.std.proofs.lemmas.List.{get_or-map, length-append, length-replicate, take_all}
+use Rattle.std.proofs.Common.{◌≡◌, ◌==◌, ◌<◌, ◌≤◌, ◌+◌, ◌*◌, ◌/◌, ◌%◌, ◌-◌, ◌∙◌, ℕ, zero, suc, List, [], ◌∷◌, ◌++◌, length, take, get_or, replicate, Bool, false, Option, Result, Ok, Err, Vec, sym, ap, refl, subst, arith}
+use Rattle.std.proofs.lemmas.List.{get_or-map, length-append, length-replicate}
 use Rattle.std.proofs.lemmas.List.Elements.{recursion_from_All}
 use Rattle.std.specs.List.{All, AllByRecursion, flat_map}
-use Rattle.byteorder.specs.Endian.{big_bytes}
 use Rattle.hunk_words.specs.Longwords.{longwords, unfinished}
 use Rattle.hunk_words.specs.Names.{IsNameByte, bytes_of, longword_count, name_words}
 use Rattle.hunk_words.specs.declared.fault.WriteFault.{WriteFault}

@@ -1,17 +1,17 @@
 -- Writing one text behind another.
-use Rattle.std.proofs.Common.{◌≡◌, ◌<◌, ◌≤◌, ◌+◌, ◌*◌, ◌∙◌, ℕ, List, [], ◌∷◌, ◌++◌, length, take, drop, drop-cons, add-one, add-zero, get_or, Bool, Option, Result, Ok, Err, IfOk, OnOk, IfErr, sym, ap, refl, subst, append-nil, append_assoc, arith}
+use Rattle.std.proofs.Common.{◌≡◌, ◌<◌, ◌≤◌, ◌+◌, ◌*◌, ◌∙◌, ℕ, List, [], ◌∷◌, ◌++◌, length, take, drop, drop-cons, add-one, add-zero, get_or, Bool, Option, Result, Ok, Err, IfOk, OnOk, IfErr, sym, ap, refl, subst, append-nil, arith}
 use Rattle.std.proofs.Math.Seq.{take-add, take-append-add}
 use Rattle.byteorder.specs.Endian.{big_bytes}
 use Rattle.hunk_words.specs.Names.{bytes_of}
 use Rattle.std.proofs.lemmas.Grind.{flat_map-append}
-use Rattle.std.proofs.lemmas.List.{length-append, take-append-drop, take-append-le, take_more, take_all}
+use Rattle.std.proofs.lemmas.List.{length-append, take-append-drop, take-append-le, take_more}
 use Rattle.std.specs.Io.KnownBytes.{Appends}
 use Rattle.std.specs.List.{flat_map}
 use Rattle.std.proofs.KnownBytes.{Appends-nil, Appends-trans}
 use Rattle.hunk_words.specs.Streams.{DeviceStopped, TookFront}
 use Rattle.hunk_words.specs.declared.fault.WriteFault.{WriteFault}
 use Rattle.hunk_words.specs.declared.fault.WriteFault.TheVariants.{Device, OutOfMemory}
-use Rattle.hunk_loadfile.specs.Writing.{WriteStopped, Wrote}
+use Rattle.hunk_loadfile.specs.Writing.{Wrote}
 
 -- ---- fronts
 

@@ -1,5 +1,5 @@
 -- One debug block more.
-use Rattle.std.proofs.Common.{◌≡◌, ◌<◌, ap, length, take, Vec, ℕ, arith}
+use Rattle.std.proofs.Common.{◌<◌, ap, length, take, Vec, ℕ, arith}
 use Rattle.std.proofs.lemmas.List.{length-map}
 use Rattle.std.proofs.lemmas.List.Sums.{sum_by_more_le}
 use Rattle.std.proofs.lemmas.Result.{err_from_is_err_and}

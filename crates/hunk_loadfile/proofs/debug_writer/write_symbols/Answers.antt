@@ -1,5 +1,5 @@
 -- The type is written, then each symbol, and then the end of the block.
-use Rattle.std.proofs.Common.{◌∷◌, ◌++◌, [], Err, length, refl, arith}
+use Rattle.std.proofs.Common.{◌∷◌, ◌++◌, [], Err, refl, arith}
 use Rattle.std.proofs.lemmas.Result.{err_from_is_err_and}
 use Rattle.std.specs.List.{flat_map}
 use Rattle.hunk_loadfile.specs.Written.{symbol_words, symbols_words}
