@@ -1,5 +1,5 @@
 //! The sites of a hunk, which are relocated or refer to a name.
-ghost use Rattle.std.specs.Prelude.{◌≡◌, ℕ, ◌+◌, ◌*◌, ◌<◌, ◌≤◌, ◌==◌, [], length, if◌then◌else◌, Some, OnOk, OnErr, IsTrue, ◌↔◌};
+ghost use Rattle.std.specs.Prelude.{◌≡◌, ℕ, ◌+◌, ◌*◌, ◌<◌, ◌≤◌, ◌==◌, [], length, if◌then◌else◌, Some, IsSome, OnOk, OnErr, IsTrue, ◌↔◌};
 ghost use Rattle.std.specs.BTreeMap.{insert_entry};
 ghost use Rattle.std.specs.Iterator.{at_most};
 ghost use Rattle.std.specs.Map.Iter.{TakesFirst, ShowsInOrder, ShowsValuesInOrder};
@@ -141,11 +141,24 @@ impl<'a, T> Iterator for Walk<'a, T> {
     }
 }
 
-/// Whether a site at the offset shares a byte with one of these, which are apart. It looks at one
-/// site alone: the first whose last byte is not before the offset.
+/// Whether each of these sites ends at the offset or before it, as where sites come in order.
+fn end_before<T, A: Allocator>(sites: &BTreeMap<u32, T, A>, offset: u32) -> bool
+    ensures { IsTrue result ↔ ((other : ℕ) → IsSome (target_at sites.now.entries other) → other + 4 ≤ offset) }
+{
+    match sites.last_key_value() {
+        Some((last, _)) => offset.saturating_sub(*last) >= 4,
+        None => true,
+    }
+}
+
+/// Whether a site at the offset shares a byte with one of these, which are apart. It looks at two
+/// sites at most: the last one, and the first whose last byte is not before the offset.
 fn meets<T, A: Allocator>(sites: &BTreeMap<u32, T, A>, offset: u32) -> bool
     ensures { IsTrue result ↔ Meets sites.now.entries offset }
 {
+    if end_before(sites, offset) {
+        return false;
+    }
     match sites.range(offset.saturating_sub(3)..).next() {
         Some((start, _)) => start.saturating_sub(offset) < 4,
         None => false,
