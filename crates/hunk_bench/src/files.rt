@@ -23,7 +23,7 @@ pub fn read_file(rt: &HostRuntime, name: &str) -> io::Result<()> {
 pub fn decode_file(rt: &HostRuntime, name: &str) -> io::Result<()> {
     let mut file = fs::open(rt, name)?;
     match decode_all(rt.alloc(), &mut file)? {
-        Ok(()) => rt.println("decoded"),
+        Ok(hunks) => rt.println(format_args!("{hunks} hunks")),
         Err(_) => rt.println("the decoder refused the file"),
     }
 }
@@ -50,7 +50,8 @@ fn read_all(file: &mut File) -> io::Result<u64> {
     Ok(total)
 }
 
-fn decode_all(alloc: Global, file: &mut File) -> io::Result<Result<(), Refusal>> {
+// The number of the hunks in the file.
+fn decode_all(alloc: Global, file: &mut File) -> io::Result<Result<usize, Refusal>> {
     let mut buffer = [0; PIECE];
     let mut decoder = LoadDecoder::new(alloc);
     for _ in 0..u64::MAX {
@@ -63,7 +64,10 @@ fn decode_all(alloc: Global, file: &mut File) -> io::Result<Result<(), Refusal>>
             Err(refusal) => return Ok(Err(refusal)),
         }
     }
-    Ok(Ok(()))
+    match decoder.finish() {
+        Ok(file) => Ok(Ok(file.hunks().len())),
+        Err(refusal) => Ok(Err(refusal)),
+    }
 }
 
 // The bytes of the image.
