@@ -8,6 +8,7 @@ use crate::Refusing;
 use hunk_loadfile::{LoadFile, read_load, write_load};
 use hunk_words::{Pieces, Room, Sink, WriteFault};
 use std::alloc::{Allocator, Global};
+use std::process::Abort;
 use std::test::Fail;
 
 // More growths than a file of the tests asks for when it is written.
@@ -90,18 +91,24 @@ fn tells_what_a_writer_took_of_a_file(rt: HostRuntime) -> Result<(), Fail> {
     Ok(())
 }
 
-// The header and the first hunk, which has no site, take no memory. They are written whatever is
-// refused. The growths of reading the file come before those of writing it.
-#[test]
-fn writes_hunk_by_hunk(rt: HostRuntime) -> Result<(), Fail> {
-    let text = bytes_of(rt.alloc(), &THREE_HUNKS, &[])?;
-    let before = growths_of_reading(rt.alloc(), &text)?;
+// A file in written form is written with each growth refused in turn: exactly the bytes up to the
+// relocation block of the first hunk that has sites, and then with none, after `least` growths.
+// The growths of reading the file come before those of writing it.
+fn is_written_up_to(
+    rt: &impl Abort,
+    alloc: Global,
+    words: &[u32],
+    front: usize,
+    least: u64,
+) -> Result<(), Fail> {
+    let text = bytes_of(alloc, words, &[])?;
+    let before = growths_of_reading(alloc, &text)?;
     let mut growths = 0;
     for number in 0..MOST_GROWTHS {
         let refused = before.saturating_add(number);
-        let heap = Refusing::new(rt.alloc(), refused);
+        let heap = Refusing::new(alloc, refused);
         let file = file_of(&heap, text.clone()?)?;
-        let mut writer = Room::new(rt.alloc(), 64, ROOM, false)?;
+        let mut writer = Room::new(alloc, 64, text.len(), false)?;
         let got = write_load(&heap, &file, &mut writer);
         if heap.asked() <= refused {
             assert_eq!(rt; got, Ok(()));
@@ -109,12 +116,43 @@ fn writes_hunk_by_hunk(rt: HostRuntime) -> Result<(), Fail> {
             growths = number;
             break;
         }
-        let written = writer.bytes().len() as u64;
-        assert_eq!(rt; got, Err(WriteFault::OutOfMemory { written }));
-        assert!(rt; 52 <= written && written < 100, "growth {number}");
-        assert!(rt; text.starts_with(writer.bytes()), "growth {number}");
+        let written = front as u64;
+        assert_eq!(rt;
+            got,
+            Err(WriteFault::OutOfMemory { written }),
+            "growth {number}"
+        );
+        assert_eq!(rt; text.get(..front), Some(writer.bytes()), "growth {number}");
         assert!(rt; !Sink::failed(&writer));
     }
-    assert!(rt; 1 <= growths, "the sites grow");
+    assert!(rt; least <= growths, "{growths} growths");
     Ok(())
+}
+
+// The header, the first hunk, which has no site, and the content of the second one take no memory.
+// They are written whatever is refused.
+#[test]
+fn writes_hunk_by_hunk(rt: HostRuntime) -> Result<(), Fail> {
+    is_written_up_to(&rt, rt.alloc(), &THREE_HUNKS, 64, 1)
+}
+
+// A hundred sites that name four hunks in turn. They take memory, and so does sorting them.
+#[test]
+fn sorts_before_it_writes_relocations(rt: HostRuntime) -> Result<(), Fail> {
+    let mut words = [0x3F3, 0, 4, 0, 3, 100, 0, 0, 0, 0x3E9, 100].to_vec(rt.alloc())?;
+    for _ in 0..100 {
+        words.push(0)?;
+    }
+    words.push(0x3EC)?;
+    for target in 0..4 {
+        words.extend_from_slice(&[25, target])?;
+        for site in 0..25 {
+            words.push(16 * site + 4 * target)?;
+        }
+    }
+    words.extend_from_slice(&[0, 0x3F2])?;
+    for _ in 0..3 {
+        words.extend_from_slice(&[0x3EB, 0, 0x3F2])?;
+    }
+    is_written_up_to(&rt, rt.alloc(), &words, 444, 2)
 }
