@@ -9,8 +9,14 @@ generator="$(cd "$(dirname "$0")" && pwd)/load_file.py"
 folder="$(mktemp -d)"
 trap 'rm -rf "$folder"' EXIT
 
-(cd "$crates/amihunk" && rt run -- --help > /dev/null)
-(cd "$crates/hunk_bench" && rt run > /dev/null)
+build() { # CRATE WORDS..
+    local crate="$1"
+    shift
+    (cd "$crates/$crate" && rt run "$@") > "$folder/build" 2>&1 || { cat "$folder/build" >&2; exit 1; }
+}
+
+build amihunk -- --help
+build hunk_bench
 amihunk="$crates/amihunk/out/amihunk"
 bench="$crates/hunk_bench/out/hunk_bench"
 longwords=15728640 # 60 MB

@@ -1,20 +1,20 @@
 -- How long the written form of a load file is.
-use Rattle.std.proofs.Common.{◌≡◌, ◌==◌, ◌∙◌, ℕ, zero, suc, ◌+◌, ◌-◌, ◌*◌, ◌^◌, ◌<◌, ◌≤◌, inl, inr, nat_le, cond, List, [], ◌∷◌, ◌++◌, length, map, sum_by, refl, ap, sym, arith}
-use Rattle.std.specs.List.{All, filter, flat_map, range_with_len}
+use Rattle.std.proofs.Common.{◌≡◌, ℕ, zero, suc, ◌+◌, ◌*◌, ◌≤◌, inl, inr, nat_le, cond, List, [], ◌∷◌, ◌++◌, length, map, sum_by, refl, arith}
+use Rattle.std.specs.List.{All, flat_map, range_with_len}
 use Rattle.std.proofs.lemmas.Bool.{cases_lt, cases_eq, ne_eqb, eq-eqb, le-leb, lt-leb}
 use Rattle.std.proofs.lemmas.List.{length-append, length-map}
 use Rattle.std.proofs.lemmas.List.Elements.{All-head, All-tail}
 use Rattle.std.proofs.lemmas.List.Sums.{sum_by-cons}
-use Rattle.hunk_words.specs.Longwords.{longwords, unfinished}
-use Rattle.hunk_words.specs.Names.{longword_count, name_words}
+use Rattle.hunk_words.specs.Longwords.{longwords}
+use Rattle.hunk_words.specs.Names.{name_words}
 use Rattle.hunk_words.proofs.Longwords.{length-longwords}
 use Rattle.hunk_words.proofs.NameLemmas.{length-name_words}
 use Rattle.hunk_words.proofs.SiteLemmas.{AreApart-few}
 use Rattle.hunk_objects.specs.declared.hunk_kind.HunkKind.{HunkKind}
 use Rattle.hunk_objects.specs.declared.hunk_kind.HunkKind.TheVariants.{Code, Data, Bss}
 use Rattle.hunk_loadfile.specs.Hunks.{FileHunk}
-use Rattle.hunk_loadfile.specs.Rules.{IsLoadFile, IsLoadHunk, carried, carried_by, debug_longwords, most_content, size_of, symbol_longwords}
-use Rattle.hunk_loadfile.specs.Written.{content_words, debug_words, group_words, groups_words, hunk_words, offsets_to, site_words, size_word, symbol_words, symbols_words, written}
+use Rattle.hunk_loadfile.specs.Rules.{IsLoadHunk, carried, carried_by, debug_longwords, most_content, size_of, symbol_longwords}
+use Rattle.hunk_loadfile.specs.Written.{content_words, debug_words, group_words, groups_words, hunk_words, offsets_to, site_words, size_word, symbol_words, symbols_words}
 use Rattle.hunk_loadfile.specs.LoadLaws.{WrittenIsShort}
 
 -- ---- groups

@@ -30,6 +30,7 @@ use Rattle.hunk_words.proofs.TakerLemmas.{SameSites-more, SameSites-none}
 use Rattle.hunk_loadfile.specs.FileValue.{IsLoad, file_hunk, kind_of, load_hunk_value, load_value, with_sites}
 use Rattle.hunk_loadfile.specs.Hunks.{FileHunk}
 use Rattle.hunk_loadfile.specs.Rules.{IsLoadFile, IsLoadHunk, IsLongword, IsTypedSymbol, carried, carried_by, most_content, most_name, size_of, symbol_longwords}
+use Rattle.hunk_loadfile.proofs.WroteLemmas.{length-bytes_of}
 use Rattle.hunk_loadfile.proofs.LoadSpellingLemmas.{ContentFits, HunkFits, SitesFit, SymbolFits, hunks-fit, long_count, long_count-le, sizes-fit, symbol_count, told_count, value_of}
 
 -- ---- sites
@@ -70,10 +71,6 @@ sites-apart last limit seen entries ((o, to_hunk t) ∷ ss) fit stand same withi
 sites-apart last limit seen entries ((o, to_reference r) ∷ ss) fit stand same within = absurd fit.0
 
 -- ---- symbols and debug blocks
-
-length-bytes_of : (ws : List ℕ) → length (bytes_of ws) ≡ 4 * length ws
-length-bytes_of [] = refl
-length-bytes_of (w ∷ ws) = omega (arith, length-bytes_of ws)
 
 -- a name has no more bytes than its longwords
 length-name_of-le : (ws : List ℕ) → length (name_of ws) ≤ 4 * length ws

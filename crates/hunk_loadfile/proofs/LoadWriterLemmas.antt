@@ -1,6 +1,6 @@
 -- What the hunks of a load file come to where they are written.
-use Rattle.std.proofs.Common.{◌≡◌, ◌<◌, ◌≤◌, ◌+◌, ◌*◌, ◌^◌, ◌∙◌, ℕ, List, [], ◌∷◌, ◌++◌, length, map, take, sum_by, refl, sym, ap, subst, arith}
-use Rattle.std.proofs.lemmas.List.{length-append, length-map, map-append}
+use Rattle.std.proofs.Common.{◌≡◌, ◌<◌, ◌≤◌, ◌+◌, ◌*◌, ◌^◌, ◌∙◌, ℕ, List, [], ◌∷◌, ◌++◌, length, take, sum_by, refl, sym, ap, subst, arith}
+use Rattle.std.proofs.lemmas.List.{length-append, length-map}
 use Rattle.std.proofs.lemmas.List.Elements.{All-head, All-tail, All-nil, All-cons, All-take}
 use Rattle.std.proofs.lemmas.List.Sums.{sum_by-cons, sum_by-take-le}
 use Rattle.std.specs.List.{All, flat_map}
@@ -8,10 +8,11 @@ use Rattle.hunk_words.specs.Longwords.{longwords}
 use Rattle.hunk_words.specs.Names.{bytes_of}
 use Rattle.hunk_words.proofs.SiteLemmas.{AreApart-few}
 use Rattle.hunk_loadfile.specs.Hunks.{FileHunk}
-use Rattle.hunk_loadfile.specs.Rules.{IsLoadFile, IsLoadHunk, carried_by, debug_longwords, most_size, size_of, symbol_longwords}
+use Rattle.hunk_loadfile.specs.Rules.{IsLoadFile, IsLoadHunk, carried_by, debug_longwords, most_size, symbol_longwords}
 use Rattle.hunk_loadfile.specs.Written.{content_words, debug_words, header_words, hunk_words, site_words, size_word, symbols_words}
 use Rattle.hunk_loadfile.proofs.LengthLemmas.{length-content_words-le, length-debugs, length-hunks-le, length-site_words-le, length-symbols_words-le}
-use Rattle.hunk_loadfile.proofs.WriterLemmas.{bytes_of-append, bytes_of-longwords, length-bytes_of}
+use Rattle.hunk_loadfile.proofs.WroteLemmas.{bytes_of-append, length-bytes_of}
+use Rattle.hunk_loadfile.proofs.WriterLemmas.{bytes_of-longwords}
 
 -- ---- sizes
 

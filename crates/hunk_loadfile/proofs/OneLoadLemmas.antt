@@ -4,7 +4,7 @@ use Rattle.hunk_words.specs.Trees.{LoadHunkTree, LoadTree}
 use Rattle.hunk_words.specs.Values.{Hunk, load_sizes, load_hunk_values}
 use Rattle.hunk_words.proofs.OneValueLemmas.{load-one}
 use Rattle.hunk_loadfile.specs.Hunks.{FileHunk}
-use Rattle.hunk_loadfile.specs.FileValue.{IsLoad, file_hunk, load_hunk_value, load_value}
+use Rattle.hunk_loadfile.specs.FileValue.{file_hunk, load_hunk_value, load_value}
 use Rattle.hunk_loadfile.specs.LoadLaws.{OneLoad}
 
 -- hunks, each with its memory bits and size of the header

@@ -1,8 +1,7 @@
 -- The groups of a relocation block, and the sites by rising target that they are made of.
-use Rattle.std.proofs.Common.{◌≡◌, ◌≢◌, ◌==◌, ◌&&◌, not, ◌<◌, ◌≤◌, ◌+◌, ◌-◌, ◌*◌, ◌^◌, ◌∙◌, ℕ, zero, suc, inl, inr, Bool, true, false, cond, List, [], ◌∷◌, ◌++◌, length, map, take, drop, get_or, Option, Result, Ok, Err, sym, ap, refl, subst, append_assoc, append-nil, eq-eqb, arith}
+use Rattle.std.proofs.Common.{◌≡◌, ◌==◌, ◌&&◌, not, ◌<◌, ◌≤◌, ◌+◌, ◌-◌, ◌*◌, ◌^◌, ◌∙◌, ℕ, zero, suc, inl, inr, Bool, false, List, [], ◌∷◌, ◌++◌, length, map, take, drop, get_or, Option, Result, Ok, Err, sym, ap, refl, subst, append-nil, eq-eqb, arith}
 use Rattle.std.proofs.lemmas.Bool.{cases_eq, cases_lt, ne_eqb}
-use Rattle.std.proofs.lemmas.Grind.{flat_map-append}
-use Rattle.std.proofs.lemmas.List.{length-append, length-drop, length-map, length-take-le, map-append, take-append-drop, get_or-take, get_or-drop, nil_from_length}
+use Rattle.std.proofs.lemmas.List.{length-append, length-drop, length-map, length-take-le, map-append, take-append-drop, get_or-take, get_or-drop}
 use Rattle.std.proofs.lemmas.List.Elements.{All-drop, All-take, All-weaker, filter-append, filter_agree, recursion_from_All}
 use Rattle.std.proofs.lemmas.List.Sorted.{All-permutation, IsNonDecreasingBy-drop}
 use Rattle.std.specs.List.{All, AllByRecursion, filter, flat_map, range_with_len}
@@ -11,23 +10,15 @@ use Rattle.std.specs.Ordering.{is_lt, nat_cmp}
 use Rattle.std.specs.Cmp.{nat_cmp_is}
 use Rattle.std.specs.declared.cmp.Ordering.TheVariants.{Less, Equal, Greater}
 use Rattle.std.proofs.Math.Seq.{drop-append_seam, take-append_seam}
-use Rattle.byteorder.specs.Endian.{big_bytes}
 use Rattle.hunk_words.specs.Names.{bytes_of}
 use Rattle.hunk_words.specs.Sites.{StandFrom}
 use Rattle.hunk_words.specs.declared.fault.WriteFault.{WriteFault}
 use Rattle.hunk_loadfile.specs.RelocationWriter.{AreByTarget, IsGroup}
 use Rattle.hunk_loadfile.specs.Writing.{Wrote}
 use Rattle.hunk_loadfile.specs.Written.{group_words, groups_words, offsets_to, site_words}
-use Rattle.hunk_loadfile.proofs.WroteLemmas.{Wrote-inside, Wrote-stop, Wrote-then}
+use Rattle.hunk_loadfile.proofs.WroteLemmas.{Wrote-inside, Wrote-stop, Wrote-then, bytes_of-append, length-bytes_of}
 
 -- ---- longwords behind longwords
-
-pub length-bytes_of : (ws : List ℕ) → length (bytes_of ws) ≡ 4 * length ws
-length-bytes_of [] = refl
-length-bytes_of (w ∷ ws) = omega (arith, length-bytes_of ws)
-
-bytes_of-append : (ws more : List ℕ) → bytes_of (ws ++ more) ≡ bytes_of ws ++ bytes_of more
-bytes_of-append ws more = flat_map-append (big_bytes 4) ws more
 
 -- longwords, and then others
 pub Wrote-words : (old between new : Option (List ℕ)) (before halfway after : Bool) (first rest whole : List ℕ) (start middle : ℕ) (r : Result ℕ WriteFault)

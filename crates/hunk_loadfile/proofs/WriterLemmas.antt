@@ -1,10 +1,8 @@
 -- Longwords that are written one behind the other, and what the parts of a load file come to.
-use Rattle.std.proofs.Common.{◌≡◌, ◌==◌, ◌<◌, ◌≤◌, ◌+◌, ◌*◌, ◌/◌, ◌%◌, ◌-◌, ◌∙◌, ℕ, zero, suc, List, [], ◌∷◌, ◌++◌, length, take, drop, get_or, max, replicate, Bool, false, Option, Result, Ok, Err, Vec, sym, ap, refl, subst, arith}
-use Rattle.std.proofs.lemmas.Grind.{flat_map-append}
-use Rattle.std.proofs.lemmas.List.{get_or-map, length-append, length-replicate, take_all}
+use Rattle.std.proofs.Common.{◌≡◌, ◌==◌, ◌<◌, ◌≤◌, ◌+◌, ◌*◌, ◌/◌, ◌%◌, ◌-◌, ◌∙◌, ℕ, zero, suc, List, [], ◌∷◌, ◌++◌, length, take, get_or, replicate, Bool, false, Option, Result, Ok, Err, Vec, sym, ap, refl, subst, arith}
+use Rattle.std.proofs.lemmas.List.{get_or-map, length-append, length-replicate}
 use Rattle.std.proofs.lemmas.List.Elements.{recursion_from_All}
 use Rattle.std.specs.List.{All, AllByRecursion, flat_map}
-use Rattle.byteorder.specs.Endian.{big_bytes}
 use Rattle.hunk_words.specs.Longwords.{longwords, unfinished}
 use Rattle.hunk_words.specs.Names.{IsNameByte, bytes_of, longword_count, name_words}
 use Rattle.hunk_words.specs.declared.fault.WriteFault.{WriteFault}
@@ -14,16 +12,9 @@ use Rattle.hunk_objects.specs.declared.hunk_kind.HunkKind.TheVariants.{Code, Dat
 use Rattle.hunk_loadfile.specs.Hunks.{lists_of}
 use Rattle.hunk_loadfile.specs.Writing.{Wrote}
 use Rattle.hunk_loadfile.specs.Written.{content_words, symbol_words, symbols_words}
-use Rattle.hunk_loadfile.proofs.WroteLemmas.{Wrote-more, Wrote-part, Wrote-stop, Wrote-then}
+use Rattle.hunk_loadfile.proofs.WroteLemmas.{Wrote-more, Wrote-part, Wrote-stop, Wrote-then, bytes_of-append, length-bytes_of}
 
 -- ---- longwords behind longwords
-
-pub length-bytes_of : (ws : List ℕ) → length (bytes_of ws) ≡ 4 * length ws
-length-bytes_of [] = refl
-length-bytes_of (w ∷ ws) = omega (arith, length-bytes_of ws)
-
-pub bytes_of-append : (ws more : List ℕ) → bytes_of (ws ++ more) ≡ bytes_of ws ++ bytes_of more
-bytes_of-append ws more = flat_map-append (big_bytes 4) ws more
 
 -- a text, and then another one
 pub text-then : {W : Type 0} (taken : W → Option (List ℕ)) (failed : W → Bool) (old between new : W) (text first rest : List ℕ) (start middle : ℕ) (r : Result ℕ WriteFault)

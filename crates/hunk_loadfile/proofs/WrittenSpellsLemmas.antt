@@ -6,7 +6,7 @@ use Rattle.std.proofs.lemmas.List.{length-map}
 use Rattle.std.proofs.lemmas.List.Elements.{All-head, All-tail, recursion_from_All}
 use Rattle.std.proofs.lemmas.List.Sums.{sum_by-cons}
 use Rattle.hunk_words.specs.Longwords.{longwords}
-use Rattle.hunk_words.specs.Kinds.{Field, field, low, bits, and_then}
+use Rattle.hunk_words.specs.Kinds.{Field, field, low, and_then}
 use Rattle.hunk_words.specs.Kinds.Within.{in_load}
 use Rattle.hunk_words.specs.Kinds.Kind.{load_start, hunk_type, resident, table_size, first_hunk, last_hunk, header_size}
 use Rattle.hunk_words.specs.declared.kinds.ContentType.TheVariants as content_type

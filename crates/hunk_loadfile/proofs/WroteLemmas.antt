@@ -1,17 +1,17 @@
 -- Writing one text behind another.
-use Rattle.std.proofs.Common.{◌≡◌, ◌<◌, ◌≤◌, ◌+◌, ◌∙◌, ℕ, List, [], ◌∷◌, ◌++◌, length, take, drop, drop-cons, add-one, add-zero, get_or, Bool, Option, Result, Ok, Err, IfOk, OnOk, IfErr, sym, ap, refl, subst, append-nil, append_assoc, arith}
+use Rattle.std.proofs.Common.{◌≡◌, ◌<◌, ◌≤◌, ◌+◌, ◌*◌, ◌∙◌, ℕ, List, [], ◌∷◌, ◌++◌, length, take, drop, drop-cons, add-one, add-zero, get_or, Bool, Option, Result, Ok, Err, IfOk, OnOk, IfErr, sym, ap, refl, subst, append-nil, arith}
 use Rattle.std.proofs.Math.Seq.{take-add, take-append-add}
 use Rattle.byteorder.specs.Endian.{big_bytes}
 use Rattle.hunk_words.specs.Names.{bytes_of}
 use Rattle.std.proofs.lemmas.Grind.{flat_map-append}
-use Rattle.std.proofs.lemmas.List.{length-append, take-append-drop, take-append-le, take_more, take_all}
+use Rattle.std.proofs.lemmas.List.{length-append, take-append-drop, take-append-le, take_more}
 use Rattle.std.specs.Io.KnownBytes.{Appends}
 use Rattle.std.specs.List.{flat_map}
 use Rattle.std.proofs.KnownBytes.{Appends-nil, Appends-trans}
 use Rattle.hunk_words.specs.Streams.{DeviceStopped, TookFront}
 use Rattle.hunk_words.specs.declared.fault.WriteFault.{WriteFault}
 use Rattle.hunk_words.specs.declared.fault.WriteFault.TheVariants.{Device, OutOfMemory}
-use Rattle.hunk_loadfile.specs.Writing.{WriteStopped, Wrote}
+use Rattle.hunk_loadfile.specs.Writing.{Wrote}
 
 -- ---- fronts
 
@@ -136,6 +136,15 @@ Wrote-part part xs index x old between new before halfway after start middle fau
     let stopped = Wrote-stop between new halfway after (part (get_or xs index x)) rest middle fault next_at in
     subst (λ t. Wrote old new before after t start (Err fault)) (sym (flat_map-around part xs index x within))
     (Wrote-then old between new before halfway after (flat_map part (take index xs)) (part (get_or xs index x) ++ rest) start middle (Err fault) first stopped)
+
+-- ---- longwords
+
+pub length-bytes_of : (ws : List ℕ) → length (bytes_of ws) ≡ 4 * length ws
+length-bytes_of [] = refl
+length-bytes_of (w ∷ ws) = omega (arith, length-bytes_of ws)
+
+pub bytes_of-append : (ws more : List ℕ) → bytes_of (ws ++ more) ≡ bytes_of ws ++ bytes_of more
+bytes_of-append ws more = flat_map-append (big_bytes 4) ws more
 
 -- ---- longwords in pieces
 

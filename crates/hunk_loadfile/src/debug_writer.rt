@@ -1,4 +1,4 @@
-//! Symbols and debug blocks, as they are written.
+//! The symbols and debug blocks of a hunk, as they are written.
 ghost use Rattle.std.specs.Prelude.{◌≡◌, ◌+◌, ◌*◌, ◌<◌, ◌≤◌, ◌^◌, length, sum_by};
 ghost use Rattle.std.specs.List.{All, flat_map};
 ghost use Rattle.hunk_words.specs.Names.{bytes_of, longword_count, name_words};

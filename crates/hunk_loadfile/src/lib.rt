@@ -7,7 +7,7 @@
 //! - `load_decoder`: load files from bytes.
 //! - `load_writer`: load files as bytes.
 //! - `relocation_writer`: the relocation block of a hunk, as it is written.
-//! - `debug_writer`: symbols and debug blocks, as they are written.
+//! - `debug_writer`: the symbols and debug blocks of a hunk, as they are written.
 //! - `longword_writer`: bytes and longwords of a text that is written.
 //! - `partial`: the load file that events told so far.
 //! - `patching`: adding numbers to the longwords at sites.
@@ -17,7 +17,7 @@
 pub mod build;
 mod debug_writer;
 pub mod laws;
-pub mod load_builder;
+mod load_builder;
 pub mod load_decoder;
 pub mod load_file;
 pub mod load_hunk;

@@ -25,7 +25,7 @@ enum Receiver<A: Allocator + Copy> {
 /// Builds a load file of the events that its longwords tell: the hunks that ended, and the one that
 /// has not. A refusal leaves it as it was.
 #[derive(Debug, Drop)]
-pub struct LoadBuilder<A: Allocator + Copy = Global> {
+pub(crate) struct LoadBuilder<A: Allocator + Copy = Global> {
     alloc: A,
     // the memory bits and the sizes of the header
     sizes: Vec<(u8, u32), A>,
@@ -67,7 +67,7 @@ impl<A: Allocator + Copy> LoadBuilder<A> {
     ghost use Rattle.hunk_loadfile.specs.Builder.{StandsFor, Steps};
 
     /// A builder that took no event. It takes no memory.
-    pub fn new(alloc: A) -> Self
+    pub(crate) fn new(alloc: A) -> Self
         ensures { StandsFor result [] }
     {
         LoadBuilder {
@@ -80,7 +80,7 @@ impl<A: Allocator + Copy> LoadBuilder<A> {
     }
 
     /// The hunks that ended.
-    pub fn into_hunks(self) -> Vec<LoadHunk<A>, A>
+    pub(crate) fn into_hunks(self) -> Vec<LoadHunk<A>, A>
         ensures { result.items ≡ self.hunks.items }
     {
         self.hunks

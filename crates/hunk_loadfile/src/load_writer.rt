@@ -172,54 +172,21 @@ mod tests {
     use std::alloc::Global;
     use std::test::Fail;
 
-    /// The longwords of the file of two hunks below.
-    const FILE: [u32; 46] = [
-        1011,
-        0,
-        2,
-        0,
-        1,
-        0x8000_0003,
-        0x4000_0005, // the header, with fast and chip memory
-        1002,
-        3,
-        0x4E71_0000,
-        0x0000_0001,
-        0x0000_4E75, // data
-        1004,
-        1,
-        0,
-        8,
-        2,
-        1,
-        0,
-        4,
-        0, // sites
-        1008,
-        1,
-        0x4100_0000,
-        4,
-        1,
-        0,
-        8,
-        2,
-        0x6D61_696E,
-        0x5F31_0000,
-        12,
-        1,
-        0x666F_6F64,
-        0,
-        0,
-        1009,
-        2,
-        0xDEAD_BEEF,
-        7,
-        1009,
-        0,
-        1010, // debug blocks, END
-        1003,
-        5,
-        1010,
+    /// The longwords of the file of two hunks below: the header, the first hunk's data, its sites by
+    /// target, its four symbols and its two debug blocks, and the second hunk.
+    const FILE: [&[u32]; 12] = [
+        &[1011, 0, 2, 0, 1, 0x8000_0003, 0x4000_0005],
+        &[1002, 3, 0x4E71_0000, 0x0000_0001, 0x0000_4E75],
+        &[1004, 1, 0, 8, 2, 1, 0, 4, 0],
+        &[1008, 1, 0x4100_0000, 4],
+        &[1, 0, 8],
+        &[2, 0x6D61_696E, 0x5F31_0000, 12],
+        &[1, 0x666F_6F64, 0],
+        &[0],
+        &[1009, 2, 0xDEAD_BEEF, 7],
+        &[1009, 0],
+        &[1010],
+        &[1003, 5, 1010],
     ];
 
     fn symbol(alloc: Global, words: &[u32], value: u32) -> Result<(Name, u32), Fail> {
@@ -264,8 +231,10 @@ mod tests {
 
     fn bytes(alloc: Global) -> Result<Vec<u8>, Fail> {
         let mut bytes = Vec::new(alloc);
-        for word in FILE {
-            bytes.extend_from_slice(&word.to_be_bytes())?;
+        for row in FILE {
+            for word in row {
+                bytes.extend_from_slice(&word.to_be_bytes())?;
+            }
         }
         Ok(bytes)
     }

@@ -209,27 +209,6 @@ mod tests {
         Ok(())
     }
 
-    // `rt try --test --fail-alloc N` refuses the memory of the pairs, or that of their sort.
-    #[test]
-    fn writes_nothing_where_memory_is_refused(rt: HostRuntime) -> Result<(), Fail> {
-        let mut sites = Sites::new(rt.alloc(), 400);
-        for site in 0..100 {
-            if sites.try_add(4 * site, 37 * site % 100).is_err() {
-                return Ok(());
-            }
-        }
-        let mut room = Room::new(rt.alloc(), 1000, 1208, false)?;
-        assert_eq!(rt; sites.limit(), 400);
-        match write_sites(rt.alloc(), &mut room, 7, &sites) {
-            Ok(written) => assert_eq!(rt; written, 1215),
-            Err(fault) => {
-                assert_eq!(rt; fault, WriteFault::OutOfMemory { written: 7 });
-                assert!(rt; room.bytes().is_empty());
-            }
-        }
-        Ok(())
-    }
-
     // Six hundred sites, in turn for hunk 0 and for hunk 1.
     #[test]
     fn writes_many_offsets_of_two_targets(rt: HostRuntime) -> Result<(), Fail> {

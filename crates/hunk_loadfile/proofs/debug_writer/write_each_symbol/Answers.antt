@@ -6,7 +6,8 @@ use Rattle.std.specs.List.{flat_map}
 use Rattle.hunk_loadfile.specs.Rules.{most_name, symbol_longwords}
 use Rattle.hunk_loadfile.specs.Written.{symbol_words}
 use Rattle.hunk_loadfile.proofs.LengthLemmas.{length-symbols}
-use Rattle.hunk_loadfile.proofs.WriterLemmas.{length-bytes_of, parts-stop}
+use Rattle.hunk_loadfile.proofs.WriterLemmas.{parts-stop}
+use Rattle.hunk_loadfile.proofs.WroteLemmas.{length-bytes_of}
 use Rattle.hunk_loadfile.proofs.debug_writer.write_each_symbol.Goals as goal
 
 pub write_symbol-requires-clause-name : goal.write_symbol-requires-clause-name

@@ -1,5 +1,5 @@
 -- The type and the length are written, and then the content.
-use Rattle.std.proofs.Common.{◌≡◌, ◌∙◌, ap, length, refl, arith}
+use Rattle.std.proofs.Common.{◌≡◌, ◌∙◌, ap, refl, arith}
 use Rattle.hunk_words.specs.Longwords.{longwords}
 use Rattle.hunk_words.specs.Names.{bytes_of}
 use Rattle.hunk_loadfile.specs.Hunks.{FileHunk}

@@ -4,7 +4,8 @@ use Rattle.std.proofs.lemmas.Result.{err_from_is_err_and}
 use Rattle.std.specs.List.{flat_map}
 use Rattle.hunk_loadfile.specs.Written.{header_words, hunk_words, written}
 use Rattle.hunk_loadfile.proofs.LoadWriterLemmas.{length-header_words}
-use Rattle.hunk_loadfile.proofs.WriterLemmas.{length-bytes_of, words-stop, words-then}
+use Rattle.hunk_loadfile.proofs.WriterLemmas.{words-stop, words-then}
+use Rattle.hunk_loadfile.proofs.WroteLemmas.{length-bytes_of}
 use Rattle.hunk_loadfile.proofs.load_writer.write_load.Goals as goal
 
 pub returns-in_err-written-clause-stopped : goal.returns-in_err-written-clause-stopped

@@ -9,8 +9,8 @@ use Rattle.hunk_loadfile.specs.Hunks.{FileHunk}
 use Rattle.hunk_loadfile.specs.Rules.{most_size}
 use Rattle.hunk_loadfile.specs.Written.{size_word}
 use Rattle.hunk_loadfile.proofs.LoadWriterLemmas.{All-behind, All-front}
-use Rattle.hunk_loadfile.proofs.WriterLemmas.{length-bytes_of, words-stop, words-then}
-use Rattle.hunk_loadfile.proofs.WroteLemmas.{Wrote-nothing}
+use Rattle.hunk_loadfile.proofs.WriterLemmas.{words-stop, words-then}
+use Rattle.hunk_loadfile.proofs.WroteLemmas.{Wrote-nothing, length-bytes_of}
 use Rattle.hunk_loadfile.proofs.load_writer.write_sizes.Goals as goal
 
 abbrev IsSmall : FileHunk → Type 0
