@@ -93,6 +93,7 @@ fn tells_what_a_writer_took_of_a_file(rt: HostRuntime) -> Result<(), Fail> {
 
 // A file in written form is written with each growth refused in turn: exactly the bytes up to the
 // relocation block of the first hunk that has sites, and then with none, after `least` growths.
+// The growths of reading the file come before those of writing it.
 fn is_written_up_to(
     rt: &impl Abort,
     alloc: Global,
@@ -101,34 +102,30 @@ fn is_written_up_to(
     least: u64,
 ) -> Result<(), Fail> {
     let text = bytes_of(alloc, words, &[])?;
-    let ample = Refusing::new(alloc, u64::MAX);
-    let file = file_of(&ample, text.clone()?)?;
+    let before = growths_of_reading(alloc, &text)?;
+    let mut growths = 0;
     for number in 0..MOST_GROWTHS {
-        let heap = Refusing::new(alloc, number);
+        let refused = before.saturating_add(number);
+        let heap = Refusing::new(alloc, refused);
+        let file = file_of(&heap, text.clone()?)?;
         let mut writer = Room::new(alloc, 64, text.len(), false)?;
-        match write_load(&heap, &file, &mut writer) {
-            Ok(()) => {
-                assert!(rt;
-                    heap.asked() <= number && least <= number,
-                    "{number} growths"
-                );
-                assert_eq!(rt; writer.bytes(), text.as_slice());
-                return Ok(());
-            }
-            Err(fault) => {
-                assert!(rt; number < heap.asked(), "growth {number}");
-                let written = front as u64;
-                assert_eq!(rt;
-                    fault,
-                    WriteFault::OutOfMemory { written },
-                    "growth {number}"
-                );
-                assert_eq!(rt; text.get(..front), Some(writer.bytes()), "growth {number}");
-                assert!(rt; !Sink::failed(&writer));
-            }
+        let got = write_load(&heap, &file, &mut writer);
+        if heap.asked() <= refused {
+            assert_eq!(rt; got, Ok(()));
+            assert_eq!(rt; writer.bytes(), text.as_slice());
+            growths = number;
+            break;
         }
+        let written = front as u64;
+        assert_eq!(rt;
+            got,
+            Err(WriteFault::OutOfMemory { written }),
+            "growth {number}"
+        );
+        assert_eq!(rt; text.get(..front), Some(writer.bytes()), "growth {number}");
+        assert!(rt; !Sink::failed(&writer));
     }
-    assert!(rt; false, "each of {MOST_GROWTHS} runs was refused a growth");
+    assert!(rt; least <= growths, "{growths} growths");
     Ok(())
 }
 
