@@ -144,9 +144,9 @@ mod tests {
             }
             let image = loader.finish()?;
             assert_eq!(rt; image.hunks().len(), 2);
-            for (number, (base, bytes)) in image.hunks().iter().enumerate() {
-                assert_eq!(rt; *base, bases[number]);
-                assert_eq!(rt; bytes.as_slice(), wants[number]);
+            for (((base, bytes), at), want) in image.hunks().iter().zip(&bases).zip(&wants) {
+                assert_eq!(rt; *base, *at);
+                assert_eq!(rt; bytes.as_slice(), *want);
             }
         }
         Ok(())
