@@ -8,8 +8,8 @@ use Rattle.clap.specs.Simple.{Shape, entered, label_of, names_of, rows_at}
 use Rattle.clap.specs.Takes.{is_given}
 use Rattle.clap.specs.Faults.{check_fault, defaults_fault, entered_fault, level_fault, settle_fault, walk_fault}
 use Rattle.clap.specs.Kinds.{check_kinds}
-use Rattle.amihunk.proofs.FilledRowLemmas.{AllFilling, Filled, or_else-nil, filled-settled, filled-walk, is_some-first_of}
-use Rattle.amihunk.specs.Words.{IsWhole, command_line, load_shape}
+use Rattle.amihunk.proofs.CommandLineRowLemmas.{AllFilling, Filled, or_else-nil, filled-settled, filled-walk, is_some-first_of}
+use Rattle.amihunk.specs.CommandLine.{IsWhole, command_line, load_shape}
 
 -- ---- defaults
 

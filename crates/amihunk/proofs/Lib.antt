@@ -1,7 +1,7 @@
-pub mod AnswerLemmas
+pub mod CommandLineAnswerLemmas
 pub mod CommandLineLemmas
-pub mod EndingLemmas
-pub mod FilledRowLemmas
-pub mod LoadLineLemmas
-pub mod LoadingLemmas
-pub mod ValueLemmas
+pub mod ProgramLemmas
+pub mod CommandLineRowLemmas
+pub mod CommandLineLoadLemmas
+pub mod LoadLemmas
+pub mod CommandLineValueLemmas

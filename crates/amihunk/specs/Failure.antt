@@ -2,17 +2,17 @@
 use Rattle.std.specs.Prelude.{◌++◌, ℕ, List, ⊤, codes, decimal}
 use Rattle.hunk_tool.specs.FaultLine.{fault_line, IsOfInputs}
 use Rattle.hunk_tool.specs.declared.tool_fault.ToolFault.TheVariants.{Output}
-use Rattle.hunk_tool.specs.Status.{status}
+use Rattle.hunk_tool.specs.ToolFault.{status}
 use Rattle.amihunk.specs.declared.failure.Failure.{Failure}
 use Rattle.amihunk.specs.declared.failure.Failure.TheVariants.{BadNumber, Opening, Printing, Tool}
 
 -- 2 where the list of addresses is refused, 3 where a file cannot be opened or a write failed, and
 -- else the status of the engine's answer
-abbrev pub status_by : Failure → ℕ
-status_by (BadNumber index) = 2
-status_by (Opening file) = 3
-status_by Printing = 3
-status_by (Tool fault) = status fault
+abbrev pub status_of : Failure → ℕ
+status_of (BadNumber index) = 2
+status_of (Opening file) = 3
+status_of Printing = 3
+status_of (Tool fault) = status fault
 
 -- the engine's answer counts n files
 abbrev pub IsOfFiles : ℕ → Failure → Type 0

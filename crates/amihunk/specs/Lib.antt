@@ -1,4 +1,4 @@
-pub mod Ending
+pub mod Program
 pub mod Failure
-pub mod Loading
-pub mod Words
+pub mod Load
+pub mod CommandLine

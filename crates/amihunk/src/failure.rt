@@ -4,7 +4,7 @@ ghost use Rattle.std.specs.Io.KnownBytes.{Appends};
 ghost use Rattle.std.specs.String.{string_bytes};
 ghost use Rattle.hunk_tool.specs.FaultLine.{fault_line, IsOfInputs};
 ghost use Rattle.amihunk.specs.Failure.{bad_number_line, failure_line, opening_line};
-ghost use Rattle.amihunk.specs.Failure.{status_by, IsOfFiles};
+ghost use Rattle.amihunk.specs.Failure.{status_of, IsOfFiles};
 
 use hunk_tool::{ToolFault, status_of, write_fault};
 use hunk_words::{DeviceFault, Watched};
@@ -42,7 +42,7 @@ impl<'a> Failure<'a> {
 
     /// The exit status of the program.
     pub fn status(&self) -> u8
-        ensures { result ≡ status_by self.now }
+        ensures { result ≡ status_of self.now }
     {
         match self {
             Failure::BadNumber(_) => COMMAND_LINE,
@@ -54,9 +54,9 @@ impl<'a> Failure<'a> {
 
 /// Tells a failure in one line, where `errors` takes it, and gives the exit status. `files` are the
 /// names of the files that an engine's answer counts.
-pub fn told<W: Write + Drop>(errors: W, files: &[String], failure: &Failure<'_>) -> u8
+pub fn report_failure<W: Write + Drop>(errors: W, files: &[String], failure: &Failure<'_>) -> u8
     requires { IsOfFiles (length files.now) failure.now }
-    ensures { result ≡ status_by failure.now }
+    ensures { result ≡ status_of failure.now }
 {
     let _ = write_failure(errors, files, failure);
     failure.status()

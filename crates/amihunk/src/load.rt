@@ -3,7 +3,7 @@ ghost use Rattle.std.specs.Prelude.{◌≡◌, IfOk, IfErr, OnOk, Some, map};
 ghost use Rattle.std.specs.Io.Buffered.{writer_contents};
 ghost use Rattle.std.specs.Io.KnownBytes.{Keeps};
 ghost use Rattle.hunk_tool.specs.Bases.{numbers};
-ghost use Rattle.amihunk.specs.Loading.{IsListFailure, IsLoadFailure, IsLoaded, IsReportFailure, Reports};
+ghost use Rattle.amihunk.specs.Load.{IsListFailure, IsLoadFailure, IsLoaded, IsReportFailure, Reports};
 
 use crate::failure::Failure;
 use hunk_tool::{BasesFault, ToolFault, load_run, parse_bases};

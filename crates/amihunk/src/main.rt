@@ -3,13 +3,13 @@
 //! - `failure`: why a request was not done, the line that tells it, and the exit status.
 //! - `load`: the request `load`.
 //! - `program`: the words, what they ask for, and the exit status.
-//! - `words`: the words of the command line, read by `clap`.
+//! - `command_line`: the words of the command line, read by `clap`.
 #![tactic(auto)]
 
+mod command_line;
 mod failure;
 mod load;
 mod program;
-mod words;
 
 use std::process::ExitCode;
 

@@ -1,11 +1,11 @@
 //! The program: the words of the command line, what they ask for, and the exit status.
 ghost use Rattle.std.specs.Prelude.{◌≡◌, ◌≤◌, ℕ, List, map};
-ghost use Rattle.amihunk.specs.Ending.{Ends, EndsLine, EndsLoad};
-ghost use Rattle.amihunk.specs.Words.{load_line, IsNoFlag};
+ghost use Rattle.amihunk.specs.Program.{Ends, EndsLine, EndsLoad};
+ghost use Rattle.amihunk.specs.CommandLine.{load_line, IsNoFlag};
 
-use crate::failure::{COMMAND_LINE, DONE, Failure, told};
+use crate::command_line::{Request, read_words, refuse_bytes};
+use crate::failure::{COMMAND_LINE, DONE, Failure, report_failure};
 use crate::load::load;
-use crate::words::{Request, read_words, refuse_bytes};
 use std::convert::AsStr;
 use std::io::{ErrorKind, Write};
 use std::rt::{Env, Files};
@@ -58,13 +58,13 @@ fn answer<R: Files + Print + AllocGlobal, W: Write + Drop>(
         Request::Load { list, file } => answer_load(rt, errors, list, file),
         Request::Help(text) => match rt.print(text) {
             Ok(()) => DONE,
-            Err(_) => told(errors, &[], &Failure::Printing),
+            Err(_) => report_failure(errors, &[], &Failure::Printing),
         },
         Request::Refused(text) => {
             let _ = errors.write_all(text.as_bytes());
             COMMAND_LINE
         }
-        Request::OutOfMemory => told(errors, &[], &Failure::out_of_memory()),
+        Request::OutOfMemory => report_failure(errors, &[], &Failure::out_of_memory()),
     }
 }
 
@@ -78,10 +78,10 @@ fn answer_load<R: Files + Print + AllocGlobal, W: Write + Drop>(
     ensures { EndsLoad list.now file.now result }
 {
     let Ok(name) = String::from_str(rt.alloc(), file) else {
-        return told(errors, &[], &Failure::out_of_memory());
+        return report_failure(errors, &[], &Failure::out_of_memory());
     };
     match load(rt, list, file) {
         Ok(()) => DONE,
-        Err(failure) => told(errors, &[name], &failure),
+        Err(failure) => report_failure(errors, &[name], &failure),
     }
 }

@@ -3,43 +3,44 @@ use Rattle.std.proofs.Common.{◌≡◌, ◌≢◌, ℕ, zero, suc, ◌≤◌, B
 use Rattle.std.proofs.lemmas.List.{length-append, map-append}
 use Rattle.std.proofs.lemmas.Grind.{flat_map-append}
 use Rattle.byteorder.specs.Endian.{big_bytes}
-use Rattle.hunk_words.specs.Building.{Built, Receiver, built, step, word_to, value_to, count_to, load_begun}
-use Rattle.hunk_words.specs.Building.Receiver.{nothing_more, to_unit_name, to_name, to_content, to_debug, to_symbol, to_entry}
-use Rattle.hunk_words.specs.Names.{bytes_of}
-use Rattle.hunk_words.specs.Takers.{Judges, watch_of}
+use Rattle.hunk_words.specs.EventValue.{EventValue, Receiver, value_of_events, step, word_to, value_to, count_to, initial_load}
+use Rattle.hunk_words.specs.EventValue.Receiver.{nothing_more, to_unit_name, to_name, to_content, to_debug, to_symbol, to_entry}
+use Rattle.hunk_words.specs.Name.{bytes_of}
+use Rattle.hunk_words.specs.Taker.{Judges, context_of}
 use Rattle.hunk_words.specs.Values.{Hunk, Part}
-use Rattle.hunk_words.specs.Watch.{Watch, unwatched}
+use Rattle.hunk_words.specs.SiteContext.{SiteContext, initial_context}
 use Rattle.hunk_words.specs.declared.event.Event.{Event}
 use Rattle.hunk_words.specs.declared.event.Event.TheVariants as event
 use Rattle.hunk_words.specs.declared.event.FileKind.TheVariants.{Load}
 use Rattle.hunk_words.specs.declared.sites.SiteRefusal.{SiteRefusal}
 use Rattle.hunk_words.specs.declared.sites.SiteRefusal.TheVariants.{OutOfMemory}
-use Rattle.hunk_words.proofs.TakerLemmas.{built-append, watched-append}
-use Rattle.hunk_loadfile.specs.FileValue.{with_sites}
-use Rattle.hunk_loader.specs.ImageBuilder.{Making, Holds, Loads, Shows, ShowsNone, ShowsOpen, StandsFor, TakesEvent, goes_to_content, passed, watch_after}
-use Rattle.hunk_loader.specs.OpenImage.{Opened}
+use Rattle.hunk_words.proofs.TakerLemmas.{value_of_events-append, context_after-append}
+use Rattle.hunk_loadfile.specs.LoadFile.{with_sites}
+use Rattle.hunk_words.specs.SiteContext.{context_with}
+use Rattle.hunk_loader.specs.ImageBuilder.{BuilderState, Holds, Loads, Shows, ShowsNone, ShowsOpen, StandsFor, TakesEvent, goes_to_content, passed}
+use Rattle.hunk_loader.specs.OpenImage.{PartialHunk}
 use Rattle.hunk_loader.specs.declared.placing.Placing.{Placing}
 use Rattle.hunk_loader.specs.declared.placing.Placing.TheVariants.{Unknown, Placed, Refused}
 
 -- ---- the same, with a hunk that has not ended
 
-pub with-current : (m : Making) (o : Option Opened) → m.current ≡ o → record m { current = o } ≡ m
+pub with-current : (m : BuilderState) (o : Option PartialHunk) → m.current ≡ o → record m { current = o } ≡ m
 with-current m o is = ap (λ q. record m { current = q }) (sym is)
 
-pub same-current : (m : Making) (p q : Opened) → p ≡ q → record m { current = Some p } ≡ record m { current = Some q }
+pub same-current : (m : BuilderState) (p q : PartialHunk) → p ≡ q → record m { current = Some p } ≡ record m { current = Some q }
 same-current m p q is = ap (λ o. record m { current = Some o }) is
 
 -- ---- events that were taken, and one more
 
-pub StandsFor-takes : (m n : Making) (answer : Result (Unit {0}) SiteRefusal) (e : Event) → TakesEvent m n answer e → (told : List Event) → StandsFor m told → OnOk answer (StandsFor n (told ++ (e ∷ [])))
+pub StandsFor-takes : (m n : BuilderState) (answer : Result (Unit {0}) SiteRefusal) (e : Event) → TakesEvent m n answer e → (told : List Event) → StandsFor m told → OnOk answer (StandsFor n (told ++ (e ∷ [])))
 StandsFor-takes m n (Ok d) e t told stands =
-    subst (λ b. Holds n b (watch_of Load (told ++ (e ∷ [])))) (sym (built-append load_begun told e))
-    (subst (λ w. Holds n (step (built load_begun told) e) w) (sym (watched-append Load unwatched told e)) (t.takes (built load_begun told) (watch_of Load told) stands))
+    subst (λ b. Holds n b (context_of Load (told ++ (e ∷ [])))) (sym (value_of_events-append initial_load told e))
+    (subst (λ w. Holds n (step (value_of_events initial_load told) e) w) (sym (context_after-append Load initial_context told e)) (t.takes (value_of_events initial_load told) (context_of Load told) stands))
 StandsFor-takes m n (Err r) e t told stands = tt
 
 -- ---- a refusal that blames no event
 
-judges-memory : (w : Watch) (e : Event) → Judges w e (Err OutOfMemory)
+judges-memory : (w : SiteContext) (e : Event) → Judges w e (Err OutOfMemory)
 judges-memory w event.Unit = tt
 judges-memory w (event.Table n) = tt
 judges-memory w (event.HunkSize bits n) = tt
@@ -55,7 +56,7 @@ judges-memory w (event.Value n) = tt
 judges-memory w (event.Debug n) = tt
 judges-memory w event.HunkEnd = tt
 
-pub TakesEvent-refused : (m n : Making) (e : Event) → n ≡ m → TakesEvent m n (Err OutOfMemory) e
+pub TakesEvent-refused : (m n : BuilderState) (e : Event) → n ≡ m → TakesEvent m n (Err OutOfMemory) e
 TakesEvent-refused m n e same = record {
   takes = λ b w holds. tt;
   refuses = λ b w holds. subst (λ q. Holds q b w) (sym same) holds;
@@ -71,26 +72,26 @@ pub record SamePart (ps : List Part) (p : Part) : Type 0 where
   pub is : ps ≡ part ∷ []
   pub hunks : part.hunks ≡ p.hunks
 
-pub record SameShown (b c : Built) : Type 0 where
+pub record SameShown (b c : EventValue) : Type 0 where
   pub sizes : c.sizes ≡ b.sizes
   pub parts : (p : Part) → b.parts ≡ p ∷ [] → SamePart c.parts p
   pub content : c.hunk.content ≡ b.hunk.content
-  pub sites : c.hunk.told.sites ≡ b.hunk.told.sites
+  pub sites : c.hunk.tables.sites ≡ b.hunk.tables.sites
 
 pub same-part : (p : Part) (ps : List Part) → ps ≡ p ∷ [] → SamePart ps p
 same-part p ps is = record { part = p; is = is; hunks = refl }
 
-Loads-same : (p : Placing) (m n : Making) (b c : Built) (hs gs : List Hunk) → n ≡ record m { current = n.current } → (m.current ≡ None → n.current ≡ None) → c.sizes ≡ b.sizes → gs ≡ hs → Loads p m b hs → Loads p n c gs
+Loads-same : (p : Placing) (m n : BuilderState) (b c : EventValue) (hs gs : List Hunk) → n ≡ record m { current = n.current } → (m.current ≡ None → n.current ≡ None) → c.sizes ≡ b.sizes → gs ≡ hs → Loads p m b hs → Loads p n c gs
 Loads-same Unknown m n b c hs gs is none sizes hunks l = record { ended = ap (λ q. q.ended) is ∙ l.ended; made = ap (λ q. q.made) is ∙ l.made; current = none l.current }
 Loads-same Placed m n b c hs gs is none sizes hunks l = rw (is, sizes, hunks) l
 Loads-same (Refused fault) m n b c hs gs is none sizes hunks l = rw is l
 
 -- the hunk that has not ended, where words go past it or as they went
-Shows-same : (p : Placing) (o : Option Opened) (b c : Built) (w : Watch) → SameShown b c → goes_to_content c.receiver ≡ goes_to_content b.receiver → Shows p o b w → Shows p o c w
+Shows-same : (p : Placing) (o : Option PartialHunk) (b c : EventValue) (w : SiteContext) → SameShown b c → goes_to_content c.receiver ≡ goes_to_content b.receiver → Shows p o b w → Shows p o c w
 Shows-same p None b c w same words s = record { content = same.content ∙ s.content; sites = same.sites ∙ s.sites; words = words ∙ s.words; seen = s.seen }
 Shows-same p (Some o) b c w same words s = record {
   words = s.words ∙ sym words;
-  sites = s.sites ∙ ap (λ ss. record { limit = w.place.limit; entries = with_sites [] ss }) (sym same.sites);
+  sites = s.sites ∙ ap (λ ss. record { limit = w.position.limit; entries = with_sites [] ss }) (sym same.sites);
   limit = s.limit;
   within = s.within;
   same = s.same;
@@ -101,11 +102,11 @@ Shows-same p (Some o) b c w same words s = record {
   fits = s.fits;
 }
 
-Shows-passed : (p : Placing) (o : Option Opened) (b c : Built) (w : Watch) → SameShown b c → goes_to_content c.receiver ≡ false → Shows p o b w → Shows p (passed o) c w
+Shows-passed : (p : Placing) (o : Option PartialHunk) (b c : EventValue) (w : SiteContext) → SameShown b c → goes_to_content c.receiver ≡ false → Shows p o b w → Shows p (passed o) c w
 Shows-passed p None b c w same words s = record { content = same.content ∙ s.content; sites = same.sites ∙ s.sites; words = words; seen = s.seen }
 Shows-passed p (Some o) b c w same words s = record {
   words = sym words;
-  sites = s.sites ∙ ap (λ ss. record { limit = w.place.limit; entries = with_sites [] ss }) (sym same.sites);
+  sites = s.sites ∙ ap (λ ss. record { limit = w.position.limit; entries = with_sites [] ss }) (sym same.sites);
   limit = s.limit;
   within = s.within;
   same = s.same;
@@ -117,8 +118,8 @@ Shows-passed p (Some o) b c w same words s = record {
 }
 
 -- With the hunks that ended as they were, only the hunk that has not is to be shown.
-pub Holds-shows : (m : Making) (o : Option Opened) (b c : Built) (w : Watch) (seen : List ℕ) (h : Holds m b w) → (m.current ≡ None → o ≡ None) → c.sizes ≡ b.sizes → SamePart c.parts h.part → Shows m.placing o c (record { place = w.place; seen = seen })
-    → Holds (record m { current = o }) c (record { place = w.place; seen = seen })
+pub Holds-shows : (m : BuilderState) (o : Option PartialHunk) (b c : EventValue) (w : SiteContext) (seen : List ℕ) (h : Holds m b w) → (m.current ≡ None → o ≡ None) → c.sizes ≡ b.sizes → SamePart c.parts h.part → Shows m.placing o c (record { position = w.position; seen = seen })
+    → Holds (record m { current = o }) c (record { position = w.position; seen = seen })
 Holds-shows m o b c w seen h none sizes parts shows = record {
   sizes = h.sizes;
   header = ap (λ ss. map (λ s. s.1) ss) sizes ∙ h.header;
@@ -131,25 +132,25 @@ Holds-shows m o b c w seen h none sizes parts shows = record {
   shows = shows;
 }
 
-Holds-same : (m : Making) (b c : Built) (w : Watch) → SameShown b c → goes_to_content c.receiver ≡ goes_to_content b.receiver → Holds m b w → Holds m c w
+Holds-same : (m : BuilderState) (b c : EventValue) (w : SiteContext) → SameShown b c → goes_to_content c.receiver ≡ goes_to_content b.receiver → Holds m b w → Holds m c w
 Holds-same m b c w same words h = Holds-shows m m.current b c w w.seen h (λ is. is) same.sizes (same.parts h.part h.parts) (Shows-same m.placing m.current b c w same words h.shows)
 
-passed-none : (o : Option Opened) → o ≡ None → passed o ≡ None
+passed-none : (o : Option PartialHunk) → o ≡ None → passed o ≡ None
 passed-none o is = ap passed is
 
-Holds-passed : (m : Making) (b c : Built) (w : Watch) → SameShown b c → goes_to_content c.receiver ≡ false → Holds m b w → Holds (record m { current = passed m.current }) c w
+Holds-passed : (m : BuilderState) (b c : EventValue) (w : SiteContext) → SameShown b c → goes_to_content c.receiver ≡ false → Holds m b w → Holds (record m { current = passed m.current }) c w
 Holds-passed m b c w same words h = Holds-shows m (passed m.current) b c w w.seen h (passed-none m.current) same.sizes (same.parts h.part h.parts) (Shows-passed m.placing m.current b c w same words h.shows)
 
 -- ---- events that an image passes over
 
 -- behind this event words are no content, and an image has nothing of it
 pub record IsPassed (e : Event) : Type 0 where
-  pub same : (b : Built) → SameShown b (step b e)
-  pub words : (b : Built) → goes_to_content (step b e).receiver ≡ false
-  pub watch : (w : Watch) → watch_after w e ≡ w
-  pub judged : (w : Watch) → Judges w e (Ok tt)
+  pub same : (b : EventValue) → SameShown b (step b e)
+  pub words : (b : EventValue) → goes_to_content (step b e).receiver ≡ false
+  pub watch : (w : SiteContext) → context_with Load w e ≡ w
+  pub judged : (w : SiteContext) → Judges w e (Ok tt)
 
-pub TakesEvent-passed : (m n : Making) (e : Event) → IsPassed e → n ≡ record m { current = passed m.current } → TakesEvent m n (Ok tt) e
+pub TakesEvent-passed : (m n : BuilderState) (e : Event) → IsPassed e → n ≡ record m { current = passed m.current } → TakesEvent m n (Ok tt) e
 TakesEvent-passed m n e passes is = record {
   takes = λ b w holds. subst (λ v. Holds n (step b e) v) (sym (passes.watch w))
       (subst (λ q. Holds q (step b e) w) (sym is) (Holds-passed m b (step b e) w (passes.same b) (passes.words b) holds));
@@ -158,7 +159,7 @@ TakesEvent-passed m n e passes is = record {
   bases = ap (λ q. q.bases) is;
 }
 
-same-but : (b c : Built) → c.sizes ≡ b.sizes → c.parts ≡ b.parts → c.hunk.content ≡ b.hunk.content → c.hunk.told.sites ≡ b.hunk.told.sites → SameShown b c
+same-but : (b c : EventValue) → c.sizes ≡ b.sizes → c.parts ≡ b.parts → c.hunk.content ≡ b.hunk.content → c.hunk.tables.sites ≡ b.hunk.tables.sites → SameShown b c
 same-but b c sizes parts content sites = record { sizes = sizes; parts = λ p is. same-part p c.parts (parts ∙ is); content = content; sites = sites }
 
 pub passes-name : IsPassed event.HunkName
@@ -193,7 +194,7 @@ count-sites (to_entry t ws) (suc n) = refl
 
 pub passes-value : (v : ℕ) → IsPassed (event.Value v)
 passes-value v = record {
-  same = λ b. same-but b (step b (event.Value v)) refl refl refl (ap (λ ss. b.hunk.told.sites ++ ss) (value-sites b.receiver v) ∙ append-nil b.hunk.told.sites);
+  same = λ b. same-but b (step b (event.Value v)) refl refl refl (ap (λ ss. b.hunk.tables.sites ++ ss) (value-sites b.receiver v) ∙ append-nil b.hunk.tables.sites);
   words = λ b. refl;
   watch = λ w. refl;
   judged = λ w. tt;
@@ -201,22 +202,22 @@ passes-value v = record {
 
 pub passes-count : (n : ℕ) → IsPassed (event.Count n)
 passes-count n = record {
-  same = λ b. same-but b (step b (event.Count n)) refl refl refl (ap (λ ss. b.hunk.told.sites ++ ss) (count-sites b.receiver n) ∙ append-nil b.hunk.told.sites);
+  same = λ b. same-but b (step b (event.Count n)) refl refl refl (ap (λ ss. b.hunk.tables.sites ++ ss) (count-sites b.receiver n) ∙ append-nil b.hunk.tables.sites);
   words = λ b. refl;
   watch = λ w. refl;
   judged = λ w. tt;
 }
 
 pub passes-debug : (n : ℕ) → IsPassed (event.Debug n)
-passes-debug n = record { same = λ b. same-but b (step b (event.Debug n)) refl refl refl (append-nil b.hunk.told.sites); words = λ b. refl; watch = λ w. refl; judged = λ w. tt }
+passes-debug n = record { same = λ b. same-but b (step b (event.Debug n)) refl refl refl (append-nil b.hunk.tables.sites); words = λ b. refl; watch = λ w. refl; judged = λ w. tt }
 
-pub TakesEvent-table : (m n : Making) (k : ℕ) → n ≡ m → TakesEvent m n (Ok tt) (event.Table k)
+pub TakesEvent-table : (m n : BuilderState) (k : ℕ) → n ≡ m → TakesEvent m n (Ok tt) (event.Table k)
 TakesEvent-table m n k is = record { takes = λ b w holds. subst (λ q. Holds q b w) (sym is) holds; refuses = λ b w holds. tt; judges = λ b w holds. tt; bases = ap (λ q. q.bases) is }
 
 -- ---- words
 
 -- where a word goes that is no content
-word-same : (r : Receiver) (b : Built) (n : ℕ) → r ≡ b.receiver → goes_to_content r ≡ false → SameShown b (word_to r b n)
+word-same : (r : Receiver) (b : EventValue) (n : ℕ) → r ≡ b.receiver → goes_to_content r ≡ false → SameShown b (word_to r b n)
 word-same nothing_more b n is words = same-but b b refl refl refl refl
 word-same to_unit_name b n is words = record {
   sizes = refl;
@@ -230,7 +231,7 @@ word-same to_debug b n is words = same-but b (word_to to_debug b n) refl refl re
 word-same (to_symbol ws) b n is words = same-but b (word_to (to_symbol ws) b n) refl refl refl refl
 word-same (to_entry t ws) b n is words = same-but b (word_to (to_entry t ws) b n) refl refl refl refl
 
-word-receiver : (r : Receiver) (b : Built) (n : ℕ) → r ≡ b.receiver → goes_to_content (word_to r b n).receiver ≡ goes_to_content b.receiver
+word-receiver : (r : Receiver) (b : EventValue) (n : ℕ) → r ≡ b.receiver → goes_to_content (word_to r b n).receiver ≡ goes_to_content b.receiver
 word-receiver nothing_more b n is = refl
 word-receiver to_unit_name b n is = refl
 word-receiver to_name b n is = refl
@@ -240,7 +241,7 @@ word-receiver (to_symbol ws) b n is = ap goes_to_content is
 word-receiver (to_entry t ws) b n is = ap goes_to_content is
 
 -- a word that is no content
-Holds-word-past : (m : Making) (b : Built) (w : Watch) (n : ℕ) → goes_to_content b.receiver ≡ false → Holds m b w → Holds m (step b (event.Word n)) w
+Holds-word-past : (m : BuilderState) (b : EventValue) (w : SiteContext) (n : ℕ) → goes_to_content b.receiver ≡ false → Holds m b w → Holds m (step b (event.Word n)) w
 Holds-word-past m b w n words h = Holds-same m b (step b (event.Word n)) w (word-same b.receiver b n refl words) (word-receiver b.receiver b n refl) h
 
 receiver-content : (r : Receiver) → goes_to_content r ≡ true → r ≡ to_content
@@ -253,20 +254,20 @@ receiver-content (to_symbol ws) is = let wrong : false ≡ true = is in cc
 receiver-content (to_entry t ws) is = let wrong : false ≡ true = is in cc
 
 -- the content with one word more
-abbrev with_word : Built → ℕ → Built
+abbrev with_word : EventValue → ℕ → EventValue
 with_word b n = record b { hunk = record b.hunk { content = b.hunk.content ++ (n ∷ []) } }
 
-step-content : (b : Built) (n : ℕ) → goes_to_content b.receiver ≡ true → step b (event.Word n) ≡ with_word b n
+step-content : (b : EventValue) (n : ℕ) → goes_to_content b.receiver ≡ true → step b (event.Word n) ≡ with_word b n
 step-content b n is = ap (λ r. word_to r b n) (receiver-content b.receiver is)
 
 bytes_of-append : (ws : List ℕ) (n : ℕ) → bytes_of (ws ++ (n ∷ [])) ≡ bytes_of ws ++ big_bytes 4 n
 bytes_of-append ws n = flat_map-append (λ w. big_bytes 4 w) ws (n ∷ []) ∙ ap (λ l. bytes_of ws ++ l) (append-nil (big_bytes 4 n))
 
 -- a word of content that is not kept, where the hunks are not placed
-Holds-word-unkept : (m : Making) (b : Built) (w : Watch) (n : ℕ) → m.placing ≢ Placed → goes_to_content b.receiver ≡ true → Holds m b w → Holds m (with_word b n) w
+Holds-word-unkept : (m : BuilderState) (b : EventValue) (w : SiteContext) (n : ℕ) → m.placing ≢ Placed → goes_to_content b.receiver ≡ true → Holds m b w → Holds m (with_word b n) w
 Holds-word-unkept m b w n unplaced is h = Holds-shows m m.current b (with_word b n) w w.seen h (λ none. none) refl (same-part h.part b.parts h.parts) (go m.current h.shows)
   where
-    go : (o : Option Opened) → Shows m.placing o b w → Shows m.placing o (with_word b n) w
+    go : (o : Option PartialHunk) → Shows m.placing o b w → Shows m.placing o (with_word b n) w
     go None s = let wrong : true ≡ false = sym is ∙ s.words in cc
     go (Some o) s = record {
       words = s.words;
@@ -281,7 +282,7 @@ Holds-word-unkept m b w n unplaced is h = Holds-shows m m.current b (with_word b
       fits = s.fits;
     }
 
-Holds-word-kept : (m : Making) (b : Built) (w : Watch) (n : ℕ) (o : Opened) → m.placing ≡ Placed → m.current ≡ Some o → goes_to_content b.receiver ≡ true
+Holds-word-kept : (m : BuilderState) (b : EventValue) (w : SiteContext) (n : ℕ) (o : PartialHunk) → m.placing ≡ Placed → m.current ≡ Some o → goes_to_content b.receiver ≡ true
     → length (o.bytes ++ big_bytes 4 n) ≤ o.sites.limit → Holds m b w → Holds (record m { current = Some (record o { bytes = o.bytes ++ big_bytes 4 n }) }) (with_word b n) w
 Holds-word-kept m b w n o placed current is fits h =
     let s : ShowsOpen m.placing o b w = subst (λ q. Shows m.placing q b w) current h.shows in
@@ -300,11 +301,11 @@ Holds-word-kept m b w n o placed current is fits h =
 
 -- ---- the three ways of a word
 
-word-unkept : (m : Making) (b : Built) (w : Watch) (n : ℕ) (c : Bool) → goes_to_content b.receiver ≡ c → m.placing ≢ Placed → Holds m b w → Holds m (step b (event.Word n)) w
+word-unkept : (m : BuilderState) (b : EventValue) (w : SiteContext) (n : ℕ) (c : Bool) → goes_to_content b.receiver ≡ c → m.placing ≢ Placed → Holds m b w → Holds m (step b (event.Word n)) w
 word-unkept m b w n true is unplaced h = subst (λ c. Holds m c w) (sym (step-content b n is)) (Holds-word-unkept m b w n unplaced is h)
 word-unkept m b w n false is unplaced h = Holds-word-past m b w n is h
 
-pub TakesEvent-word-unplaced : (m n : Making) (k : ℕ) → m.placing ≢ Placed → n ≡ m → TakesEvent m n (Ok tt) (event.Word k)
+pub TakesEvent-word-unplaced : (m n : BuilderState) (k : ℕ) → m.placing ≢ Placed → n ≡ m → TakesEvent m n (Ok tt) (event.Word k)
 TakesEvent-word-unplaced m n k unplaced is = record {
   takes = λ b w holds. subst (λ q. Holds q (step b (event.Word k)) w) (sym is) (word-unkept m b w k (goes_to_content b.receiver) refl unplaced holds);
   refuses = λ b w holds. tt;
@@ -313,15 +314,15 @@ TakesEvent-word-unplaced m n k unplaced is = record {
 }
 
 -- no hunk has begun, or the next word is no content
-abbrev pub PassesWords : Option Opened → Type 0
+abbrev pub PassesWords : Option PartialHunk → Type 0
 PassesWords None = Unit {0}
 PassesWords (Some o) = o.words ≡ false
 
-words-pass : (p : Placing) (o : Option Opened) (b : Built) (w : Watch) → PassesWords o → Shows p o b w → goes_to_content b.receiver ≡ false
+words-pass : (p : Placing) (o : Option PartialHunk) (b : EventValue) (w : SiteContext) → PassesWords o → Shows p o b w → goes_to_content b.receiver ≡ false
 words-pass p None b w pass s = s.words
 words-pass p (Some o) b w pass s = sym s.words ∙ pass
 
-pub TakesEvent-word-past : (m n : Making) (k : ℕ) → PassesWords m.current → n ≡ m → TakesEvent m n (Ok tt) (event.Word k)
+pub TakesEvent-word-past : (m n : BuilderState) (k : ℕ) → PassesWords m.current → n ≡ m → TakesEvent m n (Ok tt) (event.Word k)
 TakesEvent-word-past m n k pass is = record {
   takes = λ b w holds. subst (λ q. Holds q (step b (event.Word k)) w) (sym is) (Holds-word-past m b w k (words-pass m.placing m.current b w pass holds.shows) holds);
   refuses = λ b w holds. tt;
@@ -329,7 +330,7 @@ TakesEvent-word-past m n k pass is = record {
   bases = ap (λ q. q.bases) is;
 }
 
-pub TakesEvent-word-kept : (m n : Making) (k : ℕ) (o : Opened) → m.placing ≡ Placed → m.current ≡ Some o → o.words ≡ true → length (o.bytes ++ big_bytes 4 k) ≤ o.sites.limit
+pub TakesEvent-word-kept : (m n : BuilderState) (k : ℕ) (o : PartialHunk) → m.placing ≡ Placed → m.current ≡ Some o → o.words ≡ true → length (o.bytes ++ big_bytes 4 k) ≤ o.sites.limit
     → n ≡ record m { current = Some (record o { bytes = o.bytes ++ big_bytes 4 k }) } → TakesEvent m n (Ok tt) (event.Word k)
 TakesEvent-word-kept m n k o placed current words fits is = record {
   takes = λ b w holds. subst (λ q. Holds q (step b (event.Word k)) w) (sym is) (go b w holds);
@@ -338,7 +339,7 @@ TakesEvent-word-kept m n k o placed current words fits is = record {
   bases = ap (λ q. q.bases) is;
 }
   where
-    go : (b : Built) (w : Watch) → Holds m b w → Holds (record m { current = Some (record o { bytes = o.bytes ++ big_bytes 4 k }) }) (step b (event.Word k)) w
+    go : (b : EventValue) (w : SiteContext) → Holds m b w → Holds (record m { current = Some (record o { bytes = o.bytes ++ big_bytes 4 k }) }) (step b (event.Word k)) w
     go b w h =
         let s : ShowsOpen m.placing o b w = subst (λ q. Shows m.placing q b w) current h.shows in
         let is_content : goes_to_content b.receiver ≡ true = sym s.words ∙ words in
@@ -346,18 +347,18 @@ TakesEvent-word-kept m n k o placed current words fits is = record {
 
 -- ---- sizes
 
-size-grows : (p : Placing) (m : Making) (b : Built) (hs : List Hunk) (bits size : ℕ) → p ≡ Unknown → Loads p m b hs → Loads p (record m { sizes = m.sizes ++ (size ∷ []) }) (step b (event.HunkSize bits size)) hs
+size-grows : (p : Placing) (m : BuilderState) (b : EventValue) (hs : List Hunk) (bits size : ℕ) → p ≡ Unknown → Loads p m b hs → Loads p (record m { sizes = m.sizes ++ (size ∷ []) }) (step b (event.HunkSize bits size)) hs
 size-grows Unknown m b hs bits size is l = record { ended = l.ended; made = l.made; current = l.current }
 size-grows Placed m b hs bits size is l = cc
 size-grows (Refused fault) m b hs bits size is l = cc
 
 -- where no hunk began
-current-none : (p : Placing) (m : Making) (b : Built) (hs : List Hunk) → p ≡ Unknown → Loads p m b hs → m.current ≡ None
+current-none : (p : Placing) (m : BuilderState) (b : EventValue) (hs : List Hunk) → p ≡ Unknown → Loads p m b hs → m.current ≡ None
 current-none Unknown m b hs is l = l.current
 current-none Placed m b hs is l = cc
 current-none (Refused fault) m b hs is l = cc
 
-Holds-size : (m : Making) (b : Built) (w : Watch) (bits size : ℕ) → m.placing ≡ Unknown → Holds m b w → Holds (record m { sizes = m.sizes ++ (size ∷ []) }) (step b (event.HunkSize bits size)) (watch_after w (event.HunkSize bits size))
+Holds-size : (m : BuilderState) (b : EventValue) (w : SiteContext) (bits size : ℕ) → m.placing ≡ Unknown → Holds m b w → Holds (record m { sizes = m.sizes ++ (size ∷ []) }) (step b (event.HunkSize bits size)) (context_with Load w (event.HunkSize bits size))
 Holds-size m b w bits size unknown h =
     let none : m.current ≡ None = current-none m.placing m b h.part.hunks unknown h.loads in
     let s : ShowsNone b w = subst (λ o. Shows m.placing o b w) none h.shows in
@@ -365,17 +366,17 @@ Holds-size m b w bits size unknown h =
       sizes = ap (λ ss. ss ++ (size ∷ [])) h.sizes;
       header = map-append (λ s. s.1) b.sizes ((bits, size) ∷ []) ∙ ap (λ ss. ss ++ (size ∷ [])) h.header;
       ended = h.ended;
-      within = omega (arith, h.within, length-append w.place.sizes (size ∷ []));
+      within = omega (arith, h.within, length-append w.position.sizes (size ∷ []));
       part = h.part;
       parts = h.parts;
       counted = h.counted;
       loads = size-grows m.placing m b h.part.hunks bits size unknown h.loads;
-      shows = subst (λ o. Shows m.placing o (step b (event.HunkSize bits size)) (watch_after w (event.HunkSize bits size))) (sym none) (record { content = s.content; sites = s.sites; words = s.words; seen = s.seen });
+      shows = subst (λ o. Shows m.placing o (step b (event.HunkSize bits size)) (context_with Load w (event.HunkSize bits size))) (sym none) (record { content = s.content; sites = s.sites; words = s.words; seen = s.seen });
     }
 
-pub TakesEvent-size : (m n : Making) (bits size : ℕ) → m.placing ≡ Unknown → n ≡ record m { sizes = m.sizes ++ (size ∷ []) } → TakesEvent m n (Ok tt) (event.HunkSize bits size)
+pub TakesEvent-size : (m n : BuilderState) (bits size : ℕ) → m.placing ≡ Unknown → n ≡ record m { sizes = m.sizes ++ (size ∷ []) } → TakesEvent m n (Ok tt) (event.HunkSize bits size)
 TakesEvent-size m n bits size unknown is = record {
-  takes = λ b w holds. subst (λ q. Holds q (step b (event.HunkSize bits size)) (watch_after w (event.HunkSize bits size))) (sym is) (Holds-size m b w bits size unknown holds);
+  takes = λ b w holds. subst (λ q. Holds q (step b (event.HunkSize bits size)) (context_with Load w (event.HunkSize bits size))) (sym is) (Holds-size m b w bits size unknown holds);
   refuses = λ b w holds. tt;
   judges = λ b w holds. tt;
   bases = ap (λ q. q.bases) is;

@@ -1,10 +1,10 @@
-pub mod FallLemmas
-pub mod FrugalBuilderLemmas
+pub mod PlacesDescendingLemmas
+pub mod BoundedImageBuilderLemmas
 pub mod ImageBuilderLemmas
-pub mod ImageHunkLemmas
+pub mod ImageBuilderHunkLemmas
 pub mod ImageLoaderLemmas
 pub mod LoadingLemmas
-pub mod MemoryLemmas
+pub mod ImageLemmas
 pub mod OpenImageLemmas
 pub mod PlacesLemmas
-pub mod RiseLemmas
+pub mod PlacesAscendingLemmas

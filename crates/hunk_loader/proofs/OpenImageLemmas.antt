@@ -11,7 +11,7 @@ use Rattle.std.proofs.lemmas.List.Elements.{All-cons}
 use Rattle.hunk_words.specs.Sites.{SiteMap, AreApart, Meets}
 use Rattle.hunk_words.specs.declared.sites.SiteRefusal.{SiteRefusal}
 use Rattle.hunk_words.specs.declared.sites.SiteRefusal.TheVariants.{Outside, Overlap}
-use Rattle.hunk_words.proofs.SiteLemmas.{StandFrom-insert_entry}
+use Rattle.hunk_words.proofs.SitesLemmas.{StandFrom-insert_entry}
 
 -- What holds of each entry holds of each entry of the map with one more.
 pub All-insert : (P : ℕ × ℕ → Type 0) (es : List (ℕ × ℕ)) (o t : ℕ) → ((k : ℕ) → P (k, t)) → All P es → All P (insert_entry nat_cmp es o t)

@@ -1,9 +1,11 @@
 -- Hunks are placed or refused, never both, and by one fault alone.
-use Rattle.std.proofs.Common.{◌≡◌, ◌↔◌, ℕ, ◌<◌, List, length, refl, ap, sym, subst, arith, slice_index, EachIndex, ◌^◌, Result, IsOk, Ok, Err}
+use Rattle.std.proofs.Common.{◌≡◌, ◌↔◌, ◌⊎◌, inl, inr, ℕ, zero, suc, ◌<◌, List, length, refl, ap, sym, subst, arith, slice_index, EachIndex, ◌^◌, max, min, Result, IsOk, Ok, Err}
+use Rattle.std.proofs.lemmas.Bool.{cases_lt, cases_eq}
 use Rattle.std.proofs.lemmas.List.{get_or_past}
 use Rattle.hunk_loader.specs.declared.places.PlaceFault.{PlaceFault}
 use Rattle.hunk_loader.specs.declared.places.PlaceFault.TheVariants.{WrongCount, PastEnd, Overlap}
-use Rattle.hunk_loader.specs.Places.{Takes, AllApart, AllEndWithin, Placed, IsFirstPastEnd, IsLeastEarlier, IsFirstOverlap, IsFirstRefusal}
+use Rattle.hunk_loader.specs.Laws.{PlacedOrRefused}
+use Rattle.hunk_loader.specs.Places.{Takes, AllApart, AllEndWithin, ApartFromEarlier, Placed, ShareAddress, IsFirstPastEnd, IsLeastEarlier, IsFirstOverlap, IsFirstRefusal, end_of}
 
 -- what takes an address has a size, so it is a hunk
 pub Takes-is_hunk :
@@ -128,3 +130,66 @@ pub success-refused :
     (success ≡ refusal fault) ↔ IsFirstRefusal sizes bases fault
 success-refused sizes bases placed fault =
     (λ same. cc, λ refused. absurd (Placed-unrefused sizes bases placed fault refused))
+
+-- ---- placed or refused
+
+-- the first number below a limit at which a fact holds that can be decided, or none
+first-below :
+    (P : ℕ → Type 0) → ((k : ℕ) → P k ⊎ (P k → ⊥)) → (n : ℕ) →
+    ((k : ℕ) × (k < n) × P k × ((lower : ℕ) → lower < k → P lower → ⊥)) ⊎ ((k : ℕ) → k < n → P k → ⊥)
+first-below P decide zero = inr (λ k below holds. absurd (omega arith))
+first-below P decide (suc n) = elim (first-below P decide n) [
+  | inl found ↦ inl (found.0, omega (arith, found.1), found.2, found.3)
+  | inr none ↦ elim (decide n) [
+    | inl holds ↦ inl (n, omega arith, holds, none)
+    | inr fails ↦ inr (λ k below. elim (cases_lt k n) [ inl lower ↦ none k lower | inr above ↦ let same : k ≡ n = omega arith in λ holds. fails (subst P same holds) ])
+  ]
+]
+
+ShareAddress-decided : (sizes bases : List ℕ) (one other : ℕ) → ShareAddress sizes bases one other ⊎ (ShareAddress sizes bases one other → ⊥)
+ShareAddress-decided sizes bases one other =
+    let base = max (slice_index bases one) (slice_index bases other) in
+    elim (cases_lt base (min (end_of sizes bases one) (end_of sizes bases other))) [
+      | inl below ↦ inl (record {
+        address = base;
+        in_one = record { from_base = omega arith; before_end = omega arith };
+        in_other = record { from_base = omega arith; before_end = omega arith };
+      })
+      | inr above ↦ inr (λ share. omega (arith, share.in_one.from_base, share.in_one.before_end, share.in_other.from_base, share.in_other.before_end))
+    ]
+
+-- some earlier hunk shares an address with this one
+abbrev MeetsEarlier : (sizes bases : List ℕ) → ℕ → Type 0
+MeetsEarlier sizes bases later = (earlier : ℕ) × IsLeastEarlier sizes bases earlier later
+
+MeetsEarlier-decided : (sizes bases : List ℕ) (later : ℕ) → MeetsEarlier sizes bases later ⊎ (MeetsEarlier sizes bases later → ⊥)
+MeetsEarlier-decided sizes bases later =
+    elim (first-below (λ earlier. ShareAddress sizes bases earlier later) (λ earlier. ShareAddress-decided sizes bases earlier later) later) [
+      | inl found ↦ inl (found.0, record { is_earlier = found.1; share = found.2; lower_apart = found.3 })
+      | inr none ↦ inr (λ meets. none meets.0 meets.1.is_earlier meets.1.share)
+    ]
+
+-- where no least one meets it, none does
+ApartFromEarlier-none : (sizes bases : List ℕ) (later : ℕ) → (MeetsEarlier sizes bases later → ⊥) → ApartFromEarlier sizes bases later
+ApartFromEarlier-none sizes bases later none earlier below share =
+    elim (first-below (λ k. ShareAddress sizes bases k later) (λ k. ShareAddress-decided sizes bases k later) later) [
+      | inl found ↦ none (found.0, record { is_earlier = found.1; share = found.2; lower_apart = found.3 })
+      | inr apart ↦ apart earlier below share
+    ]
+
+past_end-decided : (sizes bases : List ℕ) (hunk : ℕ) → (2 ^ 32 < end_of sizes bases hunk) ⊎ (2 ^ 32 < end_of sizes bases hunk → ⊥)
+past_end-decided sizes bases hunk = elim (cases_lt (2 ^ 32) (end_of sizes bases hunk)) [ inl past ↦ inl past | inr within ↦ inr (λ past. omega arith) ]
+
+pub placed-or-refused : PlacedOrRefused
+placed-or-refused sizes bases addresses = elim (cases_eq (length sizes) (length bases)) [
+  | inr differ ↦ inr (WrongCount, differ)
+  | inl counted ↦ elim (first-below (λ hunk. 2 ^ 32 < end_of sizes bases hunk) (past_end-decided sizes bases) (length bases)) [
+    | inl past ↦ inr (PastEnd past.0, (counted, record { is_hunk = past.1; ends_past = past.2; lower_end_within = λ lower below. elim (cases_lt (2 ^ 32) (end_of sizes bases lower)) [ inl over ↦ absurd (past.3 lower below over) | inr within ↦ within ] }))
+    | inr none ↦
+        let within : AllEndWithin sizes bases = λ hunk is_hunk. elim (cases_lt (2 ^ 32) (end_of sizes bases hunk)) [ inl over ↦ absurd (none hunk is_hunk over) | inr ends ↦ ends ] in
+        elim (first-below (MeetsEarlier sizes bases) (MeetsEarlier-decided sizes bases) (length bases)) [
+          | inl meets ↦ inr (Overlap meets.2.0 meets.0, (counted, within, record { is_hunk = meets.1; least_earlier = meets.2.1; lower_apart = λ lower below. ApartFromEarlier-none sizes bases lower (meets.3 lower below) }))
+          | inr apart ↦ inl (Placed-from_apart sizes bases counted addresses within (λ later is_hunk. ApartFromEarlier-none sizes bases later (apart later is_hunk)))
+        ]
+  ]
+]

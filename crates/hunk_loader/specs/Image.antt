@@ -11,9 +11,9 @@ or_else (Some byte) other = Some byte
 or_else None other = other
 
 -- The byte at an address. Where the hunks are placed, at most one of them has one there.
-abbrev pub memory_of : List (ℕ × List ℕ) → ℕ → Option ℕ
-memory_of [] address = None
-memory_of (hunk ∷ hunks) address = or_else (byte_in hunk.0 hunk.1 address) (memory_of hunks address)
+abbrev pub memory_map : List (ℕ × List ℕ) → ℕ → Option ℕ
+memory_map [] address = None
+memory_map (hunk ∷ hunks) address = or_else (byte_in hunk.0 hunk.1 address) (memory_map hunks address)
 
 -- the bases of hunks, and their bytes as lists
 abbrev pub hunks_of : {A : Type 0} → List (ℕ × Vec ℕ A) → List (ℕ × List ℕ)

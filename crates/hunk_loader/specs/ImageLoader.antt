@@ -2,18 +2,18 @@
 use Rattle.std.specs.Prelude.{◌≡◌, ℕ, List, length, Option, Result, Ok, Err}
 use Rattle.hunk_words.specs.Decoder.{StandsFor as DecoderStandsFor}
 use Rattle.hunk_words.specs.DecoderCore.{fields_read, kept}
-use Rattle.hunk_words.specs.Events.{events}
-use Rattle.hunk_words.specs.Files.{IsFront}
+use Rattle.hunk_words.specs.Event.{events}
+use Rattle.hunk_words.specs.Files.{IsValidPrefix}
 use Rattle.hunk_words.specs.FirstOffence.{FirstOffence, OffendsAt}
-use Rattle.hunk_words.specs.Longwords.{longwords, unfinished, IsWhole}
+use Rattle.hunk_words.specs.Longwords.{longwords, unfinished}
 use Rattle.hunk_words.specs.declared.event.Event.{Event}
 use Rattle.hunk_words.specs.declared.event.FileKind.TheVariants.{Load}
-use Rattle.hunk_loadfile.specs.FileValue.{IsLoad}
-use Rattle.hunk_loadfile.specs.Hunks.{FileHunk}
-use Rattle.hunk_loader.specs.ImageBuilder.{Making, StandsFor as BuilderStandsFor}
+use Rattle.hunk_loadfile.specs.LoadFile.{IsLoadOf}
+use Rattle.hunk_loadfile.specs.LoadHunk.{FileHunk}
+use Rattle.hunk_loader.specs.ImageBuilder.{BuilderState, StandsFor as BuilderStandsFor}
 use Rattle.hunk_loader.specs.Loading.{loaded}
 use Rattle.hunk_loader.specs.Places.{Placed, IsFirstRefusal}
-use Rattle.hunk_loader.specs.Refusals.{load_refusals}
+use Rattle.hunk_loader.specs.Loading.{load_refusals}
 use Rattle.hunk_loader.specs.Sizes.{sizes_of}
 use Rattle.hunk_loader.specs.declared.image_loader.ImageLoader.{ImageLoader}
 use Rattle.hunk_loader.specs.declared.loading.LoadRefusal.{LoadRefusal}
@@ -21,7 +21,7 @@ use Rattle.hunk_loader.specs.declared.loading.LoadRefusal.TheVariants.{File, Pla
 use Rattle.hunk_loader.specs.declared.places.PlaceFault.{PlaceFault}
 
 -- what it holds of the hunks
-abbrev pub holds_of : {A : Type 0} → ImageLoader A → Making
+abbrev pub holds_of : {A : Type 0} → ImageLoader A → BuilderState
 holds_of loader = loader.decoder.core.taker
 
 -- the events that bytes tell
@@ -41,27 +41,22 @@ refusal_of loader = load_refusals (kept loader.decoder.core)
 
 -- The answer to a piece, behind which these are the bytes: a load file may begin with them, or their longwords offend here.
 abbrev pub Fed : List ℕ → Result (Unit {0}) LoadRefusal → Type 0
-Fed bytes (Ok done) = IsFront Load (longwords bytes)
+Fed bytes (Ok done) = IsValidPrefix Load (longwords bytes)
 Fed bytes (Err (File fault)) = OffendsAt Load (longwords bytes) fault.place fault.reason
 Fed bytes (Err (Place fault)) = ⊥
 Fed bytes (Err OutOfMemory) = Unit {0}
 
--- The bytes are the load file of these hunks.
-pub record IsFileOf (hunks : List FileHunk) (bytes : List ℕ) : Type 0 where
-  pub whole : IsWhole bytes
-  pub is_load : IsLoad hunks (longwords bytes)
-
 -- The bytes are a load file whose hunks can stand at the bases, and this is its image.
 pub record LoadsAs (bases bytes : List ℕ) (image : List (ℕ × List ℕ)) : Type 0 where
   pub hunks : List FileHunk
-  pub is_file : IsFileOf hunks bytes
+  pub is_file : IsLoadOf hunks bytes
   pub placed : Placed (sizes_of hunks) bases
   pub image_is : image ≡ loaded hunks bases
 
 -- The bytes are a load file whose hunks cannot stand at the bases, first of all for this.
 pub record IsNotPlaced (bases bytes : List ℕ) (fault : PlaceFault) : Type 0 where
   pub hunks : List FileHunk
-  pub is_file : IsFileOf hunks bytes
+  pub is_file : IsLoadOf hunks bytes
   pub first : IsFirstRefusal (sizes_of hunks) bases fault
 
 -- The answer to the end of the bytes: what is wrong with the file comes before what is wrong with the bases.

@@ -1,20 +1,27 @@
 -- What a loaded file is in memory, address by address.
-use Rattle.std.specs.Prelude.{◌≡◌, ℕ, ◌+◌, ◌*◌, ◌<◌, List, Some, None, slice_get, slice_index}
-use Rattle.hunk_loadfile.specs.Hunks.{FileHunk}
+use Rattle.std.specs.Prelude.{◌≡◌, ◌⊎◌, ℕ, ◌+◌, ◌*◌, ◌^◌, ◌<◌, List, Some, None, slice_get, slice_index, EachIndex}
+use Rattle.hunk_loadfile.specs.LoadHunk.{FileHunk}
 use Rattle.hunk_loadfile.specs.Patching.{patched}
-use Rattle.hunk_loader.specs.Image.{memory_of}
+use Rattle.hunk_loader.specs.Image.{memory_map}
 use Rattle.hunk_loader.specs.Loading.{loaded}
-use Rattle.hunk_loader.specs.Places.{Placed, Takes}
+use Rattle.hunk_loader.specs.Places.{Placed, Takes, IsFirstRefusal}
 use Rattle.hunk_loader.specs.Sizes.{sizes_of}
+use Rattle.hunk_loader.specs.declared.places.PlaceFault.{PlaceFault}
 
 -- byte i of a hunk stands at its base plus i
 abbrev pub HunkIsLoaded : Type 0
 HunkIsLoaded =
     (hunks : List FileHunk) (bases : List ℕ) (number i : ℕ) (hunk : FileHunk) → Placed (sizes_of hunks) bases → slice_get hunks number ≡ Some hunk → i < 4 * hunk.size
-    → memory_of (loaded hunks bases) (slice_index bases number + i) ≡ Some (patched hunk.content hunk.sites.entries (slice_index bases) i)
+    → memory_map (loaded hunks bases) (slice_index bases number + i) ≡ Some (patched hunk.content hunk.sites.entries (slice_index bases) i)
 
 -- and at an address that no hunk takes there is nothing
 abbrev pub NothingElseIsLoaded : Type 0
 NothingElseIsLoaded =
     (hunks : List FileHunk) (bases : List ℕ) (address : ℕ) → ((number : ℕ) → ¬ Takes (sizes_of hunks) bases number address)
-    → memory_of (loaded hunks bases) address ≡ None
+    → memory_map (loaded hunks bases) address ≡ None
+
+-- At addresses hunks are placed, or there is a first refusal.
+abbrev pub PlacedOrRefused : Type 0
+PlacedOrRefused =
+    (sizes bases : List ℕ) → EachIndex bases (λ hunk. slice_index bases hunk < 2 ^ 32)
+    → Placed sizes bases ⊎ ((fault : PlaceFault) × IsFirstRefusal sizes bases fault)

@@ -1,4 +1,4 @@
-pub mod FrugalBuilder
+pub mod BoundedImageBuilder
 pub mod Image
 pub mod Laws
 pub mod ImageBuilder
@@ -6,5 +6,5 @@ pub mod ImageLoader
 pub mod Loading
 pub mod OpenImage
 pub mod Places
-pub mod Refusals
+pub mod Placing
 pub mod Sizes

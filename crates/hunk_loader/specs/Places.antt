@@ -48,8 +48,8 @@ pub record Placed (sizes bases : List ℕ) : Type 0 where
       one ≡ other
 
 -- each hunk that is not empty stands behind all earlier ones that are not
-abbrev pub Rise : (sizes bases : List ℕ) → Type 0
-Rise sizes bases =
+abbrev pub IsAscending : (sizes bases : List ℕ) → Type 0
+IsAscending sizes bases =
     (earlier later : ℕ) →
     earlier < later →
     0 < slice_index sizes earlier →
@@ -57,8 +57,8 @@ Rise sizes bases =
     end_of sizes bases earlier ≤ slice_index bases later
 
 -- each hunk that is not empty stands before all earlier ones that are not
-abbrev pub Fall : (sizes bases : List ℕ) → Type 0
-Fall sizes bases =
+abbrev pub IsDescending : (sizes bases : List ℕ) → Type 0
+IsDescending sizes bases =
     (earlier later : ℕ) →
     earlier < later →
     0 < slice_index sizes earlier →

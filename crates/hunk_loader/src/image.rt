@@ -1,7 +1,7 @@
 //! The image of a load file: what its hunks are in memory.
 
 ghost use Rattle.std.specs.Prelude.{◌≡◌};
-ghost use Rattle.hunk_loader.specs.Image.{byte_in, hunks_of, memory_of};
+ghost use Rattle.hunk_loader.specs.Image.{byte_in, hunks_of, memory_map};
 
 use std::alloc::{Allocator, Global};
 use std::marker::Model;
@@ -34,7 +34,7 @@ impl<A: Allocator + Copy> Image<A> {
     ///
     /// It takes no memory, and a time linear in the number of hunks.
     pub fn byte(&self, address: u32) -> Option<u8>
-        ensures { result ≡ memory_of self.now address }
+        ensures { result ≡ memory_map self.now address }
     {
         for hunk in &self.hunks {
             let byte = byte_at(hunk.0, &hunk.1, address);

@@ -2,7 +2,8 @@
 
 ghost use Rattle.std.specs.Prelude.{◌≡◌, OnOk, OnErr, slice_index};
 ghost use Rattle.hunk_words.specs.declared.event.Event.{Event};
-ghost use Rattle.hunk_loader.specs.ImageBuilder.{IsImage, KeepsHunk, Settled, TakesEvent, begun_at, passed};
+ghost use Rattle.hunk_loader.specs.ImageBuilder.{IsImage, KeepsHunk, TakesEvent, initial_builder, passed};
+ghost use Rattle.hunk_loader.specs.Placing.{Settled};
 
 use crate::image::Image;
 use crate::loading::LoadRefusal;
@@ -33,9 +34,9 @@ pub(crate) struct ImageBuilder<A: Allocator + Copy> {
 
 impl<A: Allocator + Copy> Model for ImageBuilder<A> {
     ghost use Rattle.hunk_loader.specs.Image.{hunks_of};
-    ghost use Rattle.hunk_loader.specs.ImageBuilder.{Making};
+    ghost use Rattle.hunk_loader.specs.ImageBuilder.{BuilderState};
 
-    ghost Value = { Making };
+    ghost Value = { BuilderState };
 
     ghost view = { λ b. record { bases = b.bases.items; sizes = b.sizes.items; placing = b.placing; ended = b.ended; made = hunks_of b.made.items; current = b.current } };
 }
@@ -43,7 +44,7 @@ impl<A: Allocator + Copy> Model for ImageBuilder<A> {
 impl<A: Allocator + Copy> ImageBuilder<A> {
     /// A builder for hunks at these bases, before the first event.
     pub(crate) fn new(alloc: A, bases: Vec<u32, A>) -> Self
-        ensures { result ≡ begun_at bases.items }
+        ensures { result ≡ initial_builder bases.items }
     {
         ImageBuilder {
             alloc,

@@ -3,10 +3,10 @@
 ghost use Rattle.std.specs.Prelude.{◌≡◌, ℕ, ◌++◌, List, [], Some, None, IfOk, OnOk};
 ghost use Rattle.hunk_words.specs.DecoderCore.{kept};
 ghost use Rattle.hunk_words.specs.declared.fault.Refusal.{Refusal};
-ghost use Rattle.hunk_loader.specs.Refusals.{load_refusal};
+ghost use Rattle.hunk_loader.specs.Loading.{load_refusal};
 ghost use Rattle.hunk_loader.specs.declared.loading.LoadRefusal.{LoadRefusal};
 
-use crate::frugal_builder::FrugalBuilder;
+use crate::bounded_image_builder::BoundedImageBuilder;
 use crate::image::Image;
 use crate::loading::LoadRefusal;
 use hunk_words::{Decoder, Feed, Refusal};
@@ -23,7 +23,7 @@ use std::alloc::{AllocError, Allocator, Global};
 /// answered again to every later call.
 #[derive(Drop)]
 pub struct ImageLoader<A: Allocator + Copy = Global> {
-    decoder: Decoder<FrugalBuilder<A>>,
+    decoder: Decoder<BoundedImageBuilder<A>>,
 }
 
 /// A refusal of the bytes, as one of loading.
@@ -37,8 +37,8 @@ fn load_refusal(refusal: Refusal) -> LoadRefusal
 }
 
 impl<A: Allocator + Copy> ImageLoader<A> {
-    ghost use Rattle.hunk_loader.specs.FrugalBuilder.{Frugal};
-    ghost use Rattle.hunk_loader.specs.Refusals.{Keeps};
+    ghost use Rattle.hunk_loader.specs.BoundedImageBuilder.{IsBoundedBy};
+    ghost use Rattle.hunk_loader.specs.Loading.{Keeps};
     ghost use Rattle.hunk_loader.specs.ImageLoader.{StandsFor, Fed, Finished, bases_of, events_told, holds_of, refusal_of};
 
     /// A loader of hunks at these bases, which are addresses, before the first byte. It keeps a copy
@@ -55,7 +55,7 @@ impl<A: Allocator + Copy> ImageLoader<A> {
         let mut copy = Vec::with_capacity(alloc, bases.len())?;
         copy.extend_from_slice(bases)?;
         Ok(ImageLoader {
-            decoder: Decoder::new(FrugalBuilder::new(alloc, copy)),
+            decoder: Decoder::new(BoundedImageBuilder::new(alloc, copy)),
         })
     }
 
@@ -72,7 +72,7 @@ impl<A: Allocator + Copy> ImageLoader<A> {
         ensures given { bases_of self.new ≡ bases_of self.old }
         ensures fed { (bytes : List ℕ) → StandsFor self.new bytes → Fed bytes result }
         ensures keeps { Keeps (refusal_of self.new) result }
-        ensures frugal { OnOk result ((bytes : List ℕ) → StandsFor self.new bytes → Frugal (holds_of self.new) (events_told bytes)) }
+        ensures bounded { OnOk result ((bytes : List ℕ) → StandsFor self.new bytes → IsBoundedBy (holds_of self.new) (events_told bytes)) }
         ensures again { (refusal : LoadRefusal) → refusal_of self.old ≡ Some refusal → result ≡ Err refusal }
         ensures empty { piece.now ≡ [] → self.new ≡ self.old }
     {

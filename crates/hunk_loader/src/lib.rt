@@ -9,7 +9,7 @@
 //! - `sizes`: the sizes of hunks, told as numbers or by the hunks themselves.
 #![tactic(auto)]
 
-mod frugal_builder;
+mod bounded_image_builder;
 pub mod image;
 mod image_builder;
 pub mod image_loader;

@@ -4,9 +4,9 @@ ghost use Rattle.std.specs.Prelude.{◌≡◌, ℕ, ◌*◌, ◌≤◌, List, []
 ghost use Rattle.std.specs.BTreeMap.{insert_entry};
 ghost use Rattle.std.specs.Ordering.{nat_cmp};
 ghost use Rattle.byteorder.specs.Endian.{big_bytes};
-ghost use Rattle.hunk_words.specs.SeenSites.{SameSites};
+ghost use Rattle.hunk_words.specs.SiteContext.{SameSites};
 ghost use Rattle.hunk_words.specs.Sites.{AreApart};
-ghost use Rattle.hunk_words.specs.Takers.{JudgesSite};
+ghost use Rattle.hunk_words.specs.Taker.{JudgesSite};
 ghost use Rattle.hunk_loadfile.specs.Patching.{patched_bytes};
 
 use byteorder::{BigEndian, ByteOrder};
@@ -31,9 +31,9 @@ pub(crate) struct OpenImage<A: Allocator + Copy> {
 impl<A: Allocator + Copy> Model for OpenImage<A> {
     ghost use Rattle.std.specs.Prelude.{◌<◌, ◌≤◌, length};
     ghost use Rattle.std.specs.List.{All};
-    ghost use Rattle.hunk_loader.specs.OpenImage.{Opened};
+    ghost use Rattle.hunk_loader.specs.OpenImage.{PartialHunk};
 
-    ghost Value = { Opened };
+    ghost Value = { PartialHunk };
 
     ghost view = { λ o. record { bytes = o.bytes.items; sites = o.sites; count = o.count; words = o.words } };
 

@@ -4,7 +4,7 @@
 //! base; any address may be a base, an odd one too (own rule). A hunk of no longwords takes none.
 
 ghost use Rattle.std.specs.Prelude.{◌≡◌, ◌<◌, ◌↔◌, length, IsOk, IsTrue, MatchOption};
-ghost use Rattle.hunk_loader.specs.Places.{end_of, ShareAddress, Rise, Fall, IsLeastEarlier};
+ghost use Rattle.hunk_loader.specs.Places.{end_of, ShareAddress, IsAscending, IsDescending, IsLeastEarlier};
 ghost use Rattle.hunk_loader.specs.Places.{Placed, IsFirstPastEnd, AllEndWithin, IsFirstOverlap};
 ghost use Rattle.hunk_loader.specs.Places.{AllApart, ApartFromEarlier, IsFirstRefusal};
 
@@ -63,10 +63,10 @@ pub fn check_sizes<S: Sizes>(sizes: &S, bases: &[u32]) -> Result<(), PlaceFault>
     if let Some(hunk) = first_past_end(sizes, bases) {
         return Err(PlaceFault::PastEnd(hunk));
     }
-    if rise(sizes, bases) {
+    if is_ascending(sizes, bases) {
         return Ok(());
     }
-    if fall(sizes, bases) {
+    if is_descending(sizes, bases) {
         return Ok(());
     }
     match first_overlap(sizes, bases) {
@@ -99,9 +99,9 @@ fn first_past_end<S: Sizes>(sizes: &S, bases: &[u32]) -> Option<usize>
 }
 
 /// Whether each hunk that is not empty stands behind all earlier ones that are not.
-fn rise<S: Sizes>(sizes: &S, bases: &[u32]) -> bool
+fn is_ascending<S: Sizes>(sizes: &S, bases: &[u32]) -> bool
     requires { length (S.sizes sizes.now) ≡ length bases.now }
-    ensures { IsTrue result ↔ Rise (S.sizes sizes.now) bases.now }
+    ensures { IsTrue result ↔ IsAscending (S.sizes sizes.now) bases.now }
 {
     let mut free = 0;
     for (hunk, base) in bases.iter().enumerate() {
@@ -116,10 +116,10 @@ fn rise<S: Sizes>(sizes: &S, bases: &[u32]) -> bool
 }
 
 /// Whether each hunk that is not empty stands before all earlier ones that are not.
-fn fall<S: Sizes>(sizes: &S, bases: &[u32]) -> bool
+fn is_descending<S: Sizes>(sizes: &S, bases: &[u32]) -> bool
     requires counted { length (S.sizes sizes.now) ≡ length bases.now }
     requires within { AllEndWithin (S.sizes sizes.now) bases.now }
-    ensures { IsTrue result ↔ Fall (S.sizes sizes.now) bases.now }
+    ensures { IsTrue result ↔ IsDescending (S.sizes sizes.now) bases.now }
 {
     let mut lowest = ADDRESSES;
     for (hunk, base) in bases.iter().enumerate() {

@@ -1,6 +1,6 @@
 //! Whether the hunks of a load file can stand at the bases, so far as it is known.
 
-ghost use Rattle.hunk_loader.specs.ImageBuilder.{Decides};
+ghost use Rattle.hunk_loader.specs.Placing.{Decides};
 
 use crate::places::{PlaceFault, check_places};
 

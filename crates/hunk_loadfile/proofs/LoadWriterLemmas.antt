@@ -5,14 +5,14 @@ use Rattle.std.proofs.lemmas.List.Elements.{All-head, All-tail, All-nil, All-con
 use Rattle.std.proofs.lemmas.List.Sums.{sum_by-cons, sum_by-take-le}
 use Rattle.std.specs.List.{All, flat_map}
 use Rattle.hunk_words.specs.Longwords.{longwords}
-use Rattle.hunk_words.specs.Names.{bytes_of}
-use Rattle.hunk_words.proofs.SiteLemmas.{AreApart-few}
-use Rattle.hunk_loadfile.specs.Hunks.{FileHunk}
+use Rattle.hunk_words.specs.Name.{bytes_of}
+use Rattle.hunk_words.proofs.SitesLemmas.{AreApart-few}
+use Rattle.hunk_loadfile.specs.LoadHunk.{FileHunk}
 use Rattle.hunk_loadfile.specs.Rules.{IsLoadFile, IsLoadHunk, carried_by, debug_longwords, most_size, symbol_longwords}
-use Rattle.hunk_loadfile.specs.Written.{content_words, debug_words, header_words, hunk_words, site_words, size_word, symbols_words}
-use Rattle.hunk_loadfile.proofs.LengthLemmas.{length-content_words-le, length-debugs, length-hunks-le, length-site_words-le, length-symbols_words-le}
-use Rattle.hunk_loadfile.proofs.WroteLemmas.{bytes_of-append, length-bytes_of}
-use Rattle.hunk_loadfile.proofs.WriterLemmas.{bytes_of-longwords}
+use Rattle.hunk_loadfile.specs.WrittenForm.{content_words, debug_words, header_words, hunk_words, site_words, size_word, symbols_words}
+use Rattle.hunk_loadfile.proofs.WrittenFormLengthLemmas.{length-content_words-le, length-debugs, length-hunks-le, length-site_words-le, length-symbols_words-le}
+use Rattle.hunk_loadfile.proofs.WritingLemmas.{bytes_of-append, length-bytes_of}
+use Rattle.hunk_loadfile.proofs.LongwordWriterLemmas.{bytes_of-longwords}
 
 -- ---- sizes
 

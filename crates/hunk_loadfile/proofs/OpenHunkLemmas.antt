@@ -3,16 +3,16 @@ use Rattle.std.proofs.Common.{◌≡◌, ℕ, zero, suc, ◌+◌, ◌<◌, ◌�
 use Rattle.std.specs.BTreeMap.{insert_entry}
 use Rattle.std.specs.Ordering.{nat_cmp}
 use Rattle.hunk_words.specs.Sites.{SiteMap, Meets, target_at}
-use Rattle.hunk_words.specs.Takers.{JudgesSite}
-use Rattle.hunk_words.specs.Building.{on_last}
-use Rattle.hunk_words.specs.Names.{name_of}
-use Rattle.hunk_words.specs.Values.{Hunk, Adds, tells, one_site}
+use Rattle.hunk_words.specs.Taker.{JudgesSite}
+use Rattle.hunk_words.specs.EventValue.{on_last}
+use Rattle.hunk_words.specs.Name.{name_of}
+use Rattle.hunk_words.specs.Values.{Hunk, Adds, with_tables, one_site}
 use Rattle.hunk_words.specs.Values.Adds.{to_hunk}
 use Rattle.hunk_words.specs.declared.sites.SiteRefusal.{SiteRefusal}
 use Rattle.hunk_words.specs.declared.sites.SiteRefusal.TheVariants.{Outside, Overlap}
 use Rattle.hunk_words.proofs.TakerLemmas.{judges-site, SameSites-more}
-use Rattle.hunk_loadfile.specs.Hunks.{lists_of}
-use Rattle.hunk_loadfile.specs.FileValue.{with_site, with_sites}
+use Rattle.hunk_loadfile.specs.LoadHunk.{lists_of}
+use Rattle.hunk_loadfile.specs.LoadFile.{with_site, with_sites}
 use Rattle.hunk_loadfile.specs.OpenHunk.{Shows, TakesSite}
 use Rattle.hunk_loadfile.specs.declared.open_hunk.OpenHunk.{OpenHunk}
 
@@ -28,14 +28,14 @@ with_one m o t = record m { entries = insert_entry nat_cmp m.entries o t }
 
 Shows-site : {A : Type 0} (h : OpenHunk A) (m : SiteMap ℕ) (o t limit : ℕ) (seen : List ℕ) (told : Hunk) → m ≡ with_one h.sites o t
     → ((other : ℕ) → target_at m.entries other ≡ (if o == other then Some t else target_at h.sites.entries other))
-    → Shows h limit seen told → Shows (record h { sites = m }) limit (o ∷ seen) (tells told (one_site o (to_hunk t)))
+    → Shows h limit seen told → Shows (record h { sites = m }) limit (o ∷ seen) (with_tables told (one_site o (to_hunk t)))
 Shows-site h m o t limit seen told adds looks shows = record {
   kind = shows.kind;
   content = shows.content;
-  sites = adds ∙ ap (λ n. with_one n o t) shows.sites ∙ ap (λ es. record { limit = limit; entries = es }) (sym (with_sites-append [] told.told.sites o t));
+  sites = adds ∙ ap (λ n. with_one n o t) shows.sites ∙ ap (λ es. record { limit = limit; entries = es }) (sym (with_sites-append [] told.tables.sites o t));
   same = SameSites-more seen h.sites.entries m.entries o t shows.same looks;
-  symbols = shows.symbols ∙ sym (ap (λ xs. map (λ s. (name_of s.0, s.1)) xs) (append-nil told.told.symbols));
-  debugs = shows.debugs ∙ sym (append-nil told.told.debugs);
+  symbols = shows.symbols ∙ sym (ap (λ xs. map (λ s. (name_of s.0, s.1)) xs) (append-nil told.tables.symbols));
+  debugs = shows.debugs ∙ sym (append-nil told.tables.debugs);
 }
 
 -- What the map of sites answers is what the hunk does.
@@ -53,7 +53,7 @@ takes-site h m answer o t outside overlap adds looks refused = record {
     taken : (r : Result (Unit {0}) SiteRefusal) → OnOk r (m ≡ with_one h.sites o t)
         → OnOk r ((other : ℕ) → target_at m.entries other ≡ (if o == other then Some t else target_at h.sites.entries other))
         → (limit : ℕ) (seen : List ℕ) (told : Hunk) → Shows h limit seen told
-        → OnOk r (Shows (record h { sites = m }) limit (o ∷ seen) (tells told (one_site o (to_hunk t))))
+        → OnOk r (Shows (record h { sites = m }) limit (o ∷ seen) (with_tables told (one_site o (to_hunk t))))
     taken (Ok d) a l limit seen told shows = Shows-site h m o t limit seen told a l shows
     taken (Err e) a l limit seen told shows = tt
 

@@ -3,34 +3,28 @@ use Rattle.std.specs.Prelude.{List, ℕ, length, Option, Bool, IsTrue, ◌⊎◌
 use Rattle.hunk_words.specs.Decoder.{StandsFor as DecoderStandsFor}
 use Rattle.hunk_words.specs.DecoderCore.{kept}
 use Rattle.hunk_words.specs.FirstOffence.{FirstOffence, OffendsAt, EndsEarly}
-use Rattle.hunk_words.specs.Longwords.{longwords, unfinished, IsWhole}
+use Rattle.hunk_words.specs.Longwords.{longwords, unfinished}
 use Rattle.hunk_words.specs.Streams.{HasRead}
 use Rattle.hunk_words.specs.declared.event.FileKind.TheVariants.{Load}
 use Rattle.hunk_words.specs.declared.fault.Refusal.{Refusal}
 use Rattle.hunk_words.specs.declared.fault.Refusal.TheVariants as refusal_is
 use Rattle.hunk_words.specs.declared.fault.ReadFault.{ReadFault}
 use Rattle.hunk_words.specs.declared.fault.ReadFault.TheVariants as read_fault
-use Rattle.hunk_loadfile.specs.Hunks.{FileHunk}
-use Rattle.hunk_loadfile.specs.FileValue.{IsLoad}
-use Rattle.hunk_loadfile.specs.Builder.{StandsFor as BuilderStandsFor}
+use Rattle.hunk_loadfile.specs.LoadBuilder.{StandsFor as BuilderStandsFor}
 use Rattle.hunk_words.specs.declared.decoder.Decoder.{Decoder}
 use Rattle.hunk_loadfile.specs.declared.load_builder.LoadBuilder.{LoadBuilder}
 
 -- the bytes that it was fed
 abbrev pub StandsFor : {A : Type 0} → Decoder (LoadBuilder A) → List ℕ → Type 0
-StandsFor d bytes = DecoderStandsFor Load BuilderStandsFor d bytes
+StandsFor decoder bytes = DecoderStandsFor Load BuilderStandsFor decoder bytes
 
 -- it was fed some bytes, or none
 abbrev pub WasFed : {A : Type 0} → Decoder (LoadBuilder A) → Type 0
-WasFed d = (bytes : List ℕ) × StandsFor d bytes
+WasFed decoder = (bytes : List ℕ) × StandsFor decoder bytes
 
 -- the refusal that it keeps
 abbrev pub refusal_of : {A : Type 0} → Decoder (LoadBuilder A) → Option Refusal
-refusal_of d = kept d.core
-
--- The bytes are whole, and their longwords are the load file of these hunks.
-abbrev pub IsLoadOf : List FileHunk → List ℕ → Type 0
-IsLoadOf hunks bytes = IsWhole bytes × IsLoad hunks (longwords bytes)
+refusal_of decoder = kept decoder.core
 
 -- The refusal is the first offence of the bytes fed, or want of memory.
 abbrev pub RefusesBytes : List ℕ → Refusal → Type 0

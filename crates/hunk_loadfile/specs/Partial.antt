@@ -1,13 +1,10 @@
 -- The load file that events told so far: the hunks that ended.
-use Rattle.std.specs.Prelude.{◌≡◌, ℕ, List, [], ◌∷◌}
-use Rattle.hunk_words.specs.Trees.{LoadTree}
-use Rattle.hunk_words.specs.Spelling.{load_spelling, LoadFits}
-use Rattle.hunk_words.specs.Events.{events}
+use Rattle.std.specs.Prelude.{ℕ, List, [], ◌∷◌}
 use Rattle.hunk_words.specs.Values.{Hunk, Part}
-use Rattle.hunk_words.specs.Building.{built, load_begun}
+use Rattle.hunk_words.specs.EventValue.{value_of_events, initial_load}
 use Rattle.hunk_words.specs.declared.event.Event.{Event}
-use Rattle.hunk_loadfile.specs.Hunks.{FileHunk}
-use Rattle.hunk_loadfile.specs.FileValue.{file_hunk, load_value}
+use Rattle.hunk_loadfile.specs.LoadHunk.{FileHunk}
+use Rattle.hunk_loadfile.specs.LoadFile.{file_hunk}
 
 -- hunks, of which the header tells the memory bits and the sizes
 abbrev pub file_hunks : List (ℕ × ℕ) → List Hunk → List FileHunk
@@ -22,8 +19,4 @@ first_hunks (p ∷ ps) = p.hunks
 
 -- the partial load file after events
 abbrev pub partial : List Event → List FileHunk
-partial told = file_hunks (built load_begun told).sizes (first_hunks (built load_begun told).parts)
-
--- After the events of a whole file it is that file.
-abbrev pub WholeIsPartial : Type 0
-WholeIsPartial = (t : LoadTree) → LoadFits t → partial (events (load_spelling t)) ≡ load_value t
+partial told = file_hunks (value_of_events initial_load told).sizes (first_hunks (value_of_events initial_load told).parts)

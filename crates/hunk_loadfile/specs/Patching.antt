@@ -15,8 +15,8 @@ site_over [] i = None
 site_over (site ∷ sites) i = if holds site.0 i then Some site else site_over sites i
 
 -- byte i of the content, or 0 behind it
-abbrev pub plain : List ℕ → ℕ → ℕ
-plain content i = slice_index content i
+abbrev pub byte_or_zero : List ℕ → ℕ → ℕ
+byte_or_zero content i = slice_index content i
 
 -- the longword at a site with the addend of its target, modulo 2 ^ 32
 abbrev pub sum_at : {T : Type 0} → List ℕ → (T → ℕ) → ℕ × T → ℕ
@@ -24,7 +24,7 @@ sum_at content addend site = (big_from site.0 4 content + addend site.1) % 2 ^ 3
 
 -- byte i in no site, or in this one
 abbrev pub patched_in : {T : Type 0} → List ℕ → (T → ℕ) → Option (ℕ × T) → ℕ → ℕ
-patched_in content addend None i = plain content i
+patched_in content addend None i = byte_or_zero content i
 patched_in content addend (Some site) i = slice_index (big_bytes 4 (sum_at content addend site)) (i - site.0)
 
 -- byte i where the addends of the sites are added: the plain byte where no site holds it, else its byte of the sum

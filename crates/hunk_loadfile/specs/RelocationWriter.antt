@@ -2,7 +2,7 @@
 use Rattle.std.specs.Prelude.{◌≡◌, ℕ, ◌<◌, List, ◌++◌, length}
 use Rattle.std.specs.List.{All}
 use Rattle.std.specs.List.Sorted.{IsNonDecreasingBy, IsPermutation}
-use Rattle.hunk_loadfile.specs.Written.{offsets_to}
+use Rattle.hunk_loadfile.specs.WrittenForm.{offsets_to}
 
 -- The same sites, by rising target. The offsets of each target stand in the order that they had.
 pub record AreByTarget (sites pairs : List (ℕ × ℕ)) : Type 0 where

@@ -1,13 +1,14 @@
 //! The symbols and debug blocks of a hunk, as they are written.
 ghost use Rattle.std.specs.Prelude.{◌≡◌, ◌+◌, ◌*◌, ◌<◌, ◌≤◌, ◌^◌, length, sum_by};
 ghost use Rattle.std.specs.List.{All, flat_map};
-ghost use Rattle.hunk_words.specs.Names.{bytes_of, longword_count, name_words};
-ghost use Rattle.hunk_loadfile.specs.Hunks.{lists_of};
+ghost use Rattle.hunk_words.specs.Name.{bytes_of, longword_count, name_words};
+ghost use Rattle.hunk_loadfile.specs.LoadHunk.{lists_of};
 ghost use Rattle.hunk_loadfile.specs.Rules.{debug_longwords, most_name, symbol_longwords};
 ghost use Rattle.hunk_loadfile.specs.Writing.{Wrote};
-ghost use Rattle.hunk_loadfile.specs.Written.{debug_words, symbol_words, symbols_words};
+ghost use Rattle.hunk_loadfile.specs.WrittenForm.{debug_words, symbol_words, symbols_words};
 
 use crate::longword_writer::{write_bytes, write_longwords};
+use hunk_words::doshunks::{HUNK_DEBUG, HUNK_SYMBOL};
 use hunk_words::{Name, Sink, WriteFault};
 use std::alloc::Allocator;
 
@@ -24,7 +25,7 @@ pub(crate) fn write_symbols<A: Allocator + Copy, W: Sink>(
     if symbols.is_empty() {
         return Ok(written);
     }
-    let written = write_longwords(writer, written, &[1008])?;
+    let written = write_longwords(writer, written, &[HUNK_SYMBOL])?;
     let written = write_each_symbol(writer, written, symbols)?;
     write_longwords(writer, written, &[0])
 }
@@ -109,6 +110,6 @@ fn write_debug<W: Sink>(writer: &mut W, written: u64, debug: &[u32]) -> Result<u
     requires room { written + 4 * debug_longwords debug.now < 2 ^ 64 }
     ensures wrote { Wrote (W.taken writer.old) (W.taken writer.new) (W.failed writer.old) (W.failed writer.new) (bytes_of (debug_words debug.now)) written result }
 {
-    let written = write_longwords(writer, written, &[1009, debug.len() as u32])?;
+    let written = write_longwords(writer, written, &[HUNK_DEBUG, debug.len() as u32])?;
     write_longwords(writer, written, debug)
 }

@@ -1,17 +1,35 @@
-//! What holds of load files and of their written form, each law a function without a body.
-ghost use Rattle.hunk_loadfile.specs.LoadLaws.{OneLoad, WrittenIsLoad, WrittenIsShort};
+//! What holds of load files, of their written form and of patching, each law a function without a
+//! body.
+ghost use Rattle.hunk_loadfile.specs.Laws.{AcceptedIsShort, OneLoad, PatchedTwice, WholeIsPartial, WrittenIsLoad, WrittenIsShort};
 
-/// No longwords are a load file of two values.
+/// Decoding is unambiguous: no longwords are the load files of two values.
 pub fn longwords_tell_load_file()
     ensures { OneLoad }
 {}
 
-/// The written form of a load file that `LoadFile::new` makes is no longer than a file may be.
+/// The written form of a load file is at most 2^28 longwords long where its symbols and debug blocks
+/// take at most 2^27, as in every file of [`LoadFile::new`](crate::LoadFile::new).
 pub fn written_is_short()
     ensures { WrittenIsShort }
+{}
+
+/// Hunks that break no rule of [`LoadFile::new`](crate::LoadFile::new) have a written form of at most
+/// 2^28 longwords.
+pub fn accepted_is_short()
+    ensures { AcceptedIsShort }
 {}
 
 /// The written form of a load file is read back as that file.
 pub fn written_is_read_back()
     ensures { WrittenIsLoad }
+{}
+
+/// After the events of a whole load file the partial load file is that file.
+pub fn events_tell_files()
+    ensures { WholeIsPartial }
+{}
+
+/// Adding numbers at sites twice, the second time at some of them, is adding their sums once.
+pub fn patched_twice<T, U>()
+    ensures { PatchedTwice T U }
 {}

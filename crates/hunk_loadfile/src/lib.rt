@@ -1,7 +1,7 @@
 //! Load files: their hunks, and the form in which they are written.
 //!
 //! - `load_hunk`: a hunk of a load file.
-//! - `build`: which hunks make a load file.
+//! - `rules`: which hunks make a load file.
 //! - `load_file`: a load file, made of hunks.
 //! - `load_builder`: what builds a load file of the events that its longwords tell.
 //! - `load_decoder`: load files from bytes.
@@ -9,12 +9,10 @@
 //! - `relocation_writer`: the relocation block of a hunk, as it is written.
 //! - `debug_writer`: the symbols and debug blocks of a hunk, as they are written.
 //! - `longword_writer`: bytes and longwords of a text that is written.
-//! - `partial`: the load file that events told so far.
 //! - `patching`: adding numbers to the longwords at sites.
 //! - `laws`: what holds of load files and of their written form.
 #![tactic(auto)]
 
-pub mod build;
 mod debug_writer;
 pub mod laws;
 mod load_builder;
@@ -24,14 +22,14 @@ pub mod load_hunk;
 pub mod load_writer;
 mod longword_writer;
 mod open_hunk;
-pub mod partial;
 pub mod patching;
 mod relocation_writer;
+pub mod rules;
 
-pub use build::{BuildFault, BuildRefusal};
 pub use hunk_objects::{HunkKind, Memory};
 pub use load_decoder::{LoadDecoder, read_load};
 pub use load_file::LoadFile;
 pub use load_hunk::LoadHunk;
 pub use load_writer::write_load;
 pub use patching::{add_at, patch};
+pub use rules::{BuildFault, BuildRefusal};

@@ -1,14 +1,11 @@
 //! What builds a load file of the events that its longwords tell.
 ghost use Rattle.std.specs.Prelude.{◌≡◌, ℕ, List, [], ◌∷◌, ◌*◌, ◌<◌, length, map, slice_index, slice_index_or, IfSome, alloc_error, IsErr, Err};
-ghost use Rattle.hunk_words.specs.Events.{content_of};
-ghost use Rattle.hunk_loadfile.specs.FileValue.{kind_of, memory_of};
 ghost use Rattle.hunk_words.specs.declared.event.Event.{Event};
 ghost use Rattle.hunk_words.specs.declared.event.FileKind.TheVariants.{Load};
 
 use crate::load_hunk::LoadHunk;
 use crate::open_hunk::OpenHunk;
-use hunk_objects::{HunkKind, Memory};
-use hunk_words::{Event, FileKind, OpenName, SiteRefusal, Taker};
+use hunk_words::{Event, FileKind, HunkKind, Memory, OpenName, SiteRefusal, Taker};
 use std::alloc::{AllocError, Allocator, Global};
 use std::mem;
 
@@ -34,17 +31,6 @@ pub(crate) struct LoadBuilder<A: Allocator + Copy = Global> {
     receiver: Receiver<A>,
 }
 
-// What the bits of the header ask for. Both of them together do not pass.
-fn memory_of(bits: u8) -> Memory
-    ensures { result ≡ memory_of bits }
-{
-    match bits {
-        0 => Memory::Any,
-        1 => Memory::Chip,
-        _ => Memory::Fast,
-    }
-}
-
 // The bytes in so many longwords.
 fn bytes_in(longwords: u32) -> u64
     ensures { result ≡ 4 * longwords }
@@ -52,19 +38,8 @@ fn bytes_in(longwords: u32) -> u64
     4 * u64::from(longwords)
 }
 
-// What a block of this type holds.
-fn kind_of(number: u32) -> HunkKind
-    ensures { result ≡ kind_of (content_of number) }
-{
-    match number {
-        1001 => HunkKind::Code,
-        1002 => HunkKind::Data,
-        _ => HunkKind::Bss,
-    }
-}
-
 impl<A: Allocator + Copy> LoadBuilder<A> {
-    ghost use Rattle.hunk_loadfile.specs.Builder.{StandsFor, Steps};
+    ghost use Rattle.hunk_loadfile.specs.LoadBuilder.{StandsFor, Steps};
 
     /// A builder that took no event. It takes no memory.
     pub(crate) fn new(alloc: A) -> Self
@@ -120,7 +95,10 @@ impl<A: Allocator + Copy> LoadBuilder<A> {
         ensures { (bits size : ℕ) → Steps self.old self.new result (Event.Content kind bits size) }
     {
         let limit = bytes_in(self.size(self.hunks.len()));
-        if !self.hunk.begin(self.alloc, kind_of(kind), limit) {
+        if !self
+            .hunk
+            .begin(self.alloc, HunkKind::of_block_type(kind), limit)
+        {
             return never_told();
         }
         self.receiver = Receiver::Content;
@@ -189,7 +167,8 @@ impl<A: Allocator + Copy> LoadBuilder<A> {
             Err(error) => return Err(error),
         }
         let hunk = mem::replace(&mut self.hunk, OpenHunk::new(self.alloc, limit));
-        self.hunks.push_reserved(hunk.close(memory_of(bits), size));
+        self.hunks
+            .push_reserved(hunk.close(Memory::of_bits(bits), size));
         self.receiver = Receiver::Nothing;
         Ok(())
     }
@@ -231,7 +210,7 @@ fn never_told() -> Result<(), AllocError>
 }
 
 impl<A: Allocator + Copy> Taker for LoadBuilder<A> {
-    ghost use Rattle.hunk_loadfile.specs.Builder.{StandsFor};
+    ghost use Rattle.hunk_loadfile.specs.LoadBuilder.{StandsFor};
 
     ghost stands_for = { λ builder told. StandsFor builder told };
 

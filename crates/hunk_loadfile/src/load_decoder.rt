@@ -1,8 +1,9 @@
 //! Load files from bytes.
 ghost use Rattle.std.specs.Prelude.{◌≡◌, ℕ, List, [], ◌++◌, Some, None, Err, IfOk, IfErr, OnOk, IsTrue};
 ghost use Rattle.hunk_words.specs.DecoderCore.{Keeps};
-ghost use Rattle.hunk_words.specs.Files.{IsFront};
-ghost use Rattle.hunk_loadfile.specs.LoadDecoder.{IsLoadOf, RefusesRead};
+ghost use Rattle.hunk_words.specs.Files.{IsValidPrefix};
+ghost use Rattle.hunk_loadfile.specs.LoadDecoder.{RefusesRead};
+ghost use Rattle.hunk_loadfile.specs.LoadFile.{IsLoadOf};
 ghost use Rattle.hunk_words.specs.Longwords.{longwords};
 ghost use Rattle.hunk_words.specs.Streams.{HasRead};
 ghost use Rattle.hunk_words.specs.declared.event.FileKind.TheVariants.{Load};
@@ -58,7 +59,7 @@ impl<A: Allocator + Copy> LoadDecoder<A> {
         ensures stands { (bytes : List ℕ) → StandsFor self.old bytes → StandsFor self.new (bytes ++ piece.now) }
         ensures kept { Keeps (refusal_of self.new) result }
         ensures again { (refusal : Refusal) → refusal_of self.old ≡ Some refusal → result ≡ Err refusal }
-        ensures front { OnOk result ((bytes : List ℕ) → StandsFor self.new bytes → IsFront Load (longwords bytes)) }
+        ensures front { OnOk result ((bytes : List ℕ) → StandsFor self.new bytes → IsValidPrefix Load (longwords bytes)) }
         ensures refused { IfErr result (λ refusal. (bytes : List ℕ) → StandsFor self.new bytes → RefusesBytes bytes refusal) }
         ensures empty { piece.now ≡ [] → self.new ≡ self.old }
     {

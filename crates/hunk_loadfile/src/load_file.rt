@@ -2,8 +2,8 @@
 ghost use Rattle.std.specs.Prelude.{◌≡◌, IfOk, IfErr};
 ghost use Rattle.hunk_loadfile.specs.Rules.{IsLoadFile, build_fault};
 
-use crate::build::{BuildRefusal, build_fault};
 use crate::load_hunk::LoadHunk;
+use crate::rules::{BuildRefusal, build_fault};
 use std::alloc::{Allocator, Global};
 use std::marker::Model;
 
@@ -18,7 +18,7 @@ pub struct LoadFile<A: Allocator + Copy = Global> {
 
 impl<A: Allocator + Copy> Model for LoadFile<A> {
     ghost use Rattle.std.specs.Prelude.{List};
-    ghost use Rattle.hunk_loadfile.specs.Hunks.{FileHunk};
+    ghost use Rattle.hunk_loadfile.specs.LoadHunk.{FileHunk};
     ghost use Rattle.hunk_loadfile.specs.Rules.{IsLoadFile};
 
     ghost Value = { List FileHunk };

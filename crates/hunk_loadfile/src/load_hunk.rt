@@ -2,8 +2,7 @@
 
 ghost use Rattle.std.specs.Prelude.{◌≡◌, ◌≤◌, ◌*◌, ◌%◌, length};
 
-use hunk_objects::{HunkKind, Memory};
-use hunk_words::{Name, Sites};
+use hunk_words::{HunkKind, Memory, Name, Sites};
 use std::alloc::{Allocator, Global};
 use std::marker::Model;
 
@@ -30,7 +29,7 @@ pub struct LoadHunk<A: Allocator + Copy = Global> {
 }
 
 impl<A: Allocator + Copy> Model for LoadHunk<A> {
-    ghost use Rattle.hunk_loadfile.specs.Hunks.{FileHunk, lists_of};
+    ghost use Rattle.hunk_loadfile.specs.LoadHunk.{FileHunk, lists_of};
 
     ghost Value = { FileHunk };
 

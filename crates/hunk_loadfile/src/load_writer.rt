@@ -3,18 +3,18 @@ ghost use Rattle.std.specs.Prelude.{◌≡◌, ◌+◌, ◌*◌, ◌<◌, ◌≤
 ghost use Rattle.std.specs.Io.KnownBytes.{Appends};
 ghost use Rattle.std.specs.List.{All, flat_map};
 ghost use Rattle.hunk_words.specs.Longwords.{longwords};
-ghost use Rattle.hunk_words.specs.Names.{bytes_of};
+ghost use Rattle.hunk_words.specs.Name.{bytes_of};
 ghost use Rattle.hunk_loadfile.specs.Rules.{IsLoadFile, IsLoadHunk, carried_by, most_hunks, most_size};
 ghost use Rattle.hunk_loadfile.specs.Writing.{WriteStopped, Wrote};
-ghost use Rattle.hunk_loadfile.specs.Written.{content_words, header_words, hunk_words, size_word, written};
+ghost use Rattle.hunk_loadfile.specs.WrittenForm.{content_words, header_words, hunk_words, size_word, written_form};
 
 use crate::debug_writer::{write_debugs, write_symbols};
 use crate::load_file::LoadFile;
 use crate::load_hunk::LoadHunk;
 use crate::longword_writer::{write_bytes, write_longwords};
 use crate::relocation_writer::write_sites;
-use hunk_objects::{HunkKind, Memory};
-use hunk_words::{Sink, WriteFault};
+use hunk_words::doshunks::{HUNK_BSS, HUNK_CODE, HUNK_DATA, HUNK_END, HUNK_HEADER};
+use hunk_words::{HunkKind, Memory, Sink, WriteFault};
 use std::alloc::Allocator;
 
 /// Writes a load file (The AmigaDOS Manual, 3rd edition, "Amiga binary file structure"; which of the
@@ -31,9 +31,9 @@ pub fn write_load<A: Allocator + Copy, W: Sink>(
     file: &LoadFile<A>,
     writer: &mut W,
 ) -> Result<(), WriteFault>
-    ensures ok { OnOk result (Appends (W.taken writer.old) (W.taken writer.new) (bytes_of (written file.now))) }
+    ensures ok { OnOk result (Appends (W.taken writer.old) (W.taken writer.new) (bytes_of (written_form file.now))) }
     ensures quiet { OnOk result (W.failed writer.new ≡ W.failed writer.old) }
-    ensures stopped { IfErr result (WriteStopped (W.taken writer.old) (W.taken writer.new) (W.failed writer.old) (W.failed writer.new) (bytes_of (written file.now)) 0) }
+    ensures stopped { IfErr result (WriteStopped (W.taken writer.old) (W.taken writer.new) (W.failed writer.old) (W.failed writer.new) (bytes_of (written_form file.now)) 0) }
 {
     let hunks = file.hunks();
     let written = write_header(writer, hunks)?;
@@ -50,7 +50,7 @@ fn write_header<A: Allocator + Copy, W: Sink>(
     ensures wrote { Wrote (W.taken writer.old) (W.taken writer.new) (W.failed writer.old) (W.failed writer.new) (bytes_of (header_words hunks.now)) 0 result }
 {
     let count = hunks.len() as u32;
-    let written = write_longwords(writer, 0, &[1011, 0, count, 0, count - 1])?;
+    let written = write_longwords(writer, 0, &[HUNK_HEADER, 0, count, 0, count - 1])?;
     write_sizes(writer, written, hunks)
 }
 
@@ -136,7 +136,7 @@ fn write_hunk<A: Allocator + Copy, W: Sink>(
     let written = write_sites(alloc, writer, written, &hunk.sites)?;
     let written = write_symbols(writer, written, &hunk.symbols)?;
     let written = write_debugs(writer, written, &hunk.debugs)?;
-    write_longwords(writer, written, &[1010])
+    write_longwords(writer, written, &[HUNK_END])
 }
 
 /// Writes what a file has for the content of a hunk. The bytes are written as they lie.
@@ -159,9 +159,9 @@ fn content_head<A: Allocator + Copy>(hunk: &LoadHunk<A>) -> [u32; 2]
     ensures { result ++ longwords hunk.now.content ≡ content_words hunk.now.kind hunk.now.size (longwords hunk.now.content) }
 {
     match hunk.kind {
-        HunkKind::Code => [1001, hunk.stored()],
-        HunkKind::Data => [1002, hunk.stored()],
-        HunkKind::Bss => [1003, hunk.size],
+        HunkKind::Code => [HUNK_CODE, hunk.stored()],
+        HunkKind::Data => [HUNK_DATA, hunk.stored()],
+        HunkKind::Bss => [HUNK_BSS, hunk.size],
     }
 }
 

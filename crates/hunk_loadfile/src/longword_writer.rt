@@ -1,6 +1,6 @@
 //! Longwords and bytes of a text, written one behind the other.
 ghost use Rattle.std.specs.Prelude.{◌+◌, ◌<◌, ◌^◌, length};
-ghost use Rattle.hunk_words.specs.Names.{bytes_of};
+ghost use Rattle.hunk_words.specs.Name.{bytes_of};
 ghost use Rattle.hunk_loadfile.specs.Writing.{Wrote};
 
 use byteorder::{BigEndian, ByteOrder};

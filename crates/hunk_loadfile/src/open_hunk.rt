@@ -1,16 +1,16 @@
 //! A hunk of a load file that has not ended.
 ghost use Rattle.std.specs.Prelude.{◌≡◌, ℕ, ◌*◌, List, [], ◌∷◌, ◌++◌, IsTrue, IsFalse, OnErr};
 ghost use Rattle.byteorder.specs.Endian.{big_bytes};
-ghost use Rattle.hunk_words.specs.Building.{on_last};
+ghost use Rattle.hunk_words.specs.EventValue.{on_last};
 ghost use Rattle.hunk_words.specs.OpenName.{Opens};
-ghost use Rattle.hunk_words.specs.Values.{Hunk, empty, tells, one_debug, one_symbol};
-ghost use Rattle.hunk_words.specs.declared.kinds.ContentType.{ContentType};
-ghost use Rattle.hunk_loadfile.specs.FileValue.{file_hunk, kind_of, memory_of};
+ghost use Rattle.hunk_words.specs.Values.{Hunk, empty, with_tables, one_debug, one_symbol};
+ghost use Rattle.hunk_words.specs.declared.kinds.HunkKind.{HunkKind};
+ghost use Rattle.hunk_loadfile.specs.LoadFile.{file_hunk};
+ghost use Rattle.hunk_words.specs.Kinds.{memory_of};
 
 use crate::load_hunk::LoadHunk;
 use byteorder::{BigEndian, ByteOrder};
-use hunk_objects::{HunkKind, Memory};
-use hunk_words::{Name, OpenName, SiteRefusal, Sites};
+use hunk_words::{HunkKind, Memory, Name, OpenName, SiteRefusal, Sites};
 use std::alloc::{AllocError, Allocator};
 use std::mem;
 
@@ -60,7 +60,7 @@ impl<A: Allocator + Copy> OpenHunk<A> {
     /// Takes the type of the content, and the limit of the sites. Where there is a site already it
     /// answers false, and stands as it was.
     pub(crate) fn begin(&mut self, alloc: A, kind: HunkKind, limit: u64) -> bool
-        ensures takes { (before : ℕ) (seen : List ℕ) (told : Hunk) (content : ContentType) (bits size : ℕ) → Shows self.old before seen told → kind ≡ kind_of content →
+        ensures takes { (before : ℕ) (seen : List ℕ) (told : Hunk) (content : HunkKind) (bits size : ℕ) → Shows self.old before seen told → kind ≡ content →
             IsTrue result → Shows self.new limit seen (record told { kind = content; memory = bits; size = size }) }
         ensures refuses { (before : ℕ) (seen : List ℕ) (told : Hunk) → Shows self.old before seen told → IsFalse result → Shows self.new before seen told }
     {
@@ -94,7 +94,7 @@ impl<A: Allocator + Copy> OpenHunk<A> {
         name: &mut OpenName<A>,
         value: u32,
     ) -> Result<(), AllocError>
-        ensures takes { (words : List ℕ) → Opens name.old words → Takes self.old self.new result (λ told. tells told (one_symbol words value)) }
+        ensures takes { (words : List ℕ) → Opens name.old words → Takes self.old self.new result (λ told. with_tables told (one_symbol words value)) }
         ensures name { OnErr result (name.new ≡ name.old) }
     {
         self.symbols.reserve(1)?;
@@ -105,7 +105,7 @@ impl<A: Allocator + Copy> OpenHunk<A> {
 
     /// Begins a debug block.
     pub(crate) fn add_debug(&mut self, alloc: A) -> Result<(), AllocError>
-        ensures { Takes self.old self.new result (λ told. tells told (one_debug [])) }
+        ensures { Takes self.old self.new result (λ told. with_tables told (one_debug [])) }
     {
         match self.debugs.push(Vec::new(alloc)) {
             Ok(()) => Ok(()),
@@ -115,7 +115,7 @@ impl<A: Allocator + Copy> OpenHunk<A> {
 
     /// Takes a longword of the last debug block, if there is one.
     pub(crate) fn add_debug_word(&mut self, word: u32) -> Result<(), AllocError>
-        ensures { Takes self.old self.new result (λ told. record told { told = record told.told { debugs = on_last (λ ws. ws ++ word ∷ []) told.told.debugs } }) }
+        ensures { Takes self.old self.new result (λ told. record told { tables = record told.tables { debugs = on_last (λ ws. ws ++ word ∷ []) told.tables.debugs } }) }
     {
         match self.debugs.last_mut() {
             Some(debug) => match debug.push(word) {

@@ -3,7 +3,6 @@
 ghost use Rattle.std.specs.Prelude.{◌≡◌, ◌+◌, ◌<◌, ◌≤◌, [], ◌∷◌, length, slice_index};
 ghost use Rattle.std.specs.List.{All};
 ghost use Rattle.hunk_loadfile.specs.Patching.{patched_bytes};
-ghost use Rattle.hunk_loadfile.specs.PatchingLaws.{PatchedTwice};
 
 use byteorder::{BigEndian, ByteOrder};
 use hunk_words::Sites;
@@ -33,8 +32,3 @@ pub fn add_at(bytes: &mut [u8], offset: usize, addend: u32)
     let sum = BigEndian::read_u32(longword).wrapping_add(addend);
     BigEndian::write_u32(longword, sum);
 }
-
-/// Adding numbers at sites twice, the second time at some of them, is adding their sums once.
-pub fn patched_twice<T, U>()
-    ensures { PatchedTwice T U }
-{}

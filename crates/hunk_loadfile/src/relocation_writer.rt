@@ -2,12 +2,13 @@
 ghost use Rattle.std.specs.Prelude.{◌≡◌, ◌≢◌, ◌+◌, ◌*◌, ◌<◌, ◌≤◌, ◌^◌, ℕ, length, map, slice_index_or, IfOk};
 ghost use Rattle.std.specs.List.{All};
 ghost use Rattle.std.specs.List.Sorted.{IsNonDecreasingBy};
-ghost use Rattle.hunk_words.specs.Names.{bytes_of};
+ghost use Rattle.hunk_words.specs.Name.{bytes_of};
 ghost use Rattle.hunk_loadfile.specs.RelocationWriter.{AreByTarget, IsGroup};
 ghost use Rattle.hunk_loadfile.specs.Writing.{Wrote};
-ghost use Rattle.hunk_loadfile.specs.Written.{group_words, groups_words, site_words};
+ghost use Rattle.hunk_loadfile.specs.WrittenForm.{group_words, groups_words, site_words};
 
 use crate::longword_writer::write_longwords;
+use hunk_words::doshunks::HUNK_RELOC32;
 use hunk_words::{Sink, Sites, WriteFault};
 use std::alloc::{AllocError, Allocator};
 
@@ -38,7 +39,7 @@ pub(crate) fn write_sites<W: Sink, A: Allocator + Copy>(
     if pairs.is_empty() {
         return Ok(written);
     }
-    let begun = write_longwords(writer, written, &[1004])?;
+    let begun = write_longwords(writer, written, &[HUNK_RELOC32])?;
     let grouped = write_groups(writer, begun, &pairs)?;
     write_longwords(writer, grouped, &[0])
 }

@@ -1,2 +1,2 @@
-mod AskingSteps
-mod JudgeLemmas
+mod RefusingSteps
+mod JudgesLemmas

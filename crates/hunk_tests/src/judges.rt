@@ -1,9 +1,9 @@
 //! Takers that judge sites alone, for each kind of file.
 
 ghost use Rattle.std.specs.Prelude.{◌≡◌, ℕ, List, [], ◌∷◌, slice_index, OnOk, OnErr};
-ghost use Rattle.hunk_words.specs.Takers.{JudgesSite};
-ghost use Rattle.hunk_words.specs.Watch.{content_limit};
-ghost use Rattle.hunk_words.specs.Events.{content_of};
+ghost use Rattle.hunk_words.specs.Taker.{JudgesSite};
+ghost use Rattle.hunk_words.specs.SiteContext.{content_limit};
+ghost use Rattle.hunk_words.specs.Kinds.{hunk_kind_of};
 ghost use Rattle.hunk_words.specs.declared.event.FileKind.TheVariants.{Object, Load};
 ghost use Rattle.hunk_tests.specs.Judges.{HoldsSites, ObjectStandsFor, LoadStandsFor};
 
@@ -80,7 +80,7 @@ impl<A: Allocator + Copy> ObjectJudge<A> {
 
 // The bytes in which the sites of an object file's hunk lie.
 fn content_bytes(kind: u32, size: u32) -> u64
-    ensures { result ≡ content_limit Object 0 (content_of kind) size }
+    ensures { result ≡ content_limit Object 0 (hunk_kind_of kind) size }
 {
     match kind {
         1001 | 1002 => 4 * size as u64,

@@ -1,9 +1,9 @@
 pub mod BasesLemmas
-pub mod BlockLemmas
-pub mod DecimalLemmas
+pub mod ReportBlockLemmas
+pub mod DigitsLemmas
 pub mod FaultLineLemmas
-pub mod LawLemmas
+pub mod LawsLemmas
 pub mod LoadLemmas
-pub mod PrintLemmas
-pub mod ReportExample
+pub mod PrintingLemmas
+pub mod ReportExampleLemmas
 pub mod ReportLemmas

@@ -17,23 +17,24 @@ use Rattle.hunk_words.specs.declared.event.FileKind.TheVariants.{Load}
 use Rattle.hunk_words.specs.declared.fault.Reason.TheVariants.{HunkTable}
 use Rattle.hunk_words.specs.declared.fault.Refusal.{Refusal}
 use Rattle.hunk_words.specs.declared.fault.Refusal.TheVariants as refusal_is
-use Rattle.hunk_words.proofs.LookLemmas.{needs-none}
-use Rattle.hunk_loadfile.specs.FileValue.{load_hunk_value}
-use Rattle.hunk_loadfile.specs.Hunks.{FileHunk}
+use Rattle.hunk_words.proofs.FaultTableLemmas.{reject_unless-none}
+use Rattle.hunk_loadfile.specs.LoadFile.{load_hunk_value}
+use Rattle.hunk_loadfile.specs.LoadHunk.{FileHunk}
 use Rattle.hunk_loadfile.proofs.PatchingLemmas.{length-patched_bytes}
 use Rattle.hunk_loader.specs.Image.{hunks_of}
-use Rattle.hunk_loader.specs.ImageLoader.{StandsFor, Finished, IsFileOf, LoadsAs}
+use Rattle.hunk_loadfile.specs.LoadFile.{IsLoadOf}
+use Rattle.hunk_loader.specs.ImageLoader.{StandsFor, Finished, LoadsAs}
 use Rattle.hunk_loader.specs.Loading.{loaded_bytes}
 use Rattle.hunk_loader.specs.Sizes.{sizes_of}
 use Rattle.hunk_loader.specs.declared.image_loader.ImageLoader.{ImageLoader}
 use Rattle.hunk_loader.specs.declared.loading.LoadRefusal.{LoadRefusal}
 use Rattle.hunk_loader.specs.declared.loading.LoadRefusal.TheVariants as load_refusal_is
 use Rattle.hunk_loader.proofs.LoadingLemmas.{loaded_from}
-use Rattle.hunk_tool.specs.Loading.{IsCutShort, IsLoadFault, IsReadFault, IsRefused, IsReported, ends_of, fault_of, load_fault_of}
+use Rattle.hunk_tool.specs.Load.{IsCutShort, IsLoadFault, IsReadFault, IsRefused, IsReported, ends_of, fault_of, load_fault_of}
 use Rattle.hunk_tool.specs.Report.{EndsInside, report}
 use Rattle.hunk_tool.specs.declared.tool_fault.ToolFault.{ToolFault}
 use Rattle.hunk_tool.specs.declared.tool_fault.ToolFault.TheVariants.{Input, InputDevice, Place, Output, OutOfMemory}
-use Rattle.hunk_tool.proofs.ReportLemmas.{length-lent}
+use Rattle.hunk_tool.proofs.ReportLemmas.{length-hunks_of}
 
 -- ---- what was read
 
@@ -103,11 +104,11 @@ IsCutShort-of bases image left left_then old new written read front = record {
 }
 
 -- A header tells at most 65,535 hunks.
-few-hunks : (hunks : List FileHunk) (bytes : List ℕ) → IsFileOf hunks bytes → length hunks ≤ 65535
+few-hunks : (hunks : List FileHunk) (bytes : List ℕ) → IsLoadOf hunks bytes → length hunks ≤ 65535
 few-hunks hunks bytes file =
     let t = file.is_load.tree in
     let count : ℕ = suc (length t.others) in
-    let told = needs-none (nat_le 1 count && nat_le count 65535) HunkTable file.is_load.is_file.fits.1.1.0.passes in
+    let told = reject_unless-none (nat_le 1 count && nat_le count 65535) HunkTable file.is_load.is_file.fits.1.1.0.passes in
     let most : count ≤ 65535 = leb-true count 65535 (and_parts (nat_le 1 count) (nat_le count 65535) told).1 in
     omega (arith, most, ap length file.is_load.value, length-map (t.first ∷ t.others) (λ h. load_hunk_value (length t.others) h))
 
@@ -117,7 +118,7 @@ few-loaded bases bytes hunks image are loads =
     let place : ℕ × FileHunk → ℕ × List ℕ = λ placed. (placed.0, loaded_bytes bases placed.1) in
     omega (
       arith,
-      length-lent hunks,
+      length-hunks_of hunks,
       ap length are,
       ap length loads.image_is,
       length-map (zip bases loads.hunks) place,

@@ -8,10 +8,11 @@ use Rattle.std.proofs.lemmas.List.Elements.{All-head, All-tail}
 use Rattle.std.proofs.lemmas.List.FromFn.{get_or-enumerate_from, length-enumerate_from, length-range_with_len}
 use Rattle.hex.specs.Hex.{lower_digits}
 use Rattle.hex.proofs.HexLemmas.{length-encode_with}
-use Rattle.hunk_tool.specs.Report.{EndsInside, first_row_lines, hunk_line, hunk_lines, lent, numbered_lines, report, row_count, row_line, row_lines, row_of}
-use Rattle.hunk_tool.specs.Texts.{eight_digits}
-use Rattle.hunk_tool.proofs.DecimalLemmas.{length-decimal}
-use Rattle.hunk_tool.proofs.PrintLemmas.{flat_map-around, length-front-le}
+use Rattle.hunk_loader.specs.Image.{hunks_of}
+use Rattle.hunk_tool.specs.Report.{EndsInside, first_row_lines, hunk_line, hunk_lines, numbered_lines, report, row_count, row_line, row_lines, row_of}
+use Rattle.hunk_tool.specs.Digits.{eight_digits}
+use Rattle.hunk_tool.proofs.DigitsLemmas.{length-decimal}
+use Rattle.hunk_tool.proofs.PrintingLemmas.{flat_map-around, length-front-le}
 
 -- ---- rows
 
@@ -42,21 +43,21 @@ pub record IsHunk (hunks : List (ℕ × List ℕ)) (number base : ℕ) (bytes : 
   pub within : number < length hunks
   pub at : slice_index_or hunks number (base, bytes) ≡ (base, bytes)
 
-pub length-lent : {A : Type 0} (hunks : List (ℕ × Vec ℕ A)) → length (lent hunks) ≡ length hunks
-length-lent {A} hunks = let seen : ℕ × Vec ℕ A → ℕ × List ℕ = λ h. (h.0, h.1.items) in length-map hunks seen
+pub length-hunks_of : {A : Type 0} (hunks : List (ℕ × Vec ℕ A)) → length (hunks_of hunks) ≡ length hunks
+length-hunks_of {A} hunks = let seen : ℕ × Vec ℕ A → ℕ × List ℕ = λ h. (h.0, h.1.items) in length-map hunks seen
 
-lent-at : {A : Type 0} (hunks : List (ℕ × Vec ℕ A)) (number : ℕ) (hunk : ℕ × Vec ℕ A) (bytes : List ℕ) → number < length hunks → hunk ≡ slice_index_or hunks number hunk → bytes ≡ hunk.1.items → slice_index_or (lent hunks) number (hunk.0, bytes) ≡ (hunk.0, bytes)
-lent-at {A} hunks number hunk bytes within found same =
+hunks_of-at : {A : Type 0} (hunks : List (ℕ × Vec ℕ A)) (number : ℕ) (hunk : ℕ × Vec ℕ A) (bytes : List ℕ) → number < length hunks → hunk ≡ slice_index_or hunks number hunk → bytes ≡ hunk.1.items → slice_index_or (hunks_of hunks) number (hunk.0, bytes) ≡ (hunk.0, bytes)
+hunks_of-at {A} hunks number hunk bytes within found same =
     let seen : ℕ × Vec ℕ A → ℕ × List ℕ = λ h. (h.0, h.1.items) in
     let with_bytes : List ℕ → ℕ × List ℕ = λ b. (hunk.0, b) in
     get_or-map seen hunks number hunk (hunk.0, bytes) within ∙ ap seen (sym found) ∙ ap with_bytes (sym same)
 
 -- a hunk as it is lent
-pub IsHunk-lent : {A : Type 0} (hunks : List (ℕ × Vec ℕ A)) (number : ℕ) (hunk : ℕ × Vec ℕ A) (bytes : List ℕ) → number < length hunks → hunk ≡ slice_index_or hunks number hunk → bytes ≡ hunk.1.items → IsHunk (lent hunks) number hunk.0 bytes
-IsHunk-lent {A} hunks number hunk bytes within found same =
+pub IsHunk-hunks_of : {A : Type 0} (hunks : List (ℕ × Vec ℕ A)) (number : ℕ) (hunk : ℕ × Vec ℕ A) (bytes : List ℕ) → number < length hunks → hunk ≡ slice_index_or hunks number hunk → bytes ≡ hunk.1.items → IsHunk (hunks_of hunks) number hunk.0 bytes
+IsHunk-hunks_of {A} hunks number hunk bytes within found same =
     record {
-      within = omega (arith, within, length-lent hunks);
-      at = lent-at hunks number hunk bytes within found same;
+      within = omega (arith, within, length-hunks_of hunks);
+      at = hunks_of-at hunks number hunk bytes within found same;
     }
 
 pub ends_inside : (hunks : List (ℕ × List ℕ)) (number base : ℕ) (bytes : List ℕ) → IsHunk hunks number base bytes → All EndsInside hunks → base + length bytes ≤ 2 ^ 32

@@ -1,15 +1,17 @@
--- What holds of the answers to what was read: at most one of them is right.
-use Rattle.std.specs.Prelude.{◌≡◌, List, [], ℕ, ◌++◌, Bool, IsTrue, Option}
+-- What holds of the outcomes of what was read: one of them is right, and no other.
+use Rattle.std.specs.Prelude.{◌≡◌, ◌⊎◌, List, [], ℕ, ◌^◌, ◌<◌, ◌++◌, Bool, true, IsTrue, Option, slice_index, EachIndex}
+use Rattle.std.specs.List.{All}
 use Rattle.hunk_words.specs.declared.fault.Fault.{Fault}
-use Rattle.hunk_loadfile.specs.Hunks.{FileHunk}
-use Rattle.hunk_loader.specs.ImageLoader.{IsFileOf, IsNotPlaced}
+use Rattle.hunk_loadfile.specs.LoadHunk.{FileHunk}
+use Rattle.hunk_loadfile.specs.LoadFile.{IsLoadOf}
+use Rattle.hunk_loader.specs.ImageLoader.{IsNotPlaced, LoadsAs}
 use Rattle.hunk_loader.specs.declared.places.PlaceFault.{PlaceFault}
-use Rattle.hunk_tool.specs.Loading.{IsRefused, IsReported}
+use Rattle.hunk_tool.specs.Load.{IsRefused, IsReported}
 
 -- No load file begins with what is refused; what is refused at its end is none.
 abbrev pub RefusedBeginsNone : Type 0
 RefusedBeginsNone =
-    (fault : Fault) (ended : Bool) (hunks : List FileHunk) (bytes more : List ℕ) → IsRefused fault ended bytes → (IsTrue ended → more ≡ []) → IsFileOf hunks (bytes ++ more) → ⊥
+    (fault : Fault) (ended : Bool) (hunks : List FileHunk) (bytes more : List ℕ) → IsRefused fault ended bytes → (IsTrue ended → more ≡ []) → IsLoadOf hunks (bytes ++ more) → ⊥
 
 -- What was read is refused for one fault.
 abbrev pub RefusedForOne : Type 0
@@ -22,3 +24,13 @@ ReportedIsPlaced = (bases : List ℕ) (old new : Option (List ℕ)) (fault : Pla
 -- Bases are refused for one fault.
 abbrev pub NotPlacedForOne : Type 0
 NotPlacedForOne = (bases bytes : List ℕ) (fault other : PlaceFault) → IsNotPlaced bases bytes fault → IsNotPlaced bases bytes other → fault ≡ other
+
+-- What was read to a reader's end is a load file whose hunks are placed, one whose hunks are not, or is refused.
+abbrev pub HasOutcome : (bases bytes : List ℕ) → Type 0
+HasOutcome bases bytes =
+    ((image : List (ℕ × List ℕ)) × LoadsAs bases bytes image)
+    ⊎ (((fault : PlaceFault) × IsNotPlaced bases bytes fault) ⊎ ((fault : Fault) × IsRefused fault true bytes))
+
+-- There is always an outcome, for bases that are addresses.
+abbrev pub OutcomeExists : Type 0
+OutcomeExists = (bases bytes : List ℕ) → All (λ b. b < 256) bytes → EachIndex bases (λ hunk. slice_index bases hunk < 2 ^ 32) → HasOutcome bases bytes

@@ -1,8 +1,9 @@
 pub mod Bases
 pub mod FaultLine
 pub mod Laws
-pub mod Loading
+pub mod Load
 pub mod Phrase
 pub mod Report
-pub mod Status
-pub mod Texts
+pub mod ToolFault
+pub mod Digits
+pub mod Printing

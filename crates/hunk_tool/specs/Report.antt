@@ -1,10 +1,11 @@
 -- The report of an image: which bytes it has, and where.
-use Rattle.std.specs.Prelude.{ℕ, ◌+◌, ◌*◌, ◌^◌, ◌≤◌, List, ◌++◌, length, map, take, drop, codes, Vec}
+use Rattle.std.specs.Prelude.{ℕ, ◌+◌, ◌*◌, ◌^◌, ◌≤◌, List, ◌++◌, length, map, take, drop, codes}
 use Rattle.std.specs.Fmt.{decimal}
 use Rattle.std.specs.Int.{div_ceil}
 use Rattle.std.specs.List.{enumerate_from, flat_map, range_with_len}
 use Rattle.hex.specs.Hex.{encode_lower}
-use Rattle.hunk_tool.specs.Texts.{line, eight_digits}
+use Rattle.hunk_tool.specs.Printing.{line}
+use Rattle.hunk_tool.specs.Digits.{eight_digits}
 
 -- the first line of a hunk: its number, its base and its size in bytes
 abbrev pub hunk_line : ℕ → ℕ → ℕ → List ℕ
@@ -42,10 +43,6 @@ numbered_lines hunk = hunk_lines hunk.0 hunk.1.0 hunk.1.1
 -- all lines of the hunks of an image, each a base and its bytes, numbered from 0
 abbrev pub report : List (ℕ × List ℕ) → List ℕ
 report hunks = flat_map numbered_lines (enumerate_from 0 hunks)
-
--- the hunks of an image as they are lent, each a base and its bytes
-abbrev pub lent : {A : Type 0} → List (ℕ × Vec ℕ A) → List (ℕ × List ℕ)
-lent hunks = map (λ hunk. (hunk.0, hunk.1.items)) hunks
 
 -- the last byte of a hunk has an address
 abbrev pub EndsInside : ℕ × List ℕ → Type 0

@@ -2,7 +2,7 @@
 
 ghost use Rattle.std.specs.Prelude.{◌≡◌, ◌≤◌, List, [], ℕ, drop, length};
 ghost use Rattle.std.specs.Fmt.{decimal};
-ghost use Rattle.hunk_tool.specs.Texts.{eight_digits};
+ghost use Rattle.hunk_tool.specs.Digits.{eight_digits};
 
 use std::marker::Model;
 

@@ -6,7 +6,7 @@ ghost use Rattle.std.specs.String.{string_bytes};
 ghost use Rattle.hunk_words.specs.Streams.{DeviceStopped};
 ghost use Rattle.hunk_tool.specs.FaultLine.{fault_line, fault_text, name_of, place_text, reason_text, IsOfInputs};
 ghost use Rattle.hunk_tool.specs.Phrase.{phrase_text};
-ghost use Rattle.hunk_tool.specs.Texts.{line};
+ghost use Rattle.hunk_tool.specs.Printing.{line};
 
 use crate::phrase::Phrase;
 use crate::printing::write_pieces;

@@ -3,7 +3,7 @@
 ghost use Rattle.std.specs.Prelude.{◌≡◌, IsTrue, IfOk, OnOk, IfErr};
 ghost use Rattle.hunk_words.specs.Streams.{HasRead};
 ghost use Rattle.hunk_loader.specs.ImageLoader.{LoadsAs};
-ghost use Rattle.hunk_tool.specs.Loading.{ends_of, fault_of, load_fault_of, IsLoadFault, IsReadFault, IsReported};
+ghost use Rattle.hunk_tool.specs.Load.{ends_of, fault_of, load_fault_of, IsLoadFault, IsReadFault, IsReported};
 
 use crate::report::write_report;
 use crate::tool_fault::ToolFault;

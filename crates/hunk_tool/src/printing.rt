@@ -3,7 +3,7 @@
 ghost use Rattle.std.specs.Prelude.{◌≡◌, ◌+◌, ◌<◌, ◌^◌, length, IfOk, IfErr, OnOk};
 ghost use Rattle.std.specs.Io.KnownBytes.{Appends};
 ghost use Rattle.hunk_words.specs.Streams.{DeviceStopped};
-ghost use Rattle.hunk_tool.specs.Texts.{joined};
+ghost use Rattle.hunk_tool.specs.Printing.{joined};
 
 use hunk_words::{Sink, WriteFault, write_all};
 

@@ -5,7 +5,8 @@ ghost use Rattle.std.specs.Io.KnownBytes.{Appends};
 ghost use Rattle.std.specs.List.{All};
 ghost use Rattle.hex.specs.Hex.{encode_lower};
 ghost use Rattle.hunk_words.specs.Streams.{DeviceStopped};
-ghost use Rattle.hunk_tool.specs.Report.{hunk_line, hunk_lines, lent, report, row_count, row_line, row_lines, EndsInside};
+ghost use Rattle.hunk_loader.specs.Image.{hunks_of};
+ghost use Rattle.hunk_tool.specs.Report.{hunk_line, hunk_lines, report, row_count, row_line, row_lines, EndsInside};
 
 use crate::digits::Digits;
 use crate::printing::write_pieces;
@@ -28,10 +29,10 @@ pub(crate) fn write_report<A: Allocator, W: Sink>(
     writer: &mut W,
 ) -> Result<(), WriteFault>
     requires few { length hunks.now < 2 ^ 16 }
-    requires inside { All EndsInside (lent hunks.now) }
-    ensures text { OnOk result (Appends (W.taken writer.old) (W.taken writer.new) (report (lent hunks.now))) }
+    requires inside { All EndsInside (hunks_of hunks.now) }
+    ensures text { OnOk result (Appends (W.taken writer.old) (W.taken writer.new) (report (hunks_of hunks.now))) }
     ensures quiet { OnOk result (W.failed writer.new ≡ W.failed writer.old) }
-    ensures stopped { IfErr result (DeviceStopped (W.taken writer.old) (W.taken writer.new) (W.failed writer.new) (report (lent hunks.now)) 0) }
+    ensures stopped { IfErr result (DeviceStopped (W.taken writer.old) (W.taken writer.new) (W.failed writer.new) (report (hunks_of hunks.now)) 0) }
 {
     let mut written = 0;
     for (number, (base, bytes)) in hunks.iter().enumerate() {

@@ -1,7 +1,7 @@
 //! What an engine is refused with.
 
 ghost use Rattle.std.specs.Prelude.{◌≡◌};
-ghost use Rattle.hunk_tool.specs.Status.{status};
+ghost use Rattle.hunk_tool.specs.ToolFault.{status};
 
 use hunk_loader::PlaceFault;
 use hunk_words::Fault;

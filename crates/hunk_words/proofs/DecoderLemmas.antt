@@ -2,7 +2,7 @@
 use Rattle.std.proofs.Common.{◌≡◌, ℕ, ◌+◌, ◌-◌, ◌*◌, ◌<◌, ◌≤◌, ◌^◌, List, [], ◌∷◌, ◌++◌, length, take, drop, get_or, Option, Some, None, Result, Ok, Err, OnOk, sym, ap, subst, ◌∙◌, append_assoc, length-drop, arith}
 use Rattle.std.proofs.lemmas.List.{take_more, take-append-drop, take_all}
 use Rattle.hunk_words.specs.Longwords.{longwords, unfinished}
-use Rattle.hunk_words.specs.Files.{IsFront}
+use Rattle.hunk_words.specs.Files.{IsValidPrefix}
 use Rattle.hunk_words.specs.FirstOffence.{FirstOffence}
 use Rattle.hunk_words.specs.FirstOffence.FirstOffence.{longword_offends}
 use Rattle.hunk_words.specs.DecoderCore.{EndAnswered, Keeps, kept}
@@ -15,8 +15,8 @@ use Rattle.hunk_words.specs.declared.event.Event.{Event}
 use Rattle.hunk_words.specs.declared.event.FileKind.{FileKind}
 use Rattle.hunk_words.specs.declared.fault.Refusal.{Refusal}
 use Rattle.hunk_words.specs.declared.fault.Refusal.TheVariants as refusal_is
-use Rattle.hunk_words.proofs.Longwords.{longwords-append, unfinished-append, length-longwords, length-unfinished, list-none, unfinished-none}
-use Rattle.hunk_words.proofs.CoreLemmas.{StandsBy-append, StandsBy-front}
+use Rattle.hunk_words.proofs.LongwordsLemmas.{longwords-append, unfinished-append, length-longwords, length-unfinished, list-none, unfinished-none}
+use Rattle.hunk_words.proofs.DecoderCoreLemmas.{StandsBy-append, StandsBy-front}
 
 -- what keeps a refusal stands for all that comes
 pub StandsFor-append : {T : Type 0} (kind : FileKind) (stands_for : T → List Event → Type 0) (d : Decoder T) (bytes more : List ℕ) (refusal : Refusal) → kept d.core ≡ Some refusal
@@ -58,7 +58,7 @@ OnOk-kept o (Err refusal) keeps fact = tt
 -- ---- where no refusal is kept
 
 pub StandsFor-front : {T : Type 0} (kind : FileKind) (stands_for : T → List Event → Type 0) (d : Decoder T) (bytes : List ℕ) → kept d.core ≡ None
-    → StandsFor kind stands_for d bytes → IsFront kind (longwords bytes)
+    → StandsFor kind stands_for d bytes → IsValidPrefix kind (longwords bytes)
 StandsFor-front kind stands_for d bytes none stands = StandsBy-front kind (stands_for d.core.taker) d.core.state (longwords bytes) none stands.core
 
 pub StandsFor-bounded : {T : Type 0} (kind : FileKind) (stands_for : T → List Event → Type 0) (d : Decoder T) (bytes : List ℕ) → kept d.core ≡ None

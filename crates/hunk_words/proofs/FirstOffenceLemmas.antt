@@ -3,18 +3,18 @@ use Rattle.std.proofs.Common.{◌≡◌, ℕ, zero, suc, ◌+◌, ◌^◌, ◌<�
 use Rattle.hunk_words.specs.Kinds.{Kind}
 use Rattle.hunk_words.specs.Kinds.Kind.{unit_type}
 use Rattle.hunk_words.specs.Machine.{IsComplete}
-use Rattle.hunk_words.specs.Reading.{Progress, begun, read_words}
-use Rattle.hunk_words.specs.Files.{AllLong, most_longwords, IsFile, IsFront}
+use Rattle.hunk_words.specs.Reading.{Progress, initial_progress, read_words}
+use Rattle.hunk_words.specs.Files.{AllLong, most_longwords, IsFile, IsValidPrefix}
 use Rattle.hunk_words.specs.FirstOffence.{Blames, OffendsAt, EndsEarly, end_reason, FirstOffence}
 use Rattle.hunk_words.specs.FirstOffence.Blames.{too_large, behind_file, longword, upper_half, lower_half}
 use Rattle.hunk_words.specs.FirstOffence.FirstOffence.{longword_offends, end_offends}
-use Rattle.hunk_words.specs.OffenceLaws.{Offends}
+use Rattle.hunk_words.specs.FirstOffenceLaws.{Offends}
 use Rattle.hunk_words.specs.declared.event.FileKind.{FileKind}
 use Rattle.hunk_words.specs.declared.fault.Reason.{Reason}
 use Rattle.hunk_words.specs.declared.fault.Reason.TheVariants.{TooLarge}
-use Rattle.hunk_words.proofs.ProgressLemmas.{Stop, stops, stays}
-use Rattle.hunk_words.proofs.OffenceLemmas.{front-front, file-front, front-read, read-front, complete-file, file-complete}
-use Rattle.hunk_words.proofs.BlameLemmas.{blames-stop, reason-read}
+use Rattle.hunk_words.proofs.ReadingProgressLemmas.{StopsInside, stops, stays}
+use Rattle.hunk_words.proofs.FilesReadingLemmas.{front-front, file-front, front-read, read-front, complete-file, file-complete}
+use Rattle.hunk_words.proofs.FirstOffenceBlameLemmas.{blames-stop, reason-read}
 
 -- ---- longwords in parts
 
@@ -49,20 +49,20 @@ cuts (a ∷ xs) (b ∷ ys) us vs x y h =
 
 -- ---- where the machine stops
 
-module _ (kind : FileKind) (ws : List ℕ) (p : ℕ) (r : Reason) (longs : AllLong ws) (short : p < most_longwords) (s : Stop (begun kind) ws 0 p r) where
+module _ (kind : FileKind) (ws : List ℕ) (p : ℕ) (r : Reason) (longs : AllLong ws) (short : p < most_longwords) (s : StopsInside (initial_progress kind) ws 0 p r) where
   parts-long : AllLong s.front × (s.bad < 2 ^ 32)
   parts-long = let l = long-append s.front (s.bad ∷ s.behind) (subst (λ x. AllLong x) s.parts longs) in (l.0, l.1.0)
 
   at-place : p ≡ length s.front
   at-place = let e : p ≡ 0 + length s.front = s.place in omega arith
 
-  good-front : IsFront kind s.front
+  good-front : IsValidPrefix kind s.front
   good-front = read-front kind s.front s.reached parts-long.0 (let e : p ≡ length s.front = at-place in omega arith) s.comes_to
 
-  no-longer : IsFront kind (s.front ++ (s.bad ∷ [])) → ⊥
+  no-longer : IsValidPrefix kind (s.front ++ (s.bad ∷ [])) → ⊥
   no-longer g =
       let d = front-read kind (s.front ++ (s.bad ∷ [])) g in
-      let e = stays s.front [] s.bad (begun kind) s.reached 0 r s.comes_to s.reason in
+      let e = stays s.front [] s.bad (initial_progress kind) s.reached 0 r s.comes_to s.reason in
       let both : ◌≡◌ {A = Result Progress (ℕ × Reason)} (Ok d.0) (Err (e.0, r)) = sym d.1 ∙ e.1 in
       absurd (cc)
 
@@ -92,13 +92,13 @@ module _ (kind : FileKind) (ws : List ℕ) (p : ℕ) (r : Reason) (longs : AllLo
     blames = blames-stop kind s.front s.reached.stack s.reached.seen s.bad r parts-long.0 (let e : p ≡ length s.front = at-place in omega arith) parts-long.1 s.comes_to s.reason;
   }
 
-pub offends : (kind : FileKind) (ws : List ℕ) (p : ℕ) (r : Reason) → AllLong ws → p < most_longwords → read_words (begun kind) 0 ws ≡ Err (p, r) → Offends kind ws p r
-offends kind ws p r longs short h = offends-stop kind ws p r longs short (stops ws (begun kind) 0 p r h)
+pub offends : (kind : FileKind) (ws : List ℕ) (p : ℕ) (r : Reason) → AllLong ws → p < most_longwords → read_words (initial_progress kind) 0 ws ≡ Err (p, r) → Offends kind ws p r
+offends kind ws p r longs short h = offends-stop kind ws p r longs short (stops ws (initial_progress kind) 0 p r h)
 
-pub offends-at : (kind : FileKind) (ws : List ℕ) (p : ℕ) (r : Reason) → AllLong ws → p < most_longwords → read_words (begun kind) 0 ws ≡ Err (p, r) → OffendsAt kind ws p r
-offends-at kind ws p r longs short h = offends-at-stop kind ws p r longs short (stops ws (begun kind) 0 p r h)
+pub offends-at : (kind : FileKind) (ws : List ℕ) (p : ℕ) (r : Reason) → AllLong ws → p < most_longwords → read_words (initial_progress kind) 0 ws ≡ Err (p, r) → OffendsAt kind ws p r
+offends-at kind ws p r longs short h = offends-at-stop kind ws p r longs short (stops ws (initial_progress kind) 0 p r h)
 
-pub too-long : (kind : FileKind) (front behind : List ℕ) (bad : ℕ) (d : Progress) → AllLong front → length front ≡ most_longwords → read_words (begun kind) 0 front ≡ Ok d → OffendsAt kind (front ++ (bad ∷ behind)) most_longwords TooLarge
+pub too-long : (kind : FileKind) (front behind : List ℕ) (bad : ℕ) (d : Progress) → AllLong front → length front ≡ most_longwords → read_words (initial_progress kind) 0 front ≡ Ok d → OffendsAt kind (front ++ (bad ∷ behind)) most_longwords TooLarge
 too-long kind front behind bad d longs long h = record {
   front = front;
   bad = bad;
@@ -110,7 +110,7 @@ too-long kind front behind bad d longs long h = record {
   blames = too_large long refl;
 }
 
-pub ends-early : (kind : FileKind) (ws : List ℕ) (rest : ℕ) (d : Progress) → AllLong ws → length ws ≤ most_longwords → read_words (begun kind) 0 ws ≡ Ok d → (rest ≡ 0 → IsComplete d.stack → ⊥) → EndsEarly kind ws rest (length ws) (end_reason rest)
+pub ends-early : (kind : FileKind) (ws : List ℕ) (rest : ℕ) (d : Progress) → AllLong ws → length ws ≤ most_longwords → read_words (initial_progress kind) 0 ws ≡ Ok d → (rest ≡ 0 → IsComplete d.stack → ⊥) → EndsEarly kind ws rest (length ws) (end_reason rest)
 ends-early kind ws rest d longs short h not = record {
   good = read-front kind ws d longs short h;
   not_whole = λ z f. not z (file-complete kind ws d longs h f);
@@ -142,26 +142,26 @@ offends-more kind ws us p r o = record {
 abbrev Told : FileKind → List ℕ → ℕ → Type 0
 Told kind ws rest = (IsFile kind ws × (rest ≡ 0)) ⊎ ((place : ℕ) × (r : Reason) × FirstOffence kind ws rest place r)
 
-told-early : (kind : FileKind) (ws : List ℕ) (rest : ℕ) (d : Progress) → AllLong ws → length ws ≤ most_longwords → read_words (begun kind) 0 ws ≡ Ok d → (rest ≡ 0 → IsComplete d.stack → ⊥) → Told kind ws rest
+told-early : (kind : FileKind) (ws : List ℕ) (rest : ℕ) (d : Progress) → AllLong ws → length ws ≤ most_longwords → read_words (initial_progress kind) 0 ws ≡ Ok d → (rest ≡ 0 → IsComplete d.stack → ⊥) → Told kind ws rest
 told-early kind ws rest d longs short h not = inr (length ws, end_reason rest, end_offends (ends-early kind ws rest d longs short h not))
 
-told-read : (kind : FileKind) (ws : List ℕ) (rest : ℕ) (d : Progress) → AllLong ws → length ws ≤ most_longwords → read_words (begun kind) 0 ws ≡ Ok d → IsComplete d.stack ⊎ (IsComplete d.stack → ⊥) → Told kind ws rest
+told-read : (kind : FileKind) (ws : List ℕ) (rest : ℕ) (d : Progress) → AllLong ws → length ws ≤ most_longwords → read_words (initial_progress kind) 0 ws ≡ Ok d → IsComplete d.stack ⊎ (IsComplete d.stack → ⊥) → Told kind ws rest
 told-read kind ws zero d longs short h (inl c) = inl (complete-file kind ws d longs short h c, refl)
 told-read kind ws zero d longs short h (inr not) = told-early kind ws 0 d longs short h (λ z c. not c)
 told-read kind ws (suc rest) d longs short h c = told-early kind ws (suc rest) d longs short h (λ z x. omega arith)
 
-told-within : (kind : FileKind) (ws : List ℕ) (rest : ℕ) (x : Result Progress (ℕ × Reason)) → AllLong ws → length ws ≤ most_longwords → read_words (begun kind) 0 ws ≡ x → Told kind ws rest
+told-within : (kind : FileKind) (ws : List ℕ) (rest : ℕ) (x : Result Progress (ℕ × Reason)) → AllLong ws → length ws ≤ most_longwords → read_words (initial_progress kind) 0 ws ≡ x → Told kind ws rest
 told-within kind ws rest (Ok d) longs short h = told-read kind ws rest d longs short h (complete-or-not d.stack)
 told-within kind ws rest (Err e) longs short h =
-    let s = stops ws (begun kind) 0 e.0 e.1 h in
+    let s = stops ws (initial_progress kind) 0 e.0 e.1 h in
     let place : e.0 ≡ 0 + length s.front = s.place in
     let long : length ws ≡ length s.front + suc (length s.behind) = ap (λ x. length x) s.parts ∙ length-append s.front (s.bad ∷ s.behind) in
     inr (e.0, e.1, longword_offends (offends-at kind ws e.0 e.1 longs (omega arith) h))
 
-told-beyond : (kind : FileKind) (front behind : List ℕ) (bad rest : ℕ) (x : Result Progress (ℕ × Reason)) → AllLong front → length front ≡ most_longwords → read_words (begun kind) 0 front ≡ x → Told kind (front ++ (bad ∷ behind)) rest
+told-beyond : (kind : FileKind) (front behind : List ℕ) (bad rest : ℕ) (x : Result Progress (ℕ × Reason)) → AllLong front → length front ≡ most_longwords → read_words (initial_progress kind) 0 front ≡ x → Told kind (front ++ (bad ∷ behind)) rest
 told-beyond kind front behind bad rest (Ok d) longs long h = inr (most_longwords, TooLarge, longword_offends (too-long kind front behind bad d longs long h))
 told-beyond kind front behind bad rest (Err e) longs long h =
-    let s = stops front (begun kind) 0 e.0 e.1 h in
+    let s = stops front (initial_progress kind) 0 e.0 e.1 h in
     let place : e.0 ≡ 0 + length s.front = s.place in
     let parts : length front ≡ length s.front + suc (length s.behind) = ap (λ x. length x) s.parts ∙ length-append s.front (s.bad ∷ s.behind) in
     inr (e.0, e.1, longword_offends (offends-more kind front (bad ∷ behind) e.0 e.1 (offends-at kind front e.0 e.1 longs (omega arith) h)))
@@ -172,19 +172,19 @@ within-or-beyond a b = grind arith
 pub file-or-offence : (kind : FileKind) (ws : List ℕ) (rest : ℕ) → AllLong ws → Told kind ws rest
 file-or-offence kind ws rest longs =
     elim (within-or-beyond (length ws) most_longwords) [
-      | inl short ↦ told-within kind ws rest (read_words (begun kind) 0 ws) longs short refl
+      | inl short ↦ told-within kind ws rest (read_words (initial_progress kind) 0 ws) longs short refl
       | inr long ↦
           let c = cut most_longwords ws long in
           subst (λ x. Told kind x rest) (sym c.3)
-          (told-beyond kind c.0 c.2 c.1 rest (read_words (begun kind) 0 c.0) (long-append c.0 (c.1 ∷ c.2) (subst (λ x. AllLong x) c.3 longs)).0 c.4 refl)
+          (told-beyond kind c.0 c.2 c.1 rest (read_words (initial_progress kind) 0 c.0) (long-append c.0 (c.1 ∷ c.2) (subst (λ x. AllLong x) c.3 longs)).0 c.4 refl)
     ]
 
 -- ---- never both
 
 -- a good front has no offence
-front-no-offence : (kind : FileKind) (ws : List ℕ) (p : ℕ) (r : Reason) → IsFront kind ws → OffendsAt kind ws p r → ⊥
+front-no-offence : (kind : FileKind) (ws : List ℕ) (p : ℕ) (r : Reason) → IsValidPrefix kind ws → OffendsAt kind ws p r → ⊥
 front-no-offence kind ws p r g o =
-    o.no_longer (front-front kind (o.front ++ (o.bad ∷ [])) o.behind (subst (λ x. IsFront kind x) (o.parts ∙ sym (append_assoc o.front (o.bad ∷ []) o.behind)) g))
+    o.no_longer (front-front kind (o.front ++ (o.bad ∷ [])) o.behind (subst (λ x. IsValidPrefix kind x) (o.parts ∙ sym (append_assoc o.front (o.bad ∷ []) o.behind)) g))
 
 pub file-no-offence : (kind : FileKind) (ws : List ℕ) (place : ℕ) (r : Reason) → IsFile kind ws → FirstOffence kind ws 0 place r → ⊥
 file-no-offence kind ws place r f (longword_offends o) = front-no-offence kind ws place r (file-front kind ws f) o
@@ -200,7 +200,7 @@ blames-most kind ws bad r long (longword short _ _ _) = absurd (omega arith)
 blames-most kind ws bad r long (upper_half short _ _ _) = absurd (omega arith)
 blames-most kind ws bad r long (lower_half short _ _ _ _ _) = absurd (omega arith)
 
-blames-one : (kind : FileKind) (ws : List ℕ) (bad : ℕ) (r s : Reason) → IsFront kind ws → Blames kind ws bad r → Blames kind ws bad s → r ≡ s
+blames-one : (kind : FileKind) (ws : List ℕ) (bad : ℕ) (r s : Reason) → IsValidPrefix kind ws → Blames kind ws bad r → Blames kind ws bad s → r ≡ s
 blames-one kind ws bad r s g b c =
     elim (within-or-beyond most_longwords (length ws)) [
       | inl most ↦
@@ -220,8 +220,8 @@ offends-one kind ws p q r s o u =
         o.at_place ∙ ap (λ x. length x) e ∙ sym u.at_place,
         blames-one kind u.front u.bad r s u.good (subst (λ x. Blames kind u.front x r) f (subst (λ x. Blames kind x o.bad r) e o.blames)) u.blames,
       )
-      | shorter more e ↦ absurd (o.no_longer (front-front kind (o.front ++ (o.bad ∷ [])) more (subst (λ x. IsFront kind x) e u.good)))
-      | longer more e ↦ absurd (u.no_longer (front-front kind (u.front ++ (u.bad ∷ [])) more (subst (λ x. IsFront kind x) e o.good)))
+      | shorter more e ↦ absurd (o.no_longer (front-front kind (o.front ++ (o.bad ∷ [])) more (subst (λ x. IsValidPrefix kind x) e u.good)))
+      | longer more e ↦ absurd (u.no_longer (front-front kind (u.front ++ (u.bad ∷ [])) more (subst (λ x. IsValidPrefix kind x) e o.good)))
     ]
 
 pub first-one : (kind : FileKind) (ws : List ℕ) (rest p q : ℕ) (r s : Reason) → FirstOffence kind ws rest p r → FirstOffence kind ws rest q s → (p ≡ q) × (r ≡ s)

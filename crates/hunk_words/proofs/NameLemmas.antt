@@ -10,7 +10,7 @@ use Rattle.std.specs.Int.{byte_at}
 use Rattle.std.specs.List.{All, AllByRecursion, before_first, range_with_len, position, position_or_len, prefix_len}
 use Rattle.byteorder.specs.Endian.{big_bytes, big_number}
 use Rattle.byteorder.specs.Numbers.{big_from-lt}
-use Rattle.hunk_words.specs.Names.{IsNameByte, Names, Writes, bytes_of, name_of, name_words, longword_count}
+use Rattle.hunk_words.specs.Name.{IsNameByte, Names, Writes, bytes_of, name_of, name_words, longword_count}
 
 -- what stands before the first zero byte
 abbrev before_zero : List ℕ → List ℕ
@@ -219,9 +219,9 @@ ends_or_stops : (bs n : List ℕ) (zeros : ℕ) → bs ≡ n ++ replicate zeros 
 ends_or_stops bs n zero e = inl (e ∙ append-nil n)
 ends_or_stops bs n (suc zeros) e = inr (replicate zeros 0, e)
 
-fewest_zeros : (count : ℕ) → (4 * longword_count count - count < 4) ⊎ ((count ≡ 0) × (4 * longword_count count - count ≡ 4))
+fewest_zeros : (count : ℕ) → ((0 < count) × (4 * longword_count count - count < 4)) ⊎ ((count ≡ 0) × (4 * longword_count count - count ≡ 4))
 fewest_zeros zero = inr (refl, refl)
-fewest_zeros (suc count) = inl (omega arith)
+fewest_zeros (suc count) = inl (omega arith, omega arith)
 
 -- a name's longwords are its bytes and the fewest zeros
 pub name_words-writes : (n : List ℕ) → All IsNameByte n → Writes n (name_words n)

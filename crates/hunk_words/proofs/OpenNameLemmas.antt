@@ -3,7 +3,7 @@ use Rattle.std.proofs.Common.{◌≡◌, ℕ, zero, suc, ◌+◌, ◌<◌, ◌�
 use Rattle.std.proofs.lemmas.List.{append_assoc, length-append}
 use Rattle.std.specs.List.{before_first}
 use Rattle.byteorder.specs.Endian.{big_bytes}
-use Rattle.hunk_words.specs.Names.{bytes_of, name_of}
+use Rattle.hunk_words.specs.Name.{bytes_of, name_of}
 use Rattle.std.proofs.lemmas.Bool.{ltb-true, ltb-false}
 use Rattle.hunk_words.specs.OpenName.{Opens}
 use Rattle.hunk_words.specs.declared.name.open_name.OpenName.{OpenName}

@@ -1,7 +1,7 @@
 -- What a splitter holds behind one more byte.
 use Rattle.std.proofs.Common.{◌≡◌, ℕ, List, [], ◌∷◌, ◌++◌, sym, ap, ◌∙◌}
 use Rattle.hunk_words.specs.Longwords.{longwords, unfinished}
-use Rattle.hunk_words.proofs.Longwords.{unfinished-append, longwords-append}
+use Rattle.hunk_words.proofs.LongwordsLemmas.{unfinished-append, longwords-append}
 
 pub unfinished-push : (held bytes : List ℕ) (byte : ℕ) → held ≡ unfinished bytes → unfinished (held ++ byte ∷ []) ≡ unfinished (bytes ++ byte ∷ [])
 unfinished-push held bytes byte is_held = sym (unfinished-append bytes (byte ∷ []) ∙ ap (λ xs. unfinished (xs ++ byte ∷ [])) (sym is_held))

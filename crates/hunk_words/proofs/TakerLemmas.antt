@@ -4,10 +4,10 @@ use Rattle.std.proofs.lemmas.Bool.{cases_lt, eqb-true}
 use Rattle.std.proofs.lemmas.Bool.Decides.{leb_tells}
 use Rattle.hunk_words.specs.SiteRules.{apart, all_apart}
 use Rattle.hunk_words.specs.Sites.{Meets, SharesByte, target_at}
-use Rattle.hunk_words.specs.SeenSites.{Has, SameSites}
-use Rattle.hunk_words.specs.Takers.{JudgesSite}
-use Rattle.hunk_words.specs.Building.{Built, built, step}
-use Rattle.hunk_words.specs.Watch.{Watch, watched, place_after, seen_now}
+use Rattle.hunk_words.specs.SiteContext.{Has, SameSites}
+use Rattle.hunk_words.specs.Taker.{JudgesSite}
+use Rattle.hunk_words.specs.EventValue.{EventValue, value_of_events, step}
+use Rattle.hunk_words.specs.SiteContext.{SiteContext, context_after, context_with}
 use Rattle.hunk_words.specs.declared.event.FileKind.{FileKind}
 use Rattle.hunk_words.specs.declared.event.Event.{Event}
 use Rattle.hunk_words.specs.declared.sites.SiteRefusal.{SiteRefusal}
@@ -15,17 +15,13 @@ use Rattle.hunk_words.specs.declared.sites.SiteRefusal.TheVariants.{Outside, Ove
 
 -- ---- one event further
 
-pub built-append : (b : Built) (es : List Event) (e : Event) → built b (es ++ (e ∷ [])) ≡ step (built b es) e
-built-append b [] e = refl
-built-append b (d ∷ es) e = built-append (step b d) es e
+pub value_of_events-append : (b : EventValue) (es : List Event) (e : Event) → value_of_events b (es ++ (e ∷ [])) ≡ step (value_of_events b es) e
+value_of_events-append b [] e = refl
+value_of_events-append b (d ∷ es) e = value_of_events-append (step b d) es e
 
--- the watch behind one event
-abbrev pub watch_after : FileKind → Watch → Event → Watch
-watch_after file v e = record { place = place_after file v.place e; seen = seen_now v.seen e }
-
-pub watched-append : (file : FileKind) (v : Watch) (es : List Event) (e : Event) → watched file v (es ++ (e ∷ [])) ≡ watch_after file (watched file v es) e
-watched-append file v [] e = refl
-watched-append file v (d ∷ es) e = watched-append file (watch_after file v d) es e
+pub context_after-append : (file : FileKind) (v : SiteContext) (es : List Event) (e : Event) → context_after file v (es ++ (e ∷ [])) ≡ context_with file (context_after file v es) e
+context_after-append file v [] e = refl
+context_after-append file v (d ∷ es) e = context_after-append file (context_with file v d) es e
 
 -- ---- sites apart
 

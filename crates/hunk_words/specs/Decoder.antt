@@ -1,19 +1,27 @@
 -- What a decoder stands for: the bytes that it was fed, in any pieces.
-use Rattle.std.specs.Prelude.{◌≡◌, ℕ, List, length, None, Result, Ok, Err}
+use Rattle.std.specs.Prelude.{◌≡◌, ℕ, List, length, Option, None, Result, Ok, Err}
 use Rattle.hunk_words.specs.Longwords.{longwords, unfinished, IsWhole}
 use Rattle.hunk_words.specs.Splitter.{StandsFor as SplitterStandsFor}
 use Rattle.hunk_words.specs.FirstOffence.{FirstOffence}
-use Rattle.hunk_words.specs.DecoderCore.{StandsFor as CoreStandsFor, TellsFile, kept}
+use Rattle.hunk_words.specs.DecoderCore.{StandsFor as CoreStandsFor, TellsFile, kept, taker_of as core_taker}
 use Rattle.hunk_words.specs.declared.decoder.Decoder.{Decoder}
 use Rattle.hunk_words.specs.declared.event.Event.{Event}
 use Rattle.hunk_words.specs.declared.event.FileKind.{FileKind}
 use Rattle.hunk_words.specs.declared.fault.Refusal.{Refusal}
 use Rattle.hunk_words.specs.declared.fault.Refusal.TheVariants as refusal_is
 
+-- the taker of a decoder
+abbrev pub taker_of : {T : Type 0} → Decoder T → T
+taker_of decoder = core_taker decoder.core
+
+-- the refusal that it keeps
+abbrev pub refusal_of : {T : Type 0} → Decoder T → Option Refusal
+refusal_of decoder = kept decoder.core
+
 -- Its core stands for their longwords. Where no refusal is kept, the bytes of an unfinished longword are held.
-pub record StandsFor {T : Type 0} (kind : FileKind) (stands_for : T → List Event → Type 0) (d : Decoder T) (bytes : List ℕ) : Type 0 where
-  pub held : kept d.core ≡ None → SplitterStandsFor d.splitter bytes
-  pub core : CoreStandsFor kind stands_for d.core (longwords bytes)
+pub record StandsFor {T : Type 0} (kind : FileKind) (stands_for : T → List Event → Type 0) (decoder : Decoder T) (bytes : List ℕ) : Type 0 where
+  pub held : refusal_of decoder ≡ None → SplitterStandsFor decoder.splitter bytes
+  pub core : CoreStandsFor kind stands_for decoder.core (longwords bytes)
 
 -- The answer to the end of the bytes: they are whole and a file, or this is their first offence.
 abbrev pub Finished : {T : Type 0} → FileKind → (T → List Event → Type 0) → List ℕ → Result T Refusal → Type 0

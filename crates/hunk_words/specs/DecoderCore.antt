@@ -1,12 +1,12 @@
 -- What a decoder core stands for: the longwords that it was given.
 use Rattle.std.specs.Prelude.{◌≡◌, ℕ, ◌*◌, ◌<◌, ◌≤◌, List, [], ◌∷◌, ◌++◌, length, take, Option, Some, None, Result, Ok, Err}
 use Rattle.hunk_words.specs.Kinds.{Field}
-use Rattle.hunk_words.specs.Reading.{Progress, start_of, begun, read_words, labels}
+use Rattle.hunk_words.specs.Reading.{Progress, start_of, initial_progress, read_words, labels}
 use Rattle.hunk_words.specs.Files.{AllLong, Tree, spelling, most_longwords, IsFileOf}
 use Rattle.hunk_words.specs.FirstOffence.{OffendsAt, FirstOffence}
 use Rattle.hunk_words.specs.Longwords.{longwords}
-use Rattle.hunk_words.specs.Events.{events}
-use Rattle.hunk_words.specs.Numbering.{Reached}
+use Rattle.hunk_words.specs.Event.{events}
+use Rattle.hunk_words.specs.Numbers.{Reached}
 use Rattle.hunk_words.specs.declared.event.FileKind.{FileKind}
 use Rattle.hunk_words.specs.declared.event.Event.{Event}
 use Rattle.hunk_words.specs.declared.fault.Fault.{Fault}
@@ -20,25 +20,29 @@ abbrev pub fields_read : FileKind → List ℕ → List Field
 fields_read kind ws = labels (start_of kind ∷ []) ws
 
 -- The longwords were all read: the state is the one behind them, and the taker stands for their events.
-pub record Behind (kind : FileKind) (Stands : List Event → Type 0) (s : CoreState) (ws : List ℕ) : Type 0 where
+pub record Behind (kind : FileKind) (Stands : List Event → Type 0) (state : CoreState) (ws : List ℕ) : Type 0 where
   pub progress : Progress
-  pub read : read_words (begun kind) 0 ws ≡ Ok progress
-  pub reached : Reached kind Stands s.state (fields_read kind ws) progress
-  pub place : s.place ≡ length ws
+  pub read : read_words (initial_progress kind) 0 ws ≡ Ok progress
+  pub reached : Reached kind Stands state.state (fields_read kind ws) progress
+  pub place : state.place ≡ length ws
   pub few : length ws ≤ most_longwords
   pub long : AllLong ws
 
 -- Where no refusal is kept, the longwords were all read. A fault that is kept is their first offence.
-pub record StandsBy (kind : FileKind) (Stands : List Event → Type 0) (s : CoreState) (ws : List ℕ) : Type 0 where
-  pub good : s.refusal ≡ None → Behind kind Stands s ws
-  pub faulty : (fault : Fault) → s.refusal ≡ Some (refusal_is.Fault fault) → OffendsAt kind ws fault.place fault.reason
+pub record StandsBy (kind : FileKind) (Stands : List Event → Type 0) (state : CoreState) (ws : List ℕ) : Type 0 where
+  pub good : state.refusal ≡ None → Behind kind Stands state ws
+  pub faulty : (fault : Fault) → state.refusal ≡ Some (refusal_is.Fault fault) → OffendsAt kind ws fault.place fault.reason
+
+-- the taker of a core
+abbrev pub taker_of : {T : Type 0} → Core T → T
+taker_of core = core.taker
 
 -- the refusal that a core keeps
 abbrev pub kept : {T : Type 0} → Core T → Option Refusal
 kept core = core.state.refusal
 
 abbrev pub StandsFor : {T : Type 0} → FileKind → (T → List Event → Type 0) → Core T → List ℕ → Type 0
-StandsFor kind stands_for core ws = StandsBy kind (stands_for core.taker) core.state ws
+StandsFor kind stands_for core ws = StandsBy kind (stands_for (taker_of core)) core.state ws
 
 -- The answer is the refusal kept.
 abbrev pub Keeps : {A : Type 0} → Option Refusal → Result A Refusal → Type 0

@@ -1,10 +1,11 @@
 -- What is a file, and what a file begins with. A file is spelled by a tree, each number passes, and its sites obey the
 -- rules. It has at most 2^28 longwords (own).
 use Rattle.std.specs.Prelude.{◌≡◌, ℕ, ◌^◌, ◌<◌, ◌≤◌, List, [], ◌∷◌, ◌++◌, length}
-use Rattle.hunk_words.specs.Kinds.{Field, AllPass}
+use Rattle.hunk_words.specs.Kinds.{Field}
+use Rattle.hunk_words.specs.FaultTable.{AllPass}
 use Rattle.hunk_words.specs.Trees.{ObjectTree, LoadTree}
 use Rattle.hunk_words.specs.Spelling.{object_spelling, load_spelling}
-use Rattle.hunk_words.specs.Words.{longwords_of, fields_in}
+use Rattle.hunk_words.specs.FieldLongwords.{longwords_of, fields_in}
 use Rattle.hunk_words.specs.SiteRules.{Obeys}
 use Rattle.hunk_words.specs.declared.event.FileKind.{FileKind}
 use Rattle.hunk_words.specs.declared.event.FileKind.TheVariants.{Object, Load}
@@ -46,7 +47,7 @@ pub record IsFile (kind : FileKind) (ws : List ℕ) : Type 0 where
 
 -- A good front: numbers that pass begin with it, and the sites at its own places obey the rules. What it goes on with may
 -- be of any length, and its sites may break the rules, so the sites behind a front are never blamed on it.
-pub record IsFront (kind : FileKind) (ws : List ℕ) : Type 0 where
+pub record IsValidPrefix (kind : FileKind) (ws : List ℕ) : Type 0 where
   pub tree : Tree kind
   pub fits : Fits kind tree
   pub more : List ℕ

@@ -1,12 +1,13 @@
 -- The first offence of longwords that are no file: its place, and its reason by the table of faults and the rules of
 -- sites. No machine occurs in it: what is due at a place is what every completion of the front before it bears there.
 use Rattle.std.specs.Prelude.{◌≡◌, ℕ, zero, suc, ◌/◌, ◌%◌, ◌^◌, ◌<◌, List, [], ◌∷◌, ◌++◌, length, Option, Some, None}
-use Rattle.hunk_words.specs.Kinds.{Kind, Field, judged, width, and_then}
+use Rattle.hunk_words.specs.Kinds.{Kind, Field, width}
+use Rattle.hunk_words.specs.FaultTable.{judged, and_then}
 use Rattle.hunk_words.specs.Kinds.Width.{long, half}
 use Rattle.hunk_words.specs.Kinds.Kind.{past_end}
-use Rattle.hunk_words.specs.Words.{fields_in, fields_behind}
+use Rattle.hunk_words.specs.FieldLongwords.{fields_in, fields_after}
 use Rattle.hunk_words.specs.SiteRules.{limit_of, site_judged, seen_after, seen_all}
-use Rattle.hunk_words.specs.Files.{Tree, Fits, spelling, longwords_spelled, most_longwords, IsFile, IsFront}
+use Rattle.hunk_words.specs.Files.{Tree, Fits, spelling, longwords_spelled, most_longwords, IsFile, IsValidPrefix}
 use Rattle.hunk_words.specs.declared.event.FileKind.{FileKind}
 use Rattle.hunk_words.specs.declared.event.FileKind.TheVariants.{Load}
 use Rattle.hunk_words.specs.declared.kinds.Half.TheVariants.{Upper as upper}
@@ -39,17 +40,17 @@ seen_with_first seen (f ∷ fs) = seen_after f.kind f.number seen
 
 -- the kind of the longword n of a spelling, or of its upper half; and the offsets of the sites before it in its hunk
 abbrev pub kind_at : ℕ → List Field → Option Kind
-kind_at n fs = first_kind (fields_behind n fs)
+kind_at n fs = first_kind (fields_after n fs)
 
 abbrev pub seen_before : ℕ → List Field → List ℕ
 seen_before n fs = seen_all [] (fields_in n fs)
 
 -- the same for its lower half
 abbrev pub lower_kind_at : ℕ → List Field → Option Kind
-lower_kind_at n fs = second_kind (fields_behind n fs)
+lower_kind_at n fs = second_kind (fields_after n fs)
 
 abbrev pub seen_before_lower : ℕ → List Field → List ℕ
-seen_before_lower n fs = seen_with_first (seen_before n fs) (fields_behind n fs)
+seen_before_lower n fs = seen_with_first (seen_before n fs) (fields_after n fs)
 
 -- The front has a completion, and each one bears this kind behind it, with these sites before it.
 pub record IsDue (kind : FileKind) (front : List ℕ) (k : Kind) (seen : List ℕ) : Type 0 where
@@ -90,8 +91,8 @@ pub record OffendsAt (kind : FileKind) (ws : List ℕ) (place : ℕ) (r : Reason
   pub behind : List ℕ
   pub parts : ws ≡ front ++ (bad ∷ behind)
   pub at_place : place ≡ length front
-  pub good : IsFront kind front
-  pub no_longer : IsFront kind (front ++ (bad ∷ [])) → ⊥
+  pub good : IsValidPrefix kind front
+  pub no_longer : IsValidPrefix kind (front ++ (bad ∷ [])) → ⊥
   pub blames : Blames kind front bad r
 
 -- the reason where the input ends too early, with this many bytes of a longword
@@ -101,7 +102,7 @@ end_reason (suc n) = PartialLongword
 
 -- The first offence is the end: all longwords are a good front, but no file, or some bytes of a longword follow.
 pub record EndsEarly (kind : FileKind) (ws : List ℕ) (rest place : ℕ) (r : Reason) : Type 0 where
-  pub good : IsFront kind ws
+  pub good : IsValidPrefix kind ws
   pub not_whole : rest ≡ 0 → IsFile kind ws → ⊥
   pub at_place : place ≡ length ws
   pub is_reason : r ≡ end_reason rest

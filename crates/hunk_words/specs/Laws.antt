@@ -1,10 +1,11 @@
 -- What holds of trees, their spelling and the machine: it reads exactly what is spelled.
 use Rattle.std.specs.Prelude.{◌≡◌, ℕ, List, [], ◌∷◌, ◌++◌}
-use Rattle.hunk_words.specs.Kinds.{Kind, Field, Passes, width}
+use Rattle.hunk_words.specs.Kinds.{Kind, Field, width}
+use Rattle.hunk_words.specs.FaultTable.{Passes}
 use Rattle.hunk_words.specs.Kinds.Kind.{object_start, load_start, unit_type}
 use Rattle.hunk_words.specs.Trees.{ObjectTree, LoadTree}
 use Rattle.hunk_words.specs.Spelling.{object_spelling, load_spelling, ObjectFits, LoadFits}
-use Rattle.hunk_words.specs.Words.{longwords_of}
+use Rattle.hunk_words.specs.FieldLongwords.{longwords_of}
 use Rattle.hunk_words.specs.Machine.{due, Takes, IsComplete}
 use Rattle.hunk_words.specs.Reading.{WordPasses, Reads}
 
@@ -23,31 +24,31 @@ LoadIsRead = (t : LoadTree) → LoadFits t → Reads (load_start ∷ []) (longwo
 
 -- What is read to where a file may end is spelled by a tree.
 abbrev pub ReadIsObject : Type 0
-ReadIsObject = (ws : List ℕ) (e : List Kind) → Reads (object_start ∷ []) ws e → IsComplete e → (t : ObjectTree) × ObjectFits t × (longwords_of (object_spelling t) ≡ ws)
+ReadIsObject = (ws : List ℕ) (after : List Kind) → Reads (object_start ∷ []) ws after → IsComplete after → (t : ObjectTree) × ObjectFits t × (longwords_of (object_spelling t) ≡ ws)
 
 abbrev pub ReadIsLoad : Type 0
-ReadIsLoad = (ws : List ℕ) (e : List Kind) → Reads (load_start ∷ []) ws e → IsComplete e → (t : LoadTree) × LoadFits t × (longwords_of (load_spelling t) ≡ ws)
+ReadIsLoad = (ws : List ℕ) (after : List Kind) → Reads (load_start ∷ []) ws after → IsComplete after → (t : LoadTree) × LoadFits t × (longwords_of (load_spelling t) ≡ ws)
 
 -- What is read so far is the front of a file.
-abbrev pub ObjectFront : Type 0
-ObjectFront = (ws : List ℕ) (m : List Kind) → Reads (object_start ∷ []) ws m → (more : List ℕ) × (t : ObjectTree) × ObjectFits t × (longwords_of (object_spelling t) ≡ ws ++ more)
+abbrev pub ObjectPrefix : Type 0
+ObjectPrefix = (ws : List ℕ) (stack : List Kind) → Reads (object_start ∷ []) ws stack → (more : List ℕ) × (t : ObjectTree) × ObjectFits t × (longwords_of (object_spelling t) ≡ ws ++ more)
 
-abbrev pub LoadFront : Type 0
-LoadFront = (ws : List ℕ) (m : List Kind) → Reads (load_start ∷ []) ws m → (more : List ℕ) × (t : LoadTree) × LoadFits t × (longwords_of (load_spelling t) ≡ ws ++ more)
+abbrev pub LoadPrefix : Type 0
+LoadPrefix = (ws : List ℕ) (stack : List Kind) → Reads (load_start ∷ []) ws stack → (more : List ℕ) × (t : LoadTree) × LoadFits t × (longwords_of (load_spelling t) ≡ ws ++ more)
 
 -- Where a longword doesn't pass no file begins with it behind that front.
 abbrev pub ObjectNext : Type 0
-ObjectNext = (ws more : List ℕ) (w : ℕ) (m : List Kind) (t : ObjectTree) → Reads (object_start ∷ []) ws m → ObjectFits t → longwords_of (object_spelling t) ≡ ws ++ (w ∷ more) → WordPasses (width (due m)) m w
+ObjectNext = (ws more : List ℕ) (w : ℕ) (stack : List Kind) (t : ObjectTree) → Reads (object_start ∷ []) ws stack → ObjectFits t → longwords_of (object_spelling t) ≡ ws ++ (w ∷ more) → WordPasses (width (due stack)) stack w
 
 abbrev pub LoadNext : Type 0
-LoadNext = (ws more : List ℕ) (w : ℕ) (m : List Kind) (t : LoadTree) → Reads (load_start ∷ []) ws m → LoadFits t → longwords_of (load_spelling t) ≡ ws ++ (w ∷ more) → WordPasses (width (due m)) m w
+LoadNext = (ws more : List ℕ) (w : ℕ) (stack : List Kind) (t : LoadTree) → Reads (load_start ∷ []) ws stack → LoadFits t → longwords_of (load_spelling t) ≡ ws ++ (w ∷ more) → WordPasses (width (due stack)) stack w
 
 -- The kind that is due is the one that each file bears there.
 abbrev pub ObjectDue : Type 0
-ObjectDue = (fs gs : List Field) (g : Field) (m : List Kind) (t : ObjectTree) → Takes (object_start ∷ []) fs m → ObjectFits t → object_spelling t ≡ fs ++ (g ∷ gs) → (g.kind ≡ due m) × Passes (due m) g.number
+ObjectDue = (fs gs : List Field) (g : Field) (stack : List Kind) (t : ObjectTree) → Takes (object_start ∷ []) fs stack → ObjectFits t → object_spelling t ≡ fs ++ (g ∷ gs) → (g.kind ≡ due stack) × Passes (due stack) g.number
 
 abbrev pub LoadDue : Type 0
-LoadDue = (fs gs : List Field) (g : Field) (m : List Kind) (t : LoadTree) → Takes (load_start ∷ []) fs m → LoadFits t → load_spelling t ≡ fs ++ (g ∷ gs) → (g.kind ≡ due m) × Passes (due m) g.number
+LoadDue = (fs gs : List Field) (g : Field) (stack : List Kind) (t : LoadTree) → Takes (load_start ∷ []) fs stack → LoadFits t → load_spelling t ≡ fs ++ (g ∷ gs) → (g.kind ≡ due stack) × Passes (due stack) g.number
 
 -- The same longwords have the same fields.
 abbrev pub ObjectSame : Type 0
@@ -57,5 +58,5 @@ abbrev pub LoadSame : Type 0
 LoadSame = (t u : LoadTree) → LoadFits t → LoadFits u → longwords_of (load_spelling t) ≡ longwords_of (load_spelling u) → load_spelling t ≡ load_spelling u
 
 -- Behind the last END nothing passes.
-abbrev pub NothingBehind : Type 0
-NothingBehind = (w : ℕ) (ws : List ℕ) (e : List Kind) → Reads [] (w ∷ ws) e → ⊥
+abbrev pub NothingFollows : Type 0
+NothingFollows = (w : ℕ) (ws : List ℕ) (after : List Kind) → Reads [] (w ∷ ws) after → ⊥

@@ -1,6 +1,6 @@
 -- What an open name stands for: the longwords that it took.
 use Rattle.std.specs.Prelude.{◌≡◌, ℕ, ◌<◌, ◌≤◌, List, length, true, false}
-use Rattle.hunk_words.specs.Names.{bytes_of, name_of}
+use Rattle.hunk_words.specs.Name.{bytes_of, name_of}
 use Rattle.hunk_words.specs.declared.name.open_name.OpenName.{OpenName}
 
 -- It holds their name, and has ended where a byte of them is zero.

@@ -1,6 +1,7 @@
 -- The machine over longwords: where halves are due, it takes the upper one before the lower one.
 use Rattle.std.specs.Prelude.{◌≡◌, ℕ, ◌+◌, ◌/◌, ◌%◌, ◌^◌, List, [], ◌∷◌, Option, Some, None, Result, Ok, Err}
-use Rattle.hunk_words.specs.Kinds.{Width, Kind, Field, Passes, field, judged, width, and_then}
+use Rattle.hunk_words.specs.Kinds.{Width, Kind, Field, field, width}
+use Rattle.hunk_words.specs.FaultTable.{Passes, judged, and_then}
 use Rattle.hunk_words.specs.Kinds.Width.{long, half}
 use Rattle.hunk_words.specs.Kinds.Kind.{object_start, load_start}
 use Rattle.hunk_words.specs.Machine.{due, next}
@@ -10,27 +11,27 @@ use Rattle.hunk_words.specs.declared.event.FileKind.TheVariants.{Object, Load}
 use Rattle.hunk_words.specs.declared.fault.Reason.{Reason}
 
 abbrev pub word_next : Width → List Kind → ℕ → List Kind
-word_next long s w = next s w
-word_next (half h) s w = next (next s (w / 2 ^ 16)) (w % 2 ^ 16)
+word_next long stack w = next stack w
+word_next (half h) stack w = next (next stack (w / 2 ^ 16)) (w % 2 ^ 16)
 
 -- A longword passes: where halves are due, the upper one before the lower one.
 abbrev pub WordPasses : Width → List Kind → ℕ → Type 0
-WordPasses long s w = Passes (due s) w
-WordPasses (half h) s w = Passes (due s) (w / 2 ^ 16) × Passes (due (next s (w / 2 ^ 16))) (w % 2 ^ 16)
+WordPasses long stack w = Passes (due stack) w
+WordPasses (half h) stack w = Passes (due stack) (w / 2 ^ 16) × Passes (due (next stack (w / 2 ^ 16))) (w % 2 ^ 16)
 
 -- From the first stack the machine reads the longwords and ends at the second.
 abbrev pub Reads : List Kind → List ℕ → List Kind → Type 0
-Reads s [] after = s ≡ after
-Reads s (w ∷ ws) after = WordPasses (width (due s)) s w × Reads (word_next (width (due s)) s w) ws after
+Reads stack [] after = stack ≡ after
+Reads stack (w ∷ ws) after = WordPasses (width (due stack)) stack w × Reads (word_next (width (due stack)) stack w) ws after
 
 -- a longword under the kind that is due, or its halves under theirs
 abbrev pub word_labels : Width → List Kind → ℕ → List Field → List Field
-word_labels long s w fs = field (due s) w ∷ fs
-word_labels (half h) s w fs = field (due s) (w / 2 ^ 16) ∷ field (due (next s (w / 2 ^ 16))) (w % 2 ^ 16) ∷ fs
+word_labels long stack w fs = field (due stack) w ∷ fs
+word_labels (half h) stack w fs = field (due stack) (w / 2 ^ 16) ∷ field (due (next stack (w / 2 ^ 16))) (w % 2 ^ 16) ∷ fs
 
 abbrev pub labels : List Kind → List ℕ → List Field
-labels s [] = []
-labels s (w ∷ ws) = word_labels (width (due s)) s w (labels (word_next (width (due s)) s w) ws)
+labels stack [] = []
+labels stack (w ∷ ws) = word_labels (width (due stack)) stack w (labels (word_next (width (due stack)) stack w) ws)
 
 -- ---- the machine with the rules of sites, a field at a time
 
@@ -40,17 +41,17 @@ pub record Progress : Type 0 where
   pub seen : List ℕ
 
 abbrev pub field_judged : Progress → ℕ → Option Reason
-field_judged c n = and_then (judged (due c.stack) n) (site_judged (limit_of (due c.stack)) c.seen n)
+field_judged progress n = and_then (judged (due progress.stack) n) (site_judged (limit_of (due progress.stack)) progress.seen n)
 
 abbrev pub field_next : Progress → ℕ → Progress
-field_next c n = record { stack = next c.stack n; seen = seen_after (due c.stack) n c.seen }
+field_next progress n = record { stack = next progress.stack n; seen = seen_after (due progress.stack) n progress.seen }
 
 abbrev pub unless : Option Reason → Progress → Result Progress Reason
-unless None d = Ok d
-unless (Some r) d = Err r
+unless None further = Ok further
+unless (Some r) further = Err r
 
 abbrev pub field_step : Progress → ℕ → Result Progress Reason
-field_step c n = unless (field_judged c n) (field_next c n)
+field_step progress n = unless (field_judged progress n) (field_next progress n)
 
 infixl 10 ◌>>=◌
 abbrev pub ◌>>=◌ : {A B : Type 0} → Result A Reason → (A → Result B Reason) → Result B Reason
@@ -58,22 +59,22 @@ abbrev pub ◌>>=◌ : {A B : Type 0} → Result A Reason → (A → Result B Re
 (Err e) >>= f = Err e
 
 abbrev pub width_step : Width → Progress → ℕ → Result Progress Reason
-width_step long c w = field_step c w
-width_step (half h) c w = field_step c (w / 2 ^ 16) >>= λ d. field_step d (w % 2 ^ 16)
+width_step long progress w = field_step progress w
+width_step (half h) progress w = field_step progress (w / 2 ^ 16) >>= λ further. field_step further (w % 2 ^ 16)
 
 -- one longword: what is due behind it, or the reason
 abbrev pub read_word : Progress → ℕ → Result Progress Reason
-read_word c w = width_step (width (due c.stack)) c w
+read_word progress w = width_step (width (due progress.stack)) progress w
 
 -- what the machine makes of longwords: what is due behind them, or the place and the reason of the first offence
 abbrev pub read_words : Progress → ℕ → List ℕ → Result Progress (ℕ × Reason)
-read_words c p [] = Ok c
-read_words c p (w ∷ ws) = elim (read_word c w) [ Ok d ↦ read_words d (p + 1) ws | Err r ↦ Err (p, r) ]
+read_words progress p [] = Ok progress
+read_words progress p (w ∷ ws) = elim (read_word progress w) [ Ok further ↦ read_words further (p + 1) ws | Err r ↦ Err (p, r) ]
 
 -- what is due at the start of a file of this kind
 abbrev pub start_of : FileKind → Kind
 start_of Object = object_start
 start_of Load = load_start
 
-abbrev pub begun : FileKind → Progress
-begun kind = record { stack = start_of kind ∷ []; seen = [] }
+abbrev pub initial_progress : FileKind → Progress
+initial_progress kind = record { stack = start_of kind ∷ []; seen = [] }

@@ -1,7 +1,8 @@
 -- The rules of sites: a site is the four bytes from an offset, it lies inside its hunk, and no two sites of a hunk share
 -- a byte (own: the sum would depend on the order). They stand apart from the table of faults.
 use Rattle.std.specs.Prelude.{◌≡◌, ℕ, ◌+◌, Bool, true, List, [], ◌∷◌, Option, Some, None, nat_le, ◌&&◌, if◌then◌else◌}
-use Rattle.hunk_words.specs.Kinds.{Kind, Field, low, type_of, needs}
+use Rattle.hunk_words.specs.Kinds.{Kind, Field, low, type_of}
+use Rattle.hunk_words.specs.FaultTable.{reject_unless}
 use Rattle.hunk_words.specs.Kinds.Kind.{block_type, offset, ref_offset, short_offset}
 use Rattle.hunk_words.specs.declared.kinds.BlockType.{BlockType}
 use Rattle.hunk_words.specs.declared.kinds.BlockType.TheVariants.{End as end}
@@ -27,7 +28,7 @@ all_apart o (p ∷ ps) = apart o p && all_apart o ps
 -- hunk so far.
 abbrev pub site_judged : Option ℕ → List ℕ → ℕ → Option Reason
 site_judged None seen o = None
-site_judged (Some limit) seen o = if nat_le (o + 4) limit then needs (all_apart o seen) (SiteOverlap o) else Some (SiteOutside o)
+site_judged (Some limit) seen o = if nat_le (o + 4) limit then reject_unless (all_apart o seen) (SiteOverlap o) else Some (SiteOutside o)
 
 -- a hunk's sites so far, behind a block's type: none behind END
 abbrev pub seen_at : BlockType → List ℕ → List ℕ

@@ -2,9 +2,10 @@
 -- in front of a rest. Layouts are those of The AmigaDOS Manual, 3rd edition, binary file structure; that of the short
 -- relocation block is own, after its name in doshunks.h.
 use Rattle.std.specs.Prelude.{ℕ, suc, ◌+◌, ◌-◌, ◌*◌, ◌^◌, List, [], ◌∷◌, length, Option, Some, None, nat_lt, if◌then◌else◌}
-use Rattle.hunk_words.specs.Kinds.{Within, Kind, Field, AllPass, field, flip, half_after, memory_of, site_limit}
+use Rattle.hunk_words.specs.Kinds.{Within, Kind, Field, field, flip, half_after, content_bits, site_limit}
+use Rattle.hunk_words.specs.FaultTable.{AllPass}
 use Rattle.hunk_words.specs.declared.kinds.Half.{Half}
-use Rattle.hunk_words.specs.declared.kinds.ContentType.TheVariants.{Code, Data, Bss}
+use Rattle.hunk_words.specs.declared.kinds.HunkKind.TheVariants.{Code, Data, Bss}
 use Rattle.hunk_words.specs.Kinds.Within.{in_unit, in_load}
 use Rattle.hunk_words.specs.declared.kinds.Half.TheVariants.{Upper as upper, Lower as lower}
 use Rattle.hunk_words.specs.Kinds.Kind.{object_start, load_start, unit_type, hunk_type, content_type, block_type, unit_length, name_length, word, value, content_size, reloc_count, hunk_number, offset, debug_length, ext_entry, ref_count, ref_offset, symbol_entry, resident, table_size, first_hunk, last_hunk, header_size, short_count, short_hunk, short_offset, short_pad}
@@ -14,11 +15,11 @@ use Rattle.hunk_words.specs.Trees.BlockTree.{reloc_tree, short_tree, ext_tree, s
 use Rattle.hunk_words.specs.Trees.ContentTree.{code_tree, data_tree, bss_tree}
 
 -- A longword of two parts. Where the lower part is too wide there is none, and what is given is no longword.
-unfoldable pub parts : (unit high low : ℕ) → ℕ
-parts unit high low = if nat_lt low unit then high * unit + low else 2 ^ 32
+unfoldable pub joined_bits : (unit high low : ℕ) → ℕ
+joined_bits unit high low = if nat_lt low unit then high * unit + low else 2 ^ 32
 
-abbrev pub typed : ℕ → ℕ → ℕ
-typed type_bits t = parts (2 ^ 30) type_bits t
+abbrev pub type_longword : ℕ → ℕ → ℕ
+type_longword type_bits t = joined_bits (2 ^ 30) type_bits t
 
 -- a field of this kind for each number
 abbrev pub each : Kind → List ℕ → List Field → List Field
@@ -51,9 +52,9 @@ short_groups h last limit (g ∷ gs) pad rest =
 
 abbrev pub entries : ℕ → List ExtTree → List Field → List Field
 entries limit [] rest = field (ext_entry limit) 0 ∷ rest
-entries limit (ext_def name at ∷ es) rest = field (ext_entry limit) (parts (2 ^ 24) 1 (length name)) ∷ each word name (field value at ∷ entries limit es rest)
-entries limit (ext_abs name amount ∷ es) rest = field (ext_entry limit) (parts (2 ^ 24) 2 (length name)) ∷ each word name (field value amount ∷ entries limit es rest)
-entries limit (ext_ref name offsets ∷ es) rest = field (ext_entry limit) (parts (2 ^ 24) 129 (length name)) ∷ each word name (field (ref_count limit) (length offsets) ∷ each (ref_offset limit) offsets (entries limit es rest))
+entries limit (ext_def name at ∷ es) rest = field (ext_entry limit) (joined_bits (2 ^ 24) 1 (length name)) ∷ each word name (field value at ∷ entries limit es rest)
+entries limit (ext_abs name amount ∷ es) rest = field (ext_entry limit) (joined_bits (2 ^ 24) 2 (length name)) ∷ each word name (field value amount ∷ entries limit es rest)
+entries limit (ext_ref name offsets ∷ es) rest = field (ext_entry limit) (joined_bits (2 ^ 24) 129 (length name)) ∷ each word name (field (ref_count limit) (length offsets) ∷ each (ref_offset limit) offsets (entries limit es rest))
 
 abbrev pub symbols : List SymbolTree → List Field → List Field
 symbols [] rest = field symbol_entry 0 ∷ rest
@@ -65,21 +66,21 @@ last_of in_unit = 0
 last_of (in_load last size) = last
 
 abbrev pub block : Within → ℕ → BlockTree → List Field → List Field
-block w limit (reloc_tree b gs) rest = field (block_type w limit) (typed b 1004) ∷ groups w limit gs rest
-block w limit (short_tree b gs pad) rest = field (block_type w limit) (typed b 1020) ∷ short_groups upper (last_of w) limit gs pad rest
-block w limit (ext_tree b es) rest = field (block_type w limit) (typed b 1007) ∷ entries limit es rest
-block w limit (symbol_tree b xs) rest = field (block_type w limit) (typed b 1008) ∷ symbols xs rest
-block w limit (debug_tree b ws) rest = field (block_type w limit) (typed b 1009) ∷ field debug_length (length ws) ∷ each word ws rest
+block w limit (reloc_tree b gs) rest = field (block_type w limit) (type_longword b 1004) ∷ groups w limit gs rest
+block w limit (short_tree b gs pad) rest = field (block_type w limit) (type_longword b 1020) ∷ short_groups upper (last_of w) limit gs pad rest
+block w limit (ext_tree b es) rest = field (block_type w limit) (type_longword b 1007) ∷ entries limit es rest
+block w limit (symbol_tree b xs) rest = field (block_type w limit) (type_longword b 1008) ∷ symbols xs rest
+block w limit (debug_tree b ws) rest = field (block_type w limit) (type_longword b 1009) ∷ field debug_length (length ws) ∷ each word ws rest
 
 abbrev pub blocks_end : Within → ℕ → List BlockTree → ℕ → List Field → List Field
-blocks_end w limit [] b rest = field (block_type w limit) (typed b 1010) ∷ rest
+blocks_end w limit [] b rest = field (block_type w limit) (type_longword b 1010) ∷ rest
 blocks_end w limit (x ∷ xs) b rest = block w limit x (blocks_end w limit xs b rest)
 
 -- The content and what follows it. The kind is that of its type longword.
 abbrev pub content_then : Kind → Within → ContentTree → List BlockTree → ℕ → List Field → List Field
-content_then k w (code_tree b c ws) xs e rest = field k (typed b 1001) ∷ field (content_size w Code (memory_of w b)) (typed c (length ws)) ∷ each word ws (blocks_end w (site_limit w (length ws)) xs e rest)
-content_then k w (data_tree b c ws) xs e rest = field k (typed b 1002) ∷ field (content_size w Data (memory_of w b)) (typed c (length ws)) ∷ each word ws (blocks_end w (site_limit w (length ws)) xs e rest)
-content_then k w (bss_tree b c n) xs e rest = field k (typed b 1003) ∷ field (content_size w Bss (memory_of w b)) (typed c n) ∷ blocks_end w (site_limit w 0) xs e rest
+content_then k w (code_tree b c ws) xs e rest = field k (type_longword b 1001) ∷ field (content_size w Code (content_bits w b)) (type_longword c (length ws)) ∷ each word ws (blocks_end w (site_limit w (length ws)) xs e rest)
+content_then k w (data_tree b c ws) xs e rest = field k (type_longword b 1002) ∷ field (content_size w Data (content_bits w b)) (type_longword c (length ws)) ∷ each word ws (blocks_end w (site_limit w (length ws)) xs e rest)
+content_then k w (bss_tree b c n) xs e rest = field k (type_longword b 1003) ∷ field (content_size w Bss (content_bits w b)) (type_longword c n) ∷ blocks_end w (site_limit w 0) xs e rest
 
 abbrev pub body : Kind → Within → BodyTree → List Field → List Field
 body k w t rest = content_then k w t.content t.blocks t.end_bits rest
@@ -87,7 +88,7 @@ body k w t rest = content_then k w t.content t.blocks t.end_bits rest
 -- a hunk, whose first longword is of the kind k
 abbrev pub hunk_at : Kind → Within → Option NameTree → BodyTree → List Field → List Field
 hunk_at k w None t rest = body k w t rest
-hunk_at k w (Some n) t rest = field k (typed n.type_bits 1000) ∷ field name_length (length n.words) ∷ each word n.words (body (content_type w) w t rest)
+hunk_at k w (Some n) t rest = field k (type_longword n.type_bits 1000) ∷ field name_length (length n.words) ∷ each word n.words (body (content_type w) w t rest)
 
 abbrev pub unit_hunks : List HunkTree → List Field → List Field
 unit_hunks [] rest = rest
@@ -95,7 +96,7 @@ unit_hunks (t ∷ ts) rest = hunk_at unit_type in_unit t.name t.body (unit_hunks
 
 -- a unit, whose first longword is of the kind k
 abbrev pub unit_at : Kind → UnitTree → List Field → List Field
-unit_at k u rest = field k (typed u.type_bits 999) ∷ field unit_length (length u.name) ∷ each word u.name (unit_hunks u.hunks rest)
+unit_at k u rest = field k (type_longword u.type_bits 999) ∷ field unit_length (length u.name) ∷ each word u.name (unit_hunks u.hunks rest)
 
 abbrev pub units : List UnitTree → List Field → List Field
 units [] rest = rest
@@ -107,7 +108,7 @@ object_spelling t = unit_at object_start t.first (units t.others [])
 -- Each hunk's size, with the room that is left and the sizes before it, the latest first.
 abbrev pub sizes_at : ℕ → ℕ → List ℕ → List LoadHunkTree → List Field → List Field
 sizes_at last room before [] rest = rest
-sizes_at last room before (t ∷ ts) rest = field (header_size last room (length ts) before) (typed t.memory_bits t.size) ∷ sizes_at last (room - t.size) (t.size ∷ before) ts rest
+sizes_at last room before (t ∷ ts) rest = field (header_size last room (length ts) before) (type_longword t.memory_bits t.size) ∷ sizes_at last (room - t.size) (t.size ∷ before) ts rest
 
 abbrev pub load_hunks : ℕ → List LoadHunkTree → List Field → List Field
 load_hunks last [] rest = rest
@@ -115,7 +116,7 @@ load_hunks last (t ∷ ts) rest = hunk_at (hunk_type last t.size) (in_load last 
 
 abbrev pub load_spelling : LoadTree → List Field
 load_spelling t =
-    field load_start (typed t.type_bits 1011) ∷
+    field load_start (type_longword t.type_bits 1011) ∷
     field resident 0 ∷
     field table_size (suc (length t.others)) ∷
     field first_hunk 0 ∷

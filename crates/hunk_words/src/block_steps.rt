@@ -1,85 +1,90 @@
 //! The steps of names, content and the blocks behind it.
 
-ghost use Rattle.std.specs.Prelude.{◌≡◌, ℕ, List, slice_index};
+ghost use Rattle.std.specs.Prelude.{◌≡◌, ℕ, List, Ok, slice_index};
 ghost use Rattle.hunk_words.specs.Machine.{times};
 ghost use Rattle.hunk_words.specs.Kinds.{word};
-ghost use Rattle.hunk_words.specs.View.{Around, StepsFrom, SizedStepsFrom, due_view, then_view, IsDueIn, IsThenIn, SizesIn};
+ghost use Rattle.hunk_words.specs.State.{Around, StepsFrom, SizedStepsFrom, expected_view, after_words_view, IsExpectedIn, IsAfterWordsIn, SizesIn};
 ghost use Rattle.hunk_words.specs.declared.event.FileKind.{FileKind};
 
 use crate::event::{Event, FileKind};
 use crate::fault::Reason;
-use crate::kinds::{ContentType, EntryType};
-use crate::longword::{content_number, entry, entry_length, entry_type, low};
-use crate::state::{Due, State, Step, Then};
+use crate::kinds::{EntryType, HunkKind, entry, entry_length, entry_type, low};
+use crate::state::{AfterWords, Expected, State, Step};
 
 // What is due where this many words follow.
-fn words(count: u32, then: Then) -> Due
-    ensures due { (a : Around) → due_view result a ≡ times count word (then_view then a) }
-    ensures file { (file : FileKind) → IsThenIn then file → IsDueIn result file }
-    ensures sizes { (file : FileKind) (last hunk : ℕ) (sizes : List ℕ) → SizesIn file Due.BlockType last hunk sizes → SizesIn file result last hunk sizes }
+fn words(count: u32, then: AfterWords) -> Expected
+    ensures due { (a : Around) → expected_view result a ≡ times count word (after_words_view then a) }
+    ensures file { (file : FileKind) → IsAfterWordsIn then file → IsExpectedIn result file }
+    ensures sizes { (file : FileKind) (last hunk : ℕ) (sizes : List ℕ) → SizesIn file Expected.BlockType last hunk sizes → SizesIn file result last hunk sizes }
 {
     if count > 0 {
-        return Due::Word {
+        return Expected::Word {
             more: count - 1,
             then,
         };
     }
     match then {
-        Then::UnitType => Due::UnitType,
-        Then::ContentType => Due::ContentType,
-        Then::BlockType => Due::BlockType,
-        Then::SymbolValue => Due::SymbolValue,
-        Then::EntryValue => Due::EntryValue,
-        Then::RefCount => Due::RefCount,
+        AfterWords::UnitType => Expected::UnitType,
+        AfterWords::ContentType => Expected::ContentType,
+        AfterWords::BlockType => Expected::BlockType,
+        AfterWords::SymbolValue => Expected::SymbolValue,
+        AfterWords::EntryValue => Expected::EntryValue,
+        AfterWords::RefCount => Expected::RefCount,
     }
 }
 
-pub fn unit_length(s: State, number: u32) -> Result<Step, Reason>
-    ensures { StepsFrom s Due.UnitLength number result }
+pub fn unit_length(state: State, number: u32) -> Step
+    ensures { StepsFrom state Expected.UnitLength number (Ok result) }
 {
-    s.then(words(number, Then::UnitType), Some(Event::Unit))
+    state.then(words(number, AfterWords::UnitType), Some(Event::Unit))
 }
 
-pub fn name_length(s: State, number: u32) -> Result<Step, Reason>
-    ensures { StepsFrom s Due.NameLength number result }
+pub fn name_length(state: State, number: u32) -> Step
+    ensures { StepsFrom state Expected.NameLength number (Ok result) }
 {
-    s.then(words(number, Then::ContentType), Some(Event::HunkName))
+    state.then(
+        words(number, AfterWords::ContentType),
+        Some(Event::HunkName),
+    )
 }
 
-pub fn next_word(s: State, more: u32, then: Then, number: u32) -> Result<Step, Reason>
-    ensures { StepsFrom s (Due.Word more then) number result }
+pub fn next_word(state: State, more: u32, then: AfterWords, number: u32) -> Step
+    ensures { StepsFrom state (Expected.Word more then) number (Ok result) }
 {
-    s.then(words(more, then), Some(Event::Word(number)))
+    state.then(words(more, then), Some(Event::Word(number)))
 }
 
-pub fn debug_length(s: State, number: u32) -> Result<Step, Reason>
-    ensures { StepsFrom s Due.DebugLength number result }
+pub fn debug_length(state: State, number: u32) -> Step
+    ensures { StepsFrom state Expected.DebugLength number (Ok result) }
 {
-    s.then(words(number, Then::BlockType), Some(Event::Debug(number)))
+    state.then(
+        words(number, AfterWords::BlockType),
+        Some(Event::Debug(number)),
+    )
 }
 
-pub fn reloc_count(s: State, number: u32) -> Result<Step, Reason>
-    ensures { StepsFrom s Due.RelocCount number result }
+pub fn reloc_count(state: State, number: u32) -> Step
+    ensures { StepsFrom state Expected.RelocCount number (Ok result) }
 {
     let due = match number {
-        0 => Due::BlockType,
-        _ => Due::HunkNumber { more: number - 1 },
+        0 => Expected::BlockType,
+        _ => Expected::HunkNumber { more: number - 1 },
     };
-    s.then(due, None)
+    state.then(due, None)
 }
 
-pub fn hunk_number(s: State, more: u32, number: u32) -> Result<Step, Reason>
-    ensures { StepsFrom s (Due.HunkNumber more) number result }
+pub fn hunk_number(state: State, more: u32, number: u32) -> Result<Step, Reason>
+    ensures { StepsFrom state (Expected.HunkNumber more) number result }
 {
-    let due = Due::Offset {
+    let due = Expected::Offset {
         more,
         target: number,
     };
-    match s.file {
-        FileKind::Object => s.then(due, None),
+    match state.file {
+        FileKind::Object => Ok(state.then(due, None)),
         FileKind::Load => {
-            if number <= s.last {
-                s.then(due, None)
+            if number <= state.last {
+                Ok(state.then(due, None))
             } else {
                 Err(Reason::NoSuchHunk(number))
             }
@@ -87,17 +92,17 @@ pub fn hunk_number(s: State, more: u32, number: u32) -> Result<Step, Reason>
     }
 }
 
-pub fn offset(s: State, more: u32, target: u32, number: u32) -> Result<Step, Reason>
-    ensures { StepsFrom s (Due.Offset more target) number result }
+pub fn offset(state: State, more: u32, target: u32, number: u32) -> Step
+    ensures { StepsFrom state (Expected.Offset more target) number (Ok result) }
 {
     let due = match more {
-        0 => Due::RelocCount,
-        _ => Due::Offset {
+        0 => Expected::RelocCount,
+        _ => Expected::Offset {
             more: more - 1,
             target,
         },
     };
-    s.then(
+    state.then(
         due,
         Some(Event::Site {
             offset: number,
@@ -106,86 +111,86 @@ pub fn offset(s: State, more: u32, target: u32, number: u32) -> Result<Step, Rea
     )
 }
 
-pub fn symbol_entry(s: State, number: u32) -> Result<Step, Reason>
-    ensures { StepsFrom s Due.SymbolEntry number result }
+pub fn symbol_entry(state: State, number: u32) -> Result<Step, Reason>
+    ensures { StepsFrom state Expected.SymbolEntry number result }
 {
     let kind = entry_type(number);
     if kind != 0 {
         return Err(Reason::SymbolKind(kind));
     }
     match number {
-        0 => s.then(Due::BlockType, None),
+        0 => Ok(state.then(Expected::BlockType, None)),
         _ => {
-            let due = Due::Word {
+            let due = Expected::Word {
                 more: number - 1,
-                then: Then::SymbolValue,
+                then: AfterWords::SymbolValue,
             };
-            s.then(due, Some(Event::Symbol))
+            Ok(state.then(due, Some(Event::Symbol)))
         }
     }
 }
 
-pub fn symbol_value(s: State, number: u32) -> Result<Step, Reason>
-    ensures { StepsFrom s Due.SymbolValue number result }
+pub fn symbol_value(state: State, number: u32) -> Step
+    ensures { StepsFrom state Expected.SymbolValue number (Ok result) }
 {
-    s.then(Due::SymbolEntry, Some(Event::Value(number)))
+    state.then(Expected::SymbolEntry, Some(Event::Value(number)))
 }
 
-pub fn ext_entry(s: State, number: u32) -> Result<Step, Reason>
-    ensures { StepsFrom s Due.ExtEntry number result }
+pub fn ext_entry(state: State, number: u32) -> Result<Step, Reason>
+    ensures { StepsFrom state Expected.ExtEntry number result }
 {
     if number == 0 {
-        return s.then(Due::BlockType, None);
+        return Ok(state.then(Expected::BlockType, None));
     }
     let kind = entry_type(number);
     let then = match entry(number) {
-        EntryType::Definition | EntryType::Absolute => Then::EntryValue,
-        EntryType::Reference => Then::RefCount,
+        EntryType::Definition | EntryType::Absolute => AfterWords::EntryValue,
+        EntryType::Reference => AfterWords::RefCount,
         EntryType::Other => return Err(Reason::UnsupportedExt(kind)),
     };
-    s.then(words(entry_length(number), then), Some(Event::Entry(kind)))
+    Ok(state.then(words(entry_length(number), then), Some(Event::Entry(kind))))
 }
 
-pub fn entry_value(s: State, number: u32) -> Result<Step, Reason>
-    ensures { StepsFrom s Due.EntryValue number result }
+pub fn entry_value(state: State, number: u32) -> Step
+    ensures { StepsFrom state Expected.EntryValue number (Ok result) }
 {
-    s.then(Due::ExtEntry, Some(Event::Value(number)))
+    state.then(Expected::ExtEntry, Some(Event::Value(number)))
 }
 
-pub fn ref_count(s: State, number: u32) -> Result<Step, Reason>
-    ensures { StepsFrom s Due.RefCount number result }
+pub fn ref_count(state: State, number: u32) -> Step
+    ensures { StepsFrom state Expected.RefCount number (Ok result) }
 {
     let due = match number {
-        0 => Due::ExtEntry,
-        _ => Due::RefOffset { more: number - 1 },
+        0 => Expected::ExtEntry,
+        _ => Expected::RefOffset { more: number - 1 },
     };
-    s.then(due, Some(Event::Count(number)))
+    state.then(due, Some(Event::Count(number)))
 }
 
-pub fn ref_offset(s: State, more: u32, number: u32) -> Result<Step, Reason>
-    ensures { StepsFrom s (Due.RefOffset more) number result }
+pub fn ref_offset(state: State, more: u32, number: u32) -> Step
+    ensures { StepsFrom state (Expected.RefOffset more) number (Ok result) }
 {
     let due = match more {
-        0 => Due::ExtEntry,
-        _ => Due::RefOffset { more: more - 1 },
+        0 => Expected::ExtEntry,
+        _ => Expected::RefOffset { more: more - 1 },
     };
-    s.then(due, Some(Event::RefSite(number)))
+    state.then(due, Some(Event::RefSite(number)))
 }
 
 /// The size of content. In a load file `size` is that of the hunk in the header.
 pub fn content_size(
-    s: State,
-    content: ContentType,
+    state: State,
+    content: HunkKind,
     bits: u8,
     size: u32,
     number: u32,
 ) -> Result<Step, Reason>
-    ensures { SizedStepsFrom s (Due.ContentSize content bits) size number result }
+    ensures { SizedStepsFrom state (Expected.ContentSize content bits) size number result }
 {
     let length = low(number);
-    let limit = match s.file {
+    let limit = match state.file {
         FileKind::Object => match content {
-            ContentType::Bss => 0,
+            HunkKind::Bss => 0,
             _ => 4 * length as u64,
         },
         FileKind::Load => {
@@ -196,13 +201,13 @@ pub fn content_size(
         }
     };
     let due = match content {
-        ContentType::Bss => Due::BlockType,
-        _ => words(length, Then::BlockType),
+        HunkKind::Bss => Expected::BlockType,
+        _ => words(length, AfterWords::BlockType),
     };
     let event = Event::Content {
-        kind: content_number(content),
+        kind: content.block_type(),
         bits,
         size: length,
     };
-    State { limit, ..s }.then(due, Some(event))
+    Ok(State { limit, ..state }.then(due, Some(event)))
 }

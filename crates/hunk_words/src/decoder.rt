@@ -1,9 +1,9 @@
 //! Bytes of a file, in any pieces.
 
 ghost use Rattle.std.specs.Prelude.{◌≡◌, ℕ, ◌+◌, ◌<◌, ◌^◌, List, [], ◌∷◌, ◌++◌, length, Some, None, IfOk, OnOk};
-ghost use Rattle.hunk_words.specs.Decoder.{StandsFor, Finished};
-ghost use Rattle.hunk_words.specs.DecoderCore.{Keeps, kept};
-ghost use Rattle.hunk_words.specs.Files.{IsFront};
+ghost use Rattle.hunk_words.specs.Decoder.{StandsFor, Finished, refusal_of, taker_of};
+ghost use Rattle.hunk_words.specs.DecoderCore.{Keeps};
+ghost use Rattle.hunk_words.specs.Files.{IsValidPrefix};
 ghost use Rattle.hunk_words.specs.Longwords.{longwords};
 ghost use Rattle.hunk_words.specs.declared.fault.Refusal.{Refusal};
 
@@ -26,8 +26,8 @@ impl<T: Taker> Decoder<T> {
     pub fn new(taker: T) -> Self
         requires { T.stands_for taker [] }
         ensures stands { StandsFor T.KIND T.stands_for result [] }
-        ensures none { kept result.core ≡ None }
-        ensures given { T.given result.core.taker ≡ T.given taker }
+        ensures none { refusal_of result ≡ None }
+        ensures given { T.given (taker_of result) ≡ T.given taker }
     {
         Decoder {
             splitter: Splitter::new(),
@@ -37,10 +37,10 @@ impl<T: Taker> Decoder<T> {
 
     // Takes one byte.
     fn push(&mut self, byte: u8) -> Result<(), Refusal>
-        requires { kept self.old.core ≡ None }
+        requires { refusal_of self.old ≡ None }
         ensures stands { (bytes : List ℕ) → StandsFor T.KIND T.stands_for self.old bytes → StandsFor T.KIND T.stands_for self.new (bytes ++ byte ∷ []) }
-        ensures kept { Keeps (kept self.new.core) result }
-        ensures given { T.given self.new.core.taker ≡ T.given self.old.core.taker }
+        ensures kept { Keeps (refusal_of self.new) result }
+        ensures given { T.given (taker_of self.new) ≡ T.given (taker_of self.old) }
     {
         match self.splitter.push(byte) {
             Some(word) => self.core.word(word),
@@ -50,10 +50,10 @@ impl<T: Taker> Decoder<T> {
 
     // Takes bytes one by one.
     fn push_all(&mut self, piece: &[u8]) -> Result<(), Refusal>
-        requires { kept self.old.core ≡ None }
+        requires { refusal_of self.old ≡ None }
         ensures stands { (bytes : List ℕ) → StandsFor T.KIND T.stands_for self.old bytes → StandsFor T.KIND T.stands_for self.new (bytes ++ piece.now) }
-        ensures kept { Keeps (kept self.new.core) result }
-        ensures given { T.given self.new.core.taker ≡ T.given self.old.core.taker }
+        ensures kept { Keeps (refusal_of self.new) result }
+        ensures given { T.given (taker_of self.new) ≡ T.given (taker_of self.old) }
     {
         for byte in piece {
             match self.push(*byte) {
@@ -66,10 +66,10 @@ impl<T: Taker> Decoder<T> {
 
     // Takes bytes, longword by longword where none is begun.
     fn push_longwords(&mut self, piece: &[u8]) -> Result<(), Refusal>
-        requires { kept self.old.core ≡ None }
+        requires { refusal_of self.old ≡ None }
         ensures stands { (bytes : List ℕ) → StandsFor T.KIND T.stands_for self.old bytes → StandsFor T.KIND T.stands_for self.new (bytes ++ piece.now) }
-        ensures kept { Keeps (kept self.new.core) result }
-        ensures given { T.given self.new.core.taker ≡ T.given self.old.core.taker }
+        ensures kept { Keeps (refusal_of self.new) result }
+        ensures given { T.given (taker_of self.new) ≡ T.given (taker_of self.old) }
     {
         if self.splitter.rest() > 0 {
             return self.push_all(piece);
@@ -89,10 +89,10 @@ impl<T: Taker> Decoder<T> {
     /// piece changes nothing.
     pub fn feed(&mut self, piece: &[u8]) -> Result<(), Refusal>
         ensures stands { (bytes : List ℕ) → StandsFor T.KIND T.stands_for self.old bytes → StandsFor T.KIND T.stands_for self.new (bytes ++ piece.now) }
-        ensures kept { Keeps (kept self.new.core) result }
-        ensures given { T.given self.new.core.taker ≡ T.given self.old.core.taker }
-        ensures again { (refusal : Refusal) → kept self.old.core ≡ Some refusal → result ≡ Err refusal }
-        ensures front { OnOk result ((bytes : List ℕ) → StandsFor T.KIND T.stands_for self.new bytes → IsFront T.KIND (longwords bytes)) }
+        ensures kept { Keeps (refusal_of self.new) result }
+        ensures given { T.given (taker_of self.new) ≡ T.given (taker_of self.old) }
+        ensures again { (refusal : Refusal) → refusal_of self.old ≡ Some refusal → result ≡ Err refusal }
+        ensures front { OnOk result ((bytes : List ℕ) → StandsFor T.KIND T.stands_for self.new bytes → IsValidPrefix T.KIND (longwords bytes)) }
         ensures bounded { OnOk result ((bytes : List ℕ) → StandsFor T.KIND T.stands_for self.new bytes → length bytes < 2 ^ 30 + 4) }
         ensures empty { piece.now ≡ [] → self.new ≡ self.old }
     {
@@ -118,9 +118,9 @@ impl<T: Taker> Decoder<T> {
     /// not complete. A refusal that was kept is answered again.
     pub fn finish(self) -> Result<T, Refusal>
         ensures answer { (bytes : List ℕ) → StandsFor T.KIND T.stands_for self bytes → Finished T.KIND T.stands_for bytes result }
-        ensures again { (refusal : Refusal) → kept self.core ≡ Some refusal → result ≡ Err refusal }
-        ensures given { IfOk result (λ taker. T.given taker ≡ T.given self.core.taker) }
-        ensures memory { result ≡ Err Refusal.OutOfMemory → kept self.core ≡ Some Refusal.OutOfMemory }
+        ensures again { (refusal : Refusal) → refusal_of self ≡ Some refusal → result ≡ Err refusal }
+        ensures given { IfOk result (λ taker. T.given taker ≡ T.given (taker_of self)) }
+        ensures memory { result ≡ Err Refusal.OutOfMemory → refusal_of self ≡ Some Refusal.OutOfMemory }
     {
         self.core.end(self.splitter.rest())
     }
@@ -129,9 +129,9 @@ impl<T: Taker> Decoder<T> {
 impl<T: Taker> Feed for Decoder<T> {
     ghost stands_for = { λ d bytes. StandsFor T.KIND T.stands_for d bytes };
 
-    ghost refused = { λ d refusal. kept d.core ≡ Some refusal };
+    ghost refused = { λ d refusal. refusal_of d ≡ Some refusal };
 
-    ghost given = { λ d. T.given d.core.taker };
+    ghost given = { λ d. T.given (taker_of d) };
 
     fn feed(&mut self, piece: &[u8]) -> Result<(), Refusal> {
         self.feed(piece)

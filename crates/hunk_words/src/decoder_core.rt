@@ -1,18 +1,18 @@
 //! Longwords of a file, judged and told to a taker.
 
 ghost use Rattle.std.specs.Prelude.{◌≡◌, ℕ, ◌≤◌, List, [], ◌∷◌, ◌++◌, length, Option, Some, None, IsTrue, IsFalse, IfOk, OnOk};
-ghost use Rattle.hunk_words.specs.DecoderCore.{Behind, StandsBy, StandsFor, SomeTaken, TakesSome, EndAnswered, Keeps, kept};
-ghost use Rattle.hunk_words.specs.Files.{IsFront};
+ghost use Rattle.hunk_words.specs.DecoderCore.{Behind, StandsBy, StandsFor, SomeTaken, TakesSome, EndAnswered, Keeps, kept, taker_of};
+ghost use Rattle.hunk_words.specs.Files.{IsValidPrefix};
 ghost use Rattle.hunk_words.specs.Longwords.{longwords};
 ghost use Rattle.hunk_words.specs.Machine.{IsComplete};
 ghost use Rattle.hunk_words.specs.Reading.{start_of};
-ghost use Rattle.hunk_words.specs.View.{Around, IsState, due_view, view};
+ghost use Rattle.hunk_words.specs.State.{Around, IsState, expected_view, view};
 ghost use Rattle.hunk_words.specs.declared.fault.Refusal.{Refusal};
 
 use crate::event::FileKind;
 use crate::fault::{Fault, Reason, Refusal};
-use crate::numbers::{Stop, take_word, take_words};
-use crate::state::{Due, State, Then};
+use crate::numbers::{NumberRefusal, take_word, take_words};
+use crate::state::{AfterWords, Expected, State};
 use crate::taker::Taker;
 use byteorder::{BigEndian, ByteOrder};
 
@@ -36,14 +36,14 @@ pub struct Core<T> {
 }
 
 // What is due at the start of a file.
-fn begun(file: FileKind) -> State
+fn initial_state(file: FileKind) -> State
     ensures file { result.file ≡ file }
     ensures due { view result [] ≡ start_of file ∷ [] }
     ensures is_state { IsState result [] }
 {
     let due = match file {
-        FileKind::Object => Due::ObjectStart,
-        FileKind::Load => Due::LoadStart,
+        FileKind::Object => Expected::ObjectStart,
+        FileKind::Load => Expected::LoadStart,
     };
     State {
         due,
@@ -69,8 +69,8 @@ fn advance<T: Taker>(taker: &mut T, core: CoreState, word: u32) -> CoreState
             place: place + 1,
             refusal: None,
         },
-        Err(Stop::Refused(reason)) => refused(core, reason),
-        Err(Stop::OutOfMemory) => CoreState {
+        Err(NumberRefusal::Refused(reason)) => refused(core, reason),
+        Err(NumberRefusal::OutOfMemory) => CoreState {
             state,
             place,
             refusal: Some(Refusal::OutOfMemory),
@@ -95,11 +95,11 @@ fn refused(core: CoreState, reason: Reason) -> CoreState
 }
 
 // Whether a file may end here.
-fn is_complete(due: Due) -> bool
-    ensures yes { IsTrue result → (a : Around) → IsComplete (due_view due a) }
-    ensures no { IsFalse result → (a : Around) → IsComplete (due_view due a) → ⊥ }
+fn is_complete(due: Expected) -> bool
+    ensures yes { IsTrue result → (a : Around) → IsComplete (expected_view due a) }
+    ensures no { IsFalse result → (a : Around) → IsComplete (expected_view due a) → ⊥ }
 {
-    matches!(due, Due::UnitType | Due::PastEnd)
+    matches!(due, Expected::UnitType | Expected::PastEnd)
 }
 
 impl<T: Taker> Core<T> {
@@ -108,12 +108,12 @@ impl<T: Taker> Core<T> {
         requires { T.stands_for taker [] }
         ensures stands { StandsFor T.KIND T.stands_for result [] }
         ensures none { kept result ≡ None }
-        ensures given { T.given result.taker ≡ T.given taker }
+        ensures given { T.given (taker_of result) ≡ T.given taker }
     {
         Core {
             taker,
             state: CoreState {
-                state: begun(T::KIND),
+                state: initial_state(T::KIND),
                 place: 0,
                 refusal: None,
             },
@@ -128,9 +128,9 @@ impl<T: Taker> Core<T> {
     pub fn word(&mut self, word: u32) -> Result<(), Refusal>
         ensures stands { (ws : List ℕ) → StandsFor T.KIND T.stands_for self.old ws → StandsFor T.KIND T.stands_for self.new (ws ++ word ∷ []) }
         ensures kept { Keeps (kept self.new) result }
-        ensures given { T.given self.new.taker ≡ T.given self.old.taker }
+        ensures given { T.given (taker_of self.new) ≡ T.given (taker_of self.old) }
         ensures again { (refusal : Refusal) → kept self.old ≡ Some refusal → result ≡ Err refusal }
-        ensures front { OnOk result ((ws : List ℕ) → StandsFor T.KIND T.stands_for self.new ws → IsFront T.KIND ws) }
+        ensures front { OnOk result ((ws : List ℕ) → StandsFor T.KIND T.stands_for self.new ws → IsValidPrefix T.KIND ws) }
     {
         match self.state.refusal {
             Some(refusal) => return Err(refusal),
@@ -144,12 +144,12 @@ impl<T: Taker> Core<T> {
     }
 
     // Takes the first longword of these bytes, and gives the number of those taken.
-    fn one(&mut self, bytes: &[u8]) -> Result<usize, Refusal>
+    fn take_one(&mut self, bytes: &[u8]) -> Result<usize, Refusal>
         requires some { 4 ≤ length bytes.now }
         ensures stands { (ws : List ℕ) → StandsFor T.KIND T.stands_for self.old ws → SomeTaken T.KIND T.stands_for self.new ws bytes.now result }
         ensures count { TakesSome bytes.now result }
         ensures kept { Keeps (kept self.new) result }
-        ensures given { T.given self.new.taker ≡ T.given self.old.taker }
+        ensures given { T.given (taker_of self.new) ≡ T.given (taker_of self.old) }
     {
         match self.word(BigEndian::read_u32(&bytes[..4])) {
             Ok(()) => Ok(1),
@@ -159,24 +159,24 @@ impl<T: Taker> Core<T> {
 
     // Takes longwords of these bytes where a run of words is due, without a look at what is due for
     // each of them.
-    fn run(&mut self, more: u32, then: Then, bytes: &[u8]) -> Result<usize, Refusal>
+    fn take_run(&mut self, more: u32, then: AfterWords, bytes: &[u8]) -> Result<usize, Refusal>
         requires some { 4 ≤ length bytes.now }
-        requires due { self.old.state.state.due ≡ Due.Word more then }
+        requires due { self.old.state.state.due ≡ Expected.Word more then }
         requires none { kept self.old ≡ None }
         ensures stands { (ws : List ℕ) → StandsFor T.KIND T.stands_for self.old ws → SomeTaken T.KIND T.stands_for self.new ws bytes.now result }
         ensures count { TakesSome bytes.now result }
         ensures kept { Keeps (kept self.new) result }
-        ensures given { T.given self.new.taker ≡ T.given self.old.taker }
+        ensures given { T.given (taker_of self.new) ≡ T.given (taker_of self.old) }
     {
         let CoreState { state, place, .. } = self.state;
         let room = MOST_LONGWORDS.saturating_sub(place).min(u64::from(more));
         let count = (room as usize).min(bytes.len() / 4);
         if count == 0 {
-            return self.one(bytes);
+            return self.take_one(bytes);
         }
         match take_words(&mut self.taker, &bytes[..4 * count]) {
             Ok(()) => {
-                let due = Due::Word {
+                let due = Expected::Word {
                     more: more - count as u32,
                     then,
                 };
@@ -199,17 +199,17 @@ impl<T: Taker> Core<T> {
     }
 
     // Takes one longword of these bytes or more.
-    fn some(&mut self, bytes: &[u8]) -> Result<usize, Refusal>
+    fn take_some(&mut self, bytes: &[u8]) -> Result<usize, Refusal>
         requires some { 4 ≤ length bytes.now }
         requires none { kept self.old ≡ None }
         ensures stands { (ws : List ℕ) → StandsFor T.KIND T.stands_for self.old ws → SomeTaken T.KIND T.stands_for self.new ws bytes.now result }
         ensures count { TakesSome bytes.now result }
         ensures kept { Keeps (kept self.new) result }
-        ensures given { T.given self.new.taker ≡ T.given self.old.taker }
+        ensures given { T.given (taker_of self.new) ≡ T.given (taker_of self.old) }
     {
         match self.state.state.due {
-            Due::Word { more, then } => self.run(more, then, bytes),
-            _ => self.one(bytes),
+            Expected::Word { more, then } => self.take_run(more, then, bytes),
+            _ => self.take_one(bytes),
         }
     }
 
@@ -219,12 +219,12 @@ impl<T: Taker> Core<T> {
         requires { kept self.old ≡ None }
         ensures stands { (ws : List ℕ) → StandsFor T.KIND T.stands_for self.old ws → StandsFor T.KIND T.stands_for self.new (ws ++ longwords bytes.now) }
         ensures kept { Keeps (kept self.new) result }
-        ensures given { T.given self.new.taker ≡ T.given self.old.taker }
+        ensures given { T.given (taker_of self.new) ≡ T.given (taker_of self.old) }
     {
         let count = bytes.len() / 4;
         let mut taken = 0;
         while taken < count {
-            match self.some(&bytes[4 * taken..]) {
+            match self.take_some(&bytes[4 * taken..]) {
                 Ok(more) => taken += more,
                 Err(refusal) => return Err(refusal),
             }
@@ -253,7 +253,7 @@ impl<T: Taker> Core<T> {
     pub fn end(self, rest: u8) -> Result<T, Refusal>
         ensures answer { (ws : List ℕ) → StandsFor T.KIND T.stands_for self ws → EndAnswered T.KIND T.stands_for ws rest result }
         ensures again { (refusal : Refusal) → kept self ≡ Some refusal → result ≡ Err refusal }
-        ensures given { IfOk result (λ taker. T.given taker ≡ T.given self.taker) }
+        ensures given { IfOk result (λ taker. T.given taker ≡ T.given (taker_of self)) }
         ensures memory { result ≡ Err Refusal.OutOfMemory → kept self ≡ Some Refusal.OutOfMemory }
     {
         let CoreState {

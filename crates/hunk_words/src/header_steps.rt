@@ -1,79 +1,78 @@
 //! The steps of a load file's header.
 
 ghost use Rattle.std.specs.Prelude.{ℕ, List};
-ghost use Rattle.hunk_words.specs.View.{StepsFrom};
+ghost use Rattle.hunk_words.specs.State.{StepsFrom};
 
+use crate::doshunks::HUNK_HEADER;
 use crate::event::Event;
 use crate::fault::Reason;
-use crate::longword::{block_type, low, memory_bits};
-use crate::state::{Due, State, Step};
-
-const HEADER: u32 = 1011;
+use crate::kinds::{low, memory_bits};
+use crate::state::{Expected, State, Step};
 
 // Longwords of all sizes of a header.
 const ROOM: u32 = 0x100_0000;
 
-pub fn load_start(s: State, number: u32) -> Result<Step, Reason>
-    ensures { StepsFrom s Due.LoadStart number result }
+pub fn load_start(state: State, number: u32) -> Result<Step, Reason>
+    ensures { StepsFrom state Expected.LoadStart number result }
 {
-    if low(number) == HEADER {
-        s.then(Due::Resident, None)
+    if low(number) == HUNK_HEADER {
+        Ok(state.then(Expected::Resident, None))
     } else {
         Err(Reason::WrongStart)
     }
 }
 
-pub fn resident(s: State, number: u32) -> Result<Step, Reason>
-    ensures { StepsFrom s Due.Resident number result }
+pub fn resident(state: State, number: u32) -> Result<Step, Reason>
+    ensures { StepsFrom state Expected.Resident number result }
 {
     if number == 0 {
-        s.then(Due::TableSize, None)
+        Ok(state.then(Expected::TableSize, None))
     } else {
         Err(Reason::ResidentNames)
     }
 }
 
-pub fn table_size(s: State, number: u32) -> Result<Step, Reason>
-    ensures { StepsFrom s Due.TableSize number result }
+pub fn table_size(state: State, number: u32) -> Result<Step, Reason>
+    ensures { StepsFrom state Expected.TableSize number result }
 {
     match number {
         1..=65535 => {
-            let state = State {
+            let next = State {
                 last: number - 1,
-                ..s
+                ..state
             };
-            state.then(Due::FirstHunk, Some(Event::Table(number)))
+            Ok(next.then(Expected::FirstHunk, Some(Event::Table(number))))
         }
         _ => Err(Reason::HunkTable),
     }
 }
 
-pub fn first_hunk(s: State, number: u32) -> Result<Step, Reason>
-    ensures { StepsFrom s Due.FirstHunk number result }
+pub fn first_hunk(state: State, number: u32) -> Result<Step, Reason>
+    ensures { StepsFrom state Expected.FirstHunk number result }
 {
     if number == 0 {
-        s.then(Due::LastHunk, None)
+        Ok(state.then(Expected::LastHunk, None))
     } else {
         Err(Reason::HunkTable)
     }
 }
 
-pub fn last_hunk(s: State, number: u32) -> Result<Step, Reason>
-    ensures { StepsFrom s Due.LastHunk number result }
+pub fn last_hunk(state: State, number: u32) -> Result<Step, Reason>
+    ensures { StepsFrom state Expected.LastHunk number result }
 {
-    if number == s.last {
-        let due = Due::HeaderSize {
+    if number == state.last {
+        let due = Expected::HeaderSize {
             room: ROOM,
-            left: s.last,
+            left: state.last,
         };
-        s.then(due, None)
+        Ok(state.then(due, None))
     } else {
         Err(Reason::HunkTable)
     }
 }
 
-pub fn header_size(s: State, room: u32, left: u32, number: u32) -> Result<Step, Reason>
-    ensures { StepsFrom s (Due.HeaderSize room left) number result }
+pub fn header_size(state: State, room: u32, left: u32, number: u32) -> Result<Step, Reason>
+    ensures { StepsFrom state (Expected.HeaderSize room left) number result }
 {
     let bits = memory_bits(number);
     let size = low(number);
@@ -85,12 +84,12 @@ pub fn header_size(s: State, room: u32, left: u32, number: u32) -> Result<Step, 
     }
     let event = Some(Event::HunkSize { bits, size });
     if left == 0 {
-        State { hunk: 0, ..s }.then(Due::HunkType, event)
+        Ok(State { hunk: 0, ..state }.then(Expected::HunkType, event))
     } else {
-        let due = Due::HeaderSize {
+        let due = Expected::HeaderSize {
             room: room - size,
             left: left - 1,
         };
-        s.then(due, event)
+        Ok(state.then(due, event))
     }
 }

@@ -1,4 +1,10 @@
-//! The kinds of blocks, of content, of external symbols, and of half longwords.
+//! The kinds of blocks, of hunks, of memory, of external symbols and of half longwords, and the parts
+//! of a longword that tell them.
+
+ghost use Rattle.std.specs.Prelude.{◌≡◌, ◌<◌};
+ghost use Rattle.hunk_words.specs.Kinds as kinds;
+
+use crate::doshunks::*;
 
 /// What a block's type longword says: the low 30 bits, by the block types of `doshunks.h`.
 #[derive(Clone, Copy, Debug, PartialEq, Eq)]
@@ -8,7 +14,7 @@ pub enum BlockType {
     /// 1000, the name of a hunk.
     Name,
     /// 1001 to 1003, which begin the content of a hunk.
-    Content(ContentType),
+    Content(HunkKind),
     /// 1004, a list of 32-bit relocations.
     Reloc,
     /// 1007, a list of external symbols.
@@ -29,15 +35,26 @@ pub enum BlockType {
     Unknown,
 }
 
-/// What a hunk holds.
+/// What a hunk holds (The AmigaDOS Manual, 3rd edition, "Amiga binary file structure").
 #[derive(Clone, Copy, Debug, PartialEq, Eq)]
-pub enum ContentType {
-    /// 1001, code.
+pub enum HunkKind {
+    /// Code, block type 1001.
     Code,
-    /// 1002, data.
+    /// Data, block type 1002.
     Data,
-    /// 1003, memory that begins as zeros and has no longwords in the file.
+    /// Memory that begins as zeros and has no longwords in the file, block type 1003.
     Bss,
+}
+
+/// Which memory a hunk asks for (The AmigaDOS Manual, 3rd edition, "Amiga binary file structure").
+#[derive(Clone, Copy, Debug, PartialEq, Eq)]
+pub enum Memory {
+    /// Any memory.
+    Any,
+    /// Memory that the custom chips can reach: bit 30 of a longword.
+    Chip,
+    /// Memory that the processor alone can reach: bit 31 of a longword.
+    Fast,
 }
 
 /// What an entry of an EXT block is, by the upper 8 bits of its first longword.
@@ -60,4 +77,121 @@ pub enum Half {
     Upper,
     /// Bits 0 to 15.
     Lower,
+}
+
+/// The low 30 bits.
+pub(crate) fn low(number: u32) -> u32
+    ensures { result ≡ kinds.low number }
+{
+    number % 0x4000_0000
+}
+
+/// The upper 2 bits, which ask for memory: bit 0 for chip, bit 1 for fast.
+pub(crate) fn memory_bits(number: u32) -> u8
+    ensures { result ≡ kinds.bits number }
+{
+    (number / 0x4000_0000) as u8
+}
+
+/// The low 24 bits, the length of the name of an external symbol.
+pub(crate) fn entry_length(number: u32) -> u32
+    ensures { result ≡ kinds.entry_length number }
+{
+    number % 0x100_0000
+}
+
+/// The upper 8 bits, the type of an external symbol.
+pub(crate) fn entry_type(number: u32) -> u8
+    ensures { result ≡ kinds.entry_type number }
+{
+    (number / 0x100_0000) as u8
+}
+
+/// The block type of this number.
+#[tactic(auto, unfolding(crate::specs::Kinds::type_of))]
+pub(crate) fn block_type(number: u32) -> BlockType
+    ensures { result ≡ kinds.type_of number }
+{
+    match number {
+        HUNK_UNIT => BlockType::Unit,
+        HUNK_NAME => BlockType::Name,
+        HUNK_CODE => BlockType::Content(HunkKind::Code),
+        HUNK_DATA => BlockType::Content(HunkKind::Data),
+        HUNK_BSS => BlockType::Content(HunkKind::Bss),
+        HUNK_RELOC32 => BlockType::Reloc,
+        HUNK_EXT => BlockType::Ext,
+        HUNK_SYMBOL => BlockType::Symbol,
+        HUNK_DEBUG => BlockType::Debug,
+        HUNK_END => BlockType::End,
+        HUNK_HEADER => BlockType::Header,
+        HUNK_RELOC32SHORT => BlockType::Short,
+        _ => {
+            if is_unsupported(number) {
+                BlockType::Unsupported
+            } else {
+                BlockType::Unknown
+            }
+        }
+    }
+}
+
+impl HunkKind {
+    /// What a hunk holds whose content block has this type, 1001 to 1003.
+    pub fn of_block_type(number: u32) -> HunkKind
+        ensures { result ≡ kinds.hunk_kind_of number }
+    {
+        match number {
+            HUNK_CODE => HunkKind::Code,
+            HUNK_DATA => HunkKind::Data,
+            _ => HunkKind::Bss,
+        }
+    }
+
+    /// The block type of such content.
+    pub fn block_type(self) -> u32
+        ensures { result ≡ kinds.hunk_kind_number self }
+    {
+        match self {
+            HunkKind::Code => HUNK_CODE,
+            HunkKind::Data => HUNK_DATA,
+            HunkKind::Bss => HUNK_BSS,
+        }
+    }
+}
+
+impl Memory {
+    /// What the two memory bits ask for: bit 0 for chip, bit 1 for fast. Both together are refused
+    /// in every file.
+    pub fn of_bits(bits: u8) -> Memory
+        ensures { result ≡ kinds.memory_of bits }
+    {
+        match bits {
+            0 => Memory::Any,
+            1 => Memory::Chip,
+            _ => Memory::Fast,
+        }
+    }
+}
+
+/// What the first longword of an external symbol says that it is.
+#[tactic(auto, unfolding(crate::specs::Kinds::entry_of))]
+pub(crate) fn entry(number: u32) -> EntryType
+    ensures { result ≡ kinds.entry_of number }
+{
+    match entry_type(number) {
+        EXT_DEF => EntryType::Definition,
+        EXT_ABS => EntryType::Absolute,
+        EXT_REF32 => EntryType::Reference,
+        _ => EntryType::Other,
+    }
+}
+
+/// Whether a block type is left out on purpose.
+pub(crate) fn is_unsupported(number: u32) -> bool
+    ensures { result ≡ kinds.is_unsupported number }
+{
+    matches!(
+        number,
+        HUNK_RELOC16 | HUNK_RELOC8 | HUNK_OVERLAY..=HUNK_INDEX | HUNK_RELRELOC32 | HUNK_ABSRELOC16
+    )
 }

@@ -2,8 +2,8 @@
 
 ghost use Rattle.hunk_words.specs.Examples.{LoadExamples, ObjectExamples, ShortExamples, ValueExamples};
 ghost use Rattle.hunk_words.specs.EventLaws.{ObjectTold, LoadTold, ObjectOneValue, LoadOneValue, ObjectLimit, LoadLimit};
-ghost use Rattle.hunk_words.specs.OffenceLaws.{ReadIsFront, FrontIsRead, StopsBehindFront, StopsAtOffence, TooLongOffends, CompleteIsFile, EndsBehindFront, FileOrOffence, FileHasNone, OffenceIsOne};
-ghost use Rattle.hunk_words.specs.Laws.{NothingBehind, ObjectIsTaken, LoadIsTaken, ObjectIsRead, LoadIsRead, ReadIsObject, ReadIsLoad, ObjectSame, LoadSame, ObjectFront, LoadFront, ObjectNext, LoadNext, ObjectDue, LoadDue};
+ghost use Rattle.hunk_words.specs.FirstOffenceLaws.{ReadIsPrefix, PrefixIsRead, StopsAfterPrefix, StopsAtOffence, TooLongOffends, CompleteIsFile, EndsAfterPrefix, FileOrOffence, FileHasNone, OffenceIsOne};
+ghost use Rattle.hunk_words.specs.Laws.{NothingFollows, ObjectIsTaken, LoadIsTaken, ObjectIsRead, LoadIsRead, ReadIsObject, ReadIsLoad, ObjectSame, LoadSame, ObjectPrefix, LoadPrefix, ObjectNext, LoadNext, ObjectDue, LoadDue};
 
 /// What is spelled passes, each field under the kind of its spelling, to where a file may end.
 pub fn spelled_is_taken()
@@ -18,8 +18,8 @@ pub fn spelled_is_read()
 {}
 
 /// Nothing passes behind the last END of a load file.
-pub fn nothing_stands_behind()
-    ensures { NothingBehind }
+pub fn nothing_follows()
+    ensures { NothingFollows }
 {}
 
 /// Where an offset is due, events tell its limit and the sites before it in its hunk.
@@ -44,9 +44,9 @@ pub fn events_tell_values()
 {}
 
 /// What is read so far is the front of a file.
-pub fn read_is_front()
-    ensures object { ObjectFront }
-    ensures load { LoadFront }
+pub fn read_is_prefix()
+    ensures object { ObjectPrefix }
+    ensures load { LoadPrefix }
 {}
 
 /// Where a longword doesn't pass behind what was read, no file begins with both.
@@ -80,15 +80,15 @@ pub fn longwords_tell_value()
 {}
 
 /// The machine, which keeps the rules of sites too, goes on over good fronts alone, and over each.
-pub fn machine_reads_fronts()
-    ensures read { ReadIsFront }
-    ensures front { FrontIsRead }
+pub fn machine_reads_prefixes()
+    ensures read { ReadIsPrefix }
+    ensures front { PrefixIsRead }
 {}
 
 /// Where the machine stops, a good front ends, and its reason is that of the first offence; so it
 /// is behind 2^28 longwords.
 pub fn machine_stops_at_offence()
-    ensures front { StopsBehindFront }
+    ensures front { StopsAfterPrefix }
     ensures offence { StopsAtOffence }
     ensures long { TooLongOffends }
 {}
@@ -96,7 +96,7 @@ pub fn machine_stops_at_offence()
 /// Where the machine comes to the end, it tells whether the longwords are a file or end too early.
 pub fn machine_tells_files()
     ensures file { CompleteIsFile }
-    ensures early { EndsBehindFront }
+    ensures early { EndsAfterPrefix }
 {}
 
 /// Longwords, and up to three bytes of a further one, are a file or have a first offence, and

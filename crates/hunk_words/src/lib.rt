@@ -1,7 +1,8 @@
 //! The words of the Amiga hunk format: what object files and load files are made of.
 //!
 //! - `fault`: what is wrong with a file, and where; what a read or a write is refused with.
-//! - `kinds`: the kinds of blocks, of content, of external symbols, and of half longwords.
+//! - `doshunks`: the numbers of block types and of external symbols.
+//! - `kinds`: the kinds of blocks, hunks, memory, external symbols and half longwords.
 //! - `event`: what the longwords of a file tell, one after another.
 //! - `laws`: what holds of the definitions of the format.
 //! - `splitter`: bytes to longwords.
@@ -19,12 +20,12 @@
 mod block_steps;
 pub mod decoder;
 pub mod decoder_core;
+pub mod doshunks;
 pub mod event;
 pub mod fault;
 mod header_steps;
 pub mod kinds;
 pub mod laws;
-mod longword;
 pub mod name;
 mod numbers;
 pub mod pieces;
@@ -43,7 +44,7 @@ pub use decoder::Decoder;
 pub use decoder_core::{Core, CoreState};
 pub use event::{Event, FileKind};
 pub use fault::{DeviceFault, Fault, ReadFault, Reason, Refusal, WriteFault};
-pub use kinds::{BlockType, ContentType, EntryType, Half};
+pub use kinds::{BlockType, EntryType, Half, HunkKind, Memory};
 pub use name::Name;
 pub use name::open_name::OpenName;
 pub use pieces::Pieces;

@@ -8,7 +8,7 @@ ghost use Rattle.std.specs.Cmp.{partial_equiv_from_equiv};
 ghost use Rattle.std.specs.Cmp.Rules.{hashing};
 ghost use Rattle.std.proofs.Common.{rules};
 ghost use Rattle.byteorder.specs.Endian.{big_bytes, big_number};
-ghost use Rattle.hunk_words.specs.Names.{IsNameByte, Names, Writes, name_of, name_words};
+ghost use Rattle.hunk_words.specs.Name.{IsNameByte, Names, Writes, name_of, name_words};
 
 use byteorder::{BigEndian, ByteOrder};
 use std::alloc::{AllocError, Allocator, Global};
@@ -30,7 +30,7 @@ pub struct Name<A: Allocator + Copy = Global> {
 impl<A: Allocator + Copy> Model for Name<A> {
     ghost use Rattle.std.specs.Prelude.{ℕ, List};
     ghost use Rattle.std.specs.List.{All};
-    ghost use Rattle.hunk_words.specs.Names.{IsNameByte};
+    ghost use Rattle.hunk_words.specs.Name.{IsNameByte};
 
     ghost Value = { List ℕ };
 

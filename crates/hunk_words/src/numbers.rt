@@ -1,29 +1,29 @@
 //! The numbers of a file, and what they tell a taker.
 
 ghost use Rattle.std.specs.Prelude.{◌≡◌, ℕ, ◌+◌, ◌<◌, ◌^◌, List, [], ◌++◌, length, IfErr, OnOk};
-ghost use Rattle.hunk_words.specs.Kinds.{Field, halved, width};
-ghost use Rattle.hunk_words.specs.Events.{events, with_event, word_events};
+ghost use Rattle.hunk_words.specs.Kinds.{Field, is_half, width};
+ghost use Rattle.hunk_words.specs.Event.{events, with_event, word_events};
 ghost use Rattle.hunk_words.specs.Files.{AllLong};
 ghost use Rattle.hunk_words.specs.Longwords.{longwords};
 ghost use Rattle.hunk_words.specs.Machine.{due as first_due};
 ghost use Rattle.hunk_words.specs.Reading.{Progress};
-ghost use Rattle.hunk_words.specs.Numbering.{Reached, MayCome, NumberAnswered, WordAnswered};
-ghost use Rattle.hunk_words.specs.Takers.{JudgesEvent, watch_of, sizes_told};
-ghost use Rattle.hunk_words.specs.View.{Around, IsState, SizeIsGiven, due_view};
+ghost use Rattle.hunk_words.specs.Numbers.{Reached, MayCome, NumberAnswered, WordAnswered};
+ghost use Rattle.hunk_words.specs.Taker.{JudgesEvent, context_of, sizes_told};
+ghost use Rattle.hunk_words.specs.State.{Around, IsState, SizeIsGiven, expected_view};
 ghost use Rattle.hunk_words.specs.declared.event.Event.{Event};
-ghost use Rattle.hunk_words.specs.declared.numbers.Stop.{Stop};
+ghost use Rattle.hunk_words.specs.declared.numbers.NumberRefusal.{NumberRefusal};
 
 use crate::event::{Event, FileKind};
 use crate::fault::Reason;
 use crate::sites::SiteRefusal;
-use crate::state::{Due, State};
+use crate::state::{Expected, State};
 use crate::step::step;
 use crate::taker::Taker;
 use byteorder::{BigEndian, ByteOrder};
 
 /// Why a number was not taken.
 #[derive(Clone, Copy, Debug)]
-pub enum Stop {
+pub enum NumberRefusal {
     /// It is not allowed.
     Refused(Reason),
     /// A growth of memory was refused.
@@ -36,7 +36,7 @@ fn size_asked<T: Taker>(taker: &T, state: State) -> u32
         SizeIsGiven state (sizes_told T.KIND told) result }
 {
     match state.due {
-        Due::ContentSize { .. } => match state.file {
+        Expected::ContentSize { .. } => match state.file {
             FileKind::Object => 0,
             FileKind::Load => taker.size_of(state.hunk),
         },
@@ -47,7 +47,7 @@ fn size_asked<T: Taker>(taker: &T, state: State) -> u32
 // Tells the taker what a number told, if anything.
 fn tell<T: Taker>(taker: &mut T, event: Option<Event>) -> Result<(), SiteRefusal>
     ensures takes { (told : List Event) → T.stands_for taker.old told → length told < 2 ^ 29 → OnOk result (T.stands_for taker.new (told ++ with_event event [])) }
-    ensures judges { (told : List Event) → T.stands_for taker.old told → length told < 2 ^ 29 → JudgesEvent (watch_of T.KIND told) event result }
+    ensures judges { (told : List Event) → T.stands_for taker.old told → length told < 2 ^ 29 → JudgesEvent (context_of T.KIND told) event result }
     ensures given { T.given taker.new ≡ T.given taker.old }
 {
     match event {
@@ -57,7 +57,11 @@ fn tell<T: Taker>(taker: &mut T, event: Option<Event>) -> Result<(), SiteRefusal
 }
 
 /// Takes a number: judged by the table of faults, and then, where it is a site, by the taker.
-pub fn take_number<T: Taker>(taker: &mut T, state: State, number: u32) -> Result<State, Stop>
+pub fn take_number<T: Taker>(
+    taker: &mut T,
+    state: State,
+    number: u32,
+) -> Result<State, NumberRefusal>
     ensures answer { (fs : List Field) (at : Progress) → Reached T.KIND (T.stands_for taker.old) state fs at → MayCome fs at number →
         NumberAnswered T.KIND (T.stands_for taker.new) fs at number result }
     ensures given { T.given taker.new ≡ T.given taker.old }
@@ -66,26 +70,29 @@ pub fn take_number<T: Taker>(taker: &mut T, state: State, number: u32) -> Result
     match step(state, size, number) {
         Ok(next) => match tell(taker, next.event) {
             Ok(()) => Ok(next.state),
-            Err(SiteRefusal::Outside) => Err(Stop::Refused(Reason::SiteOutside(number))),
-            Err(SiteRefusal::Overlap) => Err(Stop::Refused(Reason::SiteOverlap(number))),
-            Err(SiteRefusal::OutOfMemory) => Err(Stop::OutOfMemory),
+            Err(SiteRefusal::Outside) => Err(NumberRefusal::Refused(Reason::SiteOutside(number))),
+            Err(SiteRefusal::Overlap) => Err(NumberRefusal::Refused(Reason::SiteOverlap(number))),
+            Err(SiteRefusal::OutOfMemory) => Err(NumberRefusal::OutOfMemory),
         },
-        Err(reason) => Err(Stop::Refused(reason)),
+        Err(reason) => Err(NumberRefusal::Refused(reason)),
     }
 }
 
 // Two halves are due: 16-bit words of a list of relocations.
-fn is_halved(due: Due) -> bool
-    ensures { (a : Around) → result ≡ halved (width (first_due (due_view due a))) }
+fn is_halved(due: Expected) -> bool
+    ensures { (a : Around) → result ≡ is_half (width (first_due (expected_view due a))) }
 {
     matches!(
         due,
-        Due::ShortCount { .. } | Due::ShortHunk { .. } | Due::ShortOffset { .. } | Due::ShortPad
+        Expected::ShortCount { .. }
+            | Expected::ShortHunk { .. }
+            | Expected::ShortOffset { .. }
+            | Expected::ShortPad
     )
 }
 
 /// Takes a longword: one number, or two halves, the upper one first.
-pub fn take_word<T: Taker>(taker: &mut T, state: State, word: u32) -> Result<State, Stop>
+pub fn take_word<T: Taker>(taker: &mut T, state: State, word: u32) -> Result<State, NumberRefusal>
     ensures answer { (fs : List Field) (at : Progress) → Reached T.KIND (T.stands_for taker.old) state fs at → length (events fs) + 1 < 2 ^ 29 →
         WordAnswered T.KIND (T.stands_for taker.new) fs at word result }
     ensures given { T.given taker.new ≡ T.given taker.old }
@@ -101,11 +108,11 @@ pub fn take_word<T: Taker>(taker: &mut T, state: State, word: u32) -> Result<Sta
 }
 
 /// Takes longwords of a run of words.
-pub fn take_words<T: Taker>(taker: &mut T, bytes: &[u8]) -> Result<(), Stop>
+pub fn take_words<T: Taker>(taker: &mut T, bytes: &[u8]) -> Result<(), NumberRefusal>
     ensures takes { (told : List Event) → T.stands_for taker.old told → length told + length (longwords bytes.now) < 2 ^ 29 →
         OnOk result (T.stands_for taker.new (told ++ word_events (longwords bytes.now))) }
     ensures long { OnOk result (AllLong (longwords bytes.now)) }
-    ensures memory { IfErr result (λ stop. stop ≡ Stop.OutOfMemory) }
+    ensures memory { IfErr result (λ stop. stop ≡ NumberRefusal.OutOfMemory) }
     ensures given { T.given taker.new ≡ T.given taker.old }
 {
     for index in 0..bytes.len() / 4 {
@@ -113,7 +120,7 @@ pub fn take_words<T: Taker>(taker: &mut T, bytes: &[u8]) -> Result<(), Stop>
         let word = BigEndian::read_u32(&bytes[at..at + 4]);
         match taker.take(Event::Word(word)) {
             Ok(()) => {}
-            Err(_) => return Err(Stop::OutOfMemory),
+            Err(_) => return Err(NumberRefusal::OutOfMemory),
         }
     }
     Ok(())

@@ -1,13 +1,13 @@
 //! The steps of a list of relocations in 16-bit words.
 
-ghost use Rattle.std.specs.Prelude.{◌≡◌, ℕ, List};
+ghost use Rattle.std.specs.Prelude.{◌≡◌, ℕ, List, Ok};
 ghost use Rattle.hunk_words.specs.Kinds as kinds;
-ghost use Rattle.hunk_words.specs.View.{StepsFrom};
+ghost use Rattle.hunk_words.specs.State.{StepsFrom};
 
 use crate::event::Event;
 use crate::fault::Reason;
 use crate::kinds::Half;
-use crate::state::{Due, State, Step};
+use crate::state::{Expected, State, Step};
 
 fn other(half: Half) -> Half
     ensures { result ≡ kinds.flip half }
@@ -18,61 +18,55 @@ fn other(half: Half) -> Half
     }
 }
 
-pub fn short_count(s: State, half: Half, number: u32) -> Result<Step, Reason>
-    ensures { StepsFrom s (Due.ShortCount half) number result }
+pub fn short_count(state: State, half: Half, number: u32) -> Step
+    ensures { StepsFrom state (Expected.ShortCount half) number (Ok result) }
 {
     let due = match half {
         Half::Upper => match number {
-            0 => Due::ShortPad,
-            _ => Due::ShortHunk {
+            0 => Expected::ShortPad,
+            _ => Expected::ShortHunk {
                 half: Half::Lower,
                 more: number - 1,
             },
         },
         Half::Lower => match number {
-            0 => Due::BlockType,
-            _ => Due::ShortHunk {
+            0 => Expected::BlockType,
+            _ => Expected::ShortHunk {
                 half: Half::Upper,
                 more: number - 1,
             },
         },
     };
-    s.then(due, None)
+    state.then(due, None)
 }
 
-pub fn short_hunk(s: State, half: Half, more: u32, number: u32) -> Result<Step, Reason>
-    ensures { StepsFrom s (Due.ShortHunk half more) number result }
+pub fn short_hunk(state: State, half: Half, more: u32, number: u32) -> Result<Step, Reason>
+    ensures { StepsFrom state (Expected.ShortHunk half more) number result }
 {
-    if number > s.last {
+    if number > state.last {
         return Err(Reason::NoSuchHunk(number));
     }
-    let due = Due::ShortOffset {
+    let due = Expected::ShortOffset {
         half: other(half),
         more,
         target: number,
     };
-    s.then(due, None)
+    Ok(state.then(due, None))
 }
 
-pub fn short_offset(
-    s: State,
-    half: Half,
-    more: u32,
-    target: u32,
-    number: u32,
-) -> Result<Step, Reason>
-    ensures { StepsFrom s (Due.ShortOffset half more target) number result }
+pub fn short_offset(state: State, half: Half, more: u32, target: u32, number: u32) -> Step
+    ensures { StepsFrom state (Expected.ShortOffset half more target) number (Ok result) }
 {
     let half = other(half);
     let due = match more {
-        0 => Due::ShortCount { half },
-        _ => Due::ShortOffset {
+        0 => Expected::ShortCount { half },
+        _ => Expected::ShortOffset {
             half,
             more: more - 1,
             target,
         },
     };
-    s.then(
+    state.then(
         due,
         Some(Event::Site {
             offset: number,
@@ -81,8 +75,8 @@ pub fn short_offset(
     )
 }
 
-pub fn short_pad(s: State, number: u32) -> Result<Step, Reason>
-    ensures { StepsFrom s Due.ShortPad number result }
+pub fn short_pad(state: State, number: u32) -> Step
+    ensures { StepsFrom state Expected.ShortPad number (Ok result) }
 {
-    s.then(Due::BlockType, None)
+    state.then(Expected::BlockType, None)
 }

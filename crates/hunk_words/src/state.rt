@@ -1,14 +1,13 @@
 //! What is due in a file, with the counts that are still open.
 
-ghost use Rattle.std.specs.Prelude.{◌≡◌, Ok};
+ghost use Rattle.std.specs.Prelude.{◌≡◌};
 
 use crate::event::{Event, FileKind};
-use crate::fault::Reason;
-use crate::kinds::{ContentType, Half};
+use crate::kinds::{Half, HunkKind};
 
 /// What is due behind a run of words.
 #[derive(Clone, Copy, Debug)]
-pub enum Then {
+pub enum AfterWords {
     /// The type longword behind a unit's name.
     UnitType,
     /// The type longword behind a hunk's name.
@@ -25,7 +24,7 @@ pub enum Then {
 
 /// What is due, and how many follow it.
 #[derive(Clone, Copy, Debug)]
-pub enum Due {
+pub enum Expected {
     /// The first longword of an object file.
     ObjectStart,
     /// The first longword of a load file.
@@ -55,9 +54,9 @@ pub enum Due {
     /// The length of a hunk's name.
     NameLength,
     /// A word, with the words that follow it.
-    Word { more: u32, then: Then },
+    Word { more: u32, then: AfterWords },
     /// The size of a content block, with the memory bits of its type longword.
-    ContentSize { content: ContentType, bits: u8 },
+    ContentSize { content: HunkKind, bits: u8 },
     /// A count of 32-bit relocations.
     RelocCount,
     /// A target, with the offsets that follow the first.
@@ -92,7 +91,7 @@ pub enum Due {
 #[derive(Clone, Copy, Debug)]
 pub struct State {
     /// What is due.
-    pub due: Due,
+    pub due: Expected,
     /// Which kind of file.
     pub file: FileKind,
     /// The number of the last hunk, in a load file behind its table size.
@@ -114,12 +113,12 @@ pub struct Step {
 
 impl State {
     /// What is due now, in the same place of the file, and what the number told.
-    pub fn then(self, due: Due, event: Option<Event>) -> Result<Step, Reason>
-        ensures { result ≡ Ok (record { state = record self { due = due }; event = event }) }
+    pub fn then(self, due: Expected, event: Option<Event>) -> Step
+        ensures { result ≡ record { state = record self { due = due }; event = event } }
     {
-        Ok(Step {
+        Step {
             state: State { due, ..self },
             event,
-        })
+        }
     }
 }

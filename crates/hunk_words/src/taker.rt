@@ -4,7 +4,7 @@ ghost use Rattle.std.specs.Prelude.{◌≡◌, ℕ, ◌<◌, ◌^◌, List, [], 
 ghost use Rattle.hunk_words.specs.declared.event.Event.{Event};
 ghost use Rattle.hunk_words.specs.declared.event.FileKind.{FileKind};
 ghost use Rattle.hunk_words.specs.declared.event.FileKind.TheVariants.{Load};
-ghost use Rattle.hunk_words.specs.Takers.{Judges, watch_of, sizes_told};
+ghost use Rattle.hunk_words.specs.Taker.{Judges, context_of, sizes_told};
 
 use crate::event::{Event, FileKind};
 use crate::sites::SiteRefusal;
@@ -33,7 +33,7 @@ pub trait Taker: Drop {
     fn take(&mut self, event: Event) -> Result<(), SiteRefusal>
         ensures takes { (told : List Event) → stands_for self.old told → length told < 2 ^ 29 → OnOk result (stands_for self.new (told ++ event ∷ [])) }
         ensures refuses { (told : List Event) → stands_for self.old told → length told < 2 ^ 29 → OnErr result (stands_for self.new told) }
-        ensures judges { (told : List Event) → stands_for self.old told → length told < 2 ^ 29 → Judges (watch_of KIND told) event result }
+        ensures judges { (told : List Event) → stands_for self.old told → length told < 2 ^ 29 → Judges (context_of KIND told) event result }
         ensures given { given self.new ≡ given self.old };
 
     /// The size of a hunk in the header, in longwords. It is asked of the kind `Load` alone, and

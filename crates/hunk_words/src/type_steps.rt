@@ -1,37 +1,54 @@
 //! The steps at type longwords, names and the sizes of content.
 
-ghost use Rattle.std.specs.Prelude.{◌≡◌, ℕ, List};
-ghost use Rattle.hunk_words.specs.Kinds as kinds;
-ghost use Rattle.hunk_words.specs.View.{StepsFrom, EndsHunk};
+ghost use Rattle.std.specs.Prelude.{◌≡◌, ℕ, List, Ok};
+ghost use Rattle.hunk_words.specs.FaultTable.{refused_type};
+ghost use Rattle.hunk_words.specs.State.{StepsFrom, EndsHunk};
 
+use crate::doshunks::HUNK_UNIT;
 use crate::event::{Event, FileKind};
 use crate::fault::Reason;
-use crate::kinds::{BlockType, ContentType, Half};
-use crate::longword::{block_type, is_unsupported, low, memory_bits, refused};
-use crate::state::{Due, State, Step, Then};
+use crate::kinds::{BlockType, Half, block_type, is_unsupported, low, memory_bits};
+use crate::state::{AfterWords, Expected, State, Step};
 
-const UNIT: u32 = 999;
-
-pub fn object_start(s: State, number: u32) -> Result<Step, Reason>
-    ensures { StepsFrom s Due.ObjectStart number result }
+// Why a block type is refused where it may not stand. 1020 is known in a load file behind the
+// header alone.
+fn refused(known: bool, block: BlockType, number: u32) -> Reason
+    ensures { result ≡ refused_type known block number }
 {
-    if low(number) == UNIT {
-        s.then(Due::UnitLength, None)
+    match block {
+        BlockType::Unsupported => Reason::UnsupportedBlock(number),
+        BlockType::Unknown => Reason::UnknownType(number),
+        BlockType::Short => {
+            if known {
+                Reason::MisplacedType(number)
+            } else {
+                Reason::UnknownType(number)
+            }
+        }
+        _ => Reason::MisplacedType(number),
+    }
+}
+
+pub fn object_start(state: State, number: u32) -> Result<Step, Reason>
+    ensures { StepsFrom state Expected.ObjectStart number result }
+{
+    if low(number) == HUNK_UNIT {
+        Ok(state.then(Expected::UnitLength, None))
     } else {
         Err(Reason::WrongStart)
     }
 }
 
-pub fn unit_type(s: State, number: u32) -> Result<Step, Reason>
-    ensures { StepsFrom s Due.UnitType number result }
+pub fn unit_type(state: State, number: u32) -> Result<Step, Reason>
+    ensures { StepsFrom state Expected.UnitType number result }
 {
     let bits = memory_bits(number);
     match block_type(low(number)) {
-        BlockType::Unit => s.then(Due::UnitLength, None),
-        BlockType::Name => s.then(Due::NameLength, None),
+        BlockType::Unit => Ok(state.then(Expected::UnitLength, None)),
+        BlockType::Name => Ok(state.then(Expected::NameLength, None)),
         BlockType::Content(content) => {
             if bits < 3 {
-                s.then(Due::ContentSize { content, bits }, None)
+                Ok(state.then(Expected::ContentSize { content, bits }, None))
             } else {
                 Err(Reason::BothMemoryBits)
             }
@@ -40,26 +57,29 @@ pub fn unit_type(s: State, number: u32) -> Result<Step, Reason>
     }
 }
 
-pub fn hunk_type(s: State, number: u32) -> Result<Step, Reason>
-    ensures { StepsFrom s Due.HunkType number result }
+pub fn hunk_type(state: State, number: u32) -> Result<Step, Reason>
+    ensures { StepsFrom state Expected.HunkType number result }
 {
     match block_type(low(number)) {
-        BlockType::Name => s.then(Due::NameLength, None),
-        BlockType::Content(content) => s.then(Due::ContentSize { content, bits: 0 }, None),
+        BlockType::Name => Ok(state.then(Expected::NameLength, None)),
+        BlockType::Content(content) => Ok(state.then(
+            Expected::ContentSize { content, bits: 0 },
+            None,
+        )),
         block => Err(refused(true, block, low(number))),
     }
 }
 
-pub fn content_type(s: State, number: u32) -> Result<Step, Reason>
-    ensures { StepsFrom s Due.ContentType number result }
+pub fn content_type(state: State, number: u32) -> Result<Step, Reason>
+    ensures { StepsFrom state Expected.ContentType number result }
 {
     let block = block_type(low(number));
-    match s.file {
+    match state.file {
         FileKind::Object => match block {
             BlockType::Content(content) => {
                 let bits = memory_bits(number);
                 if bits < 3 {
-                    s.then(Due::ContentSize { content, bits }, None)
+                    Ok(state.then(Expected::ContentSize { content, bits }, None))
                 } else {
                     Err(Reason::BothMemoryBits)
                 }
@@ -67,57 +87,63 @@ pub fn content_type(s: State, number: u32) -> Result<Step, Reason>
             _ => Err(refused(false, block, low(number))),
         },
         FileKind::Load => match block {
-            BlockType::Content(content) => s.then(Due::ContentSize { content, bits: 0 }, None),
+            BlockType::Content(content) => Ok(state.then(
+                Expected::ContentSize { content, bits: 0 },
+                None,
+            )),
             _ => Err(refused(true, block, low(number))),
         },
     }
 }
 
 // What is due behind a hunk.
-fn hunk_end(s: State) -> Result<Step, Reason>
-    ensures { EndsHunk s result }
+fn hunk_end(state: State) -> Step
+    ensures { EndsHunk state (Ok result) }
 {
     let event = Some(Event::HunkEnd);
-    match s.file {
-        FileKind::Object => s.then(Due::UnitType, event),
+    match state.file {
+        FileKind::Object => state.then(Expected::UnitType, event),
         FileKind::Load => {
-            if s.hunk < s.last {
-                let state = State {
-                    hunk: s.hunk + 1,
-                    ..s
+            if state.hunk < state.last {
+                let next = State {
+                    hunk: state.hunk + 1,
+                    ..state
                 };
-                state.then(Due::HunkType, event)
+                next.then(Expected::HunkType, event)
             } else {
-                s.then(Due::PastEnd, event)
+                state.then(Expected::PastEnd, event)
             }
         }
     }
 }
 
-pub fn next_block(s: State, number: u32) -> Result<Step, Reason>
-    ensures { StepsFrom s Due.BlockType number result }
+pub fn next_block(state: State, number: u32) -> Result<Step, Reason>
+    ensures { StepsFrom state Expected.BlockType number result }
 {
     let block = block_type(low(number));
     match block {
-        BlockType::Reloc => s.then(Due::RelocCount, None),
-        BlockType::Symbol => s.then(Due::SymbolEntry, None),
-        BlockType::Debug => s.then(Due::DebugLength, None),
-        BlockType::End => hunk_end(s),
-        _ => match s.file {
+        BlockType::Reloc => Ok(state.then(Expected::RelocCount, None)),
+        BlockType::Symbol => Ok(state.then(Expected::SymbolEntry, None)),
+        BlockType::Debug => Ok(state.then(Expected::DebugLength, None)),
+        BlockType::End => Ok(hunk_end(state)),
+        _ => match state.file {
             FileKind::Object => match block {
-                BlockType::Ext => s.then(Due::ExtEntry, None),
+                BlockType::Ext => Ok(state.then(Expected::ExtEntry, None)),
                 _ => Err(refused(false, block, low(number))),
             },
             FileKind::Load => match block {
-                BlockType::Short => s.then(Due::ShortCount { half: Half::Upper }, None),
+                BlockType::Short => Ok(state.then(
+                    Expected::ShortCount { half: Half::Upper },
+                    None,
+                )),
                 _ => Err(refused(true, block, low(number))),
             },
         },
     }
 }
 
-pub fn past_end(s: State, number: u32) -> Result<Step, Reason>
-    ensures { StepsFrom s Due.PastEnd number result }
+pub fn past_end(state: State, number: u32) -> Result<Step, Reason>
+    ensures { StepsFrom state Expected.PastEnd number result }
 {
     let number = low(number);
     if is_unsupported(number) {

@@ -1,6 +1,8 @@
 //! Readers and writers of std that are watched.
 
-ghost use Rattle.std.specs.Prelude.{◌≡◌, ◌≤◌, ◌||◌, ℕ, List, length, take, Bool, Option, is_err, IfOk, OnOk, OnErr};
+ghost use Rattle.std.specs.Prelude.{◌≡◌, ◌<◌, ◌≤◌, ◌||◌, ℕ, List, length, take, Bool, Option, is_err, IfOk, OnOk, OnErr};
+ghost use Rattle.std.specs.Io.KnownBytes.{Consumes, IsAtEnd, Keeps};
+ghost use Rattle.hunk_words.specs.Streams.{ends};
 
 use crate::fault::DeviceFault;
 use crate::streams::{Sink, Source};
@@ -47,13 +49,24 @@ impl<T> Watched<T> {
 }
 
 impl<T: Read> Source for Watched<T> {
-    ghost left = { λ watched. T.remaining watched.inner };
+    ghost use Rattle.hunk_words.specs.Watched.{inner_of, saw_end, saw_failure};
 
-    ghost failed = { λ watched. watched.failed };
+    ghost left = { λ watched. T.remaining (inner_of watched) };
 
-    ghost ended = { λ watched. watched.ended };
+    ghost failed = { saw_failure };
 
-    fn read(&mut self, buffer: &mut [u8]) -> Result<usize, DeviceFault> {
+    ghost ended = { saw_end };
+
+    /// Reads from the reader that is watched. Its end is reported only where that reader is at its
+    /// end, and a failed read takes no byte.
+    fn read(&mut self, buffer: &mut [u8]) -> Result<usize, DeviceFault>
+        ensures count { IfOk result (λ n. n ≤ length buffer.old) }
+        ensures bytes { IfOk result (λ n. Consumes (T.remaining (inner_of self.old)) (T.remaining (inner_of self.new)) (take n buffer.new)) }
+        ensures failed { saw_failure self.new ≡ (is_err result || saw_failure self.old) }
+        ensures ended { saw_end self.new ≡ (ends result (length buffer.old) || saw_end self.old) }
+        ensures at_end { IfOk result (λ n. n ≡ 0 → 0 < length buffer.old → IsAtEnd (T.remaining (inner_of self.new))) }
+        ensures unread { OnErr result (Keeps (T.remaining (inner_of self.old)) (T.remaining (inner_of self.new))) }
+    {
         match self.inner.read(buffer) {
             Ok(count) => {
                 if count == 0 && !buffer.is_empty() {
@@ -78,9 +91,11 @@ impl<T: Read> Source for Watched<T> {
 }
 
 impl<T: Write> Sink for Watched<T> {
-    ghost taken = { λ watched. T.contents watched.inner };
+    ghost use Rattle.hunk_words.specs.Watched.{inner_of, saw_failure};
 
-    ghost failed = { λ watched. watched.failed };
+    ghost taken = { λ watched. T.contents (inner_of watched) };
+
+    ghost failed = { saw_failure };
 
     fn write(&mut self, buffer: &[u8]) -> Result<usize, DeviceFault> {
         match self.inner.write(buffer) {

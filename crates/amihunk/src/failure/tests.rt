@@ -25,7 +25,7 @@ fn tells_each_failure_in_a_line(rt: HostRuntime) -> Result<(), Fail> {
             text.is_ok_and(|bytes| bytes.as_slice() == line.as_bytes()),
             "{line}"
         );
-        assert_eq!(rt; told(Vec::new(alloc), &files, &failure), status);
+        assert_eq!(rt; report_failure(Vec::new(alloc), &files, &failure), status);
     }
     Ok(())
 }

@@ -1,7 +1,7 @@
 //! A name whose longwords come one after another.
 ghost use Rattle.std.specs.Prelude.{◌≡◌, ℕ, List, [], ◌∷◌, ◌++◌, OnOk, OnErr};
 ghost use Rattle.std.specs.List.{All};
-ghost use Rattle.hunk_words.specs.Names.{IsNameByte, name_of};
+ghost use Rattle.hunk_words.specs.Name.{IsNameByte, name_of};
 
 use super::{Name, big_endian, until_zero};
 use std::alloc::{AllocError, Allocator, Global};

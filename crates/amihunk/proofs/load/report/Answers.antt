@@ -2,8 +2,8 @@ use Rattle.std.proofs.Common.{◌∙◌, ap, ap₂}
 use Rattle.std.proofs.lemmas.Result.{IfOk-weaker}
 use Rattle.std.specs.Io.Buffered.{writer_contents}
 use Rattle.std.specs.Io.KnownBytes.{append_known}
-use Rattle.amihunk.specs.Loading.{Reports}
-use Rattle.amihunk.proofs.LoadingLemmas.{append_known-nil, reports_behind, stopped_at_once, stopped_between}
+use Rattle.amihunk.specs.Load.{Reports}
+use Rattle.amihunk.proofs.LoadLemmas.{append_known-nil, reports_behind, stopped_at_once, stopped_between}
 use Rattle.amihunk.proofs.load.report.Goals as goal
 
 pub returns-in_default-clause-err : goal.returns-in_default-clause-err

@@ -1,4 +1,4 @@
-use Rattle.amihunk.proofs.EndingLemmas.{ends_load}
+use Rattle.amihunk.proofs.ProgramLemmas.{ends_load}
 use Rattle.amihunk.proofs.program.run.Goals as goal
 
 pub returns-clause-load : goal.returns-clause-load

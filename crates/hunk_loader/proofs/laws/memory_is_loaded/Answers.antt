@@ -1,4 +1,4 @@
-use Rattle.hunk_loader.proofs.MemoryLemmas.{hunk-loaded, nothing-loaded}
+use Rattle.hunk_loader.proofs.ImageLemmas.{hunk-loaded, nothing-loaded}
 use Rattle.hunk_loader.proofs.laws.memory_is_loaded.Goals as goal
 
 pub returns-clause-bytes : goal.returns-clause-bytes

@@ -2,7 +2,7 @@ use Rattle.std.proofs.Common.{◌≡◌, ◌-◌, ◌*◌, ◌≤◌, ◌++◌, 
 use Rattle.std.proofs.lemmas.List.{take_at}
 use Rattle.hunk_loadfile.specs.Rules.{IsLoadHunk}
 use Rattle.hunk_loader.specs.Loading.{loaded_bytes}
-use Rattle.hunk_loadfile.proofs.ContentLemmas.{most_content-le}
+use Rattle.hunk_loadfile.proofs.LoadHunkLemmas.{most_content-le}
 use Rattle.hunk_loader.proofs.LoadingLemmas.{patched_bytes-size}
 use Rattle.hunk_loader.proofs.loading.load_hunk.Goals as goal
 

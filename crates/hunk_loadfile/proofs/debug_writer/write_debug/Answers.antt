@@ -1,9 +1,9 @@
 -- The type and the length are written, and then the longwords.
 use Rattle.std.proofs.Common.{◌∷◌, [], length, refl, arith}
 use Rattle.std.proofs.lemmas.Result.{err_from_is_err_and}
-use Rattle.hunk_loadfile.specs.Written.{debug_words}
-use Rattle.hunk_loadfile.proofs.WriterLemmas.{words-stop, words-then}
-use Rattle.hunk_loadfile.proofs.WroteLemmas.{length-bytes_of}
+use Rattle.hunk_loadfile.specs.WrittenForm.{debug_words}
+use Rattle.hunk_loadfile.proofs.LongwordWriterLemmas.{words-stop, words-then}
+use Rattle.hunk_loadfile.proofs.WritingLemmas.{length-bytes_of}
 use Rattle.hunk_loadfile.proofs.debug_writer.write_debug.Goals as goal
 
 pub returns-in_err-written : goal.returns-in_err-written

@@ -4,12 +4,12 @@ use Rattle.std.proofs.lemmas.List.{length-map}
 use Rattle.std.proofs.lemmas.List.Sums.{sum_by_more_le}
 use Rattle.std.proofs.lemmas.Result.{err_from_is_err_and}
 use Rattle.std.specs.List.{flat_map}
-use Rattle.hunk_loadfile.specs.Hunks.{lists_of}
+use Rattle.hunk_loadfile.specs.LoadHunk.{lists_of}
 use Rattle.hunk_loadfile.specs.Rules.{debug_longwords}
-use Rattle.hunk_loadfile.specs.Written.{debug_words}
-use Rattle.hunk_loadfile.proofs.LengthLemmas.{length-debugs}
-use Rattle.hunk_loadfile.proofs.WriterLemmas.{lists_of-at, parts-more, parts-stop}
-use Rattle.hunk_loadfile.proofs.WroteLemmas.{length-bytes_of}
+use Rattle.hunk_loadfile.specs.WrittenForm.{debug_words}
+use Rattle.hunk_loadfile.proofs.WrittenFormLengthLemmas.{length-debugs}
+use Rattle.hunk_loadfile.proofs.LongwordWriterLemmas.{lists_of-at, parts-more, parts-stop}
+use Rattle.hunk_loadfile.proofs.WritingLemmas.{length-bytes_of}
 use Rattle.hunk_loadfile.proofs.debug_writer.write_debugs.Goals as goal
 
 pub write_debug-requires-clause-length : goal.write_debug-requires-clause-length

@@ -1,10 +1,10 @@
 -- The debug blocks so far were written, and no write failed.
 use Rattle.std.proofs.Common.{take, Ok}
 use Rattle.std.specs.List.{flat_map}
-use Rattle.hunk_words.specs.Names.{bytes_of}
-use Rattle.hunk_loadfile.specs.Hunks.{lists_of}
+use Rattle.hunk_words.specs.Name.{bytes_of}
+use Rattle.hunk_loadfile.specs.LoadHunk.{lists_of}
 use Rattle.hunk_loadfile.specs.Writing.{Wrote}
-use Rattle.hunk_loadfile.specs.Written.{debug_words}
+use Rattle.hunk_loadfile.specs.WrittenForm.{debug_words}
 use Rattle.hunk_loadfile.proofs.debug_writer.write_debugs.Given as goal
 
 abbrev pub invariant-loop-debug : goal.invariant-loop-debug

@@ -1,6 +1,6 @@
 use Rattle.std.proofs.Common.{[], sym, subst}
 use Rattle.hunk_loadfile.specs.LoadDecoder.{StandsFor}
-use Rattle.hunk_loadfile.proofs.ReadLoadLemmas.{read-weaker, read-stopped, read-refused}
+use Rattle.hunk_loadfile.proofs.LoadDecoderLemmas.{read-weaker, read-stopped, read-refused}
 use Rattle.hunk_loadfile.proofs.load_decoder.read_load.Goals as goal
 
 pub read_all-requires : goal.read_all-requires

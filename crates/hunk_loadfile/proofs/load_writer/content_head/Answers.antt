@@ -1,11 +1,11 @@
 -- The count of the longwords is that of the content.
 use Rattle.std.proofs.Common.{◌≡◌, ◌∙◌, ap, sym}
 use Rattle.hunk_words.specs.Longwords.{longwords}
-use Rattle.hunk_objects.specs.declared.hunk_kind.HunkKind.{HunkKind}
-use Rattle.hunk_objects.specs.declared.hunk_kind.HunkKind.TheVariants.{Code, Data}
-use Rattle.hunk_loadfile.specs.Hunks.{FileHunk}
-use Rattle.hunk_loadfile.specs.Written.{content_words}
-use Rattle.hunk_loadfile.proofs.WriterLemmas.{content_words-code, content_words-data}
+use Rattle.hunk_words.specs.declared.kinds.HunkKind.{HunkKind}
+use Rattle.hunk_words.specs.declared.kinds.HunkKind.TheVariants.{Code, Data}
+use Rattle.hunk_loadfile.specs.LoadHunk.{FileHunk}
+use Rattle.hunk_loadfile.specs.WrittenForm.{content_words}
+use Rattle.hunk_loadfile.proofs.LongwordWriterLemmas.{content_words-code, content_words-data}
 use Rattle.hunk_loadfile.proofs.load_writer.content_head.Goals as goal
 
 pub returns-in-Code : goal.returns-in-Code

@@ -1,6 +1,6 @@
 -- The sizes so far stand at the front.
 use Rattle.std.proofs.Common.{◌≡◌, length, map, take}
-use Rattle.hunk_loadfile.specs.Written.{size_word}
+use Rattle.hunk_loadfile.specs.WrittenForm.{size_word}
 use Rattle.hunk_loadfile.proofs.load_writer.fill_sizes.Given as goal
 
 abbrev pub invariant-loop-number : goal.invariant-loop-number

@@ -1,12 +1,12 @@
 -- The type and the length are written, and then the content.
 use Rattle.std.proofs.Common.{◌≡◌, ◌∙◌, ap, refl, arith}
 use Rattle.hunk_words.specs.Longwords.{longwords}
-use Rattle.hunk_words.specs.Names.{bytes_of}
-use Rattle.hunk_loadfile.specs.Hunks.{FileHunk}
+use Rattle.hunk_words.specs.Name.{bytes_of}
+use Rattle.hunk_loadfile.specs.LoadHunk.{FileHunk}
 use Rattle.hunk_loadfile.specs.Rules.{most_hunks}
-use Rattle.hunk_loadfile.specs.Written.{content_words}
+use Rattle.hunk_loadfile.specs.WrittenForm.{content_words}
 use Rattle.hunk_loadfile.proofs.LoadWriterLemmas.{content-short, content-text}
-use Rattle.hunk_loadfile.proofs.WriterLemmas.{text-then}
+use Rattle.hunk_loadfile.proofs.LongwordWriterLemmas.{text-then}
 use Rattle.hunk_loadfile.proofs.load_writer.write_content.Goals as goal
 
 pub write_longwords-requires : goal.write_longwords-requires

@@ -1,8 +1,8 @@
 -- The first five longwords are written, and then the sizes.
 use Rattle.std.proofs.Common.{◌-◌, ◌∷◌, [], length, map, refl}
 use Rattle.std.proofs.lemmas.Result.{err_from_is_err_and}
-use Rattle.hunk_loadfile.specs.Written.{header_words, size_word}
-use Rattle.hunk_loadfile.proofs.WriterLemmas.{words-stop, words-then}
+use Rattle.hunk_loadfile.specs.WrittenForm.{header_words, size_word}
+use Rattle.hunk_loadfile.proofs.LongwordWriterLemmas.{words-stop, words-then}
 use Rattle.hunk_loadfile.proofs.load_writer.write_header.Goals as goal
 
 pub returns-in_err-written : goal.returns-in_err-written

@@ -2,9 +2,9 @@
 use Rattle.std.proofs.Common.{length, sym, subst, arith}
 use Rattle.std.proofs.lemmas.Result.{err_from_is_err_and}
 use Rattle.hunk_loadfile.specs.Rules.{IsLoadHunk}
-use Rattle.hunk_loadfile.specs.Written.{hunk_words}
+use Rattle.hunk_loadfile.specs.WrittenForm.{hunk_words}
 use Rattle.hunk_loadfile.proofs.LoadWriterLemmas.{length-front_hunks-le}
-use Rattle.hunk_loadfile.proofs.WriterLemmas.{parts-more, parts-stop}
+use Rattle.hunk_loadfile.proofs.LongwordWriterLemmas.{parts-more, parts-stop}
 use Rattle.hunk_loadfile.proofs.load_writer.write_hunks.Goals as goal
 
 pub write_hunk-requires-clause-room : goal.write_hunk-requires-clause-room

@@ -4,13 +4,13 @@ use Rattle.std.proofs.lemmas.List.{length-append, length-map, map-append}
 use Rattle.std.proofs.lemmas.Result.{err_from_is_err_and}
 use Rattle.std.specs.List.{All}
 use Rattle.std.specs.Slice.Iter.{chunks_rest}
-use Rattle.hunk_words.specs.Names.{bytes_of}
-use Rattle.hunk_loadfile.specs.Hunks.{FileHunk}
+use Rattle.hunk_words.specs.Name.{bytes_of}
+use Rattle.hunk_loadfile.specs.LoadHunk.{FileHunk}
 use Rattle.hunk_loadfile.specs.Rules.{most_size}
-use Rattle.hunk_loadfile.specs.Written.{size_word}
+use Rattle.hunk_loadfile.specs.WrittenForm.{size_word}
 use Rattle.hunk_loadfile.proofs.LoadWriterLemmas.{All-behind, All-front}
-use Rattle.hunk_loadfile.proofs.WriterLemmas.{words-stop, words-then}
-use Rattle.hunk_loadfile.proofs.WroteLemmas.{Wrote-nothing, length-bytes_of}
+use Rattle.hunk_loadfile.proofs.LongwordWriterLemmas.{words-stop, words-then}
+use Rattle.hunk_loadfile.proofs.WritingLemmas.{Wrote-nothing, length-bytes_of}
 use Rattle.hunk_loadfile.proofs.load_writer.write_sizes.Goals as goal
 
 abbrev IsSmall : FileHunk → Type 0

@@ -2,10 +2,10 @@
 use Rattle.std.proofs.Common.{◌≡◌, ◌≤◌, List, ◌++◌, ℕ, Ok, map}
 use Rattle.std.specs.List.{All}
 use Rattle.std.specs.Slice.Iter.{chunks_rest, chunks_size}
-use Rattle.hunk_words.specs.Names.{bytes_of}
+use Rattle.hunk_words.specs.Name.{bytes_of}
 use Rattle.hunk_loadfile.specs.Rules.{most_size}
 use Rattle.hunk_loadfile.specs.Writing.{Wrote}
-use Rattle.hunk_loadfile.specs.Written.{size_word}
+use Rattle.hunk_loadfile.specs.WrittenForm.{size_word}
 use Rattle.hunk_loadfile.proofs.load_writer.write_sizes.Given as goal
 
 abbrev pub invariant-loop-chunk : goal.invariant-loop-chunk

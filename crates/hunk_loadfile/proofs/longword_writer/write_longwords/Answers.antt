@@ -4,8 +4,8 @@ use Rattle.std.proofs.lemmas.Grind.{flat_map-append}
 use Rattle.std.proofs.lemmas.Result.{err_from_is_err_and}
 use Rattle.std.specs.Slice.Iter.{chunks_rest}
 use Rattle.byteorder.specs.Endian.{big_bytes}
-use Rattle.hunk_words.specs.Names.{bytes_of}
-use Rattle.hunk_loadfile.proofs.WroteLemmas.{Wrote-inside, Wrote-then}
+use Rattle.hunk_words.specs.Name.{bytes_of}
+use Rattle.hunk_loadfile.proofs.WritingLemmas.{Wrote-inside, Wrote-then}
 use Rattle.hunk_loadfile.proofs.longword_writer.write_longwords.Goals as goal
 
 -- the text, around the next longwords

@@ -1,7 +1,7 @@
 -- What was written so far and the longwords of the chunks that are left are the whole text.
 use Rattle.std.proofs.Common.{◌≡◌, List, ◌++◌, ℕ, Ok}
 use Rattle.std.specs.Slice.Iter.{chunks_rest, chunks_size}
-use Rattle.hunk_words.specs.Names.{bytes_of}
+use Rattle.hunk_words.specs.Name.{bytes_of}
 use Rattle.hunk_loadfile.specs.Writing.{Wrote}
 use Rattle.hunk_loadfile.proofs.longword_writer.write_longwords.Given as goal
 

@@ -6,8 +6,8 @@ use Rattle.std.proofs.lemmas.List.Sorted.{IsNonDecreasingBy-from_sort_by_key, an
 use Rattle.std.specs.List.{All}
 use Rattle.std.specs.List.Sorted.{IsPermutation}
 use Rattle.hunk_words.specs.Sites.{StandFrom}
-use Rattle.hunk_loadfile.specs.Written.{offsets_to}
-use Rattle.hunk_loadfile.proofs.RelocationLemmas.{StandFrom-few, offsets_to-stable}
+use Rattle.hunk_loadfile.specs.WrittenForm.{offsets_to}
+use Rattle.hunk_loadfile.proofs.RelocationWriterLemmas.{StandFrom-few, offsets_to-stable}
 use Rattle.hunk_loadfile.proofs.relocation_writer.by_target.Goals as goal
 
 -- where none is left

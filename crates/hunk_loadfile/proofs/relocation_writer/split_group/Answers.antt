@@ -1,5 +1,5 @@
 -- The sites rise, so those behind the first ones of a target are above it.
-use Rattle.hunk_loadfile.proofs.RelocationLemmas.{IsGroup-split}
+use Rattle.hunk_loadfile.proofs.RelocationWriterLemmas.{IsGroup-split}
 use Rattle.hunk_loadfile.proofs.relocation_writer.split_group.Goals as goal
 
 pub returns : goal.returns

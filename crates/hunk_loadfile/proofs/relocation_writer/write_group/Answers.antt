@@ -1,8 +1,8 @@
 -- A group is its two first longwords and its offsets.
 use Rattle.std.proofs.Common.{[], ◌∷◌, length, map}
 use Rattle.std.proofs.lemmas.Result.{err_from_is_err_and}
-use Rattle.hunk_loadfile.specs.Written.{group_words}
-use Rattle.hunk_loadfile.proofs.RelocationLemmas.{Wrote-words, Wrote-words_front, group_words-some, offset_of}
+use Rattle.hunk_loadfile.specs.WrittenForm.{group_words}
+use Rattle.hunk_loadfile.proofs.RelocationWriterLemmas.{Wrote-words, Wrote-words_front, group_words-some, offset_of}
 use Rattle.hunk_loadfile.proofs.relocation_writer.write_group.Goals as goal
 
 pub returns-in_err-begun : goal.returns-in_err-begun

@@ -2,10 +2,10 @@
 use Rattle.std.proofs.Common.{◌≡◌, ◌<◌, ◌∙◌, ◌++◌, ℕ, List, [], length, Ok, refl, sym, ap, subst, append_assoc, append-nil, arith, rules, tests}
 use Rattle.std.proofs.lemmas.List.{nil_from_length}
 use Rattle.std.proofs.lemmas.Result.{err_from_is_err_and}
-use Rattle.hunk_words.specs.Names.{bytes_of}
+use Rattle.hunk_words.specs.Name.{bytes_of}
 use Rattle.hunk_loadfile.specs.Writing.{Wrote}
-use Rattle.hunk_loadfile.specs.Written.{groups_words}
-use Rattle.hunk_loadfile.proofs.RelocationLemmas.{All-behind, Wrote-group_stop, Wrote-words, group-length, groups-around, groups_words-nil, length-group, words_of}
+use Rattle.hunk_loadfile.specs.WrittenForm.{groups_words}
+use Rattle.hunk_loadfile.proofs.RelocationWriterLemmas.{All-behind, Wrote-group_stop, Wrote-words, group-length, groups-around, groups_words-nil, length-group, words_of}
 use Rattle.hunk_loadfile.proofs.relocation_writer.write_groups.Goals as goal
 
 pub returns-in_err-written-clause-wrote : goal.returns-in_err-written-clause-wrote

@@ -2,9 +2,9 @@
 use Rattle.std.proofs.Common.{◌≡◌, ◌≤◌, ◌<◌, ◌+◌, ◌*◌, ◌++◌, ℕ, List, length, Ok}
 use Rattle.std.specs.List.{All}
 use Rattle.std.specs.List.Sorted.{IsNonDecreasingBy}
-use Rattle.hunk_words.specs.Names.{bytes_of}
+use Rattle.hunk_words.specs.Name.{bytes_of}
 use Rattle.hunk_loadfile.specs.Writing.{Wrote}
-use Rattle.hunk_loadfile.specs.Written.{groups_words}
+use Rattle.hunk_loadfile.specs.WrittenForm.{groups_words}
 use Rattle.hunk_loadfile.proofs.relocation_writer.write_groups.Given as goal
 
 abbrev pub invariant-groups : goal.invariant-groups

@@ -2,7 +2,7 @@
 use Rattle.std.proofs.Common.{◌∙◌, ◌++◌, map, Ok, refl, append_assoc, arith}
 use Rattle.std.proofs.lemmas.Result.{err_from_is_err_and}
 use Rattle.std.specs.Slice.Iter.{chunks_rest}
-use Rattle.hunk_loadfile.proofs.RelocationLemmas.{Wrote-words, Wrote-words_stop, offset_of, offsets-around, offsets-room}
+use Rattle.hunk_loadfile.proofs.RelocationWriterLemmas.{Wrote-words, Wrote-words_stop, offset_of, offsets-around, offsets-room}
 use Rattle.hunk_loadfile.proofs.relocation_writer.write_offsets.Goals as goal
 
 pub write_longwords-requires : goal.write_longwords-requires

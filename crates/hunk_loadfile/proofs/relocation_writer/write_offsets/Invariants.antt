@@ -1,7 +1,7 @@
 -- The offsets so far and those of the chunks that are left are all offsets.
 use Rattle.std.proofs.Common.{◌≡◌, ◌++◌, ℕ, List, map, Ok}
 use Rattle.std.specs.Slice.Iter.{chunks_rest, chunks_size}
-use Rattle.hunk_words.specs.Names.{bytes_of}
+use Rattle.hunk_words.specs.Name.{bytes_of}
 use Rattle.hunk_loadfile.specs.Writing.{Wrote}
 use Rattle.hunk_loadfile.proofs.relocation_writer.write_offsets.Given as goal
 

@@ -4,11 +4,11 @@ use Rattle.std.proofs.lemmas.Bool.{cases_eq, ne_eqb}
 use Rattle.std.proofs.lemmas.List.{nil_from_length}
 use Rattle.std.proofs.lemmas.List.Sorted.{length_permutation}
 use Rattle.std.proofs.lemmas.Result.{err_from_is_err_and}
-use Rattle.hunk_words.specs.Names.{bytes_of}
+use Rattle.hunk_words.specs.Name.{bytes_of}
 use Rattle.hunk_loadfile.specs.Writing.{Wrote}
-use Rattle.hunk_loadfile.specs.Written.{groups_words, site_words}
-use Rattle.hunk_loadfile.proofs.RelocationLemmas.{All-sorted, Wrote-words, Wrote-words_front, Wrote-words_stop, block-around, site_words-some}
-use Rattle.hunk_loadfile.proofs.WroteLemmas.{Wrote-nothing}
+use Rattle.hunk_loadfile.specs.WrittenForm.{groups_words, site_words}
+use Rattle.hunk_loadfile.proofs.RelocationWriterLemmas.{All-sorted, Wrote-words, Wrote-words_front, Wrote-words_stop, block-around, site_words-some}
+use Rattle.hunk_loadfile.proofs.WritingLemmas.{Wrote-nothing}
 use Rattle.hunk_loadfile.proofs.relocation_writer.write_sites.Goals as goal
 
 none-from_test : (n : ℕ) (empty : Bool) → empty ≡ (n == 0) → empty ≡ true → n ≡ 0

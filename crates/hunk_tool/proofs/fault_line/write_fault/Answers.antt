@@ -8,9 +8,9 @@ use Rattle.std.proofs.lemmas.List.{length-append}
 use Rattle.std.proofs.lemmas.Result.{err_from_is_err_and}
 use Rattle.hunk_tool.specs.FaultLine.{fault_text}
 use Rattle.hunk_tool.specs.Phrase.{phrase_text}
-use Rattle.hunk_tool.specs.Texts.{line}
+use Rattle.hunk_tool.specs.Printing.{line}
 use Rattle.hunk_tool.proofs.FaultLineLemmas.{fault_line-split}
-use Rattle.hunk_tool.proofs.PrintLemmas.{DeviceStopped-behind, DeviceStopped-front, DeviceStopped-last, DeviceStopped-same}
+use Rattle.hunk_tool.proofs.PrintingLemmas.{DeviceStopped-behind, DeviceStopped-front, DeviceStopped-last, DeviceStopped-same}
 use Rattle.hunk_tool.proofs.fault_line.write_fault.Goals as goal
 
 pub returns-in_err-written-clause-stopped : goal.returns-in_err-written-clause-stopped

@@ -2,8 +2,8 @@ use Rattle.std.proofs.Common.{ℕ, ◌+◌, List, [], take, drop, arith}
 use Rattle.std.proofs.lemmas.List.Folds.{length-flat_map-take}
 use Rattle.std.proofs.lemmas.Result.{err_from_is_err_and}
 use Rattle.std.specs.Borrow.{Bor}
-use Rattle.hunk_tool.specs.Texts.{joined}
-use Rattle.hunk_tool.proofs.PrintLemmas.{DeviceStopped-behind, flat_map-around}
+use Rattle.hunk_tool.specs.Printing.{joined}
+use Rattle.hunk_tool.proofs.PrintingLemmas.{DeviceStopped-behind, flat_map-around}
 use Rattle.hunk_tool.proofs.printing.write_pieces.Goals as goal
 
 abbrev nothing : Bor (List ℕ)

@@ -1,7 +1,7 @@
 -- The pieces so far were written, and no write failed.
 use Rattle.std.proofs.Common.{◌≡◌, ◌+◌, length, take}
 use Rattle.std.specs.Io.KnownBytes.{Appends}
-use Rattle.hunk_tool.specs.Texts.{joined}
+use Rattle.hunk_tool.specs.Printing.{joined}
 use Rattle.hunk_tool.proofs.printing.write_pieces.Given as goal
 
 abbrev pub invariant-loop-piece : goal.invariant-loop-piece

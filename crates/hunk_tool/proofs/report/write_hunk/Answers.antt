@@ -4,7 +4,7 @@ use Rattle.std.proofs.KnownBytes.{Appends-trans}
 use Rattle.std.proofs.lemmas.Result.{err_from_is_err_and, on_ok_weaker, IfErr-weaker}
 use Rattle.hunk_words.specs.Streams.{DeviceStopped}
 use Rattle.hunk_tool.specs.Report.{hunk_line, row_lines}
-use Rattle.hunk_tool.proofs.PrintLemmas.{DeviceStopped-front, DeviceStopped-last}
+use Rattle.hunk_tool.proofs.PrintingLemmas.{DeviceStopped-front, DeviceStopped-last}
 use Rattle.hunk_tool.proofs.report.write_hunk.Goals as goal
 
 pub returns-in_err-written-clause-stopped : goal.returns-in_err-written-clause-stopped

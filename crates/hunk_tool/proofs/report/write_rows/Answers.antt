@@ -3,8 +3,8 @@ use Rattle.std.proofs.lemmas.List.{length-append}
 use Rattle.std.proofs.KnownBytes.{Appends-trans}
 use Rattle.std.proofs.lemmas.Result.{err_from_is_err_and}
 use Rattle.std.specs.Io.KnownBytes.{Appends}
-use Rattle.hunk_tool.proofs.BlockLemmas.{block_of-between, length-block_lines-le, lines_before, lines_before-all, lines_before-more, lines_behind, row_lines-around_block}
-use Rattle.hunk_tool.proofs.PrintLemmas.{DeviceStopped-behind}
+use Rattle.hunk_tool.proofs.ReportBlockLemmas.{block_of-between, length-block_lines-le, lines_before, lines_before-all, lines_before-more, lines_behind, row_lines-around_block}
+use Rattle.hunk_tool.proofs.PrintingLemmas.{DeviceStopped-behind}
 use Rattle.hunk_tool.proofs.report.write_rows.Goals as goal
 
 pub write_block-requires-clause-room : goal.write_block-requires-clause-room

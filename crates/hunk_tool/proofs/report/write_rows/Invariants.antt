@@ -1,7 +1,7 @@
 -- The rows of the blocks so far were written, and no write failed.
 use Rattle.std.proofs.Common.{◌≡◌, ◌+◌, length}
 use Rattle.std.specs.Io.KnownBytes.{Appends}
-use Rattle.hunk_tool.proofs.BlockLemmas.{lines_before}
+use Rattle.hunk_tool.proofs.ReportBlockLemmas.{lines_before}
 use Rattle.hunk_tool.proofs.report.write_rows.Given as goal
 
 abbrev pub invariant-loop-index : goal.invariant-loop-index

@@ -1,7 +1,7 @@
 -- One longword further: it is taken, or refused at its place.
 use Rattle.std.proofs.Common.{arith}
 use Rattle.hunk_words.specs.DecoderCore.{fields_read}
-use Rattle.hunk_words.proofs.CoreLemmas.{StandsBy-taken, StandsBy-refused, StandsBy-too_large, few-events}
+use Rattle.hunk_words.proofs.DecoderCoreLemmas.{StandsBy-taken, StandsBy-refused, StandsBy-too_large, few-events}
 use Rattle.hunk_words.proofs.decoder_core.advance.Goals as goal
 
 pub returns-then-place-ge-MOST_LONGWORDS-clause-stands : goal.returns-then-place-ge-MOST_LONGWORDS-clause-stands

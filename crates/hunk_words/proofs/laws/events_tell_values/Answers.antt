@@ -1,5 +1,5 @@
 -- A file's value is built part by part.
-use Rattle.hunk_words.proofs.ToldLemmas.{object-told, load-told}
+use Rattle.hunk_words.proofs.EventValueTreeLemmas.{object-told, load-told}
 use Rattle.hunk_words.proofs.laws.events_tell_values.Goals as goal
 
 pub returns-clause-object : goal.returns-clause-object

@@ -1,6 +1,6 @@
 -- A file that begins with what was taken is itself taken, field by field.
 use Rattle.hunk_words.specs.declared.event.FileKind.TheVariants.{Object, Load}
-use Rattle.hunk_words.proofs.FrontLemmas.{due-borne}
+use Rattle.hunk_words.proofs.FilesPrefixLemmas.{due-borne}
 use Rattle.hunk_words.proofs.laws.every_file_bears_due.Goals as goal
 
 pub returns-clause-object : goal.returns-clause-object

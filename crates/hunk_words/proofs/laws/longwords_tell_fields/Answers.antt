@@ -1,5 +1,5 @@
 -- The fields of a tree are the labels of its longwords.
-use Rattle.hunk_words.proofs.SameLemmas.{object-same, load-same}
+use Rattle.hunk_words.proofs.ReadingSameLemmas.{object-same, load-same}
 use Rattle.hunk_words.proofs.laws.longwords_tell_fields.Goals as goal
 
 pub returns-clause-object : goal.returns-clause-object

@@ -1,4 +1,4 @@
-use Rattle.hunk_words.proofs.OffenceLemmas.{complete-file, file-complete}
+use Rattle.hunk_words.proofs.FilesReadingLemmas.{complete-file, file-complete}
 use Rattle.hunk_words.proofs.FirstOffenceLemmas.{ends-early}
 use Rattle.hunk_words.proofs.laws.machine_tells_files.Goals as goal
 

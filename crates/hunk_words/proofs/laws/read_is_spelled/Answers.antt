@@ -1,5 +1,5 @@
 -- What is read is taken as its labels, and what is taken is filled by a tree.
-use Rattle.hunk_words.proofs.LabelLemmas.{read-is-object, read-is-load}
+use Rattle.hunk_words.proofs.ReadingLabelLemmas.{read-is-object, read-is-load}
 use Rattle.hunk_words.proofs.laws.read_is_spelled.Goals as goal
 
 pub returns-clause-object : goal.returns-clause-object

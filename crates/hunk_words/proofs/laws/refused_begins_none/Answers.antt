@@ -1,6 +1,6 @@
 -- A file that begins with what was read is itself read, longword by longword.
 use Rattle.hunk_words.specs.declared.event.FileKind.TheVariants.{Object, Load}
-use Rattle.hunk_words.proofs.FrontLemmas.{next-passes}
+use Rattle.hunk_words.proofs.FilesPrefixLemmas.{next-passes}
 use Rattle.hunk_words.proofs.laws.refused_begins_none.Goals as goal
 
 pub returns-clause-object : goal.returns-clause-object

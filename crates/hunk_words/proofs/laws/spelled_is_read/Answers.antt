@@ -2,8 +2,8 @@
 use Rattle.std.proofs.Common.{[], ◌∷◌, refl}
 use Rattle.hunk_words.specs.Kinds.Kind.{object_start, load_start, unit_type}
 use Rattle.hunk_words.specs.Spelling.{object_spelling, load_spelling}
-use Rattle.hunk_words.proofs.TakenLemmas.{object-taken, load-taken}
-use Rattle.hunk_words.proofs.ReadLemmas.{taken-read}
+use Rattle.hunk_words.proofs.SpellingTakenLemmas.{object-taken, load-taken}
+use Rattle.hunk_words.proofs.ReadingLemmas.{taken-read}
 use Rattle.hunk_words.proofs.laws.spelled_is_read.Goals as goal
 
 pub returns-clause-object : goal.returns-clause-object

@@ -1,5 +1,5 @@
 use Rattle.std.proofs.Common.{◌≡◌, ◌++◌, drop}
-use Rattle.hunk_words.specs.Names.{name_of}
+use Rattle.hunk_words.specs.Name.{name_of}
 use Rattle.hunk_words.proofs.name.cut.Given as goal
 
 abbrev pub invariant-loop-word : goal.invariant-loop-word

@@ -1,11 +1,11 @@
 -- The table lets the number pass, and the taker judges what it tells.
 use Rattle.std.proofs.Common.{Ok, Err}
-use Rattle.hunk_words.specs.Events.{events}
-use Rattle.hunk_words.specs.Takers.{sizes_told}
-use Rattle.hunk_words.specs.View.{Steps}
+use Rattle.hunk_words.specs.Event.{events}
+use Rattle.hunk_words.specs.Taker.{sizes_told}
+use Rattle.hunk_words.specs.State.{Steps}
 use Rattle.hunk_words.specs.declared.fault.Reason.TheVariants.{SiteOutside, SiteOverlap}
 use Rattle.hunk_words.specs.declared.sites.SiteRefusal.TheVariants.{Outside, Overlap}
-use Rattle.hunk_words.proofs.NumberLemmas.{number-taken, number-answered, site-refused}
+use Rattle.hunk_words.proofs.NumbersLemmas.{number-taken, number-answered, site-refused}
 use Rattle.hunk_words.proofs.numbers.take_number.Goals as goal
 
 pub returns-in-Ok-tell-clause-answer : goal.returns-in-Ok-tell-clause-answer

@@ -1,6 +1,6 @@
 -- The longwords so far were taken.
 use Rattle.std.proofs.Common.{◌≡◌, ◌*◌, ◌+◌, ◌<◌, ◌^◌, List, ◌++◌, take, length}
-use Rattle.hunk_words.specs.Events.{word_events}
+use Rattle.hunk_words.specs.Event.{word_events}
 use Rattle.hunk_words.specs.Files.{AllLong}
 use Rattle.hunk_words.specs.Longwords.{longwords}
 use Rattle.hunk_words.specs.declared.event.Event.{Event}

@@ -1,7 +1,7 @@
 -- A write that took some bytes took the next ones of the text.
 use Rattle.std.proofs.Common.{arith, ◌<◌, ◌||◌, ap, ◌∙◌}
 use Rattle.hunk_words.specs.declared.fault.DeviceFault.{DeviceFault}
-use Rattle.hunk_words.proofs.StreamLemmas.{Appends-take, refuses-some}
+use Rattle.hunk_words.proofs.StreamsLemmas.{Appends-take, refuses-some}
 use Rattle.hunk_words.proofs.streams.write_all.Goals as goal
 
 pub loop-taken-preserved : goal.loop-taken-preserved

@@ -1,7 +1,7 @@
 -- The hunk that has not ended judges the site.
 use Rattle.std.proofs.Common.{sym, refl}
 use Rattle.hunk_loader.proofs.ImageBuilderLemmas.{TakesEvent-refused}
-use Rattle.hunk_loader.proofs.ImageHunkLemmas.{TakesEvent-site}
+use Rattle.hunk_loader.proofs.ImageBuilderHunkLemmas.{TakesEvent-site}
 use Rattle.hunk_loader.proofs.image_builder.ImageBuilder.add_site.Goals as goal
 use Rattle.hunk_loader.proofs.image_builder.ImageBuilder.add_site.Goals.{in-Some, in-None}
 

@@ -1,7 +1,7 @@
 -- The map of sites judges, and takes no site of a hunk that is none.
 use Rattle.std.proofs.Common.{ℕ, List, sym, subst, arith}
-use Rattle.hunk_words.specs.SeenSites.{SameSites}
-use Rattle.hunk_words.specs.Takers.{JudgesSite}
+use Rattle.hunk_words.specs.SiteContext.{SameSites}
+use Rattle.hunk_words.specs.Taker.{JudgesSite}
 use Rattle.hunk_words.proofs.TakerLemmas.{judges-site}
 use Rattle.hunk_loader.proofs.OpenImageLemmas.{AreApart-site, IsOpen-site}
 use Rattle.hunk_loader.proofs.open_image.OpenImage.add_site.Goals as goal

@@ -1,4 +1,4 @@
-use Rattle.hunk_loadfile.proofs.BuilderLemmas.{Holds-size}
+use Rattle.hunk_loadfile.proofs.LoadBuilderLemmas.{Holds-size}
 use Rattle.hunk_loadfile.proofs.load_builder.LoadBuilder.add_size.Goals as goal
 
 pub returns-in-Ok : goal.returns-in-Ok

@@ -1,4 +1,4 @@
-use Rattle.hunk_loadfile.proofs.BuilderLemmas.{Holds-value, Holds-no_value}
+use Rattle.hunk_loadfile.proofs.LoadBuilderLemmas.{Holds-value, Holds-no_value}
 use Rattle.hunk_loadfile.proofs.load_builder.LoadBuilder.add_value.Goals as goal
 
 pub returns-in-Err : goal.returns-in-Err

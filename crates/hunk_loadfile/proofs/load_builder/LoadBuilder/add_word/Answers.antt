@@ -1,6 +1,6 @@
 use Rattle.std.proofs.Common.{ap}
-use Rattle.hunk_words.specs.Building.{word_to}
-use Rattle.hunk_loadfile.proofs.BuilderLemmas.{Holds-takes, receives-content, receives-debug}
+use Rattle.hunk_words.specs.EventValue.{word_to}
+use Rattle.hunk_loadfile.proofs.LoadBuilderLemmas.{Holds-takes, receives-content, receives-debug}
 use Rattle.hunk_loadfile.proofs.load_builder.LoadBuilder.add_word.Goals as goal
 
 pub returns-in-Content : goal.returns-in-Content

@@ -1,6 +1,6 @@
 use Rattle.std.proofs.Common.{◌++◌, sym, subst}
 use Rattle.hunk_loadfile.specs.LoadDecoder.{StandsFor}
-use Rattle.hunk_loadfile.proofs.ReadLoadLemmas.{refuses-bytes}
+use Rattle.hunk_loadfile.proofs.LoadDecoderLemmas.{refuses-bytes}
 use Rattle.hunk_loadfile.proofs.load_decoder.LoadDecoder.feed.Goals as goal
 
 pub invariant_of-self : goal.invariant_of-self

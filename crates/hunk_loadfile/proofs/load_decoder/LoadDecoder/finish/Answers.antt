@@ -1,23 +1,23 @@
 use Rattle.std.proofs.Common.{ap, sym, subst, ◌∙◌}
 use Rattle.hunk_words.specs.Longwords.{longwords}
-use Rattle.hunk_loadfile.specs.FileValue.{IsLoad}
+use Rattle.hunk_loadfile.specs.LoadFile.{IsLoad}
 use Rattle.hunk_loadfile.specs.LoadDecoder.{StandsFor, refusal_of}
-use Rattle.hunk_loadfile.proofs.LoadRulesLemmas.{IsLoadFile-load}
-use Rattle.hunk_loadfile.proofs.PartialLemmas.{tells-load}
-use Rattle.hunk_loadfile.proofs.ReadLoadLemmas.{refuses-input}
+use Rattle.hunk_loadfile.proofs.RulesReadLemmas.{IsLoadFile-load}
+use Rattle.hunk_loadfile.proofs.PartialLemmas.{with_tables-load}
+use Rattle.hunk_loadfile.proofs.LoadDecoderLemmas.{refuses-input}
 use Rattle.hunk_loadfile.proofs.load_decoder.LoadDecoder.finish.Goals as goal
 
 pub of_hunks-requires : goal.of_hunks-requires
 of_hunks-requires g c =
     let bytes = c.self.invariant.0 in
     let answer = c.in-Ok.ensures.answer bytes c.self.invariant.1 in
-    let load = subst (λ hunks. IsLoad hunks (longwords bytes)) (sym c.into_hunks.ensures) (tells-load c.in-Ok.builder (longwords bytes) answer.1) in
+    let load = subst (λ hunks. IsLoad hunks (longwords bytes)) (sym c.into_hunks.ensures) (with_tables-load c.in-Ok.builder (longwords bytes) answer.1) in
     IsLoadFile-load _ (longwords bytes) load
 
 pub returns-in-Ok-clause-file : goal.returns-in-Ok-clause-file
 returns-in-Ok-clause-file g c = λ bytes stands.
     let answer = c.in-Ok.ensures.answer bytes (subst (λ d. StandsFor d bytes) (sym c.self.view_is) stands) in
-    (answer.0, subst (λ hunks. IsLoad hunks (longwords bytes)) (sym (c.of_hunks.ensures ∙ c.into_hunks.ensures)) (tells-load c.in-Ok.builder (longwords bytes) answer.1))
+    record { whole = answer.0; is_load = subst (λ hunks. IsLoad hunks (longwords bytes)) (sym (c.of_hunks.ensures ∙ c.into_hunks.ensures)) (with_tables-load c.in-Ok.builder (longwords bytes) answer.1) }
 
 pub returns-in-Ok-clause-again : goal.returns-in-Ok-clause-again
 returns-in-Ok-clause-again g c = λ refusal e. let wrong = c.in-Ok.ensures.again refusal (ap (λ d. refusal_of d) c.self.view_is ∙ e) in cc

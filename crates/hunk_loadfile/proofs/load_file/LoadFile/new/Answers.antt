@@ -1,6 +1,6 @@
 use Rattle.std.proofs.Common.{sym, subst}
 use Rattle.hunk_loadfile.specs.Rules.{IsLoadFile}
-use Rattle.hunk_loadfile.proofs.RuleLemmas.{IsLoadFile-from}
+use Rattle.hunk_loadfile.proofs.RulesLemmas.{IsLoadFile-from}
 use Rattle.hunk_loadfile.proofs.load_file.LoadFile.new.Goals as goal
 
 pub invariant_of-result : goal.invariant_of-result

@@ -1,5 +1,5 @@
 use Rattle.std.proofs.Common.{◌≡◌, ◌<◌, ◌-◌, suc, length, vec_len, ◌∙◌, ◌++◌, ◌∷◌, [], ap, arith, refl}
-use Rattle.hunk_words.specs.Building.{on_last}
+use Rattle.hunk_words.specs.EventValue.{on_last}
 use Rattle.hunk_loadfile.proofs.OpenHunkLemmas.{lists_of-last, lists_of-same}
 use Rattle.hunk_loadfile.proofs.open_hunk.OpenHunk.add_debug_word.Goals as goal
 

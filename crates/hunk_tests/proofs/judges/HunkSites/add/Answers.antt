@@ -1,6 +1,6 @@
 -- Its limit is judged here, and the map takes any offset that is apart from its own.
 use Rattle.std.proofs.Common.{arith}
-use Rattle.hunk_tests.proofs.JudgeLemmas.{judges-site}
+use Rattle.hunk_tests.proofs.JudgesLemmas.{judges-site}
 use Rattle.hunk_tests.proofs.judges.HunkSites.add.Goals as goal
 
 pub returns-clause-judges : goal.returns-clause-judges

@@ -1,11 +1,11 @@
 -- One event further.
 use Rattle.std.proofs.Common.{◌∙◌, [], ◌∷◌, ◌++◌, length, sym, ap, subst, arith, refl}
 use Rattle.std.proofs.lemmas.Result.{on_ok_weaker}
-use Rattle.hunk_words.specs.Takers.{watch_of}
+use Rattle.hunk_words.specs.Taker.{context_of}
 use Rattle.hunk_words.specs.declared.event.Event.TheVariants as event_is
 use Rattle.hunk_words.specs.declared.event.FileKind.TheVariants.{Load}
 use Rattle.hunk_tests.specs.Judges.{LoadHolds, HoldsSites}
-use Rattle.hunk_tests.proofs.JudgeLemmas.{stands-one, limit-told, ended-one, quiet-other, quiet-judged, quiet-watch}
+use Rattle.hunk_tests.proofs.JudgesLemmas.{stands-one, limit-told, ended-one, quiet-other, quiet-judged, quiet-watch}
 use Rattle.hunk_tests.proofs.judges.LoadJudgeTaker.take.Goals as goal
 
 pub returns-in-Site-clause-takes : goal.returns-in-Site-clause-takes
@@ -34,12 +34,12 @@ returns-in-Content-clause-takes g c = λ told stands few. rw c.in-Content.is
       same_sizes = stands.holds.same_sizes;
       same_ended = stands.holds.same_ended;
       holds_hunk =
-          subst (λ limit. HoldsSites limit (watch_of Load told).seen c.begin.new.self) (limit-told (watch_of Load told) c.args.self.now c.size-size.result stands.holds c.size-size.ensures) (c.begin.ensures _ _ stands.holds.holds_hunk);
+          subst (λ limit. HoldsSites limit (context_of Load told).seen c.begin.new.self) (limit-told (context_of Load told) c.args.self.now c.size-size.result stands.holds c.size-size.ensures) (c.begin.ensures _ _ stands.holds.holds_hunk);
     }) (omega arith))
 
 pub returns-in-HunkEnd-clause-takes : goal.returns-in-HunkEnd-clause-takes
 returns-in-HunkEnd-clause-takes g c = λ told stands few.
-    let ended = ended-one c.args.self.now.ended (watch_of Load told).place.ended c.saturating_add-self.result (length told) stands.holds.same_ended stands.few few c.saturating_add-self.ensures in
+    let ended = ended-one c.args.self.now.ended (context_of Load told).position.ended c.saturating_add-self.result (length told) stands.holds.same_ended stands.few few c.saturating_add-self.ensures in
     rw c.in-HunkEnd.is
     (stands-one told event_is.HunkEnd _ (record { same_sizes = stands.holds.same_sizes; same_ended = ended.0; holds_hunk = c.end.ensures _ _ stands.holds.holds_hunk }) ended.1)
 
@@ -48,8 +48,8 @@ returns-in_default g c =
     let quiet = quiet-other c.args.event c.in_default.not-Content c.in_default.not-Site c.in_default.not-RefSite c.in_default.not-HunkEnd in
     record {
       takes = λ told stands few. stands-one told c.args.event _
-          (subst (λ w. LoadHolds w c.args.self.now) (sym (quiet-watch Load (watch_of Load told) c.args.event quiet c.in_default.not-HunkSize)) stands.holds) (omega arith);
+          (subst (λ w. LoadHolds w c.args.self.now) (sym (quiet-watch Load (context_of Load told) c.args.event quiet c.in_default.not-HunkSize)) stands.holds) (omega arith);
       refuses = λ told stands few. tt;
-      judges = λ told stands few. quiet-judged (watch_of Load told) c.args.event quiet;
+      judges = λ told stands few. quiet-judged (context_of Load told) c.args.event quiet;
       given = refl;
     }

@@ -1,12 +1,12 @@
 -- One event further.
 use Rattle.std.proofs.Common.{◌∙◌, subst, slice_index, refl}
 use Rattle.std.proofs.lemmas.Result.{on_ok_weaker}
-use Rattle.hunk_words.specs.Takers.{watch_of}
-use Rattle.hunk_words.specs.Events.{content_of}
+use Rattle.hunk_words.specs.Taker.{context_of}
+use Rattle.hunk_words.specs.Kinds.{hunk_kind_of}
 use Rattle.hunk_words.specs.declared.event.Event.TheVariants as event_is
 use Rattle.hunk_words.specs.declared.event.FileKind.TheVariants.{Object}
 use Rattle.hunk_tests.specs.Judges.{Holds, HoldsSites}
-use Rattle.hunk_tests.proofs.JudgeLemmas.{content_limit-any, holds-one, quiet-other, quiet-seen, quiet-judged}
+use Rattle.hunk_tests.proofs.JudgesLemmas.{content_limit-any, holds-one, quiet-other, quiet-seen, quiet-judged}
 use Rattle.hunk_tests.proofs.judges.ObjectJudgeTaker.take.Goals as goal
 
 pub returns-in-Site-clause-takes : goal.returns-in-Site-clause-takes
@@ -26,7 +26,7 @@ returns-in-RefSite-clause-judges g c = λ told stands few. rw c.in-RefSite.is (c
 pub returns-in-Content-clause-takes : goal.returns-in-Content-clause-takes
 returns-in-Content-clause-takes g c = λ told stands few. rw c.in-Content.is
     (holds-one (λ w. Holds w c.begin.new.self) Object told (event_is.Content c.in-Content.kind c.in-Content.bits c.in-Content.size)
-    (subst (λ limit. HoldsSites limit (watch_of Object told).seen c.begin.new.self) (c.content_bytes.ensures ∙ content_limit-any (slice_index (watch_of Object told).place.sizes (watch_of Object told).place.ended) (content_of c.in-Content.kind) c.in-Content.size) (c.begin.ensures _ _ stands)))
+    (subst (λ limit. HoldsSites limit (context_of Object told).seen c.begin.new.self) (c.content_bytes.ensures ∙ content_limit-any (slice_index (context_of Object told).position.sizes (context_of Object told).position.ended) (hunk_kind_of c.in-Content.kind) c.in-Content.size) (c.begin.ensures _ _ stands)))
 
 pub returns-in-HunkEnd-clause-takes : goal.returns-in-HunkEnd-clause-takes
 returns-in-HunkEnd-clause-takes g c = λ told stands few. rw c.in-HunkEnd.is
@@ -37,8 +37,8 @@ returns-in_default g c =
     let quiet = quiet-other c.args.event c.in_default.not-Content c.in_default.not-Site c.in_default.not-RefSite c.in_default.not-HunkEnd in
     record {
       takes = λ told stands few. holds-one (λ w. Holds w c.args.self.now.hunk) Object told c.args.event
-          (quiet-seen Object (watch_of Object told) c.args.event quiet (λ limit seen. HoldsSites limit seen c.args.self.now.hunk) stands);
+          (quiet-seen Object (context_of Object told) c.args.event quiet (λ limit seen. HoldsSites limit seen c.args.self.now.hunk) stands);
       refuses = λ told stands few. tt;
-      judges = λ told stands few. quiet-judged (watch_of Object told) c.args.event quiet;
+      judges = λ told stands few. quiet-judged (context_of Object told) c.args.event quiet;
       given = refl;
     }

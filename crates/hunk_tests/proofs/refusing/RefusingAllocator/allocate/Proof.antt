@@ -36,7 +36,7 @@ use denote.Triple.Table.{entered, cited}
 use denote.Triple.Walked.{Stays, stay_dropped, walk_of, ends_at, walked, Goes-dropped, walk_Meets}
 use Rattle.std.proofs.alloc.Calls.{Al, α, seen, token, Answer, answer_val, got, Answer-typed, Answer-Ok, Answer-err, takes_key, Takes, at_takes, Answered, Takes-goes, Takes-gives, answers}
 use Rattle.std.proofs.alloc.Shapes.{after}
-use Rattle.hunk_tests.proofs.AskingSteps.{Asks, at_asks, Asks-goes, Asks-gives}
+use Rattle.hunk_tests.proofs.RefusingSteps.{Asks, at_asks, Asks-goes, Asks-gives}
 use Rattle.hunk_tests.proofs.refusing.Growths.refuses_next.Symbol as asking
 use Rattle.hunk_tests.proofs.refusing.Growths.refuses_next.Met as asked
 use Rattle.hunk_tests.specs.declared.refusing.Growths.{Growths}

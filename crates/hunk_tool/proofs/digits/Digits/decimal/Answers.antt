@@ -1,7 +1,7 @@
 use Rattle.std.proofs.Common.{◌≡◌, ◌+◌, ◌-◌, ◌/◌, ◌%◌, ◌^◌, ◌<◌, ◌++◌, drop, slice_set, refl, ap, sym, ◌∙◌, append-nil, arith}
 use Rattle.std.proofs.lemmas.List.{length-set}
 use Rattle.std.specs.Fmt.{decimal}
-use Rattle.hunk_tool.proofs.DecimalLemmas.{decimal-first, decimal-front, length-decimal, length-decimal_step}
+use Rattle.hunk_tool.proofs.DigitsLemmas.{decimal-first, decimal-front, length-decimal, length-decimal_step}
 use Rattle.hunk_tool.proofs.digits.Digits.decimal.Goals as goal
 
 pub loop-left-init : goal.loop-left-init

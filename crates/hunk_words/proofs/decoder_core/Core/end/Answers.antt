@@ -1,11 +1,11 @@
 -- The longwords are a file where it may end, and else end too early.
 use Rattle.std.proofs.Common.{sym, subst, arith}
 use Rattle.hunk_words.specs.Machine.{IsComplete}
-use Rattle.hunk_words.specs.Events.{events}
-use Rattle.hunk_words.specs.Takers.{sizes_told}
-use Rattle.hunk_words.specs.View.{around}
+use Rattle.hunk_words.specs.Event.{events}
+use Rattle.hunk_words.specs.Taker.{sizes_told}
+use Rattle.hunk_words.specs.State.{around}
 use Rattle.hunk_words.specs.DecoderCore.{fields_read}
-use Rattle.hunk_words.proofs.CoreLemmas.{FirstOffence-partial, FirstOffence-unexpected, TellsFile-complete}
+use Rattle.hunk_words.proofs.DecoderCoreLemmas.{FirstOffence-partial, FirstOffence-unexpected, TellsFile-complete}
 use Rattle.hunk_words.proofs.decoder_core.Core.end.Goals as goal
 
 pub returns-then-is_complete-clause-answer : goal.returns-then-is_complete-clause-answer

@@ -1,5 +1,5 @@
 -- A refusal is kept.
-use Rattle.hunk_words.proofs.CoreLemmas.{StandsBy-append, StandsBy-front}
+use Rattle.hunk_words.proofs.DecoderCoreLemmas.{StandsBy-append, StandsBy-front}
 use Rattle.hunk_words.proofs.decoder_core.Core.word.Goals as goal
 
 pub returns-in-Some-clause-stands : goal.returns-in-Some-clause-stands

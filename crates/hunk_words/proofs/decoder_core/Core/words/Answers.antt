@@ -3,7 +3,7 @@ use Rattle.std.proofs.Common.{◌≡◌, ◌≤◌, ◌-◌, ◌*◌, ◌++◌, 
 use Rattle.std.proofs.lemmas.List.{take_all}
 use Rattle.hunk_words.specs.Longwords.{longwords}
 use Rattle.hunk_words.specs.DecoderCore.{StandsFor}
-use Rattle.hunk_words.proofs.Longwords.{words-more, words-all, longwords-front}
+use Rattle.hunk_words.proofs.LongwordsLemmas.{words-more, words-all, longwords-front}
 use Rattle.hunk_words.proofs.decoder_core.Core.words.Goals as goal
 
 pub loop-taken-preserved : goal.loop-taken-preserved
@@ -17,8 +17,8 @@ loop-taken-preserved g c =
       open_yet = c.in-Ok.ensures.kept;
       within = let few = c.in-Ok.ensures.count in omega (arith, few.1, ap length rest, length-drop (4 * i) bytes);
       given = c.in-Ok.ensures.given ∙ c.loop-taken.invariant.given;
-      stands = λ ws stands. subst (λ us. StandsFor g.T.Taker.KIND g.T.Taker.stands_for c.some.new.self us) (words-more ws bytes i n within)
-          (subst (λ xs. StandsFor g.T.Taker.KIND g.T.Taker.stands_for c.some.new.self ((ws ++ longwords (take (4 * i) bytes)) ++ longwords (take (4 * n) xs))) rest
+      stands = λ ws stands. subst (λ us. StandsFor g.T.Taker.KIND g.T.Taker.stands_for c.take_some.new.self us) (words-more ws bytes i n within)
+          (subst (λ xs. StandsFor g.T.Taker.KIND g.T.Taker.stands_for c.take_some.new.self ((ws ++ longwords (take (4 * i) bytes)) ++ longwords (take (4 * n) xs))) rest
           (c.in-Ok.ensures.stands _ (c.loop-taken.invariant.stands ws stands)));
     }
 
@@ -27,8 +27,8 @@ returns-in-Err-clause-stands g c = λ ws stands.
     let i = c.loop-taken.taken in
     let bytes = c.args.bytes.now in
     let rest : take (length bytes - 4 * i) (drop (4 * i) bytes) ≡ drop (4 * i) bytes = take_all _ _ (omega (arith, length-drop (4 * i) bytes)) in
-    subst (λ us. StandsFor g.T.Taker.KIND g.T.Taker.stands_for c.some.new.self us) (words-all ws bytes i c.loop-taken.invariant.within)
-    (subst (λ xs. StandsFor g.T.Taker.KIND g.T.Taker.stands_for c.some.new.self ((ws ++ longwords (take (4 * i) bytes)) ++ longwords xs)) rest
+    subst (λ us. StandsFor g.T.Taker.KIND g.T.Taker.stands_for c.take_some.new.self us) (words-all ws bytes i c.loop-taken.invariant.within)
+    (subst (λ xs. StandsFor g.T.Taker.KIND g.T.Taker.stands_for c.take_some.new.self ((ws ++ longwords (take (4 * i) bytes)) ++ longwords xs)) rest
     (c.in-Err.ensures.stands _ (c.loop-taken.invariant.stands ws stands)))
 
 pub returns-clause-stands : goal.returns-clause-stands

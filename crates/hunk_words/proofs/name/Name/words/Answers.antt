@@ -2,7 +2,7 @@ use Rattle.std.proofs.Common.{rules, ◌≡◌, ◌∙◌, ap, ℕ, ◌*◌, Lis
 use Rattle.std.proofs.lemmas.List.{take_rest}
 use Rattle.std.specs.List.{All}
 use Rattle.byteorder.specs.Endian.{big_number}
-use Rattle.hunk_words.specs.Names.{IsNameByte, name_words}
+use Rattle.hunk_words.specs.Name.{IsNameByte, name_words}
 use Rattle.hunk_words.proofs.NameLemmas.{name_words-more, name_words-writes}
 use Rattle.hunk_words.proofs.name.Name.words.Goals as goal
 

@@ -1,4 +1,4 @@
-use Rattle.hunk_words.proofs.SiteLemmas.{AreApart-few}
+use Rattle.hunk_words.proofs.SitesLemmas.{AreApart-few}
 use Rattle.hunk_words.proofs.sites.Sites.limit.Goals as goal
 
 pub returns-clause-few : goal.returns-clause-few

@@ -1,6 +1,6 @@
 use Rattle.std.proofs.Common.{arith, false, true, ◌≡◌}
 use Rattle.hunk_words.specs.Sites.{Meets}
-use Rattle.hunk_words.proofs.SiteLemmas.{StandFrom-insert_entry}
+use Rattle.hunk_words.proofs.SitesLemmas.{StandFrom-insert_entry}
 use Rattle.hunk_words.proofs.sites.Sites.try_add.Goals as goal
 use Rattle.hunk_words.proofs.sites.Sites.try_add.Goals.{in-Ok, in-Err}
 

@@ -1,4 +1,4 @@
-use Rattle.hunk_words.proofs.SiteLemmas.{walk-shows_in_order, walk-shows_values_in_order}
+use Rattle.hunk_words.proofs.SitesLemmas.{walk-shows_in_order, walk-shows_values_in_order}
 use Rattle.hunk_words.proofs.sites.Sites.walk.Goals as goal
 
 pub returns-clause-runs : goal.returns-clause-runs

@@ -1,7 +1,7 @@
 use Rattle.std.proofs.Common.{◌∷◌, [], subst, sym, refl}
 use Rattle.std.specs.List.{All}
 use Rattle.std.proofs.lemmas.List.Elements.{All-append}
-use Rattle.hunk_words.specs.Names.{IsNameByte}
+use Rattle.hunk_words.specs.Name.{IsNameByte}
 use Rattle.hunk_words.proofs.NameLemmas.{name_of-bytes}
 use Rattle.hunk_words.proofs.OpenNameLemmas.{Opens-ended, Opens-more, front-cut}
 use Rattle.hunk_words.proofs.name.open_name.OpenName.push.Goals as goal

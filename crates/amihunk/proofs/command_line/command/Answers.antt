@@ -1,0 +1,22 @@
+use Rattle.std.proofs.Common.{◌≡◌, ◌∙◌, ap, ap₂, codes, true, []}
+use Rattle.std.proofs.lemmas.Result.{IfOk-weaker}
+use Rattle.clap.specs.Words.{App, app_of, new_app, with_subcommand}
+use Rattle.clap.specs.Simple.{app_of_fields}
+use Rattle.amihunk.specs.CommandLine.{bare_shape}
+use Rattle.amihunk.proofs.command_line.command.Goals as goal
+
+abbrev without_help : App → App
+without_help a = record { top = record a.top { disable_help_subcommand = true }; subs = a.subs }
+
+abbrev asks_subcommand : App → App
+asks_subcommand a = record { top = record a.top { subcommand_required = true }; subs = a.subs }
+
+pub returns : goal.returns
+returns c =
+    let named : app_of c.about.result ≡ new_app (codes "amihunk") = ap app_of_fields c.about.ensures ∙ c.new.ensures.app in
+    let bare : app_of c.subcommand_required.result ≡ record { top = bare_shape; subs = [] } =
+    ap app_of_fields c.subcommand_required.ensures
+    ∙ ap asks_subcommand (ap app_of_fields c.disable_help_subcommand.ensures ∙ ap without_help named) in
+    IfOk-weaker c.subcommand.result _ _
+    (λ r added. added.shape c.in_ok-load_command.ensures.local ∙ ap₂ with_subcommand bare c.in_ok-load_command.ensures.shape)
+    c.subcommand.ensures

@@ -1,0 +1,139 @@
+//! The words of the command line, read by `clap`.
+ghost use Rattle.std.specs.Prelude.{◌≡◌, ℕ, IfOk, List, Some, codes, false, map};
+ghost use Rattle.clap.specs.Words.{FailsBy, app_of, fault_of, found_of, kind_of, rows_of};
+ghost use Rattle.clap.specs.Words.{shape_of, subcommand_of, subcommand_rows_of};
+ghost use Rattle.clap.specs.declared.builder.command.Command.TheViews.{out-Command};
+ghost use Rattle.amihunk.specs.CommandLine.{Answers, AsksLoad, IsAskedBy, IsNoFlag, Says, IsRefusal};
+ghost use Rattle.amihunk.specs.CommandLine.{IsWhole, command_line, load_line, load_shape};
+
+use clap::error::ErrorKind;
+use clap::{Arg, ArgMatches, Command, Error};
+use std::alloc::{AllocError, Global};
+use std::convert::AsStr;
+
+/// What the words of the command line ask for.
+#[derive(Debug, Drop)]
+pub enum Request<'a> {
+    /// `load --at LIST FILE`: the report of FILE, loaded at the addresses of LIST.
+    Load {
+        /// The word LIST, not yet read.
+        list: &'a str,
+        /// The word FILE.
+        file: &'a str,
+    },
+    /// Help, and its text.
+    Help(String),
+    /// Words that are no command line, and what `clap` says of them.
+    Refused(String),
+    /// Memory ran out while the words were read.
+    OutOfMemory,
+}
+
+/// Reads the words of a command line, of which the first is the program's name.
+pub fn read_words<'a, S: AsStr>(alloc: Global, words: &'a [S]) -> Request<'a>
+    ensures answer { IsAskedBy (map S.text words.entry.now) result }
+    ensures load { (program list file : List ℕ)
+        → map S.text words.entry.now ≡ load_line program list file
+        → IsNoFlag list → IsNoFlag file → AsksLoad list file result }
+{
+    match matches_of(alloc, words) {
+        Ok(matches) => request_of(&matches),
+        Err(error) => answer_to(alloc, &error),
+    }
+}
+
+/// Refuses words that are no UTF-8 text, as `clap` does.
+pub fn refuse_bytes<'a>(alloc: Global) -> Request<'a>
+    ensures { IsRefusal result }
+{
+    match bytes_error(alloc) {
+        Ok(error) => answer_to(alloc, &error),
+        Err(_) => Request::OutOfMemory,
+    }
+}
+
+fn bytes_error(alloc: Global) -> Result<Error, AllocError>
+    ensures { IfOk result (λ e. kind_of e ≡ ErrorKind.ValueValidation) }
+{
+    let text = "invalid UTF-8 was detected in one or more arguments";
+    command(alloc)?.error(ErrorKind::ValueValidation, text)
+}
+
+/// What `clap` makes of the words.
+fn matches_of<'a, S: AsStr>(alloc: Global, words: &'a [S]) -> Result<ArgMatches<'a>, Error>
+    ensures fails { FailsBy (fault_of command_line (map S.text words.entry.now)) result }
+    ensures rows { IfOk result (λ m. subcommand_rows_of m
+        ≡ subcommand_of command_line (map S.text words.entry.now)) }
+{
+    command(alloc)?.try_get_matches_from(words)
+}
+
+/// The command line that the program reads.
+fn command<'a>(alloc: Global) -> Result<Command<'a>, AllocError>
+    ensures { IfOk result (λ c. app_of c ≡ command_line) }
+{
+    Command::new(alloc, "amihunk")
+        .about("An Amiga hunk linker and loader")
+        .disable_help_subcommand(true)
+        .subcommand_required(true)
+        .subcommand(load_command(alloc)?)
+}
+
+/// The subcommand `load --at LIST FILE`.
+fn load_command<'a>(alloc: Global) -> Result<Command<'a>, AllocError>
+    ensures shape { IfOk result (λ c. shape_of c ≡ load_shape) }
+    ensures local { IfOk result (λ c. (out-Command c).has_globals ≡ false) }
+{
+    let list = Arg::new(alloc, "at")
+        .long("at")
+        .value_name("LIST")
+        .required(true)
+        .help("The address of each hunk, in hexadecimal, with commas between");
+    let file = Arg::new(alloc, "file")
+        .value_name("FILE")
+        .required(true)
+        .help("A load file");
+    Command::new(alloc, "load")
+        .about("Loads a file at addresses, and prints the bytes of its hunks")
+        .arg(list)?
+        .arg(file)
+}
+
+/// The request of a parse that met a subcommand.
+fn request_of<'a>(matches: &ArgMatches<'a>) -> Request<'a>
+    requires { IsWhole (subcommand_rows_of matches.now) }
+    ensures { Says (subcommand_rows_of matches.now) result }
+{
+    match matches.subcommand_matches("load") {
+        Some(values) => load_of(values),
+        None => unreachable!(),
+    }
+}
+
+/// The request `load`, by what was found for its arguments.
+fn load_of<'a>(values: &ArgMatches<'a>) -> Request<'a>
+    requires { IsWhole (Some (codes "load", rows_of (found_of values.now))) }
+    ensures { Says (Some (codes "load", rows_of (found_of values.now))) result }
+{
+    match (values.get_str("at"), values.get_str("file")) {
+        (Some(list), Some(file)) => Request::Load { list, file },
+        _ => unreachable!(),
+    }
+}
+
+/// The answer to a parse that gave no matches.
+fn answer_to<'a>(alloc: Global, error: &Error) -> Request<'a>
+    ensures { Answers (kind_of error.now) result }
+{
+    let Ok(text) = error.to_string(alloc) else {
+        return Request::OutOfMemory;
+    };
+    match error.kind() {
+        ErrorKind::OutOfMemory => Request::OutOfMemory,
+        ErrorKind::DisplayHelp => Request::Help(text),
+        _ => Request::Refused(text),
+    }
+}
+
+#[cfg(test)]
+mod tests;

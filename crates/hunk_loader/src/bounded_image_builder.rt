@@ -1,0 +1,72 @@
+//! The image of a load file while its events come, made with no more memory than it needs.
+
+ghost use Rattle.std.specs.Prelude.{◌≡◌};
+ghost use Rattle.hunk_words.specs.declared.event.FileKind.TheVariants.{Load};
+ghost use Rattle.hunk_loader.specs.ImageBuilder.{IsImage, StandsFor, initial_builder};
+
+use crate::image::Image;
+use crate::image_builder::ImageBuilder;
+use crate::loading::LoadRefusal;
+use hunk_words::{Event, FileKind, SiteRefusal, Taker};
+use std::alloc::Allocator;
+use std::marker::Model;
+
+/// A builder of an image, of which it is always true, behind a refusal too, that it took some events
+/// and keeps no more than these need.
+///
+/// It keeps one number for each size that was told, no more bytes of hunks than all these sizes, none
+/// where the hunks are not placed, and the sites of the hunk that has not ended alone, at most one
+/// for each of its longwords.
+#[derive(Drop)]
+pub(crate) struct BoundedImageBuilder<A: Allocator + Copy> {
+    builder: ImageBuilder<A>,
+}
+
+impl<A: Allocator + Copy> Model for BoundedImageBuilder<A> {
+    ghost use Rattle.hunk_loader.specs.BoundedImageBuilder.{IsBounded};
+    ghost use Rattle.hunk_loader.specs.ImageBuilder.{BuilderState};
+
+    ghost Value = { BuilderState };
+
+    ghost view = { λ b. b.builder };
+
+    ghost invariant = { λ b. IsBounded b.builder };
+}
+
+impl<A: Allocator + Copy> BoundedImageBuilder<A> {
+    /// A builder for hunks at these bases, before the first event.
+    pub(crate) fn new(alloc: A, bases: Vec<u32, A>) -> Self
+        ensures { result ≡ initial_builder bases.items }
+    {
+        BoundedImageBuilder {
+            builder: ImageBuilder::new(alloc, bases),
+        }
+    }
+
+    /// The image of the hunks that ended, or what is wrong with the bases.
+    pub(crate) fn image(self) -> Result<Image<A>, LoadRefusal>
+        ensures { IsImage self result }
+    {
+        self.builder.image()
+    }
+}
+
+impl<A: Allocator + Copy> Taker for BoundedImageBuilder<A> {
+    ghost stands_for = { StandsFor };
+
+    ghost given = { λ b. b.bases };
+
+    ghost KIND = { Load };
+
+    const KIND: FileKind = FileKind::Load;
+
+    // As `ImageBuilder::take`: a run of words is to make no call a word.
+    #[inline(always)]
+    fn take(&mut self, event: Event) -> Result<(), SiteRefusal> {
+        self.builder.take(event)
+    }
+
+    fn size_of(&self, hunk: u32) -> u32 {
+        self.builder.size_of(hunk)
+    }
+}

@@ -1,0 +1,151 @@
+-- Longwords that are written one behind the other, and what the parts of a load file come to.
+use Rattle.std.proofs.Common.{◌≡◌, ◌==◌, ◌<◌, ◌≤◌, ◌+◌, ◌*◌, ◌/◌, ◌%◌, ◌-◌, ◌∙◌, ℕ, zero, suc, List, [], ◌∷◌, ◌++◌, length, take, get_or, replicate, Bool, false, Option, Result, Ok, Err, Vec, sym, ap, refl, subst, arith}
+use Rattle.std.proofs.lemmas.List.{get_or-map, length-append, length-replicate}
+use Rattle.std.proofs.lemmas.List.Elements.{recursion_from_All}
+use Rattle.std.specs.List.{All, AllByRecursion, flat_map}
+use Rattle.hunk_words.specs.Longwords.{longwords, unfinished}
+use Rattle.hunk_words.specs.Name.{IsNameByte, bytes_of, longword_count, name_words}
+use Rattle.hunk_words.specs.declared.fault.WriteFault.{WriteFault}
+use Rattle.hunk_words.proofs.LongwordsLemmas.{length-whole, unfinished-none}
+use Rattle.hunk_words.proofs.NameLemmas.{big_bytes-of_four, length-name_words, name_words-writes}
+use Rattle.hunk_words.specs.declared.kinds.HunkKind.TheVariants.{Code, Data, Bss}
+use Rattle.hunk_loadfile.specs.LoadHunk.{lists_of}
+use Rattle.hunk_loadfile.specs.Writing.{Wrote}
+use Rattle.hunk_loadfile.specs.WrittenForm.{content_words, symbol_words, symbols_words}
+use Rattle.hunk_loadfile.proofs.WritingLemmas.{Wrote-more, Wrote-part, Wrote-stop, Wrote-then, bytes_of-append, length-bytes_of}
+
+-- ---- longwords behind longwords
+
+-- a text, and then another one
+pub text-then : {W : Type 0} (taken : W → Option (List ℕ)) (failed : W → Bool) (old between new : W) (text first rest : List ℕ) (start middle : ℕ) (r : Result ℕ WriteFault)
+    → text ≡ first ++ rest
+    → Wrote (taken old) (taken between) (failed old) (failed between) first start (Ok middle)
+    → Wrote (taken between) (taken new) (failed between) (failed new) rest middle r
+    → Wrote (taken old) (taken new) (failed old) (failed new) text start r
+text-then taken failed old between new text first rest start middle r is one other =
+    subst (λ t. Wrote (taken old) (taken new) (failed old) (failed new) t start r) (sym is)
+    (Wrote-then (taken old) (taken between) (taken new) (failed old) (failed between) (failed new) first rest start middle r one other)
+
+-- a text that more is to follow
+pub text-stop : {W : Type 0} (taken : W → Option (List ℕ)) (failed : W → Bool) (old new : W) (text first rest : List ℕ) (start : ℕ) (fault : WriteFault)
+    → text ≡ first ++ rest
+    → Wrote (taken old) (taken new) (failed old) (failed new) first start (Err fault)
+    → Wrote (taken old) (taken new) (failed old) (failed new) text start (Err fault)
+text-stop taken failed old new text first rest start fault is stopped =
+    subst (λ t. Wrote (taken old) (taken new) (failed old) (failed new) t start (Err fault)) (sym is)
+    (Wrote-stop (taken old) (taken new) (failed old) (failed new) first rest start fault stopped)
+
+-- the same of longwords
+pub words-then : {W : Type 0} (taken : W → Option (List ℕ)) (failed : W → Bool) (old between new : W) (ws first rest : List ℕ) (start middle : ℕ) (r : Result ℕ WriteFault)
+    → ws ≡ first ++ rest
+    → Wrote (taken old) (taken between) (failed old) (failed between) (bytes_of first) start (Ok middle)
+    → Wrote (taken between) (taken new) (failed between) (failed new) (bytes_of rest) middle r
+    → Wrote (taken old) (taken new) (failed old) (failed new) (bytes_of ws) start r
+words-then taken failed old between new ws first rest start middle r is one other =
+    text-then taken failed old between new (bytes_of ws) (bytes_of first) (bytes_of rest) start middle r (ap bytes_of is ∙ bytes_of-append first rest) one other
+
+pub words-stop : {W : Type 0} (taken : W → Option (List ℕ)) (failed : W → Bool) (old new : W) (ws first rest : List ℕ) (start : ℕ) (fault : WriteFault)
+    → ws ≡ first ++ rest
+    → Wrote (taken old) (taken new) (failed old) (failed new) (bytes_of first) start (Err fault)
+    → Wrote (taken old) (taken new) (failed old) (failed new) (bytes_of ws) start (Err fault)
+words-stop taken failed old new ws first rest start fault is stopped =
+    text-stop taken failed old new (bytes_of ws) (bytes_of first) (bytes_of rest) start fault (ap bytes_of is ∙ bytes_of-append first rest) stopped
+
+-- ---- parts of longwords
+
+bytes_of-flat_map : {X : Type 0} (part : X → List ℕ) (xs : List X) → bytes_of (flat_map part xs) ≡ flat_map (λ x. bytes_of (part x)) xs
+bytes_of-flat_map part [] = refl
+bytes_of-flat_map part (x ∷ xs) = bytes_of-append (part x) (flat_map part xs) ∙ ap (λ t. bytes_of (part x) ++ t) (bytes_of-flat_map part xs)
+
+-- one part more
+pub parts-more : {X W : Type 0} (taken : W → Option (List ℕ)) (failed : W → Bool) (old between new : W) (part : X → List ℕ) (xs : List X) (index : ℕ) (x : X) (start middle written : ℕ)
+    → index < length xs → x ≡ get_or xs index x
+    → Wrote (taken old) (taken between) (failed old) (failed between) (bytes_of (flat_map part (take index xs))) start (Ok middle)
+    → Wrote (taken between) (taken new) (failed between) (failed new) (bytes_of (part x)) middle (Ok written)
+    → Wrote (taken old) (taken new) (failed old) (failed new) (bytes_of (flat_map part (take (index + 1) xs))) start (Ok written)
+parts-more taken failed old between new part xs index x start middle written within is first next =
+    subst (λ t. Wrote (taken old) (taken new) (failed old) (failed new) t start (Ok written)) (sym (bytes_of-flat_map part (take (index + 1) xs)))
+    (Wrote-more (λ y. bytes_of (part y)) xs index x (taken old) (taken between) (taken new) (failed old) (failed between) (failed new) start middle written within is
+    (subst (λ t. Wrote (taken old) (taken between) (failed old) (failed between) t start (Ok middle)) (bytes_of-flat_map part (take index xs)) first) next)
+
+-- it stopped in the next part
+pub parts-stop : {X W : Type 0} (taken : W → Option (List ℕ)) (failed : W → Bool) (old between new : W) (part : X → List ℕ) (xs : List X) (index : ℕ) (x : X) (start middle : ℕ) (fault : WriteFault)
+    → index < length xs → x ≡ get_or xs index x
+    → Wrote (taken old) (taken between) (failed old) (failed between) (bytes_of (flat_map part (take index xs))) start (Ok middle)
+    → Wrote (taken between) (taken new) (failed between) (failed new) (bytes_of (part x)) middle (Err fault)
+    → Wrote (taken old) (taken new) (failed old) (failed new) (bytes_of (flat_map part xs)) start (Err fault)
+parts-stop taken failed old between new part xs index x start middle fault within is first next =
+    subst (λ t. Wrote (taken old) (taken new) (failed old) (failed new) t start (Err fault)) (sym (bytes_of-flat_map part xs))
+    (Wrote-part (λ y. bytes_of (part y)) xs index x (taken old) (taken between) (taken new) (failed old) (failed between) (failed new) start middle fault within is
+    (subst (λ t. Wrote (taken old) (taken between) (failed old) (failed between) t start (Ok middle)) (bytes_of-flat_map part (take index xs)) first) next)
+
+-- ---- names and symbols
+
+-- the bytes of a name's longwords
+bytes_of-name_words : (n : List ℕ) (zeros : ℕ) → All IsNameByte n → length n + zeros ≡ 4 * longword_count (length n) → bytes_of (name_words n) ≡ n ++ replicate zeros 0
+bytes_of-name_words n zeros h count =
+    let w = name_words-writes n h in
+    let z : ℕ = 0 in
+    let same : w.zeros ≡ zeros = omega (arith, count, ap length w.bytes, length-append n (replicate w.zeros z), length-replicate w.zeros z, length-bytes_of (name_words n), length-name_words n) in
+    w.bytes ∙ ap (λ (k : ℕ). n ++ replicate k 0) same
+
+-- so many zeros of four
+zeros_of : (zeros : ℕ) → zeros ≤ 4 → take {A = ℕ} zeros (0 ∷ 0 ∷ 0 ∷ 0 ∷ []) ≡ replicate zeros 0
+zeros_of zero few = refl
+zeros_of (suc zero) few = refl
+zeros_of (suc (suc zero)) few = refl
+zeros_of (suc (suc (suc zero))) few = refl
+zeros_of (suc (suc (suc (suc zero)))) few = refl
+zeros_of (suc (suc (suc (suc (suc n))))) few = absurd (omega arith)
+
+pub name_fill : (bytes count : ℕ) → count ≡ longword_count bytes → (4 * count - bytes ≤ 4) × (bytes + (4 * count - bytes) ≡ 4 * longword_count bytes)
+name_fill bytes count is = (omega arith, omega arith)
+
+-- a name, and zeros that fill its longwords up
+pub name_words-bytes : (n bytes : List ℕ) (count : ℕ) → bytes ≡ n → All IsNameByte n → count ≡ longword_count (length bytes)
+    → bytes_of (name_words n) ≡ bytes ++ take {A = ℕ} (4 * count - length bytes) (0 ∷ 0 ∷ 0 ∷ 0 ∷ [])
+name_words-bytes n bytes count is h counted =
+    let zeros : ℕ = 4 * count - length bytes in
+    let fill = name_fill (length bytes) count counted in
+    bytes_of-name_words n zeros h (omega (arith, ap length is, fill.1, ap (λ (t : List ℕ). longword_count (length t)) is))
+    ∙ ap (λ (t : List ℕ). t ++ replicate zeros 0) (sym is) ∙ ap (λ (t : List ℕ). bytes ++ t) (sym (zeros_of zeros fill.0))
+
+pub symbol_words-is : (s : List ℕ × ℕ) (count : ℕ) → count ≡ longword_count (length s.0) → symbol_words s ≡ (count ∷ []) ++ (name_words s.0 ++ s.1 ∷ [])
+symbol_words-is s count is = ap (λ (k : ℕ). k ∷ name_words s.0 ++ s.1 ∷ []) (length-name_words s.0 ∙ sym is)
+
+pub symbols_words-some : (ss : List (List ℕ × ℕ)) (empty : Bool) → empty ≡ (length ss == 0) → empty ≡ false → symbols_words ss ≡ (1008 ∷ []) ++ (flat_map symbol_words ss ++ 0 ∷ [])
+symbols_words-some [] empty is some = cc
+symbols_words-some (s ∷ ss) empty is some = refl
+
+-- ---- debug blocks
+
+-- one of the lists
+pub lists_of-at : {A : Type 0} (vs : List (Vec ℕ A)) (index : ℕ) (v : Vec ℕ A) (ws : List ℕ) → index < length vs → v ≡ get_or vs index v → ws ≡ v.items → ws ≡ get_or (lists_of vs) index ws
+lists_of-at {A = A} vs index v ws within is items =
+    items ∙ ap (λ (u : Vec ℕ A). u.items) is ∙ sym (get_or-map (λ (u : Vec ℕ A). u.items) vs index v ws within)
+
+-- ---- content
+
+whole-bytes : (bytes : List ℕ) → AllByRecursion (λ b. b < 256) bytes → unfinished bytes ≡ [] → bytes_of (longwords bytes) ≡ bytes
+whole-bytes [] h whole = refl
+whole-bytes (a ∷ []) h whole = cc
+whole-bytes (a ∷ b ∷ []) h whole = cc
+whole-bytes (a ∷ b ∷ c ∷ []) h whole = cc
+whole-bytes (a ∷ b ∷ c ∷ d ∷ bytes) h whole =
+    ap (λ (t : List ℕ). t ++ bytes_of (longwords bytes)) (big_bytes-of_four a b c d [] h.0 h.1.0 h.1.1.0 h.1.1.1.0)
+    ∙ ap (λ (t : List ℕ). a ∷ b ∷ c ∷ d ∷ t) (whole-bytes bytes h.1.1.1.1 whole)
+
+-- whole longwords of bytes, as bytes
+pub bytes_of-longwords : (bytes : List ℕ) → All (λ b. b < 256) bytes → length bytes % 4 ≡ 0 → bytes_of (longwords bytes) ≡ bytes
+bytes_of-longwords bytes h whole =
+    whole-bytes bytes (recursion_from_All (λ b. b < 256) bytes h) (unfinished-none bytes (length bytes / 4) (omega arith))
+
+pub content_words-code : (size stored : ℕ) (bytes : List ℕ) → 4 * stored ≡ length bytes → 1001 ∷ stored ∷ longwords bytes ≡ content_words Code size (longwords bytes)
+content_words-code size stored bytes count = ap (λ (n : ℕ). 1001 ∷ n ∷ longwords bytes) (sym (length-whole bytes stored (sym count)))
+
+pub content_words-data : (size stored : ℕ) (bytes : List ℕ) → 4 * stored ≡ length bytes → 1002 ∷ stored ∷ longwords bytes ≡ content_words Data size (longwords bytes)
+content_words-data size stored bytes count = ap (λ (n : ℕ). 1002 ∷ n ∷ longwords bytes) (sym (length-whole bytes stored (sym count)))
+
+pub content_words-bss : (size : ℕ) (bytes : List ℕ) → length bytes ≤ 0 → 1003 ∷ size ∷ longwords bytes ≡ content_words Bss size (longwords bytes)
+content_words-bss size [] none = refl
+content_words-bss size (b ∷ bytes) none = absurd (omega arith)

@@ -1,0 +1,274 @@
+-- The groups of a relocation block, and the sites by rising target that they are made of.
+use Rattle.std.proofs.Common.{◌≡◌, ◌==◌, ◌&&◌, not, ◌<◌, ◌≤◌, ◌+◌, ◌-◌, ◌*◌, ◌^◌, ◌∙◌, ℕ, zero, suc, inl, inr, Bool, false, List, [], ◌∷◌, ◌++◌, length, map, take, drop, get_or, Option, Result, Ok, Err, sym, ap, refl, subst, append-nil, eq-eqb, arith}
+use Rattle.std.proofs.lemmas.Bool.{cases_eq, cases_lt, ne_eqb}
+use Rattle.std.proofs.lemmas.List.{length-append, length-drop, length-map, length-take-le, map-append, take-append-drop, get_or-take, get_or-drop}
+use Rattle.std.proofs.lemmas.List.Elements.{All-drop, All-take, All-weaker, filter-append, filter_agree, recursion_from_All}
+use Rattle.std.proofs.lemmas.List.Sorted.{All-permutation, IsNonDecreasingBy-drop}
+use Rattle.std.specs.List.{All, AllByRecursion, filter, flat_map, range_with_len}
+use Rattle.std.specs.List.Sorted.{IsNonDecreasingBy, IsStableByKey, ties}
+use Rattle.std.specs.Ordering.{is_lt, nat_cmp}
+use Rattle.std.specs.Cmp.{nat_cmp_is}
+use Rattle.std.specs.declared.cmp.Ordering.TheVariants.{Less, Equal, Greater}
+use Rattle.std.proofs.Math.Seq.{drop-append_seam, take-append_seam}
+use Rattle.hunk_words.specs.Name.{bytes_of}
+use Rattle.hunk_words.specs.Sites.{StandFrom}
+use Rattle.hunk_words.specs.declared.fault.WriteFault.{WriteFault}
+use Rattle.hunk_loadfile.specs.RelocationWriter.{AreByTarget, IsGroup}
+use Rattle.hunk_loadfile.specs.Writing.{Wrote}
+use Rattle.hunk_loadfile.specs.WrittenForm.{group_words, groups_words, offsets_to, site_words}
+use Rattle.hunk_loadfile.proofs.WritingLemmas.{Wrote-inside, Wrote-stop, Wrote-then, bytes_of-append, length-bytes_of}
+
+-- ---- longwords behind longwords
+
+-- longwords, and then others
+pub Wrote-words : (old between new : Option (List ℕ)) (before halfway after : Bool) (first rest whole : List ℕ) (start middle : ℕ) (r : Result ℕ WriteFault)
+    → first ++ rest ≡ whole
+    → Wrote old between before halfway (bytes_of first) start (Ok middle)
+    → Wrote between new halfway after (bytes_of rest) middle r
+    → Wrote old new before after (bytes_of whole) start r
+Wrote-words old between new before halfway after first rest whole start middle r is one next =
+    subst (λ t. Wrote old new before after t start r) (sym (bytes_of-append first rest) ∙ ap bytes_of is)
+    (Wrote-then old between new before halfway after (bytes_of first) (bytes_of rest) start middle r one next)
+
+-- it stopped in the first ones
+pub Wrote-words_front : (old new : Option (List ℕ)) (before after : Bool) (part rest whole : List ℕ) (start : ℕ) (fault : WriteFault)
+    → part ++ rest ≡ whole
+    → Wrote old new before after (bytes_of part) start (Err fault)
+    → Wrote old new before after (bytes_of whole) start (Err fault)
+Wrote-words_front old new before after part rest whole start fault is one =
+    subst (λ t. Wrote old new before after t start (Err fault)) (sym (bytes_of-append part rest) ∙ ap bytes_of is) (Wrote-stop old new before after (bytes_of part) (bytes_of rest) start fault one)
+
+-- it stopped in the others
+pub Wrote-words_stop : (old between new : Option (List ℕ)) (before halfway after : Bool) (first part rest whole : List ℕ) (start middle : ℕ) (fault : WriteFault)
+    → first ++ (part ++ rest) ≡ whole
+    → Wrote old between before halfway (bytes_of first) start (Ok middle)
+    → Wrote between new halfway after (bytes_of part) middle (Err fault)
+    → Wrote old new before after (bytes_of whole) start (Err fault)
+Wrote-words_stop old between new before halfway after first part rest whole start middle fault is one next =
+    let parts = ap (λ (t : List ℕ). bytes_of first ++ t) (sym (bytes_of-append part rest)) ∙ sym (bytes_of-append first (part ++ rest)) ∙ ap bytes_of is in
+    Wrote-inside old between new before halfway after (bytes_of first) (bytes_of part) (bytes_of rest) (bytes_of whole) start middle fault parts one next
+
+-- ---- the offsets of a target
+
+abbrev pub offset_of : ℕ × ℕ → ℕ
+offset_of = λ pair. pair.0
+
+offsets_to-append : (target : ℕ) (xs ys : List (ℕ × ℕ)) → offsets_to target (xs ++ ys) ≡ offsets_to target xs ++ offsets_to target ys
+offsets_to-append target xs ys =
+    let names = λ (pair : ℕ × ℕ). pair.1 == target in
+    ap (map offset_of) (filter-append names xs ys) ∙ map-append offset_of (filter names xs) (filter names ys)
+
+offsets-none : (target : ℕ) (xs : List (ℕ × ℕ)) → AllByRecursion (λ pair. pair.1 ≡ target → ⊥) xs → offsets_to target xs ≡ []
+offsets-none target [] h = refl
+offsets-none target (x ∷ xs) h = rw (ne_eqb x.1 target h.0) (offsets-none target xs h.1)
+
+offsets_to-none : (target : ℕ) (xs : List (ℕ × ℕ)) → All (λ pair. pair.1 ≡ target → ⊥) xs → offsets_to target xs ≡ []
+offsets_to-none target xs h = offsets-none target xs (recursion_from_All (λ pair. pair.1 ≡ target → ⊥) xs h)
+
+offsets-all : (target : ℕ) (xs : List (ℕ × ℕ)) → AllByRecursion (λ pair. pair.1 ≡ target) xs → offsets_to target xs ≡ map offset_of xs
+offsets-all target [] h = refl
+offsets-all target (x ∷ xs) h = rw (eq-eqb x.1 target h.0) (ap (λ (os : List ℕ). x.0 ∷ os) (offsets-all target xs h.1))
+
+offsets_to-all : (target : ℕ) (xs : List (ℕ × ℕ)) → All (λ pair. pair.1 ≡ target) xs → offsets_to target xs ≡ map offset_of xs
+offsets_to-all target xs h = offsets-all target xs (recursion_from_All (λ pair. pair.1 ≡ target) xs h)
+
+-- a sort by target that is stable keeps the offsets of each target
+ties_is_same : (a b : ℕ) → (not (is_lt (nat_cmp a b)) && not (is_lt (nat_cmp b a))) ≡ (b == a)
+ties_is_same a b = elim (cases_lt a b) [
+  | inl below ↦
+      let less : nat_cmp a b ≡ Less = sym (nat_cmp_is a b Less below) in
+      let other : (b == a) ≡ false = ne_eqb b a (λ is. absurd (omega arith)) in
+      rw (less, other) refl
+  | inr above ↦ elim (cases_eq a b) [
+    | inl same ↦
+        let equal : nat_cmp a b ≡ Equal = sym (nat_cmp_is a b Equal same) in
+        let back : nat_cmp b a ≡ Equal = sym (nat_cmp_is b a Equal (sym same)) in
+        rw (equal, back, eq-eqb b a (sym same)) refl
+    | inr apart ↦
+        let greater : nat_cmp a b ≡ Greater = sym (nat_cmp_is a b Greater (omega arith)) in
+        let less : nat_cmp b a ≡ Less = sym (nat_cmp_is b a Less (omega arith)) in
+        let other : (b == a) ≡ false = ne_eqb b a (λ is. apart (sym is)) in
+        rw (greater, less, other) refl
+  ]
+]
+
+pub offsets_to-stable : (xs ys : List (ℕ × ℕ)) → IsStableByKey (λ (pair : ℕ × ℕ). pair.1) nat_cmp xs ys → (target : ℕ) → offsets_to target ys ≡ offsets_to target xs
+offsets_to-stable xs ys stable target =
+    let names = λ (pair : ℕ × ℕ). pair.1 == target in
+    let tie = ties (λ (x y : ℕ × ℕ). is_lt (nat_cmp x.1 y.1)) (0, target) in
+    let same : (pair : ℕ × ℕ) → tie pair ≡ names pair = λ pair. ties_is_same target pair.1 in
+    ap (map offset_of) (sym (filter_agree tie names same ys) ∙ stable (0, target) ∙ filter_agree tie names same xs)
+
+-- ---- the groups of some targets
+
+abbrev groups_from : ℕ → ℕ → List (ℕ × ℕ) → List ℕ
+groups_from from count pairs = flat_map (λ target. group_words target (offsets_to target pairs)) (range_with_len from count)
+
+groups_from-same : (from count : ℕ) (xs ys : List (ℕ × ℕ)) → ((target : ℕ) → from ≤ target → offsets_to target xs ≡ offsets_to target ys) → groups_from from count xs ≡ groups_from from count ys
+groups_from-same from zero xs ys same = refl
+groups_from-same from (suc count) xs ys same =
+    ap (λ (os : List ℕ). group_words from os ++ groups_from (from + 1) count xs) (same from (omega arith))
+    ∙ ap (λ (rest : List ℕ). group_words from (offsets_to from ys) ++ rest) (groups_from-same (from + 1) count xs ys (λ target after. same target (omega arith)))
+
+-- the same offsets of each target make the same groups
+pub groups_words-same : (count : ℕ) (xs ys : List (ℕ × ℕ)) → ((target : ℕ) → offsets_to target xs ≡ offsets_to target ys) → groups_words count xs ≡ groups_words count ys
+groups_words-same count xs ys same = groups_from-same 0 count xs ys (λ target from. same target)
+
+groups_from-nil : (from count : ℕ) → groups_from from count [] ≡ []
+groups_from-nil from zero = refl
+groups_from-nil from (suc count) = groups_from-nil (from + 1) count
+
+pub groups_words-nil : (count : ℕ) → groups_words count [] ≡ []
+groups_words-nil count = groups_from-nil 0 count
+
+module _ (target : ℕ) (group behind : List (ℕ × ℕ)) (same : All (λ (pair : ℕ × ℕ). pair.1 ≡ target) group) (above : All (λ (pair : ℕ × ℕ). target < pair.1) behind) where
+  -- a target that is not above the group's has no site behind the group
+  behind-none : (other : ℕ) → other ≤ target → offsets_to other behind ≡ []
+  behind-none other low = offsets_to-none other behind (All-weaker (λ (pair : ℕ × ℕ). target < pair.1) (λ (pair : ℕ × ℕ). pair.1 ≡ other → ⊥) (λ pair up is. absurd (omega arith)) behind above)
+
+  group-none : (other : ℕ) → (target ≡ other → ⊥) → offsets_to other (group ++ behind) ≡ offsets_to other behind
+  group-none other apart =
+      let none = offsets_to-none other group (All-weaker (λ (pair : ℕ × ℕ). pair.1 ≡ target) (λ (pair : ℕ × ℕ). pair.1 ≡ other → ⊥) (λ pair here is. apart (sym here ∙ is)) group same) in
+      offsets_to-append other group behind ∙ ap (λ (os : List ℕ). os ++ offsets_to other behind) none
+
+  group-all : offsets_to target (group ++ behind) ≡ map offset_of group
+  group-all =
+      offsets_to-append target group behind ∙ ap (λ (os : List ℕ). offsets_to target group ++ os) (behind-none target (omega arith))
+      ∙ append-nil (offsets_to target group) ∙ offsets_to-all target group same
+
+  groups-here : (count : ℕ) → groups_from target (suc count) (group ++ behind) ≡ group_words target (map offset_of group) ++ groups_from target (suc count) behind
+  groups-here count =
+      let rest = groups_from (target + 1) count in
+      ap (λ (os : List ℕ). group_words target os ++ rest (group ++ behind)) group-all
+      ∙ ap (λ (ws : List ℕ). group_words target (map offset_of group) ++ ws) (groups_from-same (target + 1) count (group ++ behind) behind (λ other after. group-none other (λ is. absurd (omega arith))))
+      ∙ ap (λ (os : List ℕ). group_words target (map offset_of group) ++ (group_words target os ++ rest behind)) (sym (behind-none target (omega arith)))
+
+  groups-first : (from count : ℕ) → from ≤ target → target < from + count
+      → groups_from from count (group ++ behind) ≡ group_words target (map offset_of group) ++ groups_from from count behind
+  groups-first from zero low high = absurd (omega arith)
+  groups-first from (suc count) low high = elim (cases_eq from target) [
+    | inl here ↦
+        subst (λ (first : ℕ). groups_from first (suc count) (group ++ behind) ≡ group_words target (map offset_of group) ++ groups_from first (suc count) behind) (sym here) (groups-here count)
+    | inr apart ↦
+        let none = behind-none from low in
+        let rest = groups_from (from + 1) count in
+        ap (λ (os : List ℕ). group_words from os ++ rest (group ++ behind)) (group-none from (λ is. apart (sym is)) ∙ none)
+        ∙ groups-first (from + 1) count (omega arith) (omega arith)
+        ∙ ap (λ (os : List ℕ). group_words target (map offset_of group) ++ (group_words from os ++ rest behind)) (sym none)
+  ]
+
+-- the target of a group is that of one of its sites
+target-below : (target count : ℕ) (group : List (ℕ × ℕ)) → 0 < length group → All (λ (pair : ℕ × ℕ). pair.1 ≡ target) group → All (λ (pair : ℕ × ℕ). pair.1 < count) group → target < count
+target-below target count group some same below = omega (arith, same 0 (0, 0) some, below 0 (0, 0) some)
+
+module _ (target : ℕ) (group behind pairs : List (ℕ × ℕ)) (is : IsGroup target group behind pairs) where
+  pub group-length : length group + length behind ≡ length pairs
+  group-length = omega (arith, ap length is.parts, length-append group behind)
+
+  -- sites of lower targets
+  pub All-behind : (P : ℕ × ℕ → Type 0) → All P pairs → All P behind
+  All-behind P all =
+      subst (All P) (drop-append_seam group behind) (All-drop P (length group) (group ++ behind) (subst (All P) is.parts all))
+
+  -- the groups are the first one and those of the sites behind
+  pub groups_words-first : (count : ℕ) → All (λ (pair : ℕ × ℕ). pair.1 < count) pairs → groups_words count pairs ≡ group_words target (map offset_of group) ++ groups_words count behind
+  groups_words-first count below =
+      let front = subst (All (λ (pair : ℕ × ℕ). pair.1 < count)) (take-append_seam group behind) (All-take (λ (pair : ℕ × ℕ). pair.1 < count) (length group) (group ++ behind) (subst (All (λ (pair : ℕ × ℕ). pair.1 < count)) is.parts below)) in
+      ap (groups_words count) is.parts ∙ groups-first target group behind is.same is.above 0 count (omega arith) (omega (arith, target-below target count group is.some is.same front))
+
+-- the longwords of a group
+length-words : (target : ℕ) (os : List ℕ) → 0 < length os → length (group_words target os) ≡ 2 + length os
+length-words target [] some = absurd (omega arith)
+length-words target (o ∷ os) some = omega arith
+
+pub length-group : (target : ℕ) (group behind pairs : List (ℕ × ℕ)) → IsGroup target group behind pairs → length (bytes_of (group_words target (map offset_of group))) ≡ 4 * (2 + length group)
+length-group target group behind pairs is =
+    let same = length-map group offset_of in
+    let some_offsets : 0 < length (map offset_of group) = omega (arith, same, is.some) in
+    omega (arith, length-bytes_of (group_words target (map offset_of group)), length-words target (map offset_of group) some_offsets, same)
+
+pub group_words-some : (target : ℕ) (group : List (ℕ × ℕ)) → 0 < length group → (length group ∷ target ∷ []) ++ map offset_of group ≡ group_words target (map offset_of group)
+group_words-some target [] some = absurd (omega arith)
+group_words-some target (x ∷ xs) some = ap (λ (n : ℕ). n ∷ target ∷ x.0 ∷ map offset_of xs) (sym (length-map (x ∷ xs) offset_of))
+
+-- the longwords of the group that comes first
+abbrev pub words_of : {target : ℕ} {group behind pairs : List (ℕ × ℕ)} → IsGroup target group behind pairs → List ℕ
+words_of {target} {group} is = group_words target (map offset_of group)
+
+-- the groups, around the next one
+pub groups-around : (target : ℕ) (group behind pairs all : List (ℕ × ℕ)) → IsGroup target group behind pairs → (words : List ℕ) (count : ℕ)
+    → All (λ (pair : ℕ × ℕ). pair.1 < count) pairs → words ++ groups_words count pairs ≡ groups_words count all
+    → words ++ (group_words target (map offset_of group) ++ groups_words count behind) ≡ groups_words count all
+groups-around target group behind pairs all is words count below whole =
+    ap (λ (ws : List ℕ). words ++ ws) (sym (groups_words-first target group behind pairs is count below)) ∙ whole
+
+-- it stopped in the next group
+pub Wrote-group_stop : (target : ℕ) (group behind pairs all : List (ℕ × ℕ)) → IsGroup target group behind pairs
+    → (old between new : Option (List ℕ)) (before halfway after : Bool) (words : List ℕ) (count start middle : ℕ) (fault : WriteFault)
+    → All (λ (pair : ℕ × ℕ). pair.1 < count) pairs → words ++ groups_words count pairs ≡ groups_words count all
+    → Wrote old between before halfway (bytes_of words) start (Ok middle)
+    → Wrote between new halfway after (bytes_of (group_words target (map offset_of group))) middle (Err fault)
+    → Wrote old new before after (bytes_of (groups_words count all)) start (Err fault)
+Wrote-group_stop target group behind pairs all is old between new before halfway after words count start middle fault below whole one next =
+    Wrote-words_stop old between new before halfway after words (group_words target (map offset_of group)) (groups_words count behind) (groups_words count all) start middle fault
+    (groups-around target group behind pairs all is words count below whole) one next
+
+-- ---- offsets in pieces
+
+-- the offsets, around those of the next sites
+pub offsets-around : (words : List ℕ) (left chunk rest all : List (ℕ × ℕ)) → left ≡ chunk ++ rest → words ++ map offset_of left ≡ map offset_of all
+    → words ++ (map offset_of chunk ++ map offset_of rest) ≡ map offset_of all
+offsets-around words left chunk rest all parts whole = ap (λ (ws : List ℕ). words ++ ws) (sym (ap (map offset_of) parts ∙ map-append offset_of chunk rest)) ∙ whole
+
+pub offsets-room : (words offsets : List ℕ) (chunk rest all : List (ℕ × ℕ)) (start written : ℕ) → offsets ≡ map offset_of chunk
+    → words ++ (map offset_of chunk ++ map offset_of rest) ≡ map offset_of all → written ≡ start + length (bytes_of words)
+    → written + length (bytes_of offsets) ≤ start + 4 * length all
+offsets-room words offsets chunk rest all start written filled whole counted =
+    omega (arith, counted, length-bytes_of words, length-bytes_of offsets, ap length filled, ap length whole, length-append words (map offset_of chunk ++ map offset_of rest), length-append (map offset_of chunk) (map offset_of rest), length-map all offset_of)
+
+-- the block around its groups
+pub site_words-some : (count : ℕ) (sites : List (ℕ × ℕ)) → 0 < length sites → (1004 ∷ []) ++ (groups_words count sites ++ 0 ∷ []) ≡ site_words count sites
+site_words-some count [] some = absurd (omega arith)
+site_words-some count (e ∷ es) some = refl
+
+module _ (sites pairs slice : List (ℕ × ℕ)) (order : AreByTarget sites pairs) (is : slice ≡ pairs) where
+  -- sorting changes no group
+  pub groups-sorted : (count : ℕ) → groups_words count slice ≡ groups_words count sites
+  groups-sorted count = ap (groups_words count) is ∙ groups_words-same count pairs sites order.kept
+
+  pub All-sorted : (P : ℕ × ℕ → Type 0) → All P sites → All P slice
+  All-sorted P all = subst (All P) (sym is) (All-permutation P sites pairs order.same all)
+
+  pub block-around : (count : ℕ) → 0 < length sites → (1004 ∷ []) ++ (groups_words count slice ++ 0 ∷ []) ≡ site_words count sites
+  block-around count some = ap (λ (ws : List ℕ). 1004 ∷ (ws ++ 0 ∷ [])) (groups-sorted count) ∙ site_words-some count sites some
+
+-- the first sites, as long as their target is the first one's
+pub IsGroup-split : (target n : ℕ) (group behind pairs : List (ℕ × ℕ)) → group ≡ take n pairs → behind ≡ drop n pairs
+    → IsNonDecreasingBy (λ (pair : ℕ × ℕ). pair.1) pairs → n ≤ length pairs → 0 < length pairs → (get_or pairs 0 (0, 0)).1 ≡ target
+    → ((k : ℕ) (d : ℕ × ℕ) → k < n → (get_or pairs k d).1 ≡ target) → ((d : ℕ × ℕ) → n < length pairs → (get_or pairs n d).1 ≡ target → ⊥)
+    → IsGroup target group behind pairs
+IsGroup-split target n group behind pairs front back rise within some first before stops =
+    let long : 0 < n = elim (cases_lt 0 n) [ inl up ↦ up | inr none ↦ let zeroth : n ≡ 0 = omega arith in absurd (stops (0, 0) (omega arith) (ap (λ (k : ℕ). (get_or pairs k (0, 0)).1) zeroth ∙ first)) ] in
+    record {
+      parts = sym (take-append-drop n pairs) ∙ ap (λ (xs : List (ℕ × ℕ)). xs ++ drop n pairs) (sym front) ∙ ap (λ (ys : List (ℕ × ℕ)). group ++ ys) (sym back);
+      some = omega (arith, ap length front, length-take-le n pairs within);
+      same = subst (All (λ (pair : ℕ × ℕ). pair.1 ≡ target)) (sym front) (λ k d low. let here : k < n = omega (arith, length-take-le n pairs within) in ap (λ (pair : ℕ × ℕ). pair.1) (get_or-take n pairs k d here) ∙ before k d here);
+      above = subst (All (λ (pair : ℕ × ℕ). target < pair.1)) (sym back) (λ k d low.
+          let inside : n + k < length pairs = omega (arith, length-drop n pairs) in
+          let apart = stops d (omega arith) in
+          let up = rise n (n + k) d (omega arith) inside in
+          let from = rise 0 n d (omega arith) (omega arith) in
+          let at : (get_or (drop n pairs) k d).1 ≡ (get_or pairs (n + k) d).1 = ap (λ (pair : ℕ × ℕ). pair.1) (get_or-drop n pairs k d) in
+          let one : (get_or pairs 0 d).1 ≡ target = before 0 d long in
+          omega (arith, at, up, from, one, apart));
+      rise = subst (IsNonDecreasingBy (λ (pair : ℕ × ℕ). pair.1)) (sym back) (IsNonDecreasingBy-drop (λ (pair : ℕ × ℕ). pair.1) n pairs rise);
+    }
+
+-- ---- how many sites there may be
+
+stand-few : (from limit : ℕ) (pairs : List (ℕ × ℕ)) → StandFrom from limit pairs → AllByRecursion (λ (pair : ℕ × ℕ). pair.0 < 2 ^ 32) pairs → 4 * length pairs ≤ 2 ^ 32 + 3 - from
+stand-few from limit [] apart typed = omega arith
+stand-few from limit (x ∷ xs) apart typed = omega (arith, apart.0, typed.0, stand-few (x.0 + 4) limit xs apart.2 typed.1)
+
+pub StandFrom-few : (limit : ℕ) (pairs : List (ℕ × ℕ)) → StandFrom 0 limit pairs → All (λ (pair : ℕ × ℕ). pair.0 < 2 ^ 32) pairs → length pairs ≤ 2 ^ 30
+StandFrom-few limit pairs apart typed = omega (arith, stand-few 0 limit pairs apart (recursion_from_All (λ (pair : ℕ × ℕ). pair.0 < 2 ^ 32) pairs typed))

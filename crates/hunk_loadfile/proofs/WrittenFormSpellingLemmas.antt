@@ -1,0 +1,139 @@
+-- The tree of the written form of a load file spells that form.
+use Rattle.std.proofs.Common.{◌≡◌, ◌∙◌, ℕ, suc, ◌+◌, ◌-◌, ◌*◌, ◌^◌, ◌<◌, ◌≤◌, nat_le, nat_lt, Option, None, List, [], ◌∷◌, ◌++◌, length, map, append_assoc, refl, ap, sym, subst, arith}
+use Rattle.std.specs.List.{All, AllByRecursion, flat_map}
+use Rattle.std.proofs.lemmas.Bool.{and_from, eq-eqb, le-leb, lt-ltb}
+use Rattle.std.proofs.lemmas.List.{length-map}
+use Rattle.std.proofs.lemmas.List.Elements.{All-head, All-tail, recursion_from_All}
+use Rattle.std.proofs.lemmas.List.Sums.{sum_by-cons}
+use Rattle.hunk_words.specs.Longwords.{longwords}
+use Rattle.hunk_words.specs.Kinds.{Field, field, low}
+use Rattle.hunk_words.specs.FaultTable.{and_then}
+use Rattle.hunk_words.specs.Kinds.Within.{in_load}
+use Rattle.hunk_words.specs.Kinds.Kind.{load_start, hunk_type, resident, table_size, first_hunk, last_hunk, header_size}
+use Rattle.hunk_words.specs.declared.kinds.HunkKind.TheVariants as content_type
+use Rattle.hunk_words.specs.declared.fault.Reason.{Reason}
+use Rattle.hunk_words.specs.declared.fault.Reason.TheVariants.{BothMemoryBits, HunkTable, TooLarge, WrongStart}
+use Rattle.hunk_words.specs.Sites.{StandFrom}
+use Rattle.hunk_words.specs.Spelling.{type_longword, blocks_end, content_then, hunk_at, load_hunks, load_spelling, sizes_at}
+use Rattle.hunk_words.specs.Trees.{BlockTree}
+use Rattle.hunk_words.proofs.LongwordsLemmas.{length-longwords}
+use Rattle.hunk_words.proofs.SpellingBitLemmas.{type_longword-bits, type_longword-low}
+use Rattle.hunk_words.proofs.SitesLemmas.{AreApart-few}
+use Rattle.hunk_words.proofs.KindsTypeLemmas.{type-code, type-data, type-bss}
+use Rattle.hunk_words.specs.declared.kinds.HunkKind.{HunkKind}
+use Rattle.hunk_words.specs.declared.kinds.HunkKind.TheVariants.{Code, Data, Bss}
+use Rattle.hunk_words.specs.declared.kinds.Memory.{Memory}
+use Rattle.hunk_words.specs.declared.kinds.Memory.TheVariants.{Any, Chip, Fast}
+use Rattle.hunk_loadfile.specs.LoadHunk.{FileHunk}
+use Rattle.hunk_loadfile.specs.Rules.{IsLoadFile, IsLoadHunk, IsLongword, IsTypedSymbol, carried_longwords, carried_by, most_name, size_of}
+use Rattle.hunk_loadfile.specs.WrittenForm.{content_words, debug_words, hunk_words, memory_bits, site_words, size_word, symbols_words, written_form}
+use Rattle.hunk_loadfile.proofs.LoadHunkLemmas.{most_content-le}
+use Rattle.hunk_loadfile.proofs.WrittenFormTree.{body_tree, content_tree, debug_trees, file_tree, hunk_tree, site_trees, symbol_trees}
+use Rattle.hunk_loadfile.proofs.WrittenFormContentLemmas.{longwords-lt}
+use Rattle.hunk_loadfile.proofs.WrittenFormPartLemmas.{Spells, reject_unless-holds, spells-begin, spells-debugs, spells-next, spells-sites, spells-size, spells-symbols, spells-words, type_longword-is, type_longword-plain}
+
+-- ---- hunks
+
+spells-content : (kind : HunkKind) (last size : ℕ) (ws : List ℕ) (blocks : List BlockTree) (fs : List Field) (us : List ℕ) → length ws ≤ size → size ≤ 2 ^ 24 → AllByRecursion IsLongword ws
+    → Spells [] (blocks_end (in_load last size) (4 * size) blocks 0 fs) us
+    → Spells [] (content_then (hunk_type last size) (in_load last size) (content_tree kind size ws) blocks 0 fs) (content_words kind size ws ++ us)
+spells-content Code last size ws blocks fs us within small long rest =
+    spells-begin last size 1001 content_type.Code [] _ _ (omega arith) type-code
+    (spells-size last size (length ws) 0 content_type.Code [] _ _ within small (spells-words ws [] (blocks_end (in_load last size) (4 * size) blocks 0 fs) us long rest))
+spells-content Data last size ws blocks fs us within small long rest =
+    spells-begin last size 1002 content_type.Data [] _ _ (omega arith) type-data
+    (spells-size last size (length ws) 0 content_type.Data [] _ _ within small (spells-words ws [] (blocks_end (in_load last size) (4 * size) blocks 0 fs) us long rest))
+spells-content Bss last size ws blocks fs us within small long rest =
+    spells-begin last size 1003 content_type.Bss [] _ _ (omega arith) type-bss
+    (spells-size last size size 0 content_type.Bss [] (blocks_end (in_load last size) (4 * size) blocks 0 fs) us (omega arith) small rest)
+
+regroup : (a b c d e ws : List ℕ) → (a ++ (b ++ (c ++ (d ++ e)))) ++ ws ≡ a ++ (b ++ (c ++ (d ++ (e ++ ws))))
+regroup a b c d e ws = simp append_assoc
+
+spells-hunk : (count last : ℕ) (h : FileHunk) (fs : List Field) (ws : List ℕ) → count ≤ last + 1 → last < 2 ^ 32 → h.size ≤ 2 ^ 24 → carried_by h ≤ 2 ^ 28 → IsLoadHunk count h
+    → Spells [] fs ws → Spells [] (hunk_at (hunk_type last h.size) (in_load last h.size) None (body_tree count h) fs) (hunk_words count h ++ ws)
+spells-hunk count last h fs ws within few small carries valid rest =
+    let debugs = debug_trees h.debugs in
+    let content_fits = most_content-le h.kind h.size in
+    let stored : length (longwords h.content) ≤ h.size = omega (arith, content_fits, valid.content, length-longwords h.content) in
+    let entries : length h.sites.entries < 2 ^ 31 = omega (arith, valid.limit, AreApart-few h.sites valid.typed.apart) in
+    let stand = subst (λ limit. StandFrom 0 limit h.sites.entries) valid.limit valid.typed.apart in
+    subst (λ us. Spells [] (hunk_at (hunk_type last h.size) (in_load last h.size) None (body_tree count h) fs) us)
+    (sym (regroup (content_words h.kind h.size (longwords h.content)) (site_words count h.sites.entries) (symbols_words h.symbols) (flat_map debug_words h.debugs) (1010 ∷ []) ws))
+    (spells-content h.kind last h.size (longwords h.content) (site_trees count h.sites.entries ++ (symbol_trees h.symbols ++ debugs)) fs _ stored small
+    (longwords-lt h.content (recursion_from_All (λ b. b < 256) h.content valid.typed.bytes))
+    (spells-sites last h.size (4 * h.size) count h.sites.entries (symbol_trees h.symbols ++ debugs) fs _ within few (omega arith) entries stand (λ seen.
+    spells-symbols last h.size (4 * h.size) h.symbols debugs seen fs _ (recursion_from_All IsTypedSymbol h.symbols valid.typed.symbols)
+    (recursion_from_All (λ s. length s.0 ≤ most_name) h.symbols valid.names)
+    (spells-debugs last h.size (4 * h.size) h.debugs seen fs ws (recursion_from_All (All IsLongword) h.debugs valid.typed.debugs) (omega arith) rest))))
+
+spells-hunks : (count last : ℕ) (hunks : List FileHunk) → count ≤ last + 1 → last < 2 ^ 32 → size_of hunks ≤ 2 ^ 24 → carried_longwords hunks ≤ 2 ^ 28 → All (IsLoadHunk count) hunks
+    → Spells [] (load_hunks last (map (hunk_tree count) hunks) []) (flat_map (hunk_words count) hunks)
+spells-hunks count last [] within few small carries valid = record { fits = tt; sites = tt; words = refl }
+spells-hunks count last (h ∷ hs) within few small carries valid =
+    let sizes = sum_by-cons (λ (k : FileHunk). k.size) h hs in
+    let carried_sum = sum_by-cons carried_by h hs in
+    spells-hunk count last h (load_hunks last (map (hunk_tree count) hs) []) (flat_map (hunk_words count) hs) within few (omega arith) (omega arith) (All-head (IsLoadHunk count) h hs valid)
+    (spells-hunks count last hs within few (omega arith) (omega arith) (All-tail (IsLoadHunk count) h hs valid))
+
+-- ---- the header
+
+memory_bits-le : (memory : Memory) → memory_bits memory ≤ 2
+memory_bits-le Any = omega arith
+memory_bits-le Chip = omega arith
+memory_bits-le Fast = omega arith
+
+both-pass : (first second : Option Reason) → first ≡ None → second ≡ None → and_then first second ≡ None
+both-pass first second one two = ap (λ o. and_then o second) one ∙ two
+
+spells-header_size : (last room left : ℕ) (before : List ℕ) (memory size : ℕ) (fs : List Field) (ws : List ℕ) → memory ≤ 2 → size ≤ room → room ≤ 2 ^ 24
+    → Spells [] fs ws → Spells [] (field (header_size last room left before) (type_longword memory size) ∷ fs) ((memory * 2 ^ 30 + size) ∷ ws)
+spells-header_size last room left before memory size fs ws known within small rest =
+    let is : type_longword memory size ≡ memory * 2 ^ 30 + size = type_longword-is memory size (omega arith) in
+    let fits : type_longword memory size < 2 ^ 32 = omega arith in
+    let memory_passes = ap (λ b. nat_lt b 3) (type_longword-bits memory size fits) ∙ lt-ltb memory 3 (omega arith) in
+    let size_passes = ap (λ n. nat_le n room) (type_longword-low memory size fits) ∙ le-leb size room within in
+    let passes = both-pass _ _ (reject_unless-holds BothMemoryBits memory_passes) (reject_unless-holds TooLarge size_passes) in
+    subst (λ n. Spells [] (field (header_size last room left before) (type_longword memory size) ∷ fs) (n ∷ ws)) is
+    (spells-next (header_size last room left before) (type_longword memory size) [] fs ws refl (record { fits = fits; passes = passes }) refl rest)
+
+spells-sizes : (count last room : ℕ) (before : List ℕ) (hunks : List FileHunk) (fs : List Field) (ws : List ℕ) → size_of hunks ≤ room → room ≤ 2 ^ 24
+    → Spells [] fs ws → Spells [] (sizes_at last room before (map (hunk_tree count) hunks) fs) (map size_word hunks ++ ws)
+spells-sizes count last room before [] fs ws fit small rest = rest
+spells-sizes count last room before (h ∷ hs) fs ws fit small rest =
+    let sizes = sum_by-cons (λ (k : FileHunk). k.size) h hs in
+    let left = length (map (hunk_tree count) hs) in
+    spells-header_size last room left before (memory_bits h.memory) h.size _ _ (memory_bits-le h.memory) (omega arith) small
+    (spells-sizes count last (room - h.size) (h.size ∷ before) hs fs ws (omega arith) (omega arith) rest)
+
+-- what stands before the sizes
+spells-start : (last : ℕ) (fs : List Field) (ws : List ℕ) → suc last ≤ 65535 → Spells [] fs ws
+    → Spells [] (field load_start (type_longword 0 1011) ∷ field resident 0 ∷ field table_size (suc last) ∷ field first_hunk 0 ∷ field (last_hunk last) last ∷ fs) (1011 ∷ 0 ∷ suc last ∷ 0 ∷ last ∷ ws)
+spells-start last fs ws few rest =
+    let plain : type_longword 0 1011 ≡ 1011 = type_longword-plain 1011 (omega arith) in
+    let start = eq-eqb (low (type_longword 0 1011)) 1011 (type_longword-low 0 1011 (omega arith)) in
+    let table = and_from (nat_le 1 (suc last)) (nat_le (suc last) 65535) (le-leb 1 (suc last) (omega arith)) (le-leb (suc last) 65535 few) in
+    let behind = field resident 0 ∷ field table_size (suc last) ∷ field first_hunk 0 ∷ field (last_hunk last) last ∷ fs in
+    subst (λ n. Spells [] (field load_start (type_longword 0 1011) ∷ behind) (n ∷ 0 ∷ suc last ∷ 0 ∷ last ∷ ws)) plain
+    (spells-next load_start (type_longword 0 1011) [] _ _ refl (record { fits = omega arith; passes = reject_unless-holds WrongStart start }) refl
+    (spells-next resident 0 [] _ _ refl (record { fits = omega arith; passes = refl }) refl
+    (spells-next table_size (suc last) [] _ _ refl (record { fits = omega arith; passes = reject_unless-holds HunkTable table }) refl
+    (spells-next first_hunk 0 [] _ _ refl (record { fits = omega arith; passes = refl }) refl
+    (spells-next (last_hunk last) last [] fs ws refl (record { fits = omega arith; passes = reject_unless-holds HunkTable (eq-eqb last last refl) }) refl rest)))))
+
+-- ---- the whole file
+
+pub spells-file : (h : FileHunk) (hs : List FileHunk) → IsLoadFile (h ∷ hs) → Spells [] (load_spelling (file_tree h hs)) (written_form (h ∷ hs))
+spells-file h hs valid =
+    let hunks = h ∷ hs in
+    let count = length hunks in
+    let last : ℕ = length (map (hunk_tree (length (h ∷ hs))) hs) in
+    let same : last ≡ length hs = length-map hs (hunk_tree (length (h ∷ hs))) in
+    let few : length (h ∷ hs) ≤ 65535 = valid.few in
+    let less : length hs ≡ length (h ∷ hs) - 1 = omega arith in
+    let body = map size_word hunks ++ flat_map (hunk_words count) hunks in
+    subst (λ ws. Spells [] (load_spelling (file_tree h hs)) ws)
+    (ap (λ n. 1011 ∷ 0 ∷ suc n ∷ 0 ∷ n ∷ body) same ∙ ap (λ n. 1011 ∷ 0 ∷ count ∷ 0 ∷ n ∷ body) less)
+    (spells-start last _ body (omega arith)
+    (spells-sizes count last (2 ^ 24) [] hunks (load_hunks last (map (hunk_tree count) hunks) []) (flat_map (hunk_words count) hunks) valid.small (omega arith)
+    (spells-hunks count last hunks (omega arith) (omega arith) valid.small valid.carries valid.each)))

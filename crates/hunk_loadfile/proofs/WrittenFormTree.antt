@@ -1,0 +1,58 @@
+-- The tree of the written form of a load file.
+use Rattle.std.proofs.Common.{ℕ, List, [], ◌∷◌, ◌++◌, None, length, map}
+use Rattle.std.specs.List.{flat_map, range_with_len}
+use Rattle.hunk_words.specs.Longwords.{longwords}
+use Rattle.hunk_words.specs.Name.{name_words}
+use Rattle.hunk_words.specs.Trees.{Group, SymbolTree, BlockTree, ContentTree, BodyTree, LoadHunkTree, LoadTree}
+use Rattle.hunk_words.specs.Trees.BlockTree.{reloc_tree, symbol_tree, debug_tree}
+use Rattle.hunk_words.specs.Trees.ContentTree.{code_tree, data_tree, bss_tree}
+use Rattle.hunk_words.specs.declared.kinds.HunkKind.{HunkKind}
+use Rattle.hunk_words.specs.declared.kinds.HunkKind.TheVariants.{Code, Data, Bss}
+use Rattle.hunk_loadfile.specs.LoadHunk.{FileHunk}
+use Rattle.hunk_loadfile.specs.WrittenForm.{memory_bits, offsets_to}
+
+-- the content's longwords
+abbrev pub content_tree : HunkKind → ℕ → List ℕ → ContentTree
+content_tree Code size ws = code_tree 0 0 ws
+content_tree Data size ws = data_tree 0 0 ws
+content_tree Bss size ws = bss_tree 0 0 size
+
+-- one group, where there are offsets
+abbrev pub group_tree : ℕ → List ℕ → List Group
+group_tree target [] = []
+group_tree target (o ∷ os) = record { target = target; first = o; others = os } ∷ []
+
+-- the groups of so many targets, from this one on
+abbrev pub group_trees : ℕ → ℕ → List (ℕ × ℕ) → List Group
+group_trees from count sites = flat_map (λ target. group_tree target (offsets_to target sites)) (range_with_len from count)
+
+abbrev pub site_trees : ℕ → List (ℕ × ℕ) → List BlockTree
+site_trees count [] = []
+site_trees count (e ∷ es) = reloc_tree 0 (group_trees 0 count (e ∷ es)) ∷ []
+
+-- a symbol, whose name has one longword at least
+abbrev pub symbol_of : List ℕ → ℕ → SymbolTree
+symbol_of [] amount = record { first = 0; others = []; amount = amount }
+symbol_of (w ∷ ws) amount = record { first = w; others = ws; amount = amount }
+
+abbrev pub symbol_trees : List (List ℕ × ℕ) → List BlockTree
+symbol_trees [] = []
+symbol_trees (s ∷ ss) = symbol_tree 0 (map (λ t. symbol_of (name_words t.0) t.1) (s ∷ ss)) ∷ []
+
+abbrev pub debug_trees : List (List ℕ) → List BlockTree
+debug_trees ds = map (λ d. debug_tree 0 d) ds
+
+-- one of so many hunks
+abbrev pub body_tree : ℕ → FileHunk → BodyTree
+body_tree count h = record {
+  content = content_tree h.kind h.size (longwords h.content);
+  blocks = site_trees count h.sites.entries ++ (symbol_trees h.symbols ++ debug_trees h.debugs);
+  end_bits = 0;
+}
+
+abbrev pub hunk_tree : ℕ → FileHunk → LoadHunkTree
+hunk_tree count h = record { memory_bits = memory_bits h.memory; size = h.size; hunk = record { name = None; body = body_tree count h } }
+
+-- a file of a first hunk and others
+abbrev pub file_tree : FileHunk → List FileHunk → LoadTree
+file_tree h hs = record { type_bits = 0; first = hunk_tree (length (h ∷ hs)) h; others = map (hunk_tree (length (h ∷ hs))) hs }

@@ -1,0 +1,20 @@
+-- The hunks of a load file, as contracts see them: what their fields name, every Vec as a list.
+use Rattle.std.specs.Prelude.{ℕ, List, Vec, map}
+use Rattle.hunk_words.specs.Sites.{SiteMap}
+use Rattle.hunk_words.specs.declared.kinds.HunkKind.{HunkKind}
+use Rattle.hunk_words.specs.declared.kinds.Memory.{Memory}
+
+-- A hunk of a load file. Its size is in longwords, and its content in bytes; the sites tell the numbers of the hunks
+-- whose bases they add; a symbol is a name and a value, and a debug block its longwords.
+pub record FileHunk : Type 0 where
+  pub kind : HunkKind
+  pub memory : Memory
+  pub size : ℕ
+  pub content : List ℕ
+  pub sites : SiteMap ℕ
+  pub symbols : List (List ℕ × ℕ)
+  pub debugs : List (List ℕ)
+
+-- the elements of Vecs
+abbrev pub lists_of : {A T : Type 0} → List (Vec T A) → List (List T)
+lists_of vecs = map (λ v. v.items) vecs

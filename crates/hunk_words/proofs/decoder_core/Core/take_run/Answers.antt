@@ -1,0 +1,21 @@
+-- The run was taken whole.
+use Rattle.std.proofs.Common.{◌<◌, ◌≤◌, ◌+◌, ◌*◌, take, length, arith}
+use Rattle.std.proofs.lemmas.List.{length-take-le}
+use Rattle.hunk_words.specs.Files.{most_longwords}
+use Rattle.hunk_words.specs.Longwords.{longwords}
+use Rattle.hunk_words.proofs.LongwordsLemmas.{length-whole}
+use Rattle.hunk_words.proofs.DecoderCoreRunLemmas.{StandsBy-run, StandsBy-due}
+use Rattle.hunk_words.proofs.decoder_core.Core.take_run.Goals as goal
+
+pub returns-in-Ok-clause-stands : goal.returns-in-Ok-clause-stands
+returns-in-Ok-clause-stands g c = λ ws stands.
+    let s = c.args.self.now.state in
+    let n = c.min-count.result in
+    let front = take (4 * n) c.args.bytes.now in
+    let within : 4 * n ≤ length c.args.bytes.now = omega arith in
+    let some : 0 < n = omega arith in
+    let few : n ≤ c.args.more = omega arith in
+    let room : s.place + n ≤ most_longwords = omega arith in
+    StandsBy-run g.T.Taker.KIND _ _ s.state c.args.more n c.args.then s.place ws (longwords front)
+    (StandsBy-due g.T.Taker.KIND _ s c.args.more c.args.then ws c.requires.due c.requires.none stands)
+    some few room (length-whole front n (length-take-le (4 * n) c.args.bytes.now within)) c.in-Ok.ensures.long c.in-Ok.ensures.takes

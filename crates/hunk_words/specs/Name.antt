@@ -1,0 +1,36 @@
+-- Names, as longwords hold them: the bytes before the first zero byte, or all of them where there is none.
+use Rattle.std.specs.Prelude.{◌≡◌, ℕ, ◌+◌, ◌*◌, ◌/◌, ◌<◌, ◌==◌, List, ◌∷◌, ◌++◌, length, drop, map, max, replicate, ◌⊎◌}
+use Rattle.std.specs.List.{All, flat_map, before_first, range_with_len}
+use Rattle.byteorder.specs.Endian.{big_bytes, big_number}
+
+-- the bytes of longwords, the most significant byte of each first
+abbrev pub bytes_of : List ℕ → List ℕ
+bytes_of ws = flat_map (λ w. big_bytes 4 w) ws
+
+-- a byte other than zero
+abbrev pub IsNameByte : ℕ → Type 0
+IsNameByte b = (0 < b) × (b < 256)
+
+-- The longwords hold the name n. It has no zero byte, and what follows the first zero byte is ignored.
+pub record Names (n ws : List ℕ) : Type 0 where
+  pub no_zero : All (λ b. 0 < b) n
+  pub bytes : (bytes_of ws ≡ n) ⊎ ((rest : List ℕ) × (bytes_of ws ≡ n ++ 0 ∷ rest))
+
+-- the name that longwords hold
+abbrev pub name_of : List ℕ → List ℕ
+name_of ws = before_first (λ b. b == 0) (bytes_of ws)
+
+-- how many longwords a name of so many bytes takes: the fewest, and one at least
+abbrev pub longword_count : ℕ → ℕ
+longword_count bytes = max 1 ((bytes + 3) / 4)
+
+-- The longwords that hold the name n, the last one filled up with zeros. A byte that big_number finds missing is a zero.
+abbrev pub name_words : List ℕ → List ℕ
+name_words n = map (λ k. big_number 4 (drop (4 * k) n)) (range_with_len 0 (longword_count (length n)))
+
+-- The longwords are the bytes n, and after them the fewest zero bytes that make whole longwords. A name takes one longword
+-- at least.
+pub record Writes (n ws : List ℕ) : Type 0 where
+  pub zeros : ℕ
+  pub bytes : bytes_of ws ≡ n ++ replicate zeros 0
+  pub fewest : ((0 < length n) × (zeros < 4)) ⊎ ((length n ≡ 0) × (zeros ≡ 4))

@@ -1,0 +1,42 @@
+-- What a taker answers to an event, by the events that it took before.
+use Rattle.std.specs.Prelude.{◌≡◌, ℕ, ◌+◌, ◌<◌, ◌≤◌, true, false, List, Option, Some, None, Result, Ok, Err}
+use Rattle.hunk_words.specs.SiteRules.{all_apart}
+use Rattle.hunk_words.specs.SiteContext.{SiteContext, context_after, initial_context}
+use Rattle.hunk_words.specs.declared.event.FileKind.{FileKind}
+use Rattle.hunk_words.specs.declared.event.Event.{Event}
+use Rattle.hunk_words.specs.declared.event.Event.TheVariants.{Site, RefSite}
+use Rattle.hunk_words.specs.declared.sites.SiteRefusal.{SiteRefusal}
+use Rattle.hunk_words.specs.declared.sites.SiteRefusal.TheVariants.{Outside, Overlap, OutOfMemory}
+
+-- the limit and the sites of the hunk that events told, and the header's sizes
+abbrev pub context_of : FileKind → List Event → SiteContext
+context_of file told = context_after file initial_context told
+
+abbrev pub sizes_told : FileKind → List Event → List ℕ
+sizes_told file told = (context_of file told).position.sizes
+
+-- A site is taken where it lies inside the limit and apart from those seen, and refused by the first of these rules that
+-- it breaks, want of memory aside.
+abbrev pub JudgesSite : (limit : ℕ) (seen : List ℕ) (offset : ℕ) → Result (Unit {0}) SiteRefusal → Type 0
+JudgesSite limit seen offset (Ok done) = (offset + 4 ≤ limit) × (all_apart offset seen ≡ true)
+JudgesSite limit seen offset (Err Outside) = limit < offset + 4
+JudgesSite limit seen offset (Err Overlap) = (offset + 4 ≤ limit) × (all_apart offset seen ≡ false)
+JudgesSite limit seen offset (Err OutOfMemory) = Unit {0}
+
+-- no refusal of a site
+abbrev pub JudgesNone : Result (Unit {0}) SiteRefusal → Type 0
+JudgesNone (Ok done) = Unit {0}
+JudgesNone (Err Outside) = ⊥
+JudgesNone (Err Overlap) = ⊥
+JudgesNone (Err OutOfMemory) = Unit {0}
+
+-- The sites of an event are judged exactly, and there is no refusal of a site at another event.
+abbrev pub Judges : SiteContext → Event → Result (Unit {0}) SiteRefusal → Type 0
+Judges watch (Site offset target) answer = JudgesSite watch.position.limit watch.seen offset answer
+Judges watch (RefSite offset) answer = JudgesSite watch.position.limit watch.seen offset answer
+Judges watch event answer = JudgesNone answer
+
+-- the answer to what a number tells, if anything
+abbrev pub JudgesEvent : SiteContext → Option Event → Result (Unit {0}) SiteRefusal → Type 0
+JudgesEvent watch None answer = JudgesNone answer
+JudgesEvent watch (Some event) answer = Judges watch event answer
