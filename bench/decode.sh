@@ -1,6 +1,6 @@
 #!/usr/bin/env bash
-# Feeds 64 MB of content to a decoder whose taker counts and sums words, beside a plain sum of the same longwords, five times,
-# and prints the bytes a second of both and the ratio of their times.
+# Measures the decoder: feeds it 64 MB of content, with a taker that counts and sums words, and compares that with a plain sum of
+# the same longwords. Does so five times, and prints the bytes per second of both and the ratio of their times.
 set -eu
 cd "$(dirname "$0")/../crates/hunk_bench"
 rt run -- decode > /dev/null

@@ -1,7 +1,8 @@
 #!/usr/bin/env bash
-# Measures loading: its time beside `xxd` and `cat`, its memory, and its worst orders. It makes its
-# inputs, and prints for each figure what is allowed and what was reached. Times are the best of five.
-# It needs the toolchain, python3 and xxd on the PATH, and 1.5 GB of room for temporary files.
+# Measures loading: its time compared with `cat` and `xxd`, in every order of relocations, and its memory.
+# It makes its own inputs, and prints for each figure what is allowed and what was reached. Times are the
+# best of five runs. It ends with status 1 where a figure is missed. It needs the toolchain, python3 and xxd
+# on the PATH, and 2 GB for temporary files.
 set -eu
 export LC_ALL=C
 crates="$(cd "$(dirname "$0")/../crates" && pwd)"
@@ -43,62 +44,65 @@ subprocess.run(sys.argv[1:], stdout=subprocess.DEVNULL, check=True)
 print(resource.getrusage(resource.RUSAGE_CHILDREN).ru_maxrss)' "$@"
 }
 
+missed=0
+
 figure() { # NAME ALLOWED REACHED UNIT
-    awk -v name="$1" -v allowed="$2" -v reached="$3" -v unit="$4" 'BEGIN {
-        printf "%-64s allowed %8.2f, reached %8.2f %s%s\n", name, allowed, reached, unit, (reached > allowed ? "  MISSED" : "") }'
+    local mark=""
+    if awk -v allowed="$2" -v reached="$3" 'BEGIN { exit !(reached > allowed) }'; then
+        mark="  MISSED"
+        missed=1
+    fi
+    printf '%-66s allowed %8.2f, reached %8.2f %s%s\n' "$1" "$2" "$3" "$4" "$mark"
 }
 
 ratio() { # A / B
     awk -v a="$1" -v b="$2" 'BEGIN { print a / b }'
 }
 
-make_file rising "$longwords" 1000000 rising 0
-make_file half "$((longwords / 2))" 500000 rising 0
+sites=1000000
 make_file plain "$longwords" 0 rising 0
-make_file falling "$longwords" 1000000 falling 0
+for order in rising targets falling random; do
+    make_file "$order" "$longwords" "$sites" "$order" 0
+done
+make_file half "$((longwords / 2))" "$((sites / 2))" rising 0
 make_file debug "$longwords" 0 rising 400000000
 cd "$folder"
 
-echo "60 MB with 1,000,000 relocations, beside xxd; both write a file"
+cat_time="$(best /dev/null cat plain)"
+echo "60 MB; cat takes $cat_time us"
+for how in decode load; do
+    plain="$(best /dev/null "$bench" "$how-file" plain)"
+    figure "$how without relocations ($plain us) by cat" 6 "$(ratio "$plain" "$cat_time")" times
+    for row in "rising 1.5" "targets 1.7" "falling 2" "random 4"; do
+        read -r order allowed <<< "$row"
+        time="$(best /dev/null "$bench" "$how-file" "$order")"
+        figure "$how with $sites, $order ($time us), by the same without" "$allowed" "$(ratio "$time" "$plain")" times
+    done
+    rising="$(best /dev/null "$bench" "$how-file" rising)"
+    half="$(best /dev/null "$bench" "$how-file" half)"
+    figure "$how ($rising us) by half the work ($half us)" 2.2 "$(ratio "$rising" "$half")" times
+done
+
+echo "the report of 60 MB with $sites relocations; both write a file"
 load="$(best out "$amihunk" load --at 10000 rising)"
 xxd="$(best out xxd -c 16 rising.content)"
 rm out
 figure "amihunk load ($load us) by xxd -c 16 ($xxd us)" 0.3 "$(ratio "$load" "$xxd")" times
 
-echo "the same file, beside cat, and beside a process that does the same reads"
-cat_time="$(best /dev/null cat rising)"
-read_time="$(best /dev/null "$bench" read-file rising)"
-for how in decode load; do
-    time="$(best /dev/null "$bench" "$how-file" rising)"
-    half="$(best /dev/null "$bench" "$how-file" half)"
-    plain="$(best /dev/null "$bench" "$how-file" plain)"
-    figure "$how ($time us) by cat ($cat_time us)" 6 "$(ratio "$time" "$cat_time")" times
-    figure "$how ($time us) by the same reads ($read_time us)" 6 "$(ratio "$time" "$read_time")" times
-    figure "$how without relocations ($plain us) by cat ($cat_time us)" 6 "$(ratio "$plain" "$cat_time")" times
-    figure "$how ($time us) by the half of it ($half us)" 2.2 "$(ratio "$time" "$half")" times
-done
-
 echo "memory of amihunk load, beside the image of 60 MB"
 image=$((longwords * 4 / 1024))
-for name in plain debug rising; do
+for row in "plain 16" "debug 16" "rising 32" "random 32"; do
+    read -r name allowed <<< "$row"
     kib="$(peak "$amihunk" load --at 10000 "$name")"
-    beside="$(ratio "$((kib - image))" 1024)"
-    case "$name" in
-        plain) figure "without relocations" 16 "$beside" MiB ;;
-        debug) figure "with 400 MB of debug blocks" 16 "$beside" MiB ;;
-        rising) echo "with 1,000,000 relocations $beside MiB, most of it the sites of the hunk, which are not limited" ;;
-    esac
+    figure "$name" "$allowed" "$(ratio "$((kib - image))" 1024)" MiB
 done
 
-echo "worst orders"
-for how in decode load; do
-    time="$(best /dev/null "$bench" "$how-file" falling)"
-    figure "$how, 1,000,000 sites in falling order" 5 "$(ratio "$time" 1000000)" s
-done
-read -r check load < <(for _ in 1 2 3 4 5; do "$bench" falling; done \
+echo "65,535 hunks at descending bases"
+read -r check load < <(for _ in 1 2 3 4 5; do "$bench" descending; done \
     | awk '{ c = $3 / 1e9; l = $7 / 1e9
         if (NR == 1 || c < check) check = c
         if (NR == 1 || l < load) load = l }
         END { print check, load }')
-figure "check_places, 65,535 hunks at falling bases" 5 "$check" s
-figure "ImageLoader, 65,535 hunks at falling bases" 5 "$load" s
+figure "check_places" 5 "$check" s
+figure "ImageLoader" 5 "$load" s
+exit "$missed"

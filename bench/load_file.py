@@ -2,8 +2,9 @@
 """Writes a load file of one CODE hunk: load_file.py OUT LONGWORDS SITES ORDER DEBUG_BYTES
 
 The content is LONGWORDS longwords that repeat in no short pattern. SITES sites stand evenly in it, in
-`rising` or `falling` ORDER. Behind them come debug blocks of DEBUG_BYTES bytes in all, at most 100 MB
-each, as holes of the file where the file system has them. OUT.content holds the content alone.
+this ORDER: `rising`, `falling`, `random`, or `targets`, where three groups rise one after the other and
+each has every third site. After them come debug blocks of DEBUG_BYTES bytes in all, at most 100 MB each,
+as holes of the file where the file system has them. OUT.content holds the content alone.
 """
 import array
 import random
@@ -20,6 +21,16 @@ def longwords(numbers):
     return words.tobytes()
 
 
+def groups(offsets, order):
+    if order == "targets":
+        return [offsets[first::3] for first in range(3)]
+    if order == "falling":
+        return [offsets[::-1]]
+    if order == "random":
+        return [random.Random(1).sample(offsets, len(offsets))]
+    return [offsets]
+
+
 def main():
     out, count, sites, order, debug = sys.argv[1:]
     count, sites, debug = int(count), int(sites), int(debug) // 4
@@ -31,9 +42,10 @@ def main():
         file.write(content)
         if sites > 0:
             step = 4 * (count // sites)
-            offsets = range(0, step * sites, step)
-            file.write(longwords([RELOC32, sites, 0]))
-            file.write(longwords(reversed(offsets) if order == "falling" else offsets))
+            file.write(longwords([RELOC32]))
+            for group in groups(range(0, step * sites, step), order):
+                file.write(longwords([len(group), 0]))
+                file.write(longwords(group))
             file.write(longwords([0]))
         while debug > 0:
             block = min(debug, MOST_DEBUG)

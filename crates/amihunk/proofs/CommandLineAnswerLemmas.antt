@@ -1,4 +1,4 @@
--- The answer to the words of a command line.
+-- What the arguments of a command line ask for.
 use Rattle.std.proofs.Common.{◌≡◌, List, [], ◌⊎◌, inl, inr, subst}
 use Rattle.clap.specs.Words.{IsAmong, Text, fault_of, subcommand_of}
 use Rattle.clap.specs.declared.error.ErrorKind.{ErrorKind}
@@ -9,7 +9,7 @@ use Rattle.amihunk.specs.CommandLine.{Answers, AsksLoad, IsAskedBy, IsNoFlag, Is
 use Rattle.amihunk.proofs.CommandLineValueLemmas.{IsLoad-same}
 use Rattle.amihunk.proofs.CommandLineLoadLemmas.{fault_of-load_line, is_load-load_line}
 
--- an answer by one of the kinds that the words have is the answer to the words
+-- what one of the kinds of error asks for is what the arguments ask for
 pub asked_by_kind : (words : List Text) (request : Request) (k : ErrorKind) → (k ≡ error.OutOfMemory) ⊎ IsAmong k (fault_of command_line words)
     → Answers k request → IsAskedBy words request
 asked_by_kind words (Load list file) k has answers = absurd answers
@@ -19,7 +19,7 @@ asked_by_kind words (Refused text) k (inl none) answers = absurd (answers.1 none
 asked_by_kind words (Refused text) k (inr among) answers = record { kind = k; among = among; no_help = answers.0 }
 asked_by_kind words OutOfMemory k has answers = tt
 
--- the request that says what was met is the answer to words with which nothing is wrong
+-- the request that matches what was found is what arguments ask for with which nothing is wrong
 pub asked_by_met : (words : List Text) (met : Met) (request : Request) → fault_of command_line words ≡ []
     → met ≡ subcommand_of command_line words → Says met request → IsAskedBy words request
 asked_by_met words met (Load list file) quiet is load = (quiet, subst (λ m. IsLoad m list.now file.now) is load)
@@ -27,7 +27,7 @@ asked_by_met words met (Help text) quiet is load = absurd load
 asked_by_met words met (Refused text) quiet is load = absurd load
 asked_by_met words met OutOfMemory quiet is load = absurd load
 
--- the answer to the plain form of `load`
+-- what the plain form of `load` asks for
 pub asks_load : (program list file : Text) → IsNoFlag list → IsNoFlag file → (request : Request)
     → IsAskedBy (load_line program list file) request → AsksLoad list file request
 asks_load program list file plain_list plain_file (Load l f) asked =

@@ -1,4 +1,4 @@
--- Words with which nothing is wrong name a subcommand of the program, with the values that it has to have.
+-- Arguments with which nothing is wrong name a subcommand of the program, with its required values.
 use Rattle.std.proofs.Common.{◌≡◌, ◌∙◌, ◌||◌, Bool, true, false, not, cond, ap, sym, refl, inl, inr, arith, subst, List, [], ◌∷◌, codes, drop, Option, Some, None, is_some}
 use Rattle.std.specs.Prelude.{⊤, fold}
 use Rattle.std.specs.Option.{option_map, option_map_or}
@@ -30,7 +30,7 @@ fold-with_default (a ∷ rest) rows h = ap (λ r. fold with_default r rest) (wit
 
 -- ---- one level
 
--- a level with no subcommands, of which nothing is wrong, has filled rows
+-- a level without subcommands with which nothing is wrong has filled rows
 record IsRight (s : Shape) (words : List Text) : Type 0 where
   filled : Filled (rows_after s.rules [] words)
   checked : check_fault s (rows_after s.rules [] words) false ≡ []
@@ -70,7 +70,7 @@ all_filling = (inr (refl, omega arith), (inr (refl, omega arith), (inl refl, tt)
 no_defaults : HasNoDefaults built_load.rules
 no_defaults = (refl, (refl, (refl, tt)))
 
--- found values make the request whole
+-- values that were found make the request whole
 whole_by_values : (rows : List Row) → is_some (first_of (codes "at") rows) ≡ true → is_some (first_of (codes "file") rows) ≡ true
     → IsWhole (Some (codes "load", rows))
 whole_by_values rows at_some of_some = go (first_of (codes "at") rows) (first_of (codes "file") rows) refl refl at_some of_some
@@ -99,11 +99,11 @@ whole_load words e =
 abbrev pub line : App
 line = built command_line
 
--- a subcommand is asked for
+-- a subcommand is required
 asked_for : (rows : List Row) → check_fault line.top rows false ≡ [] → ⊥
 asked_for rows e = cc
 
--- what a walk that stopped there entered
+-- what a walk that stopped there has entered
 whole_where_entered : (stop : Option (Text × List Text)) (rows : List Row) → entered_fault line stop ≡ []
     → check_fault line.top rows (is_some (entered line stop)) ≡ [] → IsWhole (entered line stop)
 whole_where_entered None rows below checked = absurd (asked_for rows checked)

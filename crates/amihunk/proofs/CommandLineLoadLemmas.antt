@@ -116,7 +116,7 @@ pub fault_of-load_line : (program list file : Text) → IsNoFlag list → IsNoFl
 unfolding clap_on_literals
 fault_of-load_line program list file plain_list plain_file = line_fault list file _ (level_fault-load list file plain_list plain_file)
 
--- what the subcommand's own words give
+-- what the subcommand's own arguments yield
 load_rows : Text → Text → List Row
 load_rows list file = finished built_load.rules (after_file list file).held
 

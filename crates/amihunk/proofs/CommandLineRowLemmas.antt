@@ -1,4 +1,4 @@
--- Where nothing is wrong with the words, each row of their matches has a value.
+-- If nothing is wrong with the arguments, each row of their matches has a value.
 use Rattle.std.proofs.Common.{◌≡◌, ◌⊎◌, ◌≤◌, ◌&&◌, ℕ, zero, suc, Bool, true, false, cond, refl, subst, inl, inr, arith, List, [], ◌∷◌, ◌++◌, length, length-append, lt-ltb, drop, Option, Some, None, is_some}
 use Rattle.std.specs.Prelude.{⊤, encode_utf8, find, fold, slice_get, if◌then◌else◌}
 use Rattle.std.specs.Option.{option_and_then, option_map_or}
@@ -21,7 +21,7 @@ abbrev pub Filled : List Row → Type 0
 Filled [] = ⊤
 Filled (r ∷ rs) = (1 ≤ length r.values) × Filled rs
 
--- a use of the argument asks for help, or has a value at least
+-- a use of the argument asks for help, or has at least one value
 abbrev pub IsFilling : Rule → Type 0
 IsFilling a = (action_of a ≡ Help) ⊎ ((action_of a ≡ Set) × (1 ≤ (unwrap_or_range a.range).start_inclusive))
 
@@ -166,7 +166,7 @@ filled-bundle_met c again (suc k) all flags skip so_far h e full =
 
 -- ---- one word
 
--- a word that is no flag leaves the rows as they are
+-- an argument that is not a flag leaves the rows as they are
 rows-plain_word : (c : List Rule) (waiting : Waiting) (word : Text) (h : Held) → (plain_word c waiting word h).0.rows ≡ h.rows
 rows-plain_word c idle word h = refl
 rows-plain_word c (option id) word h = go (arg_by_id c id)
@@ -252,7 +252,7 @@ filled-walked s names w word all e full = go w.stopped e
         let parts = or_else-nil (word_fault s names w.is_trailing w.waiting word w.held) (step_fault s w.position met.0 met.1) f in
         filled-after_step s word w met.0 met.1 all parts.1 (filled-word_met s names w.is_trailing w.waiting w.position word w.held all parts.0 full)
 
--- a walk that nothing is wrong with keeps each row filled
+-- a walk with which nothing is wrong keeps each row filled
 pub filled-walk : (s : Shape) (names : Names) (words : List Text) (w : Walk) → AllFilling s.rules → walk_fault s names w words ≡ []
     → Filled w.held.rows → Filled (fold (walked s.rules names) w words).held.rows
 unfolding walk_fault

@@ -19,7 +19,7 @@ first_value-load f list file h =
       first_value-rows f (codes "file") ∙ (ap (first_of (codes "file")) same ∙ h.file_is),
     )
 
--- what was met has one LIST and one FILE
+-- what was found has only one LIST and one FILE
 pub IsLoad-same : (met : Met) (a b c d : Text) → IsLoad met a b → IsLoad met c d → (a ≡ c) × (b ≡ d)
 unfolding rows_met
 IsLoad-same met a b c d h k =

@@ -4,4 +4,5 @@ pub mod ProgramLemmas
 pub mod CommandLineRowLemmas
 pub mod CommandLineLoadLemmas
 pub mod LoadLemmas
+pub mod FailureLemmas
 pub mod CommandLineValueLemmas

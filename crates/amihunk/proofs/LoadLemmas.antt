@@ -1,4 +1,5 @@
--- Where the report of a file was written or was not, between the ends of a reader and of a writer behind a buffer.
+-- Whether the report of a file was written, seen from the reader and from the writer under a
+-- buffer.
 use Rattle.std.proofs.Common.{◌≡◌, ap, append-nil, refl, subst, false, List, [], ℕ, Option, Some, None}
 use Rattle.std.specs.Io.KnownBytes.{Keeps, append_known}
 use Rattle.std.proofs.KnownBytes.{Appends-kept, Keeps-refl}
@@ -18,12 +19,12 @@ pub stopped_between : (bases : List ℕ) (left taken : Option (List ℕ)) (fault
 stopped_between bases left taken fault ends left_is taken_is stopped =
     record { ends = ends; left_is = left_is; taken_is = taken_is; stopped = stopped }
 
--- want of memory before a byte was read or written
+-- out of memory before a byte was read or written
 pub stopped_at_once : (bases : List ℕ) (left taken : Option (List ℕ)) → Stopped bases left taken (OutOfMemory 0)
 stopped_at_once bases left taken =
     stopped_between bases left taken (OutOfMemory 0) (ends_of left left false false taken taken false) refl refl (refl, Keeps-refl taken)
 
--- the report went into a buffer, and the writer behind it took all that the buffer held
+-- the report went into a buffer, and the writer under it took everything that the buffer held
 pub reports_behind : (bases : List ℕ) (left began rest old empty filled new : Option (List ℕ)) → began ≡ left → empty ≡ old → HasRead began rest (IsReported bases empty filled)
     → Keeps filled new → Reports bases left old new
 reports_behind bases left began rest old empty filled new left_is old_is read kept =

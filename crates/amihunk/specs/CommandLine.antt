@@ -1,4 +1,4 @@
--- What the words of a command line ask for, as `clap` reads them.
+-- What the arguments of a command line ask for, as `clap` reads them.
 use Rattle.std.specs.Prelude.{◌≡◌, ◌≢◌, ⊤, ◌∷◌, List, [], true, codes, Option, Some}
 use Rattle.clap.specs.Words.{App, IsAmong, Kinds, Row, Rule, Shape, Text, fault_of, first_of}
 use Rattle.clap.specs.Words.{new_app, new_rule, subcommand_of, with_rule, with_subcommand}
@@ -7,7 +7,7 @@ use Rattle.clap.specs.declared.error.ErrorKind.TheVariants as error
 use Rattle.amihunk.specs.declared.command_line.Request.{Request}
 use Rattle.amihunk.specs.declared.command_line.Request.TheVariants.{Load, Help, Refused, OutOfMemory}
 
--- `--at LIST`, which has to be given
+-- `--at LIST`, which is required
 abbrev pub list_rule : Rule
 list_rule = record (new_rule (codes "at")) {
   long = Some (codes "at");
@@ -15,14 +15,14 @@ list_rule = record (new_rule (codes "at")) {
   required = true;
 }
 
--- `FILE`, which has to be given
+-- `FILE`, which is required
 abbrev pub file_rule : Rule
 file_rule = record (new_rule (codes "file")) { value_names = 1; required = true }
 
 abbrev pub load_shape : Shape
 load_shape = (with_rule (with_rule (new_app (codes "load")) list_rule) file_rule).top
 
--- the program, which asks for a subcommand, and has none that is called `help`
+-- the program, which requires a subcommand, and has none called `help`
 abbrev pub bare_shape : Shape
 bare_shape = record (new_app (codes "amihunk")).top {
   subcommand_required = true;
@@ -43,32 +43,32 @@ pub record IsLoad (met : Met) (list file : Text) : Type 0 where
   pub list_is : first_of (codes "at") rows ≡ Some list
   pub file_is : first_of (codes "file") rows ≡ Some file
 
--- the subcommand is one of the program's, with the values that it has to have
+-- the subcommand is one of the program's, with its required values
 pub record IsWhole (met : Met) : Type 0 where
   pub list : Text
   pub file : Text
   pub load : IsLoad met list file
 
--- the request says what was met
+-- the request matches what was found
 abbrev pub Says : Met → Request → Type 0
 Says met (Load list file) = IsLoad met list.now file.now
 Says met _ = ⊥
 
--- the answer to words that `clap` refuses by a kind
+-- the request for arguments that `clap` rejects with this kind of error
 abbrev pub Answers : ErrorKind → Request → Type 0
 Answers k (Load list file) = ⊥
 Answers k (Help text) = k ≡ error.DisplayHelp
 Answers k (Refused text) = (k ≢ error.DisplayHelp) × (k ≢ error.OutOfMemory)
 Answers k OutOfMemory = ⊤
 
--- the words are refused by one of the kinds, and ask for no help
+-- the arguments are rejected with one of the kinds, and do not ask for help
 pub record IsRefusedBy (kinds : Kinds) : Type 0 where
   pub kind : ErrorKind
   pub among : IsAmong kind kinds
   pub no_help : kind ≢ error.DisplayHelp
 
--- the answer to the words: the subcommand that they name where nothing is wrong with them, help
--- where they ask for it, a refusal where something is wrong, and no answer for want of memory
+-- what the arguments ask for: the subcommand that they name if nothing is wrong with them, help if
+-- they ask for it, a rejection if something is wrong; nothing is said if memory runs out
 abbrev pub IsAskedBy : List Text → Request → Type 0
 IsAskedBy words (Load list file) = (fault_of command_line words ≡ [])
     × IsLoad (subcommand_of command_line words) list.now file.now
@@ -76,7 +76,7 @@ IsAskedBy words (Help text) = IsAmong error.DisplayHelp (fault_of command_line w
 IsAskedBy words (Refused text) = IsRefusedBy (fault_of command_line words)
 IsAskedBy words OutOfMemory = ⊤
 
--- the words are refused, or there was no memory
+-- the arguments are rejected, or memory ran out
 abbrev pub IsRefusal : Request → Type 0
 IsRefusal (Refused text) = ⊤
 IsRefusal OutOfMemory = ⊤
@@ -84,16 +84,16 @@ IsRefusal _ = ⊥
 
 -- ---- the plain form of `load`
 
--- the word begins with no hyphen (45)
+-- the argument does not begin with a hyphen (45)
 abbrev pub IsNoFlag : Text → Type 0
 IsNoFlag [] = ⊤
 IsNoFlag (c ∷ rest) = c ≢ 45
 
--- the words `PROGRAM load --at LIST FILE`
+-- the arguments `PROGRAM load --at LIST FILE`
 abbrev pub load_line : Text → Text → Text → List Text
 load_line program list file = program ∷ codes "load" ∷ codes "--at" ∷ list ∷ file ∷ []
 
--- the request is `load` with this LIST and this FILE, or there was no memory
+-- the request is `load` with this LIST and this FILE, or memory ran out
 abbrev pub AsksLoad : Text → Text → Request → Type 0
 AsksLoad list file (Load l f) = (l.now ≡ list) × (f.now ≡ file)
 AsksLoad list file OutOfMemory = ⊤

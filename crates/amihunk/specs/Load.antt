@@ -1,4 +1,5 @@
--- What is known of a list of addresses, a file and the standard output after `load`, or why it stopped.
+-- What is known of a list of addresses, a file and the standard output after `load`, or why it
+-- failed.
 use Rattle.std.specs.Prelude.{◌≡◌, ◌⊎◌, ℕ, List, Option, Some, map, ⊤}
 use Rattle.hunk_words.specs.Streams.{HasRead}
 use Rattle.hunk_tool.specs.Bases.{IsBasesFault, numbers}
@@ -14,32 +15,31 @@ pub record IsList (list : List ℕ) : Type 0 where
   pub bases : List ℕ
   pub numbers_are : numbers list ≡ map Some bases
 
--- the list is refused: its first part that is no number, or want of memory
+-- why the list is rejected: its first part that is not a number, or out of memory
 abbrev pub IsListFailure : List ℕ → Failure → Type 0
 IsListFailure list (BadNumber index) = IsBasesFault list (bases_fault.BadNumber index)
 IsListFailure list (Tool fault) = fault ≡ tool_fault.OutOfMemory 0
 IsListFailure list _ = ⊥
 
--- the bytes that came from a reader are a load file, and its report at these bases is all that was
--- written
+-- the bytes that were read are a load file, and its report at these bases is all that was written
 pub record Reports (bases : List ℕ) (left old new : Option (List ℕ)) : Type 0 where
   pub rest : Option (List ℕ)
   pub reported : HasRead left rest (IsReported bases old new)
 
--- an engine's answer, between these ends of the reader and the writer
+-- what `load_run` returned, for this reader and this writer
 pub record Stopped (bases : List ℕ) (left taken : Option (List ℕ)) (fault : ToolFault) : Type 0 where
   pub ends : Ends
   pub left_is : ends.left ≡ left
   pub taken_is : ends.taken ≡ taken
   pub stopped : IsLoadFault bases ends fault
 
--- why the report of what a reader gives did not go to the writer
+-- why the report of what a reader has was not written
 abbrev pub IsReportFailure : List ℕ → (left taken : Option (List ℕ)) → Failure → Type 0
 IsReportFailure bases left taken Printing = ⊤
 IsReportFailure bases left taken (Tool fault) = Stopped bases left taken fault
 IsReportFailure bases left taken _ = ⊥
 
--- the numbers of the list are the bases at which a load file was reported
+-- the numbers in the list are the bases at which a load file was reported
 pub record IsLoaded (list : List ℕ) : Type 0 where
   pub bases : List ℕ
   pub numbers_are : numbers list ≡ map Some bases
@@ -48,7 +48,7 @@ pub record IsLoaded (list : List ℕ) : Type 0 where
   pub new : Option (List ℕ)
   pub reports : Reports bases left old new
 
--- the numbers of the list are the bases that an engine's answer is about
+-- the numbers in the list are the bases that `load_run` was called with
 pub record IsStoppedAt (list : List ℕ) (fault : ToolFault) : Type 0 where
   pub bases : List ℕ
   pub numbers_are : numbers list ≡ map Some bases
@@ -56,7 +56,7 @@ pub record IsStoppedAt (list : List ℕ) (fault : ToolFault) : Type 0 where
   pub taken : Option (List ℕ)
   pub stopped : Stopped bases left taken fault
 
--- why `load` was not done: the list is judged first, and then the file is opened
+-- why `load` failed: the list is checked first, and then the file is opened
 abbrev pub IsLoadFailure : (list file : List ℕ) → Failure → Type 0
 IsLoadFailure list file (BadNumber index) = IsBasesFault list (bases_fault.BadNumber index)
 IsLoadFailure list file (Opening name) = (name.now ≡ file) × IsList list

@@ -1,31 +1,34 @@
--- The exit status that ends the program.
-use Rattle.std.specs.Prelude.{◌≡◌, ◌⊎◌, ℕ, List}
-use Rattle.amihunk.specs.Failure.{status_of}
+-- The exit status that ends the program, and the line on standard error.
+use Rattle.std.specs.Prelude.{◌≡◌, ◌⊎◌, ◌∷◌, [], ℕ, List, Bool, Option}
+use Rattle.hunk_tool.specs.declared.tool_fault.ToolFault.TheVariants as tool_fault
+use Rattle.amihunk.specs.Failure.{failure_line, status_of, TellsLine}
 use Rattle.amihunk.specs.Load.{IsLoadFailure, IsLoaded}
 use Rattle.amihunk.specs.CommandLine.{IsAskedBy}
 use Rattle.amihunk.specs.declared.failure.Failure.{Failure}
+use Rattle.amihunk.specs.declared.failure.Failure.TheVariants.{Tool}
 use Rattle.amihunk.specs.declared.command_line.Request.{Request}
 use Rattle.amihunk.specs.declared.command_line.Request.TheVariants.{Load, Help, Refused, OutOfMemory}
 
--- `load` was not done, and the status is that of the failure
-pub record IsFailed (list file : List ℕ) (status : ℕ) : Type 0 where
+-- `load` was not done, the status is that of the failure, and its line went to the writer, or a write to it failed
+pub record IsFailed {W : Type 0} (taken : W → Option (List ℕ)) (failed : W → Bool) (old new : W) (list file : List ℕ) (status : ℕ) : Type 0 where
   pub failure : Failure
   pub why : IsLoadFailure list file failure
   pub status_is : status ≡ status_of failure
+  pub line : TellsLine taken failed old new (failure_line (file ∷ []) failure)
 
 -- the status after `load`
-abbrev pub EndsLoad : (list file : List ℕ) → ℕ → Type 0
-EndsLoad list file status = ((status ≡ 0) × IsLoaded list) ⊎ IsFailed list file status
+abbrev pub EndsLoad : {W : Type 0} (taken : W → Option (List ℕ)) (failed : W → Bool) (old new : W) (list file : List ℕ) → ℕ → Type 0
+EndsLoad taken failed old new list file status = ((status ≡ 0) × IsLoaded list) ⊎ IsFailed taken failed old new list file status
 
 -- the status after a request
-abbrev pub Ends : Request → ℕ → Type 0
-Ends (Load list file) status = EndsLoad list.now file.now status
-Ends (Help text) status = (status ≡ 0) ⊎ (status ≡ 3)
-Ends (Refused text) status = status ≡ 2
-Ends OutOfMemory status = status ≡ 4
+abbrev pub Ends : {W : Type 0} (taken : W → Option (List ℕ)) (failed : W → Bool) (old new : W) → Request → ℕ → Type 0
+Ends taken failed old new (Load list file) status = EndsLoad taken failed old new list.now file.now status
+Ends taken failed old new (Help text) status = (status ≡ 0) ⊎ (status ≡ 3)
+Ends taken failed old new (Refused text) status = status ≡ 2
+Ends taken failed old new OutOfMemory status = (status ≡ 4) × TellsLine taken failed old new (failure_line [] (Tool (tool_fault.OutOfMemory 0)))
 
--- the status after a command line: that of the request which its words make
-pub record EndsLine (words : List (List ℕ)) (status : ℕ) : Type 0 where
+-- the status after a command line: that of the request that its arguments make
+pub record EndsLine {W : Type 0} (taken : W → Option (List ℕ)) (failed : W → Bool) (old new : W) (words : List (List ℕ)) (status : ℕ) : Type 0 where
   pub request : Request
   pub asked : IsAskedBy words request
-  pub ends : Ends request status
+  pub ends : Ends taken failed old new request status

@@ -1,4 +1,4 @@
-//! The words of the command line, read by `clap`.
+//! The arguments of the command line, as `clap` reads them.
 ghost use Rattle.std.specs.Prelude.{◌≡◌, ℕ, IfOk, List, Some, codes, false, map};
 ghost use Rattle.clap.specs.Words.{FailsBy, app_of, fault_of, found_of, kind_of, rows_of};
 ghost use Rattle.clap.specs.Words.{shape_of, subcommand_of, subcommand_rows_of};
@@ -11,25 +11,25 @@ use clap::{Arg, ArgMatches, Command, Error};
 use std::alloc::{AllocError, Global};
 use std::convert::AsStr;
 
-/// What the words of the command line ask for.
+/// What the arguments of the command line ask for.
 #[derive(Debug, Drop)]
 pub enum Request<'a> {
-    /// `load --at LIST FILE`: the report of FILE, loaded at the addresses of LIST.
+    /// `load --at LIST FILE`: the report of FILE, loaded at the addresses in LIST.
     Load {
-        /// The word LIST, not yet read.
+        /// The argument LIST, not yet parsed.
         list: &'a str,
-        /// The word FILE.
+        /// The argument FILE.
         file: &'a str,
     },
     /// Help, and its text.
     Help(String),
-    /// Words that are no command line, and what `clap` says of them.
+    /// Arguments that `clap` rejects, and what it says about them.
     Refused(String),
-    /// Memory ran out while the words were read.
+    /// Memory ran out while the arguments were read.
     OutOfMemory,
 }
 
-/// Reads the words of a command line, of which the first is the program's name.
+/// Reads the arguments of a command line, the first of which is the program's name.
 pub fn read_words<'a, S: AsStr>(alloc: Global, words: &'a [S]) -> Request<'a>
     ensures answer { IsAskedBy (map S.text words.entry.now) result }
     ensures load { (program list file : List ℕ)
@@ -42,7 +42,7 @@ pub fn read_words<'a, S: AsStr>(alloc: Global, words: &'a [S]) -> Request<'a>
     }
 }
 
-/// Refuses words that are no UTF-8 text, as `clap` does.
+/// Rejects arguments that are not UTF-8, as `clap` does.
 pub fn refuse_bytes<'a>(alloc: Global) -> Request<'a>
     ensures { IsRefusal result }
 {
@@ -59,7 +59,7 @@ fn bytes_error(alloc: Global) -> Result<Error, AllocError>
     command(alloc)?.error(ErrorKind::ValueValidation, text)
 }
 
-/// What `clap` makes of the words.
+/// What `clap` makes of the arguments.
 fn matches_of<'a, S: AsStr>(alloc: Global, words: &'a [S]) -> Result<ArgMatches<'a>, Error>
     ensures fails { FailsBy (fault_of command_line (map S.text words.entry.now)) result }
     ensures rows { IfOk result (λ m. subcommand_rows_of m
@@ -68,7 +68,7 @@ fn matches_of<'a, S: AsStr>(alloc: Global, words: &'a [S]) -> Result<ArgMatches<
     command(alloc)?.try_get_matches_from(words)
 }
 
-/// The command line that the program reads.
+/// The command line that the program accepts.
 fn command<'a>(alloc: Global) -> Result<Command<'a>, AllocError>
     ensures { IfOk result (λ c. app_of c ≡ command_line) }
 {
@@ -99,7 +99,7 @@ fn load_command<'a>(alloc: Global) -> Result<Command<'a>, AllocError>
         .arg(file)
 }
 
-/// The request of a parse that met a subcommand.
+/// The request of a parse that found a subcommand.
 fn request_of<'a>(matches: &ArgMatches<'a>) -> Request<'a>
     requires { IsWhole (subcommand_rows_of matches.now) }
     ensures { Says (subcommand_rows_of matches.now) result }
@@ -110,7 +110,7 @@ fn request_of<'a>(matches: &ArgMatches<'a>) -> Request<'a>
     }
 }
 
-/// The request `load`, by what was found for its arguments.
+/// The request `load`, with the values that were found for its arguments.
 fn load_of<'a>(values: &ArgMatches<'a>) -> Request<'a>
     requires { IsWhole (Some (codes "load", rows_of (found_of values.now))) }
     ensures { Says (Some (codes "load", rows_of (found_of values.now))) result }
@@ -121,7 +121,7 @@ fn load_of<'a>(values: &ArgMatches<'a>) -> Request<'a>
     }
 }
 
-/// The answer to a parse that gave no matches.
+/// The request of a parse that failed: help, or a rejection.
 fn answer_to<'a>(alloc: Global, error: &Error) -> Request<'a>
     ensures { Answers (kind_of error.now) result }
 {

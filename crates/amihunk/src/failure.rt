@@ -1,39 +1,37 @@
-//! Why a request was not done: the line that tells it, and the exit status.
-ghost use Rattle.std.specs.Prelude.{◌≡◌, length, map, IfOk};
-ghost use Rattle.std.specs.Io.KnownBytes.{Appends};
+//! Why a request failed: the line that reports it, and the exit status.
+ghost use Rattle.std.specs.Prelude.{◌≡◌, length, map, IfErr};
 ghost use Rattle.std.specs.String.{string_bytes};
-ghost use Rattle.hunk_tool.specs.FaultLine.{fault_line, IsOfInputs};
+ghost use Rattle.hunk_words.specs.Streams.{IsDevice, WroteAll};
 ghost use Rattle.amihunk.specs.Failure.{bad_number_line, failure_line, opening_line};
-ghost use Rattle.amihunk.specs.Failure.{status_of, IsOfFiles};
+ghost use Rattle.amihunk.specs.Failure.{status_of, IsOfFiles, TellsLine};
 
-use hunk_tool::{ToolFault, status_of, write_fault};
-use hunk_words::{DeviceFault, Watched};
-use std::io::Write;
+use hunk_tool::{Phrase, ToolFault, status_of, write_fault, write_line};
+use hunk_words::{Sink, WriteFault};
 
-/// The exit status where a request was done, or help was asked for.
+/// The exit status of a request that was done, or of help that was asked for.
 pub const DONE: u8 = 0;
 
-/// The exit status where the command line, or the list of addresses, was refused.
+/// The exit status if the command line, or the list of addresses, is rejected.
 pub const COMMAND_LINE: u8 = 2;
 
-/// The exit status where a file cannot be opened, or a read or a write failed.
+/// The exit status if a file cannot be opened, or a read or a write failed.
 pub const DEVICE: u8 = 3;
 
-/// Why a request was not done.
+/// Why a request failed.
 #[derive(Clone, Copy, Debug, PartialEq, Eq)]
 pub enum Failure<'a> {
-    /// The first part of a list of addresses that is no number: its index, from 0.
+    /// The index, from 0, of the first part of the list of addresses that is not a number.
     BadNumber(usize),
-    /// The file of this name cannot be opened.
+    /// The file with this name cannot be opened.
     Opening(&'a str),
-    /// Standard output did not take all that it was given.
+    /// Standard output did not take everything that was written to it.
     Printing,
-    /// What an engine answered.
+    /// What `hunk_tool` returned.
     Tool(ToolFault),
 }
 
 impl<'a> Failure<'a> {
-    /// Memory ran out before anything was written.
+    /// Out of memory, before anything was written.
     pub fn out_of_memory() -> Failure<'a>
         ensures { result ≡ Failure.Tool (ToolFault.OutOfMemory 0) }
     {
@@ -52,74 +50,55 @@ impl<'a> Failure<'a> {
     }
 }
 
-/// Tells a failure in one line, where `errors` takes it, and gives the exit status. `files` are the
-/// names of the files that an engine's answer counts.
-pub fn report_failure<W: Write + Drop>(errors: W, files: &[String], failure: &Failure<'_>) -> u8
+/// Writes the line of a failure to `errors`, and returns the exit status. `files` are the names of
+/// the files that an engine's answer counts.
+///
+/// The line is appended to `errors`, or a write failed: then it has taken the first bytes of the
+/// line, and nothing more is written.
+pub fn report_failure<W: Sink>(errors: &mut W, files: &[String], failure: &Failure<'_>) -> u8
     requires { IsOfFiles (length files.now) failure.now }
-    ensures { result ≡ status_of failure.now }
+    ensures status { result ≡ status_of failure.now }
+    ensures line { TellsLine W.taken W.failed errors.old errors.new (failure_line (map string_bytes files.now) failure.now) }
 {
-    let _ = write_failure(errors, files, failure);
+    let _ = write_failure(files, failure, errors);
     failure.status()
 }
 
-/// Writes the line that tells a failure, and gives the writer back where it took the line.
-fn write_failure<W: Write + Drop>(
-    errors: W,
+/// Writes the line of a failure.
+fn write_failure<W: Sink>(
     files: &[String],
     failure: &Failure<'_>,
-) -> Result<W, DeviceFault>
+    errors: &mut W,
+) -> Result<(), WriteFault>
     requires { IsOfFiles (length files.now) failure.now }
-    ensures { IfOk result (λ writer. Appends (W.contents errors) (W.contents writer)
-        (failure_line (map string_bytes files.now) failure.now)) }
+    ensures wrote { WroteAll W.taken W.failed errors.old errors.new (failure_line (map string_bytes files.now) failure.now) result }
+    ensures device { IfErr result IsDevice }
 {
     match failure {
-        Failure::BadNumber(index) => write_bad_number(errors, *index),
-        Failure::Opening(file) => write_opening(errors, file),
-        Failure::Printing => write_answer(errors, files, &ToolFault::Output { written: 0 }),
-        Failure::Tool(fault) => write_answer(errors, files, fault),
+        Failure::BadNumber(index) => write_bad_number(*index, errors),
+        Failure::Opening(file) => write_opening(file, errors),
+        Failure::Printing => write_fault(files, &ToolFault::Output { written: 0 }, errors),
+        Failure::Tool(fault) => write_fault(files, fault, errors),
     }
 }
 
-/// Writes the line that tells which part of a list of addresses is no number.
-fn write_bad_number<W: Write + Drop>(mut errors: W, index: usize) -> Result<W, DeviceFault>
-    ensures { IfOk result (λ writer. Appends (W.contents errors) (W.contents writer)
-        (bad_number_line index)) }
+/// Writes the line for a part of a list of addresses that is no number.
+fn write_bad_number<W: Sink>(index: usize, errors: &mut W) -> Result<(), WriteFault>
+    ensures wrote { WroteAll W.taken W.failed errors.old errors.new (bad_number_line index) result }
+    ensures device { IfErr result IsDevice }
 {
-    match writeln!(
-        errors,
-        "amihunk: --at: part {index} is not 1 to 8 hexadecimal digits"
-    ) {
-        Ok(()) => Ok(errors),
-        Err(_) => Err(DeviceFault),
-    }
+    let after = " is not 1 to 8 hexadecimal digits";
+    let part = Phrase::decimal("--at: part ", index as u64, after);
+    write_line(b"", &part, &Phrase::plain(""), errors)
 }
 
-/// Writes the line that tells that a file cannot be opened.
-fn write_opening<W: Write + Drop>(mut errors: W, file: &str) -> Result<W, DeviceFault>
-    ensures { IfOk result (λ writer. Appends (W.contents errors) (W.contents writer)
-        (opening_line file.now)) }
+/// Writes the line for a file that cannot be opened.
+fn write_opening<W: Sink>(file: &str, errors: &mut W) -> Result<(), WriteFault>
+    ensures wrote { WroteAll W.taken W.failed errors.old errors.new (opening_line file.now) result }
+    ensures device { IfErr result IsDevice }
 {
-    match writeln!(errors, "amihunk: {file}: cannot be opened") {
-        Ok(()) => Ok(errors),
-        Err(_) => Err(DeviceFault),
-    }
-}
-
-/// Writes the line that tells an engine's answer.
-fn write_answer<W: Write + Drop>(
-    errors: W,
-    files: &[String],
-    fault: &ToolFault,
-) -> Result<W, DeviceFault>
-    requires { IsOfInputs (length files.now) fault.now }
-    ensures { IfOk result (λ writer. Appends (W.contents errors) (W.contents writer)
-        (fault_line (map string_bytes files.now) fault.now)) }
-{
-    let mut watched = Watched::new(errors);
-    match write_fault(files, fault, &mut watched) {
-        Ok(()) => Ok(watched.into_inner()),
-        Err(_) => Err(DeviceFault),
-    }
+    let reason = Phrase::plain(": cannot be opened");
+    write_line(file.as_bytes(), &reason, &Phrase::plain(""), errors)
 }
 
 #[cfg(test)]

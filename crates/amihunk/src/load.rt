@@ -13,8 +13,8 @@ use std::io::{BufWriter, Read, Write};
 use std::rt::Files;
 use std::{fs, io};
 
-/// Loads the file of the name `file` at the addresses of `list`, and prints the report of its
-/// memory. The list is read before the file is opened.
+/// Loads the file named `file` at the addresses in `list`, and prints the report of its memory. The
+/// list is checked before the file is opened.
 pub fn load<'a, R: Files + Print + AllocGlobal>(
     rt: &R,
     list: &str,
@@ -31,7 +31,7 @@ pub fn load<'a, R: Files + Print + AllocGlobal>(
     Ok(())
 }
 
-/// The addresses of a list.
+/// The addresses in a list.
 fn bases_of<'a>(alloc: Global, list: &str) -> Result<Vec<u32>, Failure<'a>>
     ensures ok { IfOk result (λ bases. numbers list.now ≡ map Some bases.items) }
     ensures err { IfErr result (IsListFailure list.now) }
@@ -43,8 +43,8 @@ fn bases_of<'a>(alloc: Global, list: &str) -> Result<Vec<u32>, Failure<'a>>
     }
 }
 
-/// Writes the report of the load file that `input` gives, through a buffer, and gives `output` back,
-/// flushed.
+/// Writes the report of the load file that is read from `input`, through a buffer, and returns
+/// `output`, flushed.
 fn report<'a, I: Read + Drop, O: Write + Drop>(
     alloc: Global,
     input: I,
@@ -66,7 +66,7 @@ fn report<'a, I: Read + Drop, O: Write + Drop>(
     }
 }
 
-/// The writer behind a buffer, with all that the buffer held.
+/// The writer under a buffer, with everything that the buffer held.
 fn flushed<'a, O: Write + Drop>(buffered: BufWriter<O>) -> Result<O, Failure<'a>>
     ensures ok { IfOk result (λ output.
         Keeps (writer_contents O.contents buffered) (O.contents output)) }

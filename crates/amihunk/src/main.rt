@@ -1,9 +1,9 @@
 //! `amihunk`: an Amiga hunk linker and loader.
 //!
-//! - `failure`: why a request was not done, the line that tells it, and the exit status.
+//! - `failure`: why a request failed, the line that reports it, and the exit status.
 //! - `load`: the request `load`.
-//! - `program`: the words, what they ask for, and the exit status.
-//! - `command_line`: the words of the command line, read by `clap`.
+//! - `program`: the arguments, what they ask for, and the exit status.
+//! - `command_line`: the arguments of the command line, as `clap` reads them.
 #![tactic(auto)]
 
 mod command_line;
@@ -11,8 +11,9 @@ mod failure;
 mod load;
 mod program;
 
+use hunk_words::Watched;
 use std::process::ExitCode;
 
 fn main(rt: HostRuntime) -> ExitCode {
-    ExitCode::from(program::start(&rt, rt.stderr()))
+    ExitCode::from(program::start(&rt, &mut Watched::new(rt.stderr())))
 }

@@ -1,4 +1,4 @@
-//! The program: the words of the command line, what they ask for, and the exit status.
+//! The program: the arguments of the command line, what they ask for, and the exit status.
 ghost use Rattle.std.specs.Prelude.{◌≡◌, ◌≤◌, ℕ, List, map};
 ghost use Rattle.amihunk.specs.Program.{Ends, EndsLine, EndsLoad};
 ghost use Rattle.amihunk.specs.CommandLine.{load_line, IsNoFlag};
@@ -6,14 +6,15 @@ ghost use Rattle.amihunk.specs.CommandLine.{load_line, IsNoFlag};
 use crate::command_line::{Request, read_words, refuse_bytes};
 use crate::failure::{COMMAND_LINE, DONE, Failure, report_failure};
 use crate::load::load;
+use hunk_words::{Sink, write_all};
 use std::convert::AsStr;
-use std::io::{ErrorKind, Write};
+use std::io::ErrorKind;
 use std::rt::{Env, Files};
 use std::{env, io};
 
-/// Does what the words of the system's command line ask for, and gives the exit status. Nothing is
-/// known of those words before they are read.
-pub fn start<R: Env + Files + Print + AllocGlobal, W: Write + Drop>(rt: &R, errors: W) -> u8
+/// Does what the system's command line asks for, and returns the exit status. Nothing is known of
+/// the arguments before they are read.
+pub fn start<R: Env + Files + Print + AllocGlobal, W: Sink>(rt: &R, errors: &mut W) -> u8
     ensures { result ≤ 4 }
 {
     match words_of(rt) {
@@ -25,34 +26,34 @@ pub fn start<R: Env + Files + Print + AllocGlobal, W: Write + Drop>(rt: &R, erro
     }
 }
 
-/// Does what the words of a command line ask for, and gives the exit status. What is refused is
-/// told on `errors`.
-pub fn run<R: Files + Print + AllocGlobal, W: Write + Drop, S: AsStr>(
+/// Does what the words of a command line ask for, and gives the exit status. The line of what is
+/// refused is appended to `errors`, or a write to it failed.
+pub fn run<R: Files + Print + AllocGlobal, W: Sink, S: AsStr>(
     rt: &R,
-    errors: W,
+    errors: &mut W,
     words: &[S],
 ) -> u8
-    ensures line { EndsLine (map S.text words.now) result }
+    ensures line { EndsLine W.taken W.failed errors.old errors.new (map S.text words.now) result }
     ensures load { (program list file : List ℕ)
         → map S.text words.now ≡ load_line program list file
-        → IsNoFlag list → IsNoFlag file → EndsLoad list file result }
+        → IsNoFlag list → IsNoFlag file → EndsLoad W.taken W.failed errors.old errors.new list file result }
 {
     answer(rt, errors, read_words(rt.alloc(), words))
 }
 
-/// The words of the command line. One that is no UTF-8 is an error.
+/// The arguments of the command line. One that is not UTF-8 is an error.
 fn words_of<R: Env + AllocGlobal>(rt: &R) -> io::Result<Vec<String>> {
     let words = env::args(rt)?.collect(rt.alloc())?;
     Ok(words)
 }
 
-/// Does what was asked for, and gives the exit status.
-fn answer<R: Files + Print + AllocGlobal, W: Write + Drop>(
+/// Does what was asked for, and returns the exit status.
+fn answer<R: Files + Print + AllocGlobal, W: Sink>(
     rt: &R,
-    mut errors: W,
+    errors: &mut W,
     request: Request<'_>,
 ) -> u8
-    ensures { Ends request.entry result }
+    ensures { Ends W.taken W.failed errors.old errors.new request.entry result }
 {
     match request {
         Request::Load { list, file } => answer_load(rt, errors, list, file),
@@ -61,21 +62,21 @@ fn answer<R: Files + Print + AllocGlobal, W: Write + Drop>(
             Err(_) => report_failure(errors, &[], &Failure::Printing),
         },
         Request::Refused(text) => {
-            let _ = errors.write_all(text.as_bytes());
+            let _ = write_all(errors, 0, text.as_bytes());
             COMMAND_LINE
         }
         Request::OutOfMemory => report_failure(errors, &[], &Failure::out_of_memory()),
     }
 }
 
-/// Answers `load --at LIST FILE`.
-fn answer_load<R: Files + Print + AllocGlobal, W: Write + Drop>(
+/// Does `load --at LIST FILE`, and returns the exit status.
+fn answer_load<R: Files + Print + AllocGlobal, W: Sink>(
     rt: &R,
-    errors: W,
+    errors: &mut W,
     list: &str,
     file: &str,
 ) -> u8
-    ensures { EndsLoad list.now file.now result }
+    ensures { EndsLoad W.taken W.failed errors.old errors.new list.now file.now result }
 {
     let Ok(name) = String::from_str(rt.alloc(), file) else {
         return report_failure(errors, &[], &Failure::out_of_memory());

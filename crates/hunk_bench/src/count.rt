@@ -6,7 +6,7 @@ ghost use Rattle.hunk_words.specs.declared.event.FileKind.TheVariants.{Object};
 use hunk_words::{Event, FileKind, SiteRefusal, Taker};
 
 /// Counts and sums the longwords of names, content and debug blocks of an object file without
-/// sites. The sum has it read each of them.
+/// sites. The sum makes it read each of them.
 #[derive(Drop)]
 pub struct Count {
     words: u64,
@@ -39,7 +39,7 @@ impl Taker for Count {
 
     const KIND: FileKind = FileKind::Object;
 
-    // It keeps no sites, so it has no memory for one.
+    // It keeps no sites, so it is out of memory for one.
     #[inline]
     fn take(&mut self, event: Event) -> Result<(), SiteRefusal> {
         match event {

@@ -1,5 +1,5 @@
 //! A file read to its end in the same pieces: by nothing else, by the decoder of load files, and by
-//! the loader that streams.
+//! `ImageLoader`.
 
 use hunk_loader::{ImageLoader, LoadRefusal};
 use hunk_loadfile::LoadDecoder;
@@ -9,10 +9,10 @@ use std::fs::File;
 use std::io::Read;
 use std::{fs, io};
 
-// Bytes of a read, as many as the engines read.
+// Bytes per read, as many as `read_all` reads.
 const PIECE: usize = 16384;
 
-/// Reads the file, and tells its bytes.
+/// Reads the file, and prints how many bytes it has.
 pub fn read_file(rt: &HostRuntime, name: &str) -> io::Result<()> {
     let mut file = fs::open(rt, name)?;
     let total = read_all(&mut file)?;
@@ -50,7 +50,7 @@ fn read_all(file: &mut File) -> io::Result<u64> {
     Ok(total)
 }
 
-// The number of the hunks in the file.
+// The number of hunks in the file.
 fn decode_all(alloc: Global, file: &mut File) -> io::Result<Result<usize, Refusal>> {
     let mut buffer = [0; PIECE];
     let mut decoder = LoadDecoder::new(alloc);
@@ -70,7 +70,7 @@ fn decode_all(alloc: Global, file: &mut File) -> io::Result<Result<usize, Refusa
     }
 }
 
-// The bytes of the image.
+// The number of bytes in the image.
 fn load_all(alloc: Global, file: &mut File) -> io::Result<Result<usize, LoadRefusal>> {
     let mut buffer = [0; PIECE];
     let mut loader = ImageLoader::new(alloc, &[0x1_0000])?;

@@ -1,15 +1,15 @@
-//! What the scripts of bench/ measure. The first word says what:
+//! What the scripts in bench/ measure. The first argument says what:
 //!
-//! - `decode`: the decoder beside a plain sum of the same longwords (`words`).
+//! - `decode`: the decoder compared with a plain sum of the same longwords (`words`).
 //! - `read-file FILE`, `decode-file FILE`, `load-file FILE`: a file read to its end by nothing
-//!   else, by the decoder of load files, by the loader that streams (`files`).
-//! - `falling`: the most hunks that a load file may have, at bases that fall (`falling`).
+//!   else, by the decoder of load files, by `ImageLoader` (`files`).
+//! - `descending`: the most hunks that a load file may have, at descending bases (`descending`).
 //!
-//! It prints times, so it is run by bench/ and not by the gate: with no word it prints nothing.
+//! It prints times, so bench/ runs it and the gate does not: without an argument it prints nothing.
 #![tactic(auto)]
 
 mod count;
-mod falling;
+mod descending;
 mod files;
 mod words;
 
@@ -22,7 +22,7 @@ fn main(rt: HostRuntime) -> io::Result<()> {
     };
     match (what.as_str(), name) {
         ("decode", _) => words::measure(&rt),
-        ("falling", _) => falling::measure(&rt),
+        ("descending", _) => descending::measure(&rt),
         ("read-file", Some(name)) => files::read_file(&rt, name.as_str()),
         ("decode-file", Some(name)) => files::decode_file(&rt, name.as_str()),
         ("load-file", Some(name)) => files::load_file(&rt, name.as_str()),

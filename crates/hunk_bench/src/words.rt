@@ -1,4 +1,4 @@
-//! The decoder beside a plain sum of the same longwords.
+//! The decoder compared with a plain sum of the same longwords.
 
 use crate::count::Count;
 use byteorder::{BigEndian, ByteOrder};
@@ -9,7 +9,7 @@ use std::time::Instant;
 // An object file of one unit with one hunk, up to its content of 2^24 longwords.
 const START: [u8; 16] = [0, 0, 3, 0xE7, 0, 0, 0, 0, 0, 0, 3, 0xE9, 1, 0, 0, 0];
 
-// Bytes of its content, and of the pieces that are fed.
+// The bytes of its content, and of each piece that is fed.
 const CONTENT: usize = 0x0400_0000;
 
 const PIECE: usize = 65536;
@@ -41,7 +41,7 @@ fn sum_all(content: &[u8]) -> u64 {
     total
 }
 
-// The longwords that a taker counts, and their sum.
+// The number of longwords that a taker counts, and their sum.
 #[inline(never)]
 fn decode_all(content: &[u8]) -> Result<(u64, u64), Refusal> {
     let mut decoder = Decoder::new(Count::new());

@@ -16,14 +16,14 @@ use Rattle.hunk_loadfile.specs.Partial.{file_hunks}
 use Rattle.hunk_loader.specs.BoundedImageBuilder.{IsBoundedBy, IsBounded, SitesInside, bytes_kept, current_bytes}
 use Rattle.hunk_loader.specs.ImageBuilder.{BuilderState, Loads, Shows, StandsFor, TakesEvent, initial_builder}
 use Rattle.hunk_loader.specs.Loading.{loaded_bytes}
-use Rattle.hunk_loader.specs.OpenImage.{PartialHunk}
+use Rattle.hunk_loader.specs.OpenImage.{CountedHunk}
 use Rattle.hunk_loader.specs.Places.{Placed as ArePlaced}
 use Rattle.hunk_loader.specs.declared.placing.Placing.{Placing}
 use Rattle.hunk_loader.specs.declared.placing.Placing.TheVariants.{Unknown, Placed, Refused}
 use Rattle.hunk_loader.proofs.ImageBuilderLemmas.{StandsFor-takes}
 use Rattle.hunk_loader.proofs.ImageBuilderHunkLemmas.{loaded_at, file_hunks-none, zip-none}
 
--- ---- the hunks that ended
+-- ---- the hunks that have ended
 
 abbrev made_bytes : List (ℕ × List ℕ) → ℕ
 made_bytes made = sum_by (λ h. length h.1) made
@@ -40,7 +40,7 @@ made-none all bases ss = ap (λ l. made_bytes (map (λ placed. (placed.0, loaded
 length-loaded : (all : List ℕ) (bits size : ℕ) (h : Hunk) → length (loaded_bytes all (file_hunk bits size h)) ≡ 4 * size
 length-loaded all bits size h = length-patched_bytes (4 * size) (bytes_of h.content) (with_sites [] h.tables.sites) (slice_index all)
 
--- They, and no more than the size of the next one beside them, are no more than all.
+-- Together with the size of the next one, they are no more than all.
 made-bounded : (all bases : List ℕ) (ss : List (ℕ × ℕ)) (hs : List Hunk) (more : ℕ) → more ≤ 4 * slice_index (all_sizes ss) (length hs)
     → made_bytes (loaded_at all bases (file_hunks ss hs)) + more ≤ 4 * sum_of (all_sizes ss)
 made-bounded all bases [] hs more fits =
@@ -64,23 +64,22 @@ made-bounded all (x ∷ bases) (s ∷ ss) (h ∷ hs) more fits =
     sum_by-cons (λ (placed : ℕ × List ℕ). length placed.1) (x, loaded_bytes all (file_hunk s.0 s.1 h)) (loaded_at all bases (file_hunks ss hs)) in
     omega (arith, rest, sum, made, length-loaded all s.0 s.1 h)
 
--- ---- the hunk that has not ended
+-- ---- the current hunk
 
-current-none : (p : Placing) (o : Option PartialHunk) (b : EventValue) (w : SiteContext) → p ≢ Placed → Shows p o b w → current_bytes o ≡ 0
+current-none : (p : Placing) (o : Option CountedHunk) (b : EventValue) (w : SiteContext) → p ≢ Placed → Shows p o b w → current_bytes o ≡ 0
 current-none p None b w unplaced s = refl
 current-none p (Some o) b w unplaced s = ap length (s.none unplaced)
 
-current-fits : (p : Placing) (o : Option PartialHunk) (b : EventValue) (w : SiteContext) → Shows p o b w → current_bytes o ≤ 4 * slice_index w.position.sizes w.position.ended
+current-fits : (p : Placing) (o : Option CountedHunk) (b : EventValue) (w : SiteContext) → Shows p o b w → current_bytes o ≤ 4 * slice_index w.position.sizes w.position.ended
 current-fits p None b w s = omega arith
 current-fits p (Some o) b w s =
-    let limit : o.sites.limit ≡ w.position.limit = ap (λ q. q.limit) s.sites in
-    omega (arith, s.fits, limit, s.limit)
+    omega (arith, s.fits, s.holds.same_limit, s.limit)
 
-sites-inside : (m : BuilderState) (p : Placing) (o : Option PartialHunk) (b : EventValue) (w : SiteContext) → m.sizes ≡ w.position.sizes → m.ended ≡ w.position.ended → Shows p o b w → SitesInside m o
+sites-inside : (m : BuilderState) (p : Placing) (o : Option CountedHunk) (b : EventValue) (w : SiteContext) → m.sizes ≡ w.position.sizes → m.ended ≡ w.position.ended → Shows p o b w → SitesInside m o
 sites-inside m p None b w sizes ended s = tt
 sites-inside m p (Some o) b w sizes ended s =
-    let limit : o.sites.limit ≡ 4 * slice_index m.sizes m.ended = rw (sizes, ended) (ap (λ q. q.limit) s.sites ∙ s.limit) in
-    record { limit = limit; few = omega (arith, limit, AreApart-few o.sites s.apart) }
+    let limit : o.partial.sites.limit ≡ 4 * slice_index m.sizes m.ended = rw (sizes, ended) (s.holds.same_limit ∙ s.limit) in
+    record { limit = limit; few = omega (arith, limit, AreApart-few o.partial.sites s.apart) }
 
 -- ---- both
 
@@ -118,7 +117,7 @@ frugal m told h =
       sites = sites-inside m m.placing m.current b w h.sizes h.ended h.shows;
     }
 
--- ---- one event further
+-- ---- one more event
 
 pub StandsFor-begun : (bases : List ℕ) → StandsFor (initial_builder bases) []
 StandsFor-begun bases = record {
@@ -139,7 +138,7 @@ keeps-little m told h = record { told = told; stands = h; frugal = frugal m told
 pub KeepsLittle-begun : (bases : List ℕ) → IsBounded (initial_builder bases)
 KeepsLittle-begun bases = keeps-little (initial_builder bases) [] (StandsFor-begun bases)
 
--- whether it took the event or refused it
+-- whether it took the event or returned an error
 pub KeepsLittle-takes : (m n : BuilderState) (answer : Result (Unit {0}) SiteRefusal) (e : Event) → TakesEvent m n answer e → IsBounded m → IsBounded n
 KeepsLittle-takes m n (Ok d) e t k = keeps-little n (k.told ++ (e ∷ [])) (StandsFor-takes m n (Ok d) e t k.told k.stands)
 KeepsLittle-takes m n (Err r) e t k = keeps-little n k.told (t.refuses (value_of_events initial_load k.told) (context_of Load k.told) k.stands)

@@ -1,4 +1,4 @@
--- A builder of an image where a hunk begins, takes a site, or ends.
+-- A builder of an image when a hunk begins, takes a site, or ends.
 use Rattle.std.proofs.Common.{◌≡◌, ◌≢◌, ℕ, suc, ◌+◌, ◌*◌, ◌<◌, true, List, [], ◌∷◌, ◌++◌, length, map, Some, None, Result, Ok, Err, OnOk, OnErr, slice_index, refl, sym, ap, subst, ◌∙◌, arith}
 use Rattle.std.proofs.lemmas.List.{length-append, length-map}
 use Rattle.std.specs.BTreeMap.{insert_entry}
@@ -7,7 +7,8 @@ use Rattle.std.specs.List.{zip}
 use Rattle.hunk_words.specs.EventValue.{EventValue, step, on_last}
 use Rattle.hunk_words.specs.Name.{bytes_of}
 use Rattle.hunk_words.specs.SiteContext.{SameSites}
-use Rattle.hunk_words.specs.Sites.{SiteMap, AreApart}
+use Rattle.hunk_words.specs.PartialHunk.{HoldsSites, begun_hunk, hunk_with_site}
+use Rattle.hunk_words.specs.Sites.{AreApart}
 use Rattle.hunk_words.specs.Taker.{JudgesSite}
 use Rattle.hunk_words.specs.Values.{Adds, Hunk, Part}
 use Rattle.hunk_words.specs.Values.Adds.{to_hunk}
@@ -15,7 +16,8 @@ use Rattle.hunk_words.specs.SiteContext.{SiteContext}
 use Rattle.hunk_words.specs.declared.event.Event.TheVariants as event
 use Rattle.hunk_words.specs.declared.sites.SiteRefusal.{SiteRefusal}
 use Rattle.hunk_words.proofs.TakerLemmas.{SameSites-none}
-use Rattle.hunk_loadfile.specs.LoadFile.{with_site, with_sites}
+use Rattle.hunk_loadfile.specs.LoadFile.{with_sites}
+use Rattle.hunk_loadfile.proofs.OpenHunkLemmas.{with_sites-append}
 use Rattle.hunk_loadfile.specs.LoadHunk.{FileHunk}
 use Rattle.hunk_loadfile.specs.Partial.{file_hunks}
 use Rattle.hunk_loadfile.specs.Patching.{patched_bytes}
@@ -24,26 +26,25 @@ use Rattle.hunk_words.specs.SiteContext.{context_with}
 use Rattle.hunk_loader.specs.ImageBuilder.{BuilderState, Holds, Loads, IsUnplaced, Shows, ShowsNone, ShowsOpen, TakesEvent, KeepsHunk, bytes_loaded}
 use Rattle.hunk_loader.specs.Placing.{Decides, Settled}
 use Rattle.hunk_loader.specs.Loading.{loaded, loaded_bytes}
-use Rattle.hunk_loader.specs.OpenImage.{PartialHunk}
+use Rattle.hunk_loader.specs.OpenImage.{CountedHunk}
 use Rattle.hunk_loader.specs.declared.placing.Placing.{Placing}
 use Rattle.hunk_loader.specs.declared.placing.Placing.TheVariants.{Unknown, Placed, Refused}
 use Rattle.hunk_loader.proofs.ImageBuilderLemmas.{Holds-shows, same-current, same-part}
 
 -- ---- a hunk that begins
 
--- a hunk of which nothing was told
-abbrev pub begun_open : BuilderState → PartialHunk
-begun_open m = record { bytes = []; sites = record { limit = 4 * slice_index m.sizes m.ended; entries = [] }; count = length m.sizes; words = true }
+-- a hunk of which nothing is known yet
+abbrev pub begun_open : BuilderState → CountedHunk
+begun_open m = record { partial = begun_hunk (4 * slice_index m.sizes m.ended); count = length m.sizes }
 
 abbrev pub with_begun : BuilderState → Placing → BuilderState
 with_begun m p = record m { placing = p; current = Some (begun_open m) }
 
-pub begun-is : (m : BuilderState) (p : Placing) (o : PartialHunk) (size count : ℕ) → o ≡ record { bytes = []; sites = record { limit = 4 * size; entries = [] }; count = count; words = true }
+pub begun-is : (m : BuilderState) (p : Placing) (o : CountedHunk) (size count : ℕ) → o ≡ record { partial = begun_hunk (4 * size); count = count }
     → size ≡ slice_index m.sizes m.ended → count ≡ length m.sizes → record m { placing = p; current = Some o } ≡ with_begun m p
 begun-is m p o size count is size_is count_is =
     same-current (record m { placing = p }) o (begun_open m)
-    (is ∙ ap (λ n. record { bytes = []; sites = record { limit = 4 * n; entries = [] }; count = count; words = true }) size_is
-    ∙ ap (λ n. record { bytes = []; sites = record { limit = 4 * slice_index m.sizes m.ended; entries = [] }; count = n; words = true }) count_is)
+    (is ∙ ap (λ n. record { partial = begun_hunk (4 * n); count = count }) size_is ∙ ap (λ n. record { partial = begun_hunk (4 * slice_index m.sizes m.ended); count = n }) count_is)
 
 pub file_hunks-none : (ss : List (ℕ × ℕ)) → file_hunks ss [] ≡ []
 file_hunks-none [] = refl
@@ -88,10 +89,10 @@ Holds-begin m p b w kind bits size none within settled h =
       loads = begin-loads m.placing p m (with_begun m p) b (step b (event.Content kind bits size)) h.part.hunks refl refl settled (h.counted ∙ sym h.ended) h.loads;
       shows = record {
         words = refl;
-        sites = ap (λ l. record { limit = l; entries = [] }) limit ∙ ap (λ ss. record { limit = 4 * slice_index w.position.sizes w.position.ended; entries = with_sites [] ss }) (sym s.sites);
+        sites = ap (λ ss. with_sites [] ss) (sym s.sites);
+        holds = record { same_limit = limit; same_sites = subst (λ seen. SameSites seen (begun_open m).partial.sites.entries) (sym s.seen) SameSites-none };
         limit = refl;
         within = subst (λ n. n < length w.position.sizes) h.ended (subst (λ ss. m.ended < length ss) h.sizes within);
-        same = subst (λ seen. SameSites seen (begun_open m).sites.entries) (sym s.seen) SameSites-none;
         apart = tt;
         count = ap length h.sizes;
         content = λ placed. ap bytes_of (sym s.content);
@@ -110,25 +111,21 @@ TakesEvent-begin m n p kind bits size none within settled is = record {
 
 -- ---- sites
 
-pub with_sites-append : (es : List (ℕ × ℕ)) (ss : List (ℕ × Adds)) (o t : ℕ) → with_sites es (ss ++ ((o, to_hunk t) ∷ [])) ≡ insert_entry nat_cmp (with_sites es ss) o t
-with_sites-append es [] o t = refl
-with_sites-append es (s ∷ ss) o t = with_sites-append (with_site es s.0 s.1) ss o t
+-- the hunk with one more site
+abbrev pub with_one : CountedHunk → ℕ → ℕ → CountedHunk
+with_one o at target = record o { partial = hunk_with_site o.partial at target }
 
--- the hunk with one site more
-abbrev pub with_one : PartialHunk → ℕ → ℕ → PartialHunk
-with_one o at target = record o { sites = record o.sites { entries = insert_entry nat_cmp o.sites.entries at target } }
-
-Holds-site : (m : BuilderState) (b : EventValue) (w : SiteContext) (o : PartialHunk) (at target : ℕ) → m.current ≡ Some o
-    → SameSites (at ∷ w.seen) (insert_entry nat_cmp o.sites.entries at target) → AreApart (with_one o at target).sites
+Holds-site : (m : BuilderState) (b : EventValue) (w : SiteContext) (o : CountedHunk) (at target : ℕ) → m.current ≡ Some o
+    → HoldsSites w.position.limit (at ∷ w.seen) (with_one o at target).partial → AreApart (with_one o at target).partial.sites
     → Holds m b w → Holds (record m { current = Some (with_one o at target) }) (step b (event.Site at target)) (context_with Load w (event.Site at target))
-Holds-site m b w o at target current seen apart h =
+Holds-site m b w o at target current holds apart h =
     let s : ShowsOpen m.placing o b w = subst (λ q. Shows m.placing q b w) current h.shows in
     Holds-shows m (Some (with_one o at target)) b (step b (event.Site at target)) w (at ∷ w.seen) h (λ none. let wrong : Some o ≡ None = sym current ∙ none in cc) refl (same-part h.part b.parts h.parts) (record {
       words = s.words;
-      sites = ap (λ (q : SiteMap ℕ). record q { entries = insert_entry nat_cmp q.entries at target }) s.sites ∙ ap (λ es. record { limit = w.position.limit; entries = es }) (sym (with_sites-append [] b.hunk.tables.sites at target));
+      sites = ap (λ es. insert_entry nat_cmp es at target) s.sites ∙ sym (with_sites-append [] b.hunk.tables.sites at target);
+      holds = holds;
       limit = s.limit;
       within = s.within;
-      same = seen;
       apart = apart;
       count = s.count;
       content = s.content;
@@ -136,31 +133,31 @@ Holds-site m b w o at target current seen apart h =
       fits = s.fits;
     })
 
--- what an current hunk answers to a site
-pub record OpenTakes (o n : PartialHunk) (answer : Result (Unit {0}) SiteRefusal) (at target : ℕ) : Type 0 where
+-- what a current hunk returns for a site
+pub record OpenTakes (o n : CountedHunk) (answer : Result (Unit {0}) SiteRefusal) (at target : ℕ) : Type 0 where
   pub adds : OnOk answer (n ≡ with_one o at target)
-  pub seen : (seen : List ℕ) → SameSites seen o.sites.entries → OnOk answer (SameSites (at ∷ seen) n.sites.entries)
-  pub apart : AreApart o.sites → AreApart n.sites
-  pub judges : (seen : List ℕ) → SameSites seen o.sites.entries → JudgesSite o.sites.limit seen at answer
+  pub holds : (limit : ℕ) (seen : List ℕ) → HoldsSites limit seen o.partial → OnOk answer (HoldsSites limit (at ∷ seen) n.partial)
+  pub judges : (limit : ℕ) (seen : List ℕ) → HoldsSites limit seen o.partial → JudgesSite limit seen at answer
+  pub apart : AreApart o.partial.sites → AreApart n.partial.sites
   pub refused : OnErr answer (n ≡ o)
 
-pub TakesEvent-site : (m : BuilderState) (o n : PartialHunk) (answer : Result (Unit {0}) SiteRefusal) (at target : ℕ) → m.current ≡ Some o → OpenTakes o n answer at target
+pub TakesEvent-site : (m : BuilderState) (o n : CountedHunk) (answer : Result (Unit {0}) SiteRefusal) (at target : ℕ) → m.current ≡ Some o → OpenTakes o n answer at target
     → TakesEvent m (record m { current = Some n }) answer (event.Site at target)
 TakesEvent-site m o n answer at target current t = record {
-  takes = λ b w holds. taken answer t.adds b w holds (t.seen w.seen (shown b w holds).same) (t.apart (shown b w holds).apart);
+  takes = λ b w holds. taken answer t.adds b w holds (t.holds w.position.limit w.seen (shown b w holds).holds) (t.apart (shown b w holds).apart);
   refuses = λ b w holds. left answer t.refused b w holds;
-  judges = λ b w holds. let s = shown b w holds in subst (λ l. JudgesSite l w.seen at answer) (ap (λ q. q.limit) s.sites) (t.judges w.seen s.same);
+  judges = λ b w holds. t.judges w.position.limit w.seen (shown b w holds).holds;
   bases = refl;
 }
   where
     shown : (b : EventValue) (w : SiteContext) → Holds m b w → ShowsOpen m.placing o b w
     shown b w h = subst (λ q. Shows m.placing q b w) current h.shows
 
-    taken : (r : Result (Unit {0}) SiteRefusal) → OnOk r (n ≡ with_one o at target) → (b : EventValue) (w : SiteContext) → Holds m b w → OnOk r (SameSites (at ∷ w.seen) n.sites.entries) → AreApart n.sites
+    taken : (r : Result (Unit {0}) SiteRefusal) → OnOk r (n ≡ with_one o at target) → (b : EventValue) (w : SiteContext) → Holds m b w → OnOk r (HoldsSites w.position.limit (at ∷ w.seen) n.partial) → AreApart n.partial.sites
         → OnOk r (Holds (record m { current = Some n }) (step b (event.Site at target)) (context_with Load w (event.Site at target)))
-    taken (Ok d) is b w h seen apart = subst (λ q. Holds (record m { current = Some q }) (step b (event.Site at target)) (context_with Load w (event.Site at target))) (sym is)
-        (Holds-site m b w o at target current (subst (λ q. SameSites (at ∷ w.seen) q.sites.entries) is seen) (subst (λ q. AreApart q.sites) is apart) h)
-    taken (Err e) is b w h seen apart = tt
+    taken (Ok d) is b w h holds apart = subst (λ q. Holds (record m { current = Some q }) (step b (event.Site at target)) (context_with Load w (event.Site at target))) (sym is)
+        (Holds-site m b w o at target current (subst (λ q. HoldsSites w.position.limit (at ∷ w.seen) q.partial) is holds) (subst (λ q. AreApart q.partial.sites) is apart) h)
+    taken (Err e) is b w h holds apart = tt
 
     left : (r : Result (Unit {0}) SiteRefusal) → OnErr r (n ≡ o) → (b : EventValue) (w : SiteContext) → Holds m b w → OnErr r (Holds (record m { current = Some n }) b w)
     left (Ok d) is b w h = tt
@@ -185,14 +182,14 @@ loaded_at-append all (x ∷ bases) (s ∷ ss) [] h sized based =
 loaded_at-append all (x ∷ bases) (s ∷ ss) (g ∷ hs) h sized based =
     ap (λ l. (x, hunk_loaded all s.1 g) ∷ l) (loaded_at-append all bases ss hs h (omega (arith, sized)) (omega (arith, based)))
 
--- with one hunk more that ended
+-- with one more hunk that has ended
 abbrev with_ended : BuilderState → List (ℕ × List ℕ) → BuilderState
 with_ended m made = record m { made = made; current = None; ended = suc m.ended }
 
 ended-part : (b : EventValue) (p : Part) → b.parts ≡ p ∷ [] → (step b event.HunkEnd).parts ≡ record p { hunks = p.hunks ++ (b.hunk ∷ []) } ∷ []
 ended-part b p is = ap (λ ps. on_last (λ q. record q { hunks = q.hunks ++ (b.hunk ∷ []) }) ps) is
 
-Holds-end : (m : BuilderState) (made : List (ℕ × List ℕ)) (b : EventValue) (w : SiteContext) (o : PartialHunk) → m.current ≡ Some o → (h : Holds m b w)
+Holds-end : (m : BuilderState) (made : List (ℕ × List ℕ)) (b : EventValue) (w : SiteContext) (o : CountedHunk) → m.current ≡ Some o → (h : Holds m b w)
     → Loads m.placing (with_ended m made) (step b event.HunkEnd) (h.part.hunks ++ (b.hunk ∷ []))
     → Holds (with_ended m made) (step b event.HunkEnd) (context_with Load w event.HunkEnd)
 Holds-end m made b w o current h loads =
@@ -220,14 +217,14 @@ end-placed Unknown m made b hs is l next = cc
 end-placed Placed m made b hs is l next = (l.0, next l.1)
 end-placed (Refused fault) m made b hs is l next = cc
 
-bytes_loaded-current : (bases : List ℕ) (p : Placing) (o : PartialHunk) (b : EventValue) (w : SiteContext) → p ≡ Placed → ShowsOpen p o b w → bytes_loaded bases o ≡ hunk_loaded bases (slice_index w.position.sizes w.position.ended) b.hunk
+bytes_loaded-current : (bases : List ℕ) (p : Placing) (o : CountedHunk) (b : EventValue) (w : SiteContext) → p ≡ Placed → ShowsOpen p o b w → bytes_loaded bases o ≡ hunk_loaded bases (slice_index w.position.sizes w.position.ended) b.hunk
 bytes_loaded-current bases p o b w placed s =
     let sites = s.sites in
     let content = s.content placed in
-    let limit = s.limit in
+    let limit : o.partial.sites.limit ≡ 4 * slice_index w.position.sizes w.position.ended = s.holds.same_limit ∙ s.limit in
     rw (sites, content, limit) refl
 
-made-end : (m : BuilderState) (b : EventValue) (w : SiteContext) (o : PartialHunk) (h : Holds m b w) → m.placing ≡ Placed → m.ended < length m.bases → ShowsOpen m.placing o b w
+made-end : (m : BuilderState) (b : EventValue) (w : SiteContext) (o : CountedHunk) (h : Holds m b w) → m.placing ≡ Placed → m.ended < length m.bases → ShowsOpen m.placing o b w
     → m.made ≡ loaded (file_hunks b.sizes h.part.hunks) m.bases
     → m.made ++ ((slice_index m.bases m.ended, bytes_loaded m.bases o) ∷ []) ≡ loaded (file_hunks b.sizes (h.part.hunks ++ (b.hunk ∷ []))) m.bases
 made-end m b w o h placed based s is =
@@ -241,7 +238,7 @@ made-end m b w o h placed based s is =
     ∙ ap (λ i. loaded (file_hunks b.sizes hs) m.bases ++ ((slice_index m.bases i, hunk_loaded m.bases (slice_index (map (λ s. s.1) b.sizes) (length hs)) b.hunk) ∷ [])) (sym at)
     ∙ sym (loaded_at-append m.bases m.bases b.sizes hs b.hunk sized (omega (arith, at, based)))
 
-TakesEvent-end-unplaced : (m n : BuilderState) (o : PartialHunk) → m.placing ≢ Placed → m.current ≡ Some o → n ≡ with_ended m m.made → TakesEvent m n (Ok tt) event.HunkEnd
+TakesEvent-end-unplaced : (m n : BuilderState) (o : CountedHunk) → m.placing ≢ Placed → m.current ≡ Some o → n ≡ with_ended m m.made → TakesEvent m n (Ok tt) event.HunkEnd
 TakesEvent-end-unplaced m n o unplaced current is = record {
   takes = λ b w h. subst (λ q. Holds q (step b event.HunkEnd) (context_with Load w event.HunkEnd)) (sym is)
       (Holds-end m m.made b w o current h (end-unplaced m.placing m b (step b event.HunkEnd) h.part.hunks (h.part.hunks ++ (b.hunk ∷ [])) unplaced (λ none. let wrong : Some o ≡ None = sym current ∙ none in cc) h.loads));
@@ -250,7 +247,7 @@ TakesEvent-end-unplaced m n o unplaced current is = record {
   bases = ap (λ q. q.bases) is;
 }
 
-TakesEvent-end-placed : (m n : BuilderState) (o : PartialHunk) → m.placing ≡ Placed → m.current ≡ Some o → m.ended < length m.bases
+TakesEvent-end-placed : (m n : BuilderState) (o : CountedHunk) → m.placing ≡ Placed → m.current ≡ Some o → m.ended < length m.bases
     → n ≡ with_ended m (m.made ++ ((slice_index m.bases m.ended, bytes_loaded m.bases o) ∷ [])) → TakesEvent m n (Ok tt) event.HunkEnd
 TakesEvent-end-placed m n o placed current based is = record {
   takes = λ b w h. subst (λ q. Holds q (step b event.HunkEnd) (context_with Load w event.HunkEnd)) (sym is)
@@ -275,6 +272,6 @@ without_current-is m k n is =
     let more : k.ended + 1 ≡ suc k.ended = omega arith in
     is ∙ ap (λ e. record k { current = None; ended = e }) more
 
-pub TakesEvent-end : (m k n : BuilderState) (o : PartialHunk) → m.current ≡ Some o → Closes m k → n ≡ record k { current = None; ended = k.ended + 1 } → TakesEvent m n (Ok tt) event.HunkEnd
+pub TakesEvent-end : (m k n : BuilderState) (o : CountedHunk) → m.current ≡ Some o → Closes m k → n ≡ record k { current = None; ended = k.ended + 1 } → TakesEvent m n (Ok tt) event.HunkEnd
 TakesEvent-end m k n o current (kept placed keeps) is = TakesEvent-end-placed m n keeps.hunk placed keeps.current keeps.based (without_current-is m k n is ∙ ap without_current keeps.keeps)
 TakesEvent-end m k n o current (unkept unplaced same) is = TakesEvent-end-unplaced m n o unplaced current (without_current-is m k n is ∙ ap without_current same)

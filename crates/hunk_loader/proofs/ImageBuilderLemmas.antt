@@ -1,11 +1,11 @@
--- A builder of an image, one event further.
+-- A builder of an image, after one more event.
 use Rattle.std.proofs.Common.{◌≡◌, ◌≢◌, ℕ, zero, suc, ◌≤◌, Bool, true, false, List, [], ◌∷◌, ◌++◌, length, map, Option, Some, None, Result, Ok, Err, OnOk, refl, sym, ap, subst, ◌∙◌, append-nil, arith}
 use Rattle.std.proofs.lemmas.List.{length-append, map-append}
-use Rattle.std.proofs.lemmas.Grind.{flat_map-append}
 use Rattle.byteorder.specs.Endian.{big_bytes}
 use Rattle.hunk_words.specs.EventValue.{EventValue, Receiver, value_of_events, step, word_to, value_to, count_to, initial_load}
 use Rattle.hunk_words.specs.EventValue.Receiver.{nothing_more, to_unit_name, to_name, to_content, to_debug, to_symbol, to_entry}
 use Rattle.hunk_words.specs.Name.{bytes_of}
+use Rattle.hunk_words.specs.PartialHunk.{goes_to_content, hunk_with_word}
 use Rattle.hunk_words.specs.Taker.{Judges, context_of}
 use Rattle.hunk_words.specs.Values.{Hunk, Part}
 use Rattle.hunk_words.specs.SiteContext.{SiteContext, initial_context}
@@ -14,20 +14,21 @@ use Rattle.hunk_words.specs.declared.event.Event.TheVariants as event
 use Rattle.hunk_words.specs.declared.event.FileKind.TheVariants.{Load}
 use Rattle.hunk_words.specs.declared.sites.SiteRefusal.{SiteRefusal}
 use Rattle.hunk_words.specs.declared.sites.SiteRefusal.TheVariants.{OutOfMemory}
-use Rattle.hunk_words.proofs.TakerLemmas.{value_of_events-append, context_after-append}
+use Rattle.hunk_words.proofs.PartialHunkLemmas.{bytes_of-append, hunk_with_word-dropped, hunk_with_word-kept, receiver-content}
+use Rattle.hunk_words.proofs.TakerLemmas.{value_of_events-append, context_after-append, judges-memory}
 use Rattle.hunk_loadfile.specs.LoadFile.{with_sites}
 use Rattle.hunk_words.specs.SiteContext.{context_with}
-use Rattle.hunk_loader.specs.ImageBuilder.{BuilderState, Holds, Loads, Shows, ShowsNone, ShowsOpen, StandsFor, TakesEvent, goes_to_content, passed}
-use Rattle.hunk_loader.specs.OpenImage.{PartialHunk}
+use Rattle.hunk_loader.specs.ImageBuilder.{BuilderState, Holds, Loads, Shows, ShowsNone, ShowsOpen, StandsFor, TakesEvent, passed}
+use Rattle.hunk_loader.specs.OpenImage.{CountedHunk}
 use Rattle.hunk_loader.specs.declared.placing.Placing.{Placing}
 use Rattle.hunk_loader.specs.declared.placing.Placing.TheVariants.{Unknown, Placed, Refused}
 
--- ---- the same, with a hunk that has not ended
+-- ---- the same, with a current hunk
 
-pub with-current : (m : BuilderState) (o : Option PartialHunk) → m.current ≡ o → record m { current = o } ≡ m
+pub with-current : (m : BuilderState) (o : Option CountedHunk) → m.current ≡ o → record m { current = o } ≡ m
 with-current m o is = ap (λ q. record m { current = q }) (sym is)
 
-pub same-current : (m : BuilderState) (p q : PartialHunk) → p ≡ q → record m { current = Some p } ≡ record m { current = Some q }
+pub same-current : (m : BuilderState) (p q : CountedHunk) → p ≡ q → record m { current = Some p } ≡ record m { current = Some q }
 same-current m p q is = ap (λ o. record m { current = Some o }) is
 
 -- ---- events that were taken, and one more
@@ -38,23 +39,7 @@ StandsFor-takes m n (Ok d) e t told stands =
     (subst (λ w. Holds n (step (value_of_events initial_load told) e) w) (sym (context_after-append Load initial_context told e)) (t.takes (value_of_events initial_load told) (context_of Load told) stands))
 StandsFor-takes m n (Err r) e t told stands = tt
 
--- ---- a refusal that blames no event
-
-judges-memory : (w : SiteContext) (e : Event) → Judges w e (Err OutOfMemory)
-judges-memory w event.Unit = tt
-judges-memory w (event.Table n) = tt
-judges-memory w (event.HunkSize bits n) = tt
-judges-memory w event.HunkName = tt
-judges-memory w (event.Content c bits n) = tt
-judges-memory w (event.Word n) = tt
-judges-memory w (event.Site o t) = tt
-judges-memory w (event.Entry t) = tt
-judges-memory w (event.Count n) = tt
-judges-memory w (event.RefSite o) = tt
-judges-memory w event.Symbol = tt
-judges-memory w (event.Value n) = tt
-judges-memory w (event.Debug n) = tt
-judges-memory w event.HunkEnd = tt
+-- ---- an error that blames no event
 
 pub TakesEvent-refused : (m n : BuilderState) (e : Event) → n ≡ m → TakesEvent m n (Err OutOfMemory) e
 TakesEvent-refused m n e same = record {
@@ -86,15 +71,15 @@ Loads-same Unknown m n b c hs gs is none sizes hunks l = record { ended = ap (λ
 Loads-same Placed m n b c hs gs is none sizes hunks l = rw (is, sizes, hunks) l
 Loads-same (Refused fault) m n b c hs gs is none sizes hunks l = rw is l
 
--- the hunk that has not ended, where words go past it or as they went
-Shows-same : (p : Placing) (o : Option PartialHunk) (b c : EventValue) (w : SiteContext) → SameShown b c → goes_to_content c.receiver ≡ goes_to_content b.receiver → Shows p o b w → Shows p o c w
+-- the current hunk, if words go past it or go where they went
+Shows-same : (p : Placing) (o : Option CountedHunk) (b c : EventValue) (w : SiteContext) → SameShown b c → goes_to_content c.receiver ≡ goes_to_content b.receiver → Shows p o b w → Shows p o c w
 Shows-same p None b c w same words s = record { content = same.content ∙ s.content; sites = same.sites ∙ s.sites; words = words ∙ s.words; seen = s.seen }
 Shows-same p (Some o) b c w same words s = record {
   words = s.words ∙ sym words;
-  sites = s.sites ∙ ap (λ ss. record { limit = w.position.limit; entries = with_sites [] ss }) (sym same.sites);
+  sites = s.sites ∙ ap (λ ss. with_sites [] ss) (sym same.sites);
   limit = s.limit;
   within = s.within;
-  same = s.same;
+  holds = s.holds;
   apart = s.apart;
   count = s.count;
   content = λ is. s.content is ∙ ap bytes_of (sym same.content);
@@ -102,14 +87,14 @@ Shows-same p (Some o) b c w same words s = record {
   fits = s.fits;
 }
 
-Shows-passed : (p : Placing) (o : Option PartialHunk) (b c : EventValue) (w : SiteContext) → SameShown b c → goes_to_content c.receiver ≡ false → Shows p o b w → Shows p (passed o) c w
+Shows-passed : (p : Placing) (o : Option CountedHunk) (b c : EventValue) (w : SiteContext) → SameShown b c → goes_to_content c.receiver ≡ false → Shows p o b w → Shows p (passed o) c w
 Shows-passed p None b c w same words s = record { content = same.content ∙ s.content; sites = same.sites ∙ s.sites; words = words; seen = s.seen }
 Shows-passed p (Some o) b c w same words s = record {
   words = sym words;
-  sites = s.sites ∙ ap (λ ss. record { limit = w.position.limit; entries = with_sites [] ss }) (sym same.sites);
+  sites = s.sites ∙ ap (λ ss. with_sites [] ss) (sym same.sites);
   limit = s.limit;
   within = s.within;
-  same = s.same;
+  holds = record { same_limit = s.holds.same_limit; same_sites = s.holds.same_sites };
   apart = s.apart;
   count = s.count;
   content = λ is. s.content is ∙ ap bytes_of (sym same.content);
@@ -117,8 +102,8 @@ Shows-passed p (Some o) b c w same words s = record {
   fits = s.fits;
 }
 
--- With the hunks that ended as they were, only the hunk that has not is to be shown.
-pub Holds-shows : (m : BuilderState) (o : Option PartialHunk) (b c : EventValue) (w : SiteContext) (seen : List ℕ) (h : Holds m b w) → (m.current ≡ None → o ≡ None) → c.sizes ≡ b.sizes → SamePart c.parts h.part → Shows m.placing o c (record { position = w.position; seen = seen })
+-- If the hunks that have ended are as they were, only the current hunk is left to show.
+pub Holds-shows : (m : BuilderState) (o : Option CountedHunk) (b c : EventValue) (w : SiteContext) (seen : List ℕ) (h : Holds m b w) → (m.current ≡ None → o ≡ None) → c.sizes ≡ b.sizes → SamePart c.parts h.part → Shows m.placing o c (record { position = w.position; seen = seen })
     → Holds (record m { current = o }) c (record { position = w.position; seen = seen })
 Holds-shows m o b c w seen h none sizes parts shows = record {
   sizes = h.sizes;
@@ -135,15 +120,15 @@ Holds-shows m o b c w seen h none sizes parts shows = record {
 Holds-same : (m : BuilderState) (b c : EventValue) (w : SiteContext) → SameShown b c → goes_to_content c.receiver ≡ goes_to_content b.receiver → Holds m b w → Holds m c w
 Holds-same m b c w same words h = Holds-shows m m.current b c w w.seen h (λ is. is) same.sizes (same.parts h.part h.parts) (Shows-same m.placing m.current b c w same words h.shows)
 
-passed-none : (o : Option PartialHunk) → o ≡ None → passed o ≡ None
+passed-none : (o : Option CountedHunk) → o ≡ None → passed o ≡ None
 passed-none o is = ap passed is
 
 Holds-passed : (m : BuilderState) (b c : EventValue) (w : SiteContext) → SameShown b c → goes_to_content c.receiver ≡ false → Holds m b w → Holds (record m { current = passed m.current }) c w
 Holds-passed m b c w same words h = Holds-shows m (passed m.current) b c w w.seen h (passed-none m.current) same.sizes (same.parts h.part h.parts) (Shows-passed m.placing m.current b c w same words h.shows)
 
--- ---- events that an image passes over
+-- ---- events that an image ignores
 
--- behind this event words are no content, and an image has nothing of it
+-- after this event words are not content, and an image has nothing of it
 pub record IsPassed (e : Event) : Type 0 where
   pub same : (b : EventValue) → SameShown b (step b e)
   pub words : (b : EventValue) → goes_to_content (step b e).receiver ≡ false
@@ -216,7 +201,7 @@ TakesEvent-table m n k is = record { takes = λ b w holds. subst (λ q. Holds q 
 
 -- ---- words
 
--- where a word goes that is no content
+-- where a word goes that is not content
 word-same : (r : Receiver) (b : EventValue) (n : ℕ) → r ≡ b.receiver → goes_to_content r ≡ false → SameShown b (word_to r b n)
 word-same nothing_more b n is words = same-but b b refl refl refl refl
 word-same to_unit_name b n is words = record {
@@ -240,41 +225,29 @@ word-receiver to_debug b n is = refl
 word-receiver (to_symbol ws) b n is = ap goes_to_content is
 word-receiver (to_entry t ws) b n is = ap goes_to_content is
 
--- a word that is no content
+-- a word that is not content
 Holds-word-past : (m : BuilderState) (b : EventValue) (w : SiteContext) (n : ℕ) → goes_to_content b.receiver ≡ false → Holds m b w → Holds m (step b (event.Word n)) w
 Holds-word-past m b w n words h = Holds-same m b (step b (event.Word n)) w (word-same b.receiver b n refl words) (word-receiver b.receiver b n refl) h
 
-receiver-content : (r : Receiver) → goes_to_content r ≡ true → r ≡ to_content
-receiver-content nothing_more is = let wrong : false ≡ true = is in cc
-receiver-content to_unit_name is = let wrong : false ≡ true = is in cc
-receiver-content to_name is = let wrong : false ≡ true = is in cc
-receiver-content to_content is = refl
-receiver-content to_debug is = let wrong : false ≡ true = is in cc
-receiver-content (to_symbol ws) is = let wrong : false ≡ true = is in cc
-receiver-content (to_entry t ws) is = let wrong : false ≡ true = is in cc
-
--- the content with one word more
+-- the content with one more word
 abbrev with_word : EventValue → ℕ → EventValue
 with_word b n = record b { hunk = record b.hunk { content = b.hunk.content ++ (n ∷ []) } }
 
 step-content : (b : EventValue) (n : ℕ) → goes_to_content b.receiver ≡ true → step b (event.Word n) ≡ with_word b n
 step-content b n is = ap (λ r. word_to r b n) (receiver-content b.receiver is)
 
-bytes_of-append : (ws : List ℕ) (n : ℕ) → bytes_of (ws ++ (n ∷ [])) ≡ bytes_of ws ++ big_bytes 4 n
-bytes_of-append ws n = flat_map-append (λ w. big_bytes 4 w) ws (n ∷ []) ∙ ap (λ l. bytes_of ws ++ l) (append-nil (big_bytes 4 n))
-
--- a word of content that is not kept, where the hunks are not placed
+-- a word of content that is not kept, if the hunks are not placed
 Holds-word-unkept : (m : BuilderState) (b : EventValue) (w : SiteContext) (n : ℕ) → m.placing ≢ Placed → goes_to_content b.receiver ≡ true → Holds m b w → Holds m (with_word b n) w
 Holds-word-unkept m b w n unplaced is h = Holds-shows m m.current b (with_word b n) w w.seen h (λ none. none) refl (same-part h.part b.parts h.parts) (go m.current h.shows)
   where
-    go : (o : Option PartialHunk) → Shows m.placing o b w → Shows m.placing o (with_word b n) w
+    go : (o : Option CountedHunk) → Shows m.placing o b w → Shows m.placing o (with_word b n) w
     go None s = let wrong : true ≡ false = sym is ∙ s.words in cc
     go (Some o) s = record {
       words = s.words;
       sites = s.sites;
       limit = s.limit;
       within = s.within;
-      same = s.same;
+      holds = s.holds;
       apart = s.apart;
       count = s.count;
       content = λ placed. absurd (unplaced placed);
@@ -282,16 +255,20 @@ Holds-word-unkept m b w n unplaced is h = Holds-shows m m.current b (with_word b
       fits = s.fits;
     }
 
-Holds-word-kept : (m : BuilderState) (b : EventValue) (w : SiteContext) (n : ℕ) (o : PartialHunk) → m.placing ≡ Placed → m.current ≡ Some o → goes_to_content b.receiver ≡ true
-    → length (o.bytes ++ big_bytes 4 n) ≤ o.sites.limit → Holds m b w → Holds (record m { current = Some (record o { bytes = o.bytes ++ big_bytes 4 n }) }) (with_word b n) w
+-- the hunk with this much content
+abbrev with_content : CountedHunk → List ℕ → CountedHunk
+with_content o bytes = record o { partial = record o.partial { content = bytes } }
+
+Holds-word-kept : (m : BuilderState) (b : EventValue) (w : SiteContext) (n : ℕ) (o : CountedHunk) → m.placing ≡ Placed → m.current ≡ Some o → goes_to_content b.receiver ≡ true
+    → length (o.partial.content ++ big_bytes 4 n) ≤ o.partial.sites.limit → Holds m b w → Holds (record m { current = Some (with_content o (o.partial.content ++ big_bytes 4 n)) }) (with_word b n) w
 Holds-word-kept m b w n o placed current is fits h =
     let s : ShowsOpen m.placing o b w = subst (λ q. Shows m.placing q b w) current h.shows in
-    Holds-shows m (Some (record o { bytes = o.bytes ++ big_bytes 4 n })) b (with_word b n) w w.seen h (λ none. let wrong : Some o ≡ None = sym current ∙ none in cc) refl (same-part h.part b.parts h.parts) (record {
+    Holds-shows m (Some (with_content o (o.partial.content ++ big_bytes 4 n))) b (with_word b n) w w.seen h (λ none. let wrong : Some o ≡ None = sym current ∙ none in cc) refl (same-part h.part b.parts h.parts) (record {
       words = s.words;
       sites = s.sites;
+      holds = record { same_limit = s.holds.same_limit; same_sites = s.holds.same_sites };
       limit = s.limit;
       within = s.within;
-      same = s.same;
       apart = s.apart;
       count = s.count;
       content = λ q. ap (λ bytes. bytes ++ big_bytes 4 n) (s.content q) ∙ sym (bytes_of-append b.hunk.content n);
@@ -313,12 +290,12 @@ TakesEvent-word-unplaced m n k unplaced is = record {
   bases = ap (λ q. q.bases) is;
 }
 
--- no hunk has begun, or the next word is no content
-abbrev pub PassesWords : Option PartialHunk → Type 0
+-- no hunk has begun, or the next word is not content
+abbrev pub PassesWords : Option CountedHunk → Type 0
 PassesWords None = Unit {0}
-PassesWords (Some o) = o.words ≡ false
+PassesWords (Some o) = o.partial.in_content ≡ false
 
-words-pass : (p : Placing) (o : Option PartialHunk) (b : EventValue) (w : SiteContext) → PassesWords o → Shows p o b w → goes_to_content b.receiver ≡ false
+words-pass : (p : Placing) (o : Option CountedHunk) (b : EventValue) (w : SiteContext) → PassesWords o → Shows p o b w → goes_to_content b.receiver ≡ false
 words-pass p None b w pass s = s.words
 words-pass p (Some o) b w pass s = sym s.words ∙ pass
 
@@ -330,8 +307,8 @@ TakesEvent-word-past m n k pass is = record {
   bases = ap (λ q. q.bases) is;
 }
 
-pub TakesEvent-word-kept : (m n : BuilderState) (k : ℕ) (o : PartialHunk) → m.placing ≡ Placed → m.current ≡ Some o → o.words ≡ true → length (o.bytes ++ big_bytes 4 k) ≤ o.sites.limit
-    → n ≡ record m { current = Some (record o { bytes = o.bytes ++ big_bytes 4 k }) } → TakesEvent m n (Ok tt) (event.Word k)
+TakesEvent-word-kept : (m n : BuilderState) (k : ℕ) (o : CountedHunk) → m.placing ≡ Placed → m.current ≡ Some o → o.partial.in_content ≡ true → length (o.partial.content ++ big_bytes 4 k) ≤ o.partial.sites.limit
+    → n ≡ record m { current = Some (with_content o (o.partial.content ++ big_bytes 4 k)) } → TakesEvent m n (Ok tt) (event.Word k)
 TakesEvent-word-kept m n k o placed current words fits is = record {
   takes = λ b w holds. subst (λ q. Holds q (step b (event.Word k)) w) (sym is) (go b w holds);
   refuses = λ b w holds. tt;
@@ -339,11 +316,22 @@ TakesEvent-word-kept m n k o placed current words fits is = record {
   bases = ap (λ q. q.bases) is;
 }
   where
-    go : (b : EventValue) (w : SiteContext) → Holds m b w → Holds (record m { current = Some (record o { bytes = o.bytes ++ big_bytes 4 k }) }) (step b (event.Word k)) w
+    go : (b : EventValue) (w : SiteContext) → Holds m b w → Holds (record m { current = Some (with_content o (o.partial.content ++ big_bytes 4 k)) }) (step b (event.Word k)) w
     go b w h =
         let s : ShowsOpen m.placing o b w = subst (λ q. Shows m.placing q b w) current h.shows in
         let is_content : goes_to_content b.receiver ≡ true = sym s.words ∙ words in
-        subst (λ c. Holds (record m { current = Some (record o { bytes = o.bytes ++ big_bytes 4 k }) }) c w) (sym (step-content b k is_content)) (Holds-word-kept m b w k o placed current is_content fits h)
+        subst (λ c. Holds (record m { current = Some (with_content o (o.partial.content ++ big_bytes 4 k)) }) c w) (sym (step-content b k is_content)) (Holds-word-kept m b w k o placed current is_content fits h)
+
+-- the current hunk takes a word, and keeps it if it is content
+pub TakesEvent-word : (m : BuilderState) (k : ℕ) (o n : CountedHunk) (in_content : Bool) → o.partial.in_content ≡ in_content → m.placing ≡ Placed → m.current ≡ Some o → n ≡ record o { partial = hunk_with_word o.partial k }
+    → length n.partial.content ≤ n.partial.sites.limit → TakesEvent m (record m { current = Some n }) (Ok tt) (event.Word k)
+TakesEvent-word m k o n true words placed current adds fits =
+    let kept : n ≡ with_content o (o.partial.content ++ big_bytes 4 k) = adds ∙ ap (λ p. record o { partial = p }) (hunk_with_word-kept o.partial k words) in
+    TakesEvent-word-kept m (record m { current = Some n }) k o placed current words (subst (λ (q : CountedHunk). length q.partial.content ≤ q.partial.sites.limit) kept fits)
+    (same-current m n (with_content o (o.partial.content ++ big_bytes 4 k)) kept)
+TakesEvent-word m k o n false words placed current adds fits =
+    let same : n ≡ o = adds ∙ ap (λ p. record o { partial = p }) (hunk_with_word-dropped o.partial k words) in
+    TakesEvent-word-past m (record m { current = Some n }) k (subst PassesWords (sym current) words) (with-current m (Some n) (current ∙ ap (λ q. Some q) (sym same)))
 
 -- ---- sizes
 
@@ -352,7 +340,7 @@ size-grows Unknown m b hs bits size is l = record { ended = l.ended; made = l.ma
 size-grows Placed m b hs bits size is l = cc
 size-grows (Refused fault) m b hs bits size is l = cc
 
--- where no hunk began
+-- if no hunk has begun
 current-none : (p : Placing) (m : BuilderState) (b : EventValue) (hs : List Hunk) → p ≡ Unknown → Loads p m b hs → m.current ≡ None
 current-none Unknown m b hs is l = l.current
 current-none Placed m b hs is l = cc

@@ -54,7 +54,7 @@ memory_map-some (first ∷ hunks) (suc number) address hunk byte is found none =
 
 -- ---- among loaded hunks
 
--- the hunk of this number, loaded
+-- the hunk with this number, loaded
 loaded_from-at : (all bases : List ℕ) (hunks : List FileHunk) (number : ℕ) (hunk : FileHunk) → slice_get hunks number ≡ Some hunk → number < length bases
     → slice_get (loaded_from all bases hunks) number ≡ Some (slice_index bases number, loaded_bytes all hunk)
 loaded_from-at all [] hunks number hunk is low = absurd (omega arith)

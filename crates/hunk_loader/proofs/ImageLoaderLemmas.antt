@@ -83,7 +83,7 @@ holds-file m t fits h =
       refused = λ fault is. loads-refused m.placing m b h.part.hunks fault is h.loads;
     }
 
--- ---- the answer at the end
+-- ---- the result at the end
 
 placing-known : (p : Placing) → p ≢ Unknown → ((fault : PlaceFault) → p ≢ Refused fault) → p ≡ Placed
 placing-known Unknown known not_refused = absurd (known refl)
@@ -93,7 +93,7 @@ placing-known (Refused fault) known not_refused = absurd (not_refused fault refl
 file-of : (m : BuilderState) (bytes : List ℕ) → (d : DecoderFinished Load StandsFor bytes (Ok m)) → IsLoadOf (load_value d.1.tree) bytes
 file-of m bytes d = record { whole = d.0; is_load = record { tree = d.1.tree; is_file = d.1.is_file; value = refl } }
 
--- of a whole file: its image, or what is wrong with the bases
+-- for a whole file: its image, or what is wrong with the bases
 pub Finished-image : (m : BuilderState) (bytes : List ℕ) (answer : Result (List (ℕ × List ℕ)) LoadRefusal) → DecoderFinished Load StandsFor bytes (Ok m) → IsImage m answer → Finished m.bases bytes answer
 Finished-image m bytes (Ok image) d is =
     let f = holds-file m d.1.tree d.1.is_file.fits d.1.stands in
@@ -114,12 +114,12 @@ Finished-image m bytes (Err (Place fault)) d is =
 Finished-image m bytes (Err (File fault)) d is = elim is [ ]
 Finished-image m bytes (Err OutOfMemory) d is = elim is [ ]
 
--- else the refusal of the bytes
+-- otherwise the refusal of the bytes
 pub Finished-refusal : (bases bytes : List ℕ) (refusal : Refusal) → DecoderFinished Load StandsFor bytes (Err refusal) → Finished bases bytes (Err (load_refusal refusal))
 Finished-refusal bases bytes (refusal_is.Fault fault) d = d
 Finished-refusal bases bytes refusal_is.OutOfMemory d = tt
 
--- ---- a refusal that was kept
+-- ---- an error that is kept
 
 pub again-ok : {T : Type 0} (o : Option Refusal) (answer : Result T Refusal) (t : T) → answer ≡ Ok t → ((r : Refusal) → o ≡ Some r → answer ≡ Err r) → (e : LoadRefusal) → load_refusals o ≡ Some e → ⊥
 again-ok None answer t ok again e is = let wrong : None ≡ Some e = is in cc

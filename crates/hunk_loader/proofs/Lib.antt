@@ -1,10 +1,10 @@
-pub mod PlacesDescendingLemmas
 pub mod BoundedImageBuilderLemmas
 pub mod ImageBuilderLemmas
 pub mod ImageBuilderHunkLemmas
 pub mod ImageLoaderLemmas
+pub mod ImageReaderLemmas
 pub mod LoadingLemmas
 pub mod ImageLemmas
 pub mod OpenImageLemmas
 pub mod PlacesLemmas
-pub mod PlacesAscendingLemmas
+pub mod PlacesOrderLemmas

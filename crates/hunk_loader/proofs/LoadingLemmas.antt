@@ -9,7 +9,7 @@ use Rattle.hunk_loadfile.proofs.PatchingLemmas.{patched_bytes-filled}
 use Rattle.hunk_loader.specs.Image.{hunks_of}
 use Rattle.hunk_loader.specs.Loading.{loaded, loaded_bytes}
 
--- content that was filled up with zeros, and then patched
+-- content that was padded with zeros, and then patched
 pub patched_bytes-size : (bases content buffer patched : List ℕ) (limit size : ℕ) (sites : List (ℕ × ℕ)) → length content ≤ size → StandFrom 0 limit sites
     → buffer ≡ content ++ replicate (size - length content) 0 → patched ≡ patched_bytes (length buffer) buffer sites (slice_index bases)
     → patched ≡ patched_bytes size content sites (slice_index bases)
@@ -21,7 +21,7 @@ patched_bytes-size bases content buffer patched limit size sites fits apart fill
     ∙ ap (λ bytes. patched_bytes size bytes sites (slice_index bases)) filled
     ∙ patched_bytes-filled limit size zeros content sites (slice_index bases) apart
 
--- the hunks that are left, loaded
+-- the remaining hunks, loaded
 abbrev pub loaded_from : List ℕ → List ℕ → List FileHunk → List (ℕ × List ℕ)
 loaded_from all bases hunks = map (λ placed. (placed.0, loaded_bytes all placed.1)) (zip bases hunks)
 

@@ -1,4 +1,4 @@
--- Hunks are placed or refused, never both, and by one fault alone.
+-- Hunks are placed or rejected, never both, and for one fault only.
 use Rattle.std.proofs.Common.{◌≡◌, ◌↔◌, ◌⊎◌, inl, inr, ℕ, zero, suc, ◌<◌, List, length, refl, ap, sym, subst, arith, slice_index, EachIndex, ◌^◌, max, min, Result, IsOk, Ok, Err}
 use Rattle.std.proofs.lemmas.Bool.{cases_lt, cases_eq}
 use Rattle.std.proofs.lemmas.List.{get_or_past}
@@ -101,7 +101,7 @@ IsFirstRefusal-unique sizes bases (Overlap earlier later) (Overlap other_earlier
     let same_earlier = IsFirstOverlap-earlier_unique sizes bases earlier later other_earlier other_later first.2 second.2 in
     cc
 
--- what `check_places` answers with a fault, or with none
+-- what `check_places` returns: a fault, or none
 abbrev Answer : Type 0
 Answer = Result (Unit {0}) PlaceFault
 
@@ -111,7 +111,7 @@ refusal fault = Err fault
 abbrev success : Answer
 success = Ok tt
 
--- the first refusal is told by that fault, and by no other
+-- the first fault is that fault, and no other
 pub refusal-placed :
     (sizes bases : List ℕ) (fault : PlaceFault) → IsFirstRefusal sizes bases fault →
     IsOk (refusal fault) ↔ Placed sizes bases
@@ -124,16 +124,16 @@ pub refusal-refused :
 refusal-refused sizes bases fault refused other =
     (λ same. let P : PlaceFault → Type 0 = IsFirstRefusal sizes bases in let e : fault ≡ other = cc in subst P e refused, λ is_first. ap (λ f. refusal f) (IsFirstRefusal-unique sizes bases fault other refused is_first))
 
--- lists that are placed are told by no fault
+-- lists that are placed have no fault
 pub success-refused :
     (sizes bases : List ℕ) → Placed sizes bases → (fault : PlaceFault) →
     (success ≡ refusal fault) ↔ IsFirstRefusal sizes bases fault
 success-refused sizes bases placed fault =
     (λ same. cc, λ refused. absurd (Placed-unrefused sizes bases placed fault refused))
 
--- ---- placed or refused
+-- ---- placed or rejected
 
--- the first number below a limit at which a fact holds that can be decided, or none
+-- the first number below a limit for which a decidable fact holds, or none
 first-below :
     (P : ℕ → Type 0) → ((k : ℕ) → P k ⊎ (P k → ⊥)) → (n : ℕ) →
     ((k : ℕ) × (k < n) × P k × ((lower : ℕ) → lower < k → P lower → ⊥)) ⊎ ((k : ℕ) → k < n → P k → ⊥)
@@ -169,7 +169,7 @@ MeetsEarlier-decided sizes bases later =
       | inr none ↦ inr (λ meets. none meets.0 meets.1.is_earlier meets.1.share)
     ]
 
--- where no least one meets it, none does
+-- if there is no lowest one that meets it, none does
 ApartFromEarlier-none : (sizes bases : List ℕ) (later : ℕ) → (MeetsEarlier sizes bases later → ⊥) → ApartFromEarlier sizes bases later
 ApartFromEarlier-none sizes bases later none earlier below share =
     elim (first-below (λ k. ShareAddress sizes bases k later) (λ k. ShareAddress-decided sizes bases k later) later) [

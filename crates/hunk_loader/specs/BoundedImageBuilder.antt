@@ -4,35 +4,35 @@ use Rattle.hunk_words.specs.Taker.{sizes_told}
 use Rattle.hunk_words.specs.declared.event.Event.{Event}
 use Rattle.hunk_words.specs.declared.event.FileKind.TheVariants.{Load}
 use Rattle.hunk_loader.specs.ImageBuilder.{BuilderState, StandsFor}
-use Rattle.hunk_loader.specs.OpenImage.{PartialHunk}
+use Rattle.hunk_loader.specs.OpenImage.{CountedHunk}
 use Rattle.hunk_loader.specs.Places.{Placed as ArePlaced}
 
 -- the bytes that are kept of hunks
-abbrev pub current_bytes : Option PartialHunk → ℕ
+abbrev pub current_bytes : Option CountedHunk → ℕ
 current_bytes None = 0
-current_bytes (Some partial) = length partial.bytes
+current_bytes (Some hunk) = length hunk.partial.content
 
 abbrev pub bytes_kept : BuilderState → ℕ
 bytes_kept state = sum_by (λ h. length h.1) state.made + current_bytes state.current
 
--- The sites lie in the hunk that has not ended, and are at most one for each of its longwords.
-pub record SitesOf (size : ℕ) (partial : PartialHunk) : Type 0 where
-  pub limit : partial.sites.limit ≡ 4 * size
-  pub few : length partial.sites.entries ≤ size
+-- The sites lie in the current hunk, and are at most one for each of its longwords.
+pub record SitesOf (size : ℕ) (hunk : CountedHunk) : Type 0 where
+  pub limit : hunk.partial.sites.limit ≡ 4 * size
+  pub few : length hunk.partial.sites.entries ≤ size
 
-abbrev pub SitesInside : BuilderState → Option PartialHunk → Type 0
+abbrev pub SitesInside : BuilderState → Option CountedHunk → Type 0
 SitesInside state None = Unit {0}
-SitesInside state (Some partial) = SitesOf (slice_index state.sizes state.ended) partial
+SitesInside state (Some hunk) = SitesOf (slice_index state.sizes state.ended) hunk
 
--- What is kept after events: one number for each size in the header, no more bytes than all sizes, none where the hunks are
--- not placed, and the sites of the hunk that has not ended alone.
+-- What is kept after events: one number for each size in the header, no more bytes than all sizes,
+-- none if the hunks are not placed, and only the sites of the current hunk.
 pub record IsBoundedBy (state : BuilderState) (told : List Event) : Type 0 where
   pub sizes : state.sizes ≡ sizes_told Load told
   pub bytes : bytes_kept state ≤ 4 * sum_by (λ n. n) state.sizes
   pub none : ¬ ArePlaced state.sizes state.bases → bytes_kept state ≡ 0
   pub sites : SitesInside state state.current
 
--- It took some events, and keeps no more than these need.
+-- It has taken some events, and keeps no more than these need.
 pub record IsBounded (state : BuilderState) : Type 0 where
   pub told : List Event
   pub stands : StandsFor state told

@@ -1,16 +1,17 @@
--- Memory as a map from addresses to bytes, made of the list of hunks: the base of each, an address, and its bytes.
+-- Memory as a map from addresses to bytes, made from the list of hunks: the base of each, an
+-- address, and its bytes.
 use Rattle.std.specs.Prelude.{ℕ, ◌-◌, nat_le, if◌then◌else◌, List, [], ◌∷◌, map, Option, Some, None, Vec, slice_get}
 
 -- the byte of one hunk at an address, if it has one there
 abbrev pub byte_in : ℕ → List ℕ → ℕ → Option ℕ
 byte_in base bytes address = if nat_le base address then slice_get bytes (address - base) else None
 
--- the byte, or what comes in its place where there is none
+-- the byte, or the other one if there is none
 abbrev pub or_else : Option ℕ → Option ℕ → Option ℕ
 or_else (Some byte) other = Some byte
 or_else None other = other
 
--- The byte at an address. Where the hunks are placed, at most one of them has one there.
+-- The byte at an address. If the hunks are placed, at most one of them has one there.
 abbrev pub memory_map : List (ℕ × List ℕ) → ℕ → Option ℕ
 memory_map [] address = None
 memory_map (hunk ∷ hunks) address = or_else (byte_in hunk.0 hunk.1 address) (memory_map hunks address)

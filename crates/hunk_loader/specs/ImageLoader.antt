@@ -24,7 +24,7 @@ use Rattle.hunk_loader.specs.declared.places.PlaceFault.{PlaceFault}
 abbrev pub holds_of : {A : Type 0} → ImageLoader A → BuilderState
 holds_of loader = loader.decoder.core.taker
 
--- the events that bytes tell
+-- the events of bytes
 abbrev pub events_told : List ℕ → List Event
 events_told bytes = events (fields_read Load (longwords bytes))
 
@@ -39,27 +39,30 @@ StandsFor loader bytes = DecoderStandsFor Load BuilderStandsFor loader.decoder b
 abbrev pub refusal_of : {A : Type 0} → ImageLoader A → Option LoadRefusal
 refusal_of loader = load_refusals (kept loader.decoder.core)
 
--- The answer to a piece, behind which these are the bytes: a load file may begin with them, or their longwords offend here.
+-- The result of a piece after which the bytes are these: they are a valid prefix, or their
+-- longwords offend here.
 abbrev pub Fed : List ℕ → Result (Unit {0}) LoadRefusal → Type 0
 Fed bytes (Ok done) = IsValidPrefix Load (longwords bytes)
 Fed bytes (Err (File fault)) = OffendsAt Load (longwords bytes) fault.place fault.reason
 Fed bytes (Err (Place fault)) = ⊥
 Fed bytes (Err OutOfMemory) = Unit {0}
 
--- The bytes are a load file whose hunks can stand at the bases, and this is its image.
+-- The bytes are a load file whose hunks are placed at the bases, and this is its image.
 pub record LoadsAs (bases bytes : List ℕ) (image : List (ℕ × List ℕ)) : Type 0 where
   pub hunks : List FileHunk
   pub is_file : IsLoadOf hunks bytes
   pub placed : Placed (sizes_of hunks) bases
   pub image_is : image ≡ loaded hunks bases
 
--- The bytes are a load file whose hunks cannot stand at the bases, first of all for this.
+-- The bytes are a load file whose hunks cannot be placed at the bases, with this as the first
+-- fault.
 pub record IsNotPlaced (bases bytes : List ℕ) (fault : PlaceFault) : Type 0 where
   pub hunks : List FileHunk
   pub is_file : IsLoadOf hunks bytes
   pub first : IsFirstRefusal (sizes_of hunks) bases fault
 
--- The answer to the end of the bytes: what is wrong with the file comes before what is wrong with the bases.
+-- The result at the end of the bytes: what is wrong with the file comes before what is wrong with
+-- the bases.
 abbrev pub Finished : List ℕ → List ℕ → Result (List (ℕ × List ℕ)) LoadRefusal → Type 0
 Finished bases bytes (Ok image) = LoadsAs bases bytes image
 Finished bases bytes (Err (File fault)) = FirstOffence Load (longwords bytes) (length (unfinished bytes)) fault.place fault.reason

@@ -8,19 +8,19 @@ use Rattle.hunk_loader.specs.Places.{Placed, Takes, IsFirstRefusal}
 use Rattle.hunk_loader.specs.Sizes.{sizes_of}
 use Rattle.hunk_loader.specs.declared.places.PlaceFault.{PlaceFault}
 
--- byte i of a hunk stands at its base plus i
+-- byte i of a hunk is at its base plus i
 abbrev pub HunkIsLoaded : Type 0
 HunkIsLoaded =
     (hunks : List FileHunk) (bases : List ℕ) (number i : ℕ) (hunk : FileHunk) → Placed (sizes_of hunks) bases → slice_get hunks number ≡ Some hunk → i < 4 * hunk.size
     → memory_map (loaded hunks bases) (slice_index bases number + i) ≡ Some (patched hunk.content hunk.sites.entries (slice_index bases) i)
 
--- and at an address that no hunk takes there is nothing
+-- and there is nothing at an address that no hunk takes
 abbrev pub NothingElseIsLoaded : Type 0
 NothingElseIsLoaded =
     (hunks : List FileHunk) (bases : List ℕ) (address : ℕ) → ((number : ℕ) → ¬ Takes (sizes_of hunks) bases number address)
     → memory_map (loaded hunks bases) address ≡ None
 
--- At addresses hunks are placed, or there is a first refusal.
+-- Hunks are placed at addresses, or there is a first fault.
 abbrev pub PlacedOrRefused : Type 0
 PlacedOrRefused =
     (sizes bases : List ℕ) → EachIndex bases (λ hunk. slice_index bases hunk < 2 ^ 32)

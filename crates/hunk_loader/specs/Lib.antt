@@ -3,6 +3,7 @@ pub mod Image
 pub mod Laws
 pub mod ImageBuilder
 pub mod ImageLoader
+pub mod ImageReader
 pub mod Loading
 pub mod OpenImage
 pub mod Places

@@ -1,10 +1,8 @@
--- A hunk of an image that has not ended.
-use Rattle.std.specs.Prelude.{ℕ, Bool, List}
-use Rattle.hunk_words.specs.Sites.{SiteMap}
+-- The current hunk of an image.
+use Rattle.std.specs.Prelude.{ℕ}
+use Rattle.hunk_words.specs.PartialHunk.{HunkSoFar}
 
--- the bytes of its content so far, its sites, how many hunks there are, and whether the next word is content
-pub record PartialHunk : Type 0 where
-  pub bytes : List ℕ
-  pub sites : SiteMap ℕ
+-- its content so far and its sites, and the number of hunks
+pub record CountedHunk : Type 0 where
+  pub partial : HunkSoFar ℕ
   pub count : ℕ
-  pub words : Bool

@@ -1,4 +1,4 @@
-//! The image of a load file while its events come, made with no more memory than it needs.
+//! The image of a load file, made from its events with no more memory than it needs.
 
 ghost use Rattle.std.specs.Prelude.{◌≡◌};
 ghost use Rattle.hunk_words.specs.declared.event.FileKind.TheVariants.{Load};
@@ -11,12 +11,12 @@ use hunk_words::{Event, FileKind, SiteRefusal, Taker};
 use std::alloc::Allocator;
 use std::marker::Model;
 
-/// A builder of an image, of which it is always true, behind a refusal too, that it took some events
-/// and keeps no more than these need.
+/// A builder of an image with a bound on its memory: at all times, after an error too, it has taken
+/// some events and keeps no more than these need.
 ///
-/// It keeps one number for each size that was told, no more bytes of hunks than all these sizes, none
-/// where the hunks are not placed, and the sites of the hunk that has not ended alone, at most one
-/// for each of its longwords.
+/// It keeps one number for each size that it took, no more bytes of hunks than all these sizes,
+/// none if the hunks are not placed, and only the sites of the current hunk, at most one for each
+/// of its longwords.
 #[derive(Drop)]
 pub(crate) struct BoundedImageBuilder<A: Allocator + Copy> {
     builder: ImageBuilder<A>,
@@ -43,7 +43,7 @@ impl<A: Allocator + Copy> BoundedImageBuilder<A> {
         }
     }
 
-    /// The image of the hunks that ended, or what is wrong with the bases.
+    /// The image of the hunks that have ended, or what is wrong with the bases.
     pub(crate) fn image(self) -> Result<Image<A>, LoadRefusal>
         ensures { IsImage self result }
     {
@@ -60,7 +60,7 @@ impl<A: Allocator + Copy> Taker for BoundedImageBuilder<A> {
 
     const KIND: FileKind = FileKind::Load;
 
-    // As `ImageBuilder::take`: a run of words is to make no call a word.
+    // Inlined as `ImageBuilder::take` is, so that a run of words makes no call per word.
     #[inline(always)]
     fn take(&mut self, event: Event) -> Result<(), SiteRefusal> {
         self.builder.take(event)

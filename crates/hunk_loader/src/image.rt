@@ -1,4 +1,4 @@
-//! The image of a load file: what its hunks are in memory.
+//! The image of a load file: its hunks in memory.
 
 ghost use Rattle.std.specs.Prelude.{◌≡◌};
 ghost use Rattle.hunk_loader.specs.Image.{byte_in, hunks_of, memory_map};
@@ -7,7 +7,7 @@ use std::alloc::{Allocator, Global};
 use std::marker::Model;
 
 /// The hunks of a load file in memory, in order: the base of each, an address, and its bytes. Hunks
-/// without a byte are among them.
+/// without bytes are included.
 #[derive(Debug, Drop)]
 pub struct Image<A: Allocator + Copy = Global> {
     hunks: Vec<(u32, Vec<u8, A>), A>,
@@ -30,9 +30,9 @@ impl<A: Allocator + Copy> Image<A> {
         Image { hunks }
     }
 
-    /// The byte at an address, where a hunk has one there.
+    /// The byte at an address, or `None` if no hunk has one there.
     ///
-    /// It takes no memory, and a time linear in the number of hunks.
+    /// Does not allocate. Takes time linear in the number of hunks.
     pub fn byte(&self, address: u32) -> Option<u8>
         ensures { result ≡ memory_map self.now address }
     {
@@ -45,7 +45,7 @@ impl<A: Allocator + Copy> Image<A> {
         None
     }
 
-    /// The base of each hunk and its bytes, in order.
+    /// The base of each hunk, an address, and its bytes, in order.
     pub fn hunks(&self) -> &[(u32, Vec<u8, A>)]
         ensures { hunks_of result.now ≡ self.now }
     {
@@ -53,7 +53,7 @@ impl<A: Allocator + Copy> Image<A> {
     }
 }
 
-/// The byte at an address, where these bytes, which stand at the base, have one there.
+/// The byte at an address, if these bytes, which begin at the base, have one there.
 fn byte_at(base: u32, bytes: &[u8], address: u32) -> Option<u8>
     ensures { result ≡ byte_in base bytes.now address }
 {

@@ -1,4 +1,4 @@
-//! The image of a load file while its events come.
+//! The image of a load file, made from its events.
 
 ghost use Rattle.std.specs.Prelude.{◌≡◌, OnOk, OnErr, slice_index};
 ghost use Rattle.hunk_words.specs.declared.event.Event.{Event};
@@ -13,14 +13,14 @@ use hunk_words::{Event, SiteRefusal};
 use std::alloc::{AllocError, Allocator};
 use std::marker::Model;
 
-/// Makes the image of the hunks whose events come.
+/// Makes the image of the hunks whose events it takes.
 ///
-/// It keeps the bases, the sizes of the header, the hunks that ended and the one that has not, and
-/// of names, symbols and debug blocks nothing. Where the hunks cannot stand at the bases, it only
-/// judges sites, and takes no memory for hunks.
+/// It keeps the bases, the sizes in the header, the hunks that have ended and the current one, but
+/// no names, symbols or debug blocks. If the hunks cannot be placed at the bases, it only checks
+/// sites, and allocates nothing for hunks.
 ///
-/// A refusal leaves it as it was. It answers `OutOfMemory` too where it is told what the decoder
-/// tells of no load file.
+/// An error leaves it as it was. It also returns `OutOfMemory` for events that the decoder never
+/// sends for a load file.
 #[derive(Drop)]
 pub(crate) struct ImageBuilder<A: Allocator + Copy> {
     alloc: A,
@@ -57,7 +57,7 @@ impl<A: Allocator + Copy> ImageBuilder<A> {
         }
     }
 
-    /// The image of the hunks that ended, or what is wrong with the bases.
+    /// The image of the hunks that have ended, or what is wrong with the bases.
     pub(crate) fn image(self) -> Result<Image<A>, LoadRefusal>
         ensures { IsImage self result }
     {
@@ -67,7 +67,7 @@ impl<A: Allocator + Copy> ImageBuilder<A> {
         }
     }
 
-    /// Takes the size of one more hunk, as long as none began.
+    /// Takes the size of one more hunk, as long as no hunk has begun.
     fn add_size(&mut self, bits: u8, size: u32) -> Result<(), SiteRefusal>
         ensures { TakesEvent self.old self.new result (Event.HunkSize bits size) }
     {
@@ -80,7 +80,7 @@ impl<A: Allocator + Copy> ImageBuilder<A> {
         }
     }
 
-    /// Whether the hunks can stand at the bases, all sizes being told.
+    /// Whether the hunks can be placed at the bases, once all sizes are known.
     fn settled(&self) -> Placing
         ensures { Settled self.now.placing self.now.sizes self.now.bases result }
     {
@@ -114,7 +114,7 @@ impl<A: Allocator + Copy> ImageBuilder<A> {
         }
     }
 
-    /// Takes a word. Content is kept where the hunks are placed.
+    /// Takes a word. Content is kept if the hunks are placed.
     #[inline(always)]
     fn add_word(&mut self, word: u32) -> Result<(), SiteRefusal>
         ensures { TakesEvent self.old self.new result (Event.Word word) }
@@ -124,20 +124,15 @@ impl<A: Allocator + Copy> ImageBuilder<A> {
             _ => return Ok(()),
         }
         match &mut self.current {
-            Some(current) => {
-                if !current.takes_words() {
-                    return Ok(());
-                }
-                match current.add_word(word) {
-                    Ok(()) => Ok(()),
-                    Err(_) => Err(SiteRefusal::OutOfMemory),
-                }
-            }
+            Some(current) => match current.add_word(word) {
+                Ok(()) => Ok(()),
+                Err(_) => Err(SiteRefusal::OutOfMemory),
+            },
             None => Ok(()),
         }
     }
 
-    /// Takes a site of the hunk that has not ended.
+    /// Takes a site of the current hunk.
     fn add_site(&mut self, offset: u32, target: u32) -> Result<(), SiteRefusal>
         ensures { TakesEvent self.old self.new result (Event.Site offset target) }
     {
@@ -147,7 +142,7 @@ impl<A: Allocator + Copy> ImageBuilder<A> {
         }
     }
 
-    /// Keeps the hunk that has not ended, loaded at its base.
+    /// Keeps the current hunk, loaded at its base.
     fn keep_hunk(&mut self) -> Result<(), AllocError>
         ensures kept { OnOk result (KeepsHunk self.old self.new) }
         ensures refused { OnErr result (self.new ≡ self.old) }
@@ -192,18 +187,18 @@ impl<A: Allocator + Copy> ImageBuilder<A> {
         Ok(())
     }
 
-    /// Takes an event behind which words are no content.
+    /// Takes an event after which words are not content.
     fn pass(&mut self)
         ensures { self.new ≡ record self.old { current = passed self.old.current } }
     {
         match &mut self.current {
-            Some(current) => current.pass_words(),
+            Some(current) => current.end_content(),
             None => {}
         }
     }
 
     /// Takes the next event.
-    // Content is most of a file, so a run of words is to make no call a word.
+    // Content is most of a file, so a run of words should make no call per word.
     #[inline(always)]
     pub(crate) fn take(&mut self, event: Event) -> Result<(), SiteRefusal>
         ensures { TakesEvent self.old self.new result event }
@@ -228,7 +223,7 @@ impl<A: Allocator + Copy> ImageBuilder<A> {
         }
     }
 
-    /// The size of a hunk in the header, in longwords, or 0 where none was told.
+    /// The size of a hunk in the header, in longwords, or 0 if the header has none for it.
     pub(crate) fn size_of(&self, hunk: u32) -> u32
         ensures { result ≡ slice_index self.now.sizes hunk }
     {

@@ -1,9 +1,8 @@
-//! Loading a load file at given addresses while its bytes come, in any pieces.
+//! Loading a load file at given addresses while its bytes come, in pieces of any size.
 
 ghost use Rattle.std.specs.Prelude.{◌≡◌, ℕ, ◌++◌, List, [], Some, None, IfOk, OnOk};
 ghost use Rattle.hunk_words.specs.DecoderCore.{kept};
 ghost use Rattle.hunk_words.specs.declared.fault.Refusal.{Refusal};
-ghost use Rattle.hunk_loader.specs.Loading.{load_refusal};
 ghost use Rattle.hunk_loader.specs.declared.loading.LoadRefusal.{LoadRefusal};
 
 use crate::bounded_image_builder::BoundedImageBuilder;
@@ -12,28 +11,18 @@ use crate::loading::LoadRefusal;
 use hunk_words::{Decoder, Feed, Refusal};
 use std::alloc::{AllocError, Allocator, Global};
 
-/// Makes the image of a load file from its bytes, in any pieces, without keeping the file.
+/// Makes the image of a load file from its bytes, in pieces of any size, without keeping the file.
 ///
-/// Beside the image it keeps the bases, one number for each size in the header, and the sites of
-/// the current hunk, at most one for each of its longwords. Names, symbols and debug blocks pass
-/// by. Where the hunks cannot stand at the bases it takes no memory for the image. This is so behind
-/// a refusal too.
+/// Apart from the image it keeps the bases, one number for each size in the header, and the sites
+/// of the current hunk, at most one for each of its longwords. Names, symbols and debug blocks are
+/// not kept. If the hunks cannot be placed at the bases, it allocates nothing for the image. All of
+/// this holds after an error too.
 ///
-/// What is wrong with the file is answered before what is wrong with the bases. A refusal is
-/// answered again to every later call.
+/// What is wrong with the file is returned before what is wrong with the bases. After an error,
+/// every later call returns the same error.
 #[derive(Drop)]
 pub struct ImageLoader<A: Allocator + Copy = Global> {
     decoder: Decoder<BoundedImageBuilder<A>>,
-}
-
-/// A refusal of the bytes, as one of loading.
-fn load_refusal(refusal: Refusal) -> LoadRefusal
-    ensures { result ≡ load_refusal refusal }
-{
-    match refusal {
-        Refusal::Fault(fault) => LoadRefusal::File(fault),
-        Refusal::OutOfMemory => LoadRefusal::OutOfMemory,
-    }
 }
 
 impl<A: Allocator + Copy> ImageLoader<A> {
@@ -41,12 +30,12 @@ impl<A: Allocator + Copy> ImageLoader<A> {
     ghost use Rattle.hunk_loader.specs.Loading.{Keeps};
     ghost use Rattle.hunk_loader.specs.ImageLoader.{StandsFor, Fed, Finished, bases_of, events_told, holds_of, refusal_of};
 
-    /// A loader of hunks at these bases, which are addresses, before the first byte. It keeps a copy
-    /// of the bases.
+    /// A loader for hunks at these bases, which are addresses, before the first byte. It keeps a
+    /// copy of the bases.
     ///
     /// # Errors
     ///
-    /// [`AllocError`] only where a growth was refused.
+    /// [`AllocError`] only if an allocation failed.
     pub fn new(alloc: A, bases: &[u32]) -> Result<Self, AllocError>
         ensures stands { IfOk result (λ loader. StandsFor loader []) }
         ensures given { IfOk result (λ loader. bases_of loader ≡ bases.now) }
@@ -63,10 +52,13 @@ impl<A: Allocator + Copy> ImageLoader<A> {
     ///
     /// # Errors
     ///
-    /// [`LoadRefusal::File`] with the piece that has the last byte of the longword that offends
-    /// first, at its place and for the reason of the table of faults or of the rules of sites;
-    /// [`LoadRefusal::OutOfMemory`] only where a growth was refused. [`LoadRefusal::Place`] never
-    /// comes here.
+    /// - [`LoadRefusal::File`] with the first offence, from the call that brings the last byte of
+    ///   the offending longword: its place (a longword, from 0), and its reason by the table of
+    ///   faults or the rules for sites.
+    /// - [`LoadRefusal::OutOfMemory`] only if an allocation failed.
+    ///
+    /// [`LoadRefusal::Place`] is never returned here. After an error, every later call returns the
+    /// same error.
     pub fn feed(&mut self, piece: &[u8]) -> Result<(), LoadRefusal>
         ensures stands { (bytes : List ℕ) → StandsFor self.old bytes → StandsFor self.new (bytes ++ piece.now) }
         ensures given { bases_of self.new ≡ bases_of self.old }
@@ -76,29 +68,24 @@ impl<A: Allocator + Copy> ImageLoader<A> {
         ensures again { (refusal : LoadRefusal) → refusal_of self.old ≡ Some refusal → result ≡ Err refusal }
         ensures empty { piece.now ≡ [] → self.new ≡ self.old }
     {
-        match self.decoder.feed(piece) {
-            Ok(()) => Ok(()),
-            Err(refusal) => Err(load_refusal(refusal)),
-        }
+        Ok(self.decoder.feed(piece)?)
     }
 
-    /// The image of a whole file.
+    /// The image of a whole file. Does not allocate.
     ///
     /// # Errors
     ///
-    /// [`LoadRefusal::File`] where the bytes are no load file: `PartialLongword` where bytes of a
-    /// longword are left, `UnexpectedEnd` where the file is not complete. Else
-    /// [`LoadRefusal::Place`] exactly where [`check_places`](crate::check_places) answers that fault
-    /// for the sizes of the hunks. It takes no memory.
+    /// - [`LoadRefusal::File`] if the bytes are not a load file: `PartialLongword` if bytes of a
+    ///   longword are left over, `UnexpectedEnd` if the file is not complete.
+    /// - [`LoadRefusal::Place`], for a load file, exactly if [`check_places`](crate::check_places)
+    ///   returns that fault for the sizes of its hunks.
+    /// - The error of an earlier call, which is returned again.
     pub fn finish(self) -> Result<Image<A>, LoadRefusal>
         ensures answer { (bytes : List ℕ) → StandsFor self bytes → Finished (bases_of self) bytes result }
         ensures again { (refusal : LoadRefusal) → refusal_of self ≡ Some refusal → result ≡ Err refusal }
         ensures memory { result ≡ Err LoadRefusal.OutOfMemory → refusal_of self ≡ Some LoadRefusal.OutOfMemory }
     {
-        match self.decoder.finish() {
-            Ok(builder) => builder.image(),
-            Err(refusal) => Err(load_refusal(refusal)),
-        }
+        self.decoder.finish()?.image()
     }
 }
 
@@ -123,8 +110,8 @@ mod tests {
     use hunk_words::{Fault, Reason};
     use std::test::Fail;
 
-    /// A load file of two hunks: eight bytes of code, at whose offset 2 the base of hunk 1 is
-    /// added, and one longword of zeros.
+    /// A load file of two hunks: eight bytes of code, with the base of hunk 1 added at offset 2,
+    /// and one longword of zeros.
     const FILE: [u8; 88] = [
         0, 0, 3, 0xF3, 0, 0, 0, 0, 0, 0, 0, 2, 0, 0, 0, 0, 0, 0, 0, 1, 0, 0, 0, 2, 0, 0, 0, 1, //
         0, 0, 3, 0xE9, 0, 0, 0, 2, 0x4E, 0xB9, 0, 0, 0, 0, 0x4E, 0x75, //

@@ -1,4 +1,4 @@
-//! What holds of the definitions of loading, each law a function without a body.
+//! Laws about the definitions of loading, each a function without a body.
 
 ghost use Rattle.hunk_loader.specs.Laws.{HunkIsLoaded, NothingElseIsLoaded, PlacedOrRefused};
 
@@ -9,7 +9,7 @@ pub fn memory_is_loaded()
     ensures nothing_else { NothingElseIsLoaded }
 {}
 
-/// Hunks are placed at addresses, or there is a first refusal, as
+/// Hunks are placed at addresses, or there is a first fault, as
 /// [`check_places`](crate::check_places) returns it.
 pub fn hunks_are_placed_or_refused()
     ensures { PlacedOrRefused }

@@ -1,18 +1,19 @@
-//! Load files in memory: at which addresses their hunks are placed.
+//! Load files in memory: where their hunks are placed, and their image.
 //!
-//! - `image`: what the hunks are in memory.
-//! - `laws`: what holds of the definitions of loading.
+//! - `image`: the hunks in memory.
+//! - `laws`: laws about the definitions of loading.
 //! - `image_loader`: loading a load file while its bytes come.
+//! - `image_reader`: the image of a load file that a reader has.
 //! - `loading`: loading a load file at addresses.
-//! - `places`: whether the addresses that were handed in hold the hunks, and what is wrong with
-//!   them if not.
-//! - `sizes`: the sizes of hunks, told as numbers or by the hunks themselves.
+//! - `places`: whether hunks can be placed at given addresses, and if not, why.
+//! - `sizes`: the sizes of hunks, as numbers or from the hunks themselves.
 #![tactic(auto)]
 
 mod bounded_image_builder;
 pub mod image;
 mod image_builder;
 pub mod image_loader;
+pub mod image_reader;
 pub mod laws;
 pub mod loading;
 mod open_image;
@@ -22,6 +23,7 @@ pub mod sizes;
 
 pub use image::Image;
 pub use image_loader::ImageLoader;
+pub use image_reader::{ImageFault, read_image};
 pub use loading::{LoadRefusal, load};
 pub use places::{PlaceFault, check_places, check_sizes};
 pub use sizes::Sizes;

@@ -4,38 +4,51 @@ ghost use Rattle.std.specs.Prelude.{◌≡◌, ◌≢◌, ◌↔◌, ◌*◌, �
 ghost use Rattle.std.specs.List.{All};
 ghost use Rattle.hunk_loadfile.specs.Rules.{IsLoadHunk};
 ghost use Rattle.hunk_loader.specs.Image.{hunks_of};
-ghost use Rattle.hunk_loader.specs.Loading.{loaded, loaded_bytes};
+ghost use Rattle.hunk_loader.specs.Loading.{load_refusal, loaded, loaded_bytes};
 ghost use Rattle.hunk_loader.specs.Places.{Placed, IsFirstRefusal};
 ghost use Rattle.hunk_loader.specs.Sizes.{sizes_of};
 
 use crate::image::Image;
 use crate::places::{PlaceFault, check_sizes};
 use hunk_loadfile::{LoadFile, LoadHunk, patch};
-use hunk_words::Fault;
+use hunk_words::{Fault, Refusal};
 use std::alloc::{AllocError, Allocator};
 
 /// Why a load file is not loaded.
 #[derive(Clone, Copy, Debug, PartialEq, Eq)]
 pub enum LoadRefusal {
-    /// The bytes that were read are no load file.
+    /// The bytes that were read are not a load file.
     File(Fault),
-    /// The hunks cannot stand at the addresses.
+    /// The hunks cannot be placed at the addresses.
     Place(PlaceFault),
-    /// A growth of memory was refused.
+    /// An allocation failed.
     OutOfMemory,
+}
+
+impl From<Refusal> for LoadRefusal {
+    ghost from_gives = { λ refusal answer. answer ≡ load_refusal refusal };
+
+    fn from(refusal: Refusal) -> LoadRefusal {
+        match refusal {
+            Refusal::Fault(fault) => LoadRefusal::File(fault),
+            Refusal::OutOfMemory => LoadRefusal::OutOfMemory,
+        }
+    }
 }
 
 /// Loads a load file: the content of each hunk stands at its base, zeros behind it up to the size,
 /// and the base of a hunk is added to the longword at each site that names it, modulo 2^32
 /// (The AmigaDOS Manual, 3rd edition, "Amiga binary file structure").
 ///
-/// It takes memory only where the hunks can stand at the bases.
+/// It allocates only if the hunks can be placed at the bases.
 ///
 /// # Errors
 ///
-/// [`LoadRefusal::Place`] exactly where [`check_places`](crate::check_places) answers that fault
-/// for the sizes of the hunks, else [`LoadRefusal::OutOfMemory`] only where a growth was refused.
-/// [`LoadRefusal::File`] never comes here.
+/// - [`LoadRefusal::Place`] exactly if [`check_places`](crate::check_places) returns that fault for
+///   the sizes of the hunks.
+/// - [`LoadRefusal::OutOfMemory`] only if an allocation failed.
+///
+/// [`LoadRefusal::File`] is never returned here.
 pub fn load<A: Allocator + Copy>(
     alloc: A,
     file: &LoadFile<A>,
@@ -75,7 +88,7 @@ fn load_hunks<A: Allocator + Copy>(
     Ok(made)
 }
 
-/// The bytes of a hunk, where the hunks of its file stand at the bases.
+/// The bytes of a hunk, if the hunks of its file are placed at the bases.
 fn load_hunk<A: Allocator + Copy>(
     alloc: A,
     hunk: &LoadHunk<A>,
@@ -89,7 +102,7 @@ fn load_hunk<A: Allocator + Copy>(
     Ok(bytes)
 }
 
-/// The content, and zeros behind it up to so many bytes.
+/// The content, and zeros after it up to `count` bytes.
 fn filled<A: Allocator>(alloc: A, content: &[u8], count: usize) -> Result<Vec<u8, A>, AllocError>
     requires { length content.now ≤ count }
     ensures { IfOk result (λ bytes. bytes.items ≡ content.now ++ replicate (count - length content.now) 0) }

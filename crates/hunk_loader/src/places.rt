@@ -1,48 +1,49 @@
-//! Whether the hunks of a load file fit where they are to be placed.
+//! Whether the hunks of a load file can be placed at given addresses.
 //!
 //! Addresses run from 0 to 2^32 - 1. A hunk of `n` longwords takes the `4 * n` addresses from its
-//! base; any address may be a base, an odd one too (own rule). A hunk of no longwords takes none.
+//! base; any address may be a base, even an odd one (own rule). A hunk of no longwords takes none.
 
 ghost use Rattle.std.specs.Prelude.{◌≡◌, ◌<◌, ◌↔◌, length, IsOk, IsTrue, MatchOption};
-ghost use Rattle.hunk_loader.specs.Places.{end_of, ShareAddress, IsAscending, IsDescending, IsLeastEarlier};
+ghost use Rattle.hunk_loader.specs.Places.{end_of, hunk_at, ShareAddress, IsInOrder, IsLeastEarlier};
 ghost use Rattle.hunk_loader.specs.Places.{Placed, IsFirstPastEnd, AllEndWithin, IsFirstOverlap};
 ghost use Rattle.hunk_loader.specs.Places.{AllApart, ApartFromEarlier, IsFirstRefusal};
 
 use crate::sizes::Sizes;
 use thiserror::Error;
 
-/// How many addresses there are: 2^32.
+/// The number of addresses: 2^32.
 const ADDRESSES: u64 = 0x1_0000_0000;
 
-/// Why hunks are not placed. The numbers are those of hunks, from 0.
+/// Why hunks cannot be placed. The numbers are those of hunks, from 0.
 ///
-/// Of several faults the first in this order is answered (own rule).
+/// Of several faults the first in this order is returned (own rule).
 #[derive(Clone, Copy, PartialEq, Eq, Debug, Error)]
 pub enum PlaceFault {
-    /// There are fewer bases than hunks, or more.
+    /// There are fewer or more bases than hunks.
     #[error("there is not one base for each hunk")]
     WrongCount,
-    /// The lowest hunk that ends behind the last address.
+    /// The lowest hunk that ends after the last address.
     #[error("hunk {0} ends behind the last address")]
     PastEnd(usize),
-    /// The earlier and the later of two hunks that share an address: the later one is the lowest
-    /// hunk that shares an address with an earlier one, and the earlier one the lowest of these.
+    /// Two hunks that share an address, the earlier one first: the later one is the lowest hunk
+    /// that shares an address with an earlier one, and the earlier one is the lowest that it shares
+    /// one with.
     #[error("hunks {0} and {1} share an address")]
     Overlap(usize, usize),
 }
 
-/// Tests whether the hunks of these sizes, in longwords, can stand at these bases, which are
-/// addresses: one base for each hunk, no hunk beyond the last address, and no address in two hunks.
+/// Checks whether hunks of these sizes, in longwords, can be placed at these bases, which are
+/// addresses: one base for each hunk, no hunk past the last address, and no address in two hunks.
 ///
-/// Takes no memory. Where the hunks that are not empty stand in rising order, or in falling order,
-/// the time is linear in their number, else quadratic.
+/// Does not allocate. If the nonempty hunks are in ascending order, or in descending order, the
+/// time is linear in their number, otherwise quadratic.
 ///
 /// # Errors
 ///
-/// [`PlaceFault::WrongCount`] where the two lists are not equally long, else
-/// [`PlaceFault::PastEnd`] with the lowest hunk that ends behind address 2^32 - 1, else
-/// [`PlaceFault::Overlap`], whose second number is the lowest hunk that shares an address with an
-/// earlier one, and whose first number is the lowest of these earlier ones.
+/// - [`PlaceFault::WrongCount`] if the two lists differ in length.
+/// - Otherwise [`PlaceFault::PastEnd`] with the lowest hunk that ends after address 2^32 - 1.
+/// - Otherwise [`PlaceFault::Overlap`]: its second number is the lowest hunk that shares an address
+///   with an earlier one, and its first number is the lowest of these earlier ones.
 pub fn check_places(sizes: &[u32], bases: &[u32]) -> Result<(), PlaceFault>
     ensures placed { IsOk result ↔ Placed sizes.now bases.now }
     ensures refused { (fault : PlaceFault) → (result ≡ Err fault)
@@ -51,7 +52,7 @@ pub fn check_places(sizes: &[u32], bases: &[u32]) -> Result<(), PlaceFault>
     check_sizes(&sizes, bases)
 }
 
-/// The same for sizes that are told in another way. Takes no memory.
+/// The same as [`check_places`], for sizes that come in another form. Does not allocate.
 pub fn check_sizes<S: Sizes>(sizes: &S, bases: &[u32]) -> Result<(), PlaceFault>
     ensures placed { IsOk result ↔ Placed (S.sizes sizes.now) bases.now }
     ensures refused { (fault : PlaceFault) → (result ≡ Err fault)
@@ -63,10 +64,10 @@ pub fn check_sizes<S: Sizes>(sizes: &S, bases: &[u32]) -> Result<(), PlaceFault>
     if let Some(hunk) = first_past_end(sizes, bases) {
         return Err(PlaceFault::PastEnd(hunk));
     }
-    if is_ascending(sizes, bases) {
+    if is_in_order(sizes, bases, Direction::Forward) {
         return Ok(());
     }
-    if is_descending(sizes, bases) {
+    if is_in_order(sizes, bases, Direction::Backward) {
         return Ok(());
     }
     match first_overlap(sizes, bases) {
@@ -75,7 +76,7 @@ pub fn check_sizes<S: Sizes>(sizes: &S, bases: &[u32]) -> Result<(), PlaceFault>
     }
 }
 
-/// The address behind the last one of a hunk; its base where it is empty.
+/// The address after the last one of a hunk; its base if it is empty.
 fn end_of<S: Sizes>(sizes: &S, bases: &[u32], hunk: usize) -> u64
     requires sized { hunk < length (S.sizes sizes.now) }
     requires based { hunk < length bases.now }
@@ -84,7 +85,7 @@ fn end_of<S: Sizes>(sizes: &S, bases: &[u32], hunk: usize) -> u64
     u64::from(bases[hunk]) + 4 * u64::from(sizes.size(hunk))
 }
 
-/// The lowest hunk that ends behind the last address.
+/// The lowest hunk that ends after the last address.
 fn first_past_end<S: Sizes>(sizes: &S, bases: &[u32]) -> Option<usize>
     requires { length (S.sizes sizes.now) ≡ length bases.now }
     ensures { MatchOption result (AllEndWithin (S.sizes sizes.now) bases.now)
@@ -98,15 +99,37 @@ fn first_past_end<S: Sizes>(sizes: &S, bases: &[u32]) -> Option<usize>
     None
 }
 
-/// Whether each hunk that is not empty stands behind all earlier ones that are not.
-fn is_ascending<S: Sizes>(sizes: &S, bases: &[u32]) -> bool
+/// From which end hunks are looked at.
+#[derive(Clone, Copy, Debug)]
+enum Direction {
+    /// From the first one on.
+    Forward,
+    /// From the last one on.
+    Backward,
+}
+
+/// The hunk, of `hunks`, that is looked at after `count` others.
+fn hunk_at(direction: Direction, hunks: usize, count: usize) -> usize
+    requires { count < hunks }
+    ensures value { result ≡ hunk_at direction hunks count }
+    ensures is_hunk { result < hunks }
+{
+    match direction {
+        Direction::Forward => count,
+        Direction::Backward => hunks - 1 - count,
+    }
+}
+
+/// Whether each nonempty hunk stands after all nonempty ones that are looked at before it.
+fn is_in_order<S: Sizes>(sizes: &S, bases: &[u32], direction: Direction) -> bool
     requires { length (S.sizes sizes.now) ≡ length bases.now }
-    ensures { IsTrue result ↔ IsAscending (S.sizes sizes.now) bases.now }
+    ensures { IsTrue result ↔ IsInOrder direction (S.sizes sizes.now) bases.now }
 {
     let mut free = 0;
-    for (hunk, base) in bases.iter().enumerate() {
+    for count in 0..bases.len() {
+        let hunk = hunk_at(direction, bases.len(), count);
         if sizes.size(hunk) > 0 {
-            if u64::from(*base) < free {
+            if u64::from(bases[hunk]) < free {
                 return false;
             }
             free = end_of(sizes, bases, hunk);
@@ -115,25 +138,8 @@ fn is_ascending<S: Sizes>(sizes: &S, bases: &[u32]) -> bool
     true
 }
 
-/// Whether each hunk that is not empty stands before all earlier ones that are not.
-fn is_descending<S: Sizes>(sizes: &S, bases: &[u32]) -> bool
-    requires counted { length (S.sizes sizes.now) ≡ length bases.now }
-    requires within { AllEndWithin (S.sizes sizes.now) bases.now }
-    ensures { IsTrue result ↔ IsDescending (S.sizes sizes.now) bases.now }
-{
-    let mut lowest = ADDRESSES;
-    for (hunk, base) in bases.iter().enumerate() {
-        if sizes.size(hunk) > 0 {
-            if end_of(sizes, bases, hunk) > lowest {
-                return false;
-            }
-            lowest = u64::from(*base);
-        }
-    }
-    true
-}
-
-/// The lowest hunk that shares an address with an earlier one, behind the lowest of these.
+/// The lowest hunk that shares an address with an earlier one, and before it in the pair the lowest
+/// of these.
 fn first_overlap<S: Sizes>(sizes: &S, bases: &[u32]) -> Option<(usize, usize)>
     requires { length (S.sizes sizes.now) ≡ length bases.now }
     ensures { MatchOption result (AllApart (S.sizes sizes.now) bases.now)
@@ -162,7 +168,7 @@ fn first_meeting<S: Sizes>(sizes: &S, bases: &[u32], later: usize) -> Option<usi
     None
 }
 
-/// Whether two hunks share an address: whether the greater base lies before the lower end.
+/// Whether two hunks share an address: whether the greater base is below the lower end.
 fn share_address<S: Sizes>(sizes: &S, bases: &[u32], one: usize, other: usize) -> bool
     requires counted { length (S.sizes sizes.now) ≡ length bases.now }
     requires one_is_hunk { one < length bases.now }

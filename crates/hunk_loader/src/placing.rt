@@ -1,13 +1,13 @@
-//! Whether the hunks of a load file can stand at the bases, so far as it is known.
+//! Whether the hunks of a load file can be placed at the bases, as far as it is known.
 
 ghost use Rattle.hunk_loader.specs.Placing.{Decides};
 
 use crate::places::{PlaceFault, check_places};
 
-/// What is known of it.
+/// What is known about it.
 #[derive(Clone, Copy, Debug)]
 pub(crate) enum Placing {
-    /// Nothing: the sizes were not all told yet.
+    /// Nothing yet: not all sizes are known.
     Unknown,
     /// They can.
     Placed,
@@ -15,7 +15,7 @@ pub(crate) enum Placing {
     Refused(PlaceFault),
 }
 
-/// Whether hunks of these sizes can stand at the bases.
+/// Whether hunks of these sizes can be placed at the bases.
 pub(crate) fn decide(sizes: &[u32], bases: &[u32]) -> Placing
     ensures { Decides sizes.now bases.now result }
 {

@@ -1,4 +1,4 @@
-//! The sizes of hunks: as numbers, or as the hunks of a load file tell them.
+//! The sizes of hunks: as numbers, or from the hunks of a load file.
 
 ghost use Rattle.std.specs.Prelude.{◌≡◌, ℕ, ◌<◌, List, length, slice_index};
 ghost use Rattle.hunk_loader.specs.Sizes.{sizes_of};
@@ -10,11 +10,11 @@ use std::alloc::Allocator;
 pub trait Sizes {
     ghost sizes: { Self → List ℕ };
 
-    /// How many sizes there are.
+    /// The number of sizes.
     fn count(&self) -> usize
         ensures { result ≡ length (sizes self.now) };
 
-    /// The size of a hunk, told by its number from 0.
+    /// The size of the hunk with this number, from 0, in longwords.
     fn size(&self, hunk: usize) -> u32
         requires { hunk < length (sizes self.now) }
         ensures { result ≡ slice_index (sizes self.now) hunk };

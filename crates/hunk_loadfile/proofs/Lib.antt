@@ -2,7 +2,6 @@ pub mod LoadHunkLemmas
 pub mod PatchingLemmas
 pub mod RulesLemmas
 pub mod PatchingTwiceLemmas
-pub mod WritingLemmas
 pub mod LoadFileLemmas
 pub mod WrittenFormLengthLemmas
 pub mod LongwordWriterLemmas

@@ -1,23 +1,25 @@
--- What a builder of load files holds, one event further.
-use Rattle.std.proofs.Common.{◌≡◌, ℕ, suc, ◌+◌, ◌*◌, ◌<◌, ◌≤◌, List, [], ◌∷◌, ◌++◌, length, length-append, map, Vec, get_or, slice_index, slice_index_or, Result, Ok, Err, MatchResult, OnOk, OnErr, refl, sym, ap, subst, ◌∙◌, arith}
+-- What a builder of load files holds, after one more event.
+use Rattle.std.proofs.Common.{◌≡◌, ℕ, suc, Bool, true, false, ◌+◌, ◌*◌, ◌<◌, ◌≤◌, List, [], ◌∷◌, ◌++◌, length, length-append, map, Vec, get_or, slice_index, slice_index_or, Result, Ok, Err, MatchResult, OnOk, OnErr, refl, sym, ap, subst, ◌∙◌, arith}
 use Rattle.std.proofs.lemmas.List.{map_push}
 use Rattle.hunk_words.specs.Values.{Hunk, empty, with_tables, one_site, one_symbol}
 use Rattle.hunk_words.specs.Values.Adds.{to_hunk}
-use Rattle.hunk_words.specs.EventValue.{Receiver as ToldReceiver, EventValue, step, on_last, value_to, value_of_events, initial_load}
+use Rattle.hunk_words.specs.EventValue.{Receiver as ToldReceiver, EventValue, step, on_last, word_to, value_to, value_of_events, initial_load}
 use Rattle.hunk_words.specs.EventValue.Receiver.{nothing_more, to_unit_name, to_name, to_content, to_debug, to_symbol, to_entry}
 use Rattle.hunk_words.specs.Kinds.{hunk_kind_of}
 use Rattle.hunk_words.specs.OpenName.{Opens}
-use Rattle.hunk_words.specs.Taker.{Judges, context_of}
+use Rattle.hunk_words.specs.Taker.{context_of}
 use Rattle.hunk_words.specs.SiteContext.{SiteContext, initial_context}
 use Rattle.hunk_words.specs.declared.event.Event.{Event}
-use Rattle.hunk_words.specs.declared.event.Event.TheVariants.{Unit as UnitBegins, Table, HunkSize, HunkName, Content, Word, Site, Entry, Count, RefSite, Symbol, Value, Debug, HunkEnd}
+use Rattle.hunk_words.specs.declared.event.Event.TheVariants.{HunkSize, Content, Site, Value, HunkEnd}
 use Rattle.hunk_words.specs.declared.event.FileKind.TheVariants.{Load}
 use Rattle.hunk_words.specs.declared.name.open_name.OpenName.{OpenName}
 use Rattle.hunk_words.specs.declared.sites.SiteRefusal.{SiteRefusal}
 use Rattle.hunk_words.proofs.TakerLemmas.{value_of_events-append, context_after-append}
 use Rattle.hunk_loadfile.specs.LoadHunk.{FileHunk}
 use Rattle.hunk_loadfile.specs.LoadFile.{file_hunk}
-use Rattle.hunk_loadfile.specs.OpenHunk.{Shows, Takes, TakesSite}
+use Rattle.hunk_words.specs.PartialHunk.{goes_to_content}
+use Rattle.hunk_words.specs.declared.kinds.HunkKind.{HunkKind}
+use Rattle.hunk_loadfile.specs.OpenHunk.{Shows, Takes, TakesSite, told_with_word}
 use Rattle.hunk_loadfile.specs.Partial.{file_hunks}
 use Rattle.hunk_words.specs.SiteContext.{context_with}
 use Rattle.hunk_loadfile.specs.LoadBuilder.{Receives, Holds, Steps, StandsFor}
@@ -26,13 +28,13 @@ use Rattle.hunk_loadfile.specs.declared.load_builder.LoadBuilder.{LoadBuilder}
 use Rattle.hunk_loadfile.specs.declared.load_builder.Receiver.{Receiver}
 use Rattle.hunk_loadfile.specs.declared.load_builder.Receiver.TheVariants as Receiving
 
--- ---- hunks that ended
+-- ---- hunks that have ended
 
 file_hunks-none : (ss : List (ℕ × ℕ)) → file_hunks ss [] ≡ []
 file_hunks-none [] = refl
 file_hunks-none (s ∷ ss) = refl
 
--- sizes behind those of the hunks change nothing
+-- more sizes than hunks change nothing
 pub file_hunks-more : (ss : List (ℕ × ℕ)) (s : ℕ × ℕ) (hs : List Hunk) → length hs ≤ length ss → file_hunks (ss ++ (s ∷ [])) hs ≡ file_hunks ss hs
 file_hunks-more [] s [] few = refl
 file_hunks-more [] s (h ∷ hs) few = absurd (omega arith)
@@ -51,7 +53,7 @@ length-file_hunks [] (h ∷ hs) few = absurd (omega arith)
 length-file_hunks (s ∷ ss) [] few = refl
 length-file_hunks (s ∷ ss) (h ∷ hs) few = ap suc (length-file_hunks ss hs (omega arith))
 
--- ---- one event further
+-- ---- one more event
 
 pub Holds-size : {A : Type 0} (b : LoadBuilder A) (v : Vec (ℕ × ℕ) A) (bits n : ℕ) (told : EventValue) (watch : SiteContext) → v.items ≡ b.sizes.items ++ ((bits, n) ∷ []) → Holds b told watch
     → Holds (record b { sizes = v }) (step told (HunkSize bits n)) (context_with Load watch (HunkSize bits n))
@@ -67,9 +69,9 @@ Holds-size b v bits n told watch is h = record {
   receiver = h.receiver;
 }
 
--- The hunk that has not ended takes something, and the next word goes elsewhere.
+-- The current hunk takes something, and the next word goes elsewhere.
 pub Holds-hunk : {A : Type 0} (b : LoadBuilder A) (k : OpenHunk A) (r : Receiver A) (told : EventValue) (hunk : Hunk) (goes : ToldReceiver) (watch : SiteContext) (limit : ℕ) (seen : List ℕ)
-    → Holds b told watch → Shows k limit seen hunk → Receives r goes
+    → Holds b told watch → Shows k limit seen (goes_to_content goes) hunk → Receives r goes
     → Holds (record b { hunk = k; receiver = r }) (record told { hunk = hunk; receiver = goes }) (record { position = record watch.position { limit = limit }; seen = seen })
 Holds-hunk b k r told hunk goes watch limit seen h shows receives = record {
   part = h.part;
@@ -83,26 +85,41 @@ Holds-hunk b k r told hunk goes watch limit seen h shows receives = record {
   receiver = receives;
 }
 
--- it takes a word, or something else that moves no receiver
-pub Holds-takes : {A E : Type 0} (b : LoadBuilder A) (k : OpenHunk A) (answer : Result (Unit {0}) E) (more : Hunk → Hunk) (told next : EventValue) (watch : SiteContext)
-    → Takes b.hunk k answer more → Holds b told watch → next ≡ record told { hunk = more told.hunk }
+-- it takes something that does not move where the next word goes
+pub Holds-takes : {A E : Type 0} (b : LoadBuilder A) (k : OpenHunk A) (answer : Result (Unit {0}) E) (more : Bool → Hunk → Hunk) (told next : EventValue) (watch : SiteContext)
+    → Takes b.hunk k answer more → Holds b told watch → next ≡ record told { hunk = more (goes_to_content told.receiver) told.hunk }
     → MatchResult answer (λ done. Holds (record b { hunk = k }) next watch) (λ e. Holds (record b { hunk = k }) told watch)
 Holds-takes b k (Ok d) more told next watch takes h is =
+    let words = goes_to_content told.receiver in
     subst (λ q. Holds (record b { hunk = k }) q watch) (sym is)
-    (Holds-hunk b k b.receiver told (more told.hunk) told.receiver watch watch.position.limit watch.seen h (takes.takes watch.position.limit watch.seen told.hunk h.hunk) h.receiver)
+    (Holds-hunk b k b.receiver told (more words told.hunk) told.receiver watch watch.position.limit watch.seen h (takes.takes watch.position.limit watch.seen words told.hunk h.hunk) h.receiver)
 Holds-takes b k (Err e) more told next watch takes h is =
-    Holds-hunk b k b.receiver told told.hunk told.receiver watch watch.position.limit watch.seen h (takes.refuses watch.position.limit watch.seen told.hunk h.hunk) h.receiver
+    Holds-hunk b k b.receiver told told.hunk told.receiver watch watch.position.limit watch.seen h (takes.refuses watch.position.limit watch.seen (goes_to_content told.receiver) told.hunk h.hunk) h.receiver
 
 -- ---- where a word goes
 
-content-goes : (A : Type 0) (t : ToldReceiver) → Receives {A = A} Receiving.Content t → t ≡ to_content
-content-goes A nothing_more h = absurd h
-content-goes A to_unit_name h = absurd h
-content-goes A to_name h = absurd h
-content-goes A to_content h = refl
-content-goes A to_debug h = absurd h
-content-goes A (to_symbol ws) h = absurd h
-content-goes A (to_entry t ws) h = absurd h
+-- The name of the hunk is not kept.
+Holds-named : {A : Type 0} (b : LoadBuilder A) (told : EventValue) (watch : SiteContext) (name : List ℕ) → Holds b told watch → Holds b (record told { hunk = record told.hunk { name = name } }) watch
+Holds-named b told watch name h =
+    let shows = h.hunk in
+    Holds-hunk b b.hunk b.receiver told (record told.hunk { name = name }) told.receiver watch watch.position.limit watch.seen h
+    (record { kind = shows.kind; content = shows.content; sites = shows.sites; holds = shows.holds; words = shows.words; symbols = shows.symbols; debugs = shows.debugs }) h.receiver
+
+-- The hunk takes a word that nothing else takes, and keeps it if it is content.
+pub Holds-word : {A E : Type 0} (b : LoadBuilder A) (k : OpenHunk A) (answer : Result (Unit {0}) E) (w : ℕ) (t : ToldReceiver) (told : EventValue) (watch : SiteContext) → t ≡ told.receiver → Receives {A = A} Receiving.Hunk t
+    → Takes b.hunk k answer (told_with_word w) → Holds b told watch
+    → MatchResult answer (λ done. Holds (record b { hunk = k }) (word_to t told w) watch) (λ e. Holds (record b { hunk = k }) told watch)
+Holds-word b k answer w nothing_more told watch is receives takes h = Holds-takes b k answer (told_with_word w) told told watch takes h (ap (λ q. record told { hunk = told_with_word w (goes_to_content q) told.hunk }) is)
+Holds-word b k answer w to_unit_name told watch is receives takes h = absurd receives
+Holds-word b k (Ok d) w to_name told watch is receives takes h =
+    Holds-named (record b { hunk = k }) told watch (told.hunk.name ++ (w ∷ []))
+    (Holds-takes b k (Ok d) (told_with_word w) told told watch takes h (ap (λ q. record told { hunk = told_with_word w (goes_to_content q) told.hunk }) is))
+Holds-word b k (Err e) w to_name told watch is receives takes h = Holds-takes b k (Err e) (told_with_word w) told told watch takes h (ap (λ q. record told { hunk = told_with_word w (goes_to_content q) told.hunk }) is)
+Holds-word b k answer w to_content told watch is receives takes h =
+    Holds-takes b k answer (told_with_word w) told (word_to to_content told w) watch takes h (ap (λ q. record told { hunk = told_with_word w (goes_to_content q) told.hunk }) is)
+Holds-word b k answer w to_debug told watch is receives takes h = absurd receives
+Holds-word b k answer w (to_symbol ws) told watch is receives takes h = absurd receives
+Holds-word b k answer w (to_entry t ws) told watch is receives takes h = absurd receives
 
 debug-goes : (A : Type 0) (t : ToldReceiver) → Receives {A = A} Receiving.Debug t → t ≡ to_debug
 debug-goes A nothing_more h = absurd h
@@ -128,9 +145,6 @@ symbol-goes name to_debug h = absurd h
 symbol-goes name (to_symbol ws) h = record { words = ws; goes = refl; opens = h }
 symbol-goes name (to_entry t ws) h = absurd h
 
-pub receives-content : {A : Type 0} (b : LoadBuilder A) (t : ToldReceiver) → b.receiver ≡ Receiving.Content → Receives b.receiver t → t ≡ to_content
-receives-content {A = A} b t is h = content-goes A t (subst (λ r. Receives r t) is h)
-
 pub receives-debug : {A : Type 0} (b : LoadBuilder A) (t : ToldReceiver) → b.receiver ≡ Receiving.Debug → Receives b.receiver t → t ≡ to_debug
 receives-debug {A = A} b t is h = debug-goes A t (subst (λ r. Receives r t) is h)
 
@@ -140,21 +154,23 @@ receives-symbol b name t is h = symbol-goes name t (subst (λ r. Receives r t) i
 -- ---- a symbol's value
 
 pub Holds-value : {A E : Type 0} (b : LoadBuilder A) (k : OpenHunk A) (name : OpenName A) (v : ℕ) (d : Unit {0}) (told : EventValue) (watch : SiteContext) → b.receiver ≡ Receiving.Symbol name
-    → ((ws : List ℕ) → Opens name ws → Takes {E = E} b.hunk k (Ok d) (λ t. with_tables t (one_symbol ws v))) → Holds b told watch
-    → Holds (record b { hunk = k; receiver = Receiving.Nothing }) (step told (Value v)) watch
+    → ((ws : List ℕ) → Opens name ws → Takes {E = E} b.hunk k (Ok d) (λ in_content t. with_tables t (one_symbol ws v))) → Holds b told watch
+    → Holds (record b { hunk = k; receiver = Receiving.Hunk }) (step told (Value v)) watch
 Holds-value b k name v d told watch is takes h =
     let named = receives-symbol b name told.receiver is h.receiver in
-    subst (λ t. Holds (record b { hunk = k; receiver = Receiving.Nothing }) (record told { hunk = with_tables told.hunk (value_to t v); receiver = nothing_more }) watch) (sym named.goes)
-    (Holds-hunk b k Receiving.Nothing told (with_tables told.hunk (one_symbol named.words v)) nothing_more watch watch.position.limit watch.seen h
-    ((takes named.words named.opens).takes watch.position.limit watch.seen told.hunk h.hunk) tt)
+    let hunk : Hunk = with_tables told.hunk (one_symbol named.words v) in
+    subst (λ t. Holds (record b { hunk = k; receiver = Receiving.Hunk }) (record told { hunk = with_tables told.hunk (value_to t v); receiver = nothing_more }) watch) (sym named.goes)
+    (Holds-hunk b k Receiving.Hunk told hunk nothing_more watch watch.position.limit watch.seen h
+    (subst (λ t. Shows k watch.position.limit watch.seen (goes_to_content t) hunk) named.goes
+    ((takes named.words named.opens).takes watch.position.limit watch.seen (goes_to_content told.receiver) told.hunk h.hunk)) tt)
 
 pub Holds-no_value : {A E : Type 0} (b : LoadBuilder A) (k : OpenHunk A) (name kept : OpenName A) (v : ℕ) (e : E) (told : EventValue) (watch : SiteContext) → b.receiver ≡ Receiving.Symbol name
-    → ((ws : List ℕ) → Opens name ws → Takes b.hunk k (Err e) (λ t. with_tables t (one_symbol ws v))) → kept ≡ name → Holds b told watch
+    → ((ws : List ℕ) → Opens name ws → Takes b.hunk k (Err e) (λ in_content t. with_tables t (one_symbol ws v))) → kept ≡ name → Holds b told watch
     → Holds (record b { hunk = k; receiver = Receiving.Symbol kept }) told watch
 Holds-no_value b k name kept v e told watch is takes same h =
     let named = receives-symbol b name told.receiver is h.receiver in
     Holds-hunk b k (Receiving.Symbol kept) told told.hunk told.receiver watch watch.position.limit watch.seen h
-    ((takes named.words named.opens).refuses watch.position.limit watch.seen told.hunk h.hunk)
+    ((takes named.words named.opens).refuses watch.position.limit watch.seen (goes_to_content told.receiver) told.hunk h.hunk)
     (subst (λ r. Receives r told.receiver) (is ∙ ap Receiving.Symbol (sym same)) h.receiver)
 
 -- ---- content
@@ -165,20 +181,21 @@ size-context_after b told watch n count h =
     let ended : n ≡ watch.position.ended = count ∙ ap length h.hunks ∙ length-file_hunks told.sizes h.part.hunks h.few ∙ sym h.ended in
     ap (λ m. slice_index (map (λ s. s.1) b.sizes.items) m) ended ∙ ap (λ ns. slice_index ns watch.position.ended) (ap (λ ss. map (λ s. s.1) ss) h.sizes ∙ sym h.watched)
 
-pub Holds-content : {A : Type 0} (b : LoadBuilder A) (k : OpenHunk A) (kind bits n limit : ℕ) (told : EventValue) (watch : SiteContext) → limit ≡ 4 * slice_index watch.position.sizes watch.position.ended
-    → Shows k limit watch.seen (record told.hunk { kind = hunk_kind_of kind; memory = bits; size = n }) → Holds b told watch
-    → Holds (record b { hunk = k; receiver = Receiving.Content }) (step told (Content kind bits n)) (context_with Load watch (Content kind bits n))
-Holds-content b k kind bits n limit told watch is shows h =
+pub Holds-content : {A : Type 0} (b : LoadBuilder A) (k : OpenHunk A) (kind bits n limit : ℕ) (type : HunkKind) (told : EventValue) (watch : SiteContext) → limit ≡ 4 * slice_index watch.position.sizes watch.position.ended
+    → type ≡ hunk_kind_of kind → Shows k limit watch.seen true (record told.hunk { kind = type; memory = bits; size = n }) → Holds b told watch
+    → Holds (record b { hunk = k; receiver = Receiving.Hunk }) (step told (Content kind bits n)) (context_with Load watch (Content kind bits n))
+Holds-content b k kind bits n limit type told watch is type_is shows h =
     let hunk = record told.hunk { kind = hunk_kind_of kind; memory = bits; size = n } in
-    Holds-hunk b k Receiving.Content told hunk to_content watch (4 * slice_index watch.position.sizes watch.position.ended) watch.seen h
-    (subst (λ l. Shows k l watch.seen hunk) is shows) tt
+    Holds-hunk b k Receiving.Hunk told hunk to_content watch (4 * slice_index watch.position.sizes watch.position.ended) watch.seen h
+    (subst (λ l. Shows k l watch.seen true hunk) is
+    (subst (λ t. Shows k limit watch.seen true (record told.hunk { kind = t; memory = bits; size = n })) type_is shows)) tt
 
 -- ---- the end of a hunk
 
 pub Holds-end : {A : Type 0} (b : LoadBuilder A) (v : Vec FileHunk A) (k : OpenHunk A) (s : ℕ × ℕ) (limit : ℕ) (whole : FileHunk) (told : EventValue) (watch : SiteContext)
-    → length b.hunks.items < length b.sizes.items → s ≡ slice_index_or b.sizes.items (length b.hunks.items) s → limit ≡ watch.position.limit → Shows k limit [] empty
+    → length b.hunks.items < length b.sizes.items → s ≡ slice_index_or b.sizes.items (length b.hunks.items) s → limit ≡ watch.position.limit → Shows k limit [] false empty
     → whole ≡ file_hunk s.0 s.1 told.hunk → v.items ≡ b.hunks.items ++ (whole ∷ []) → Holds b told watch
-    → Holds (record b { hunks = v; hunk = k; receiver = Receiving.Nothing }) (step told HunkEnd) (context_with Load watch HunkEnd)
+    → Holds (record b { hunks = v; hunk = k; receiver = Receiving.Hunk }) (step told HunkEnd) (context_with Load watch HunkEnd)
 Holds-end b v k s limit whole told watch within is same shows value pushed h =
     let count : length b.hunks.items ≡ length h.part.hunks = ap length h.hunks ∙ length-file_hunks told.sizes h.part.hunks h.few in
     let sizes : length b.sizes.items ≡ length told.sizes = ap length h.sizes in
@@ -193,7 +210,7 @@ Holds-end b v k s limit whole told watch within is same shows value pushed h =
       sizes = h.sizes;
       watched = h.watched;
       ended = let before : watch.position.ended ≡ length h.part.hunks = h.ended in omega arith;
-      hunk = subst (λ l. Shows k l [] empty) same shows;
+      hunk = subst (λ l. Shows k l [] false empty) same shows;
       receiver = tt;
     }
 
@@ -215,27 +232,10 @@ refuses-next old new (Err r) e told steps h = steps _ _ h
 -- a site is an event that the hunk takes
 pub steps-site : {A : Type 0} (b : LoadBuilder A) (k : OpenHunk A) (answer : Result (Unit {0}) SiteRefusal) (o t : ℕ) → TakesSite b.hunk k answer o t → Steps b (record b { hunk = k }) answer (Site o t)
 steps-site b k (Ok d) o t takes = λ told watch h.
-    Holds-hunk b k b.receiver told (with_tables told.hunk (one_site o (to_hunk t))) told.receiver watch watch.position.limit (o ∷ watch.seen) h (takes.takes watch.position.limit watch.seen told.hunk h.hunk) h.receiver
+    Holds-hunk b k b.receiver told (with_tables told.hunk (one_site o (to_hunk t))) told.receiver watch watch.position.limit (o ∷ watch.seen) h (takes.takes watch.position.limit watch.seen (goes_to_content told.receiver) told.hunk h.hunk) h.receiver
 steps-site b k (Err e) o t takes = λ told watch h.
-    Holds-hunk b k b.receiver told told.hunk told.receiver watch watch.position.limit watch.seen h (takes.refuses watch.position.limit watch.seen told.hunk h.hunk) h.receiver
+    Holds-hunk b k b.receiver told told.hunk told.receiver watch watch.position.limit watch.seen h (takes.refuses watch.position.limit watch.seen (goes_to_content told.receiver) told.hunk h.hunk) h.receiver
 
 pub steps-event : {A : Type 0} (b : LoadBuilder A) (k : OpenHunk A) (answer : Result (Unit {0}) SiteRefusal) (e : Event) (o t : ℕ) → e ≡ Site o t → TakesSite b.hunk k answer o t
     → Steps b (record b { hunk = k }) answer e
 steps-event b k answer e o t is takes = subst (λ d. Steps b (record b { hunk = k }) answer d) (sym is) (steps-site b k answer o t takes)
-
--- What is no site is not refused as one.
-pub judges-other : (w : SiteContext) (e : Event) (d : Unit {0}) → ((o t : ℕ) → e ≡ Site o t → ⊥) → ((o : ℕ) → e ≡ RefSite o → ⊥) → Judges w e (Ok d)
-judges-other w UnitBegins d no_site no_reference = tt
-judges-other w (Table n) d no_site no_reference = tt
-judges-other w (HunkSize bits n) d no_site no_reference = tt
-judges-other w HunkName d no_site no_reference = tt
-judges-other w (Content c bits n) d no_site no_reference = tt
-judges-other w (Word n) d no_site no_reference = tt
-judges-other w (Site o t) d no_site no_reference = absurd (no_site o t refl)
-judges-other w (Entry t) d no_site no_reference = tt
-judges-other w (Count n) d no_site no_reference = tt
-judges-other w (RefSite o) d no_site no_reference = absurd (no_reference o refl)
-judges-other w Symbol d no_site no_reference = tt
-judges-other w (Value v) d no_site no_reference = tt
-judges-other w (Debug n) d no_site no_reference = tt
-judges-other w HunkEnd d no_site no_reference = tt

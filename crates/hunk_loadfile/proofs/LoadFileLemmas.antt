@@ -1,4 +1,4 @@
--- The value of a tree is told by its header and its hunks.
+-- The value of a tree is determined by its header and its hunks.
 use Rattle.std.proofs.Common.{◌≡◌, ◌∙◌, ℕ, List, [], ◌∷◌, length, map, refl, ap, sym}
 use Rattle.hunk_words.specs.Trees.{LoadHunkTree, LoadTree}
 use Rattle.hunk_words.specs.Values.{Hunk, load_sizes, load_hunk_values}
@@ -8,7 +8,7 @@ use Rattle.hunk_loadfile.specs.LoadFile.{load_hunk_value, load_value}
 use Rattle.hunk_loadfile.specs.Partial.{file_hunks}
 use Rattle.hunk_loadfile.specs.Laws.{OneLoad}
 
--- the hunks of a tree, told by the header and the values of the hunks
+-- the hunks of a tree, from the header and the values of the hunks
 pub load_hunk_values-file_hunks : (last : ℕ) (trees : List LoadHunkTree)
     → map (λ t. load_hunk_value last t) trees ≡ file_hunks (map (λ t. (t.memory_bits, t.size)) trees) (load_hunk_values last trees)
 load_hunk_values-file_hunks last [] = refl

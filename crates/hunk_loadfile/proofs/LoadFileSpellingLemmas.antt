@@ -1,5 +1,5 @@
--- What the blocks and hunks of a load file tell, where each of their numbers passes and their sites obey the rules, and
--- how many longwords they take.
+-- The events of the blocks and hunks of a load file, if each of their numbers passes and their
+-- sites obey the rules, and the number of longwords they take.
 use Rattle.std.proofs.Common.{◌≡◌, ℕ, suc, ◌+◌, ◌-◌, ◌*◌, ◌^◌, ◌<◌, ◌≤◌, ◌==◌, Bool, true, false, List, [], ◌∷◌, ◌++◌, length, sum_by, Option, Some, None, nat_le, if◌then◌else◌, refl, sym, subst, arith}
 use Rattle.std.specs.List.{AllByRecursion}
 use Rattle.std.proofs.lemmas.Bool.{eqb-true, leb-true}
@@ -36,7 +36,7 @@ abbrev weight : Width → ℕ
 weight long = 1
 weight (half h) = 0
 
--- the fields that take a longword alone
+-- the fields that take a longword of their own
 abbrev pub long_count : List Field → ℕ
 long_count [] = 0
 long_count (f ∷ fs) = weight (width f.kind) + long_count fs
@@ -45,7 +45,7 @@ long_count (f ∷ fs) = weight (width f.kind) + long_count fs
 abbrev longwords_by : Width → ℕ → List Field → List ℕ
 longwords_by v n fs = elim v [ long ↦ n ∷ longwords_after None fs | half h ↦ longwords_after (Some n) fs ]
 
--- there are as many longwords, or more
+-- there are at least as many longwords
 pub long_count-le : (before : Option ℕ) (fs : List Field) → long_count fs ≤ length (longwords_after before fs)
 long_count-le None [] = omega arith
 long_count-le (Some m) [] = omega arith
@@ -61,9 +61,9 @@ long_count-le (Some m) (f ∷ fs) = go (width f.kind) (long_count-le None fs)
     go long none = omega arith
     go (half h) none = omega arith
 
--- ---- what is told
+-- ---- what fields mean
 
--- a site inside the limit, apart from those seen, that adds the base of a hunk up to the last one
+-- a site within the limit, apart from those seen, that adds the base of a hunk up to the last one
 abbrev pub SiteFits : (last limit : ℕ) → List ℕ → ℕ → Adds → Type 0
 SiteFits last limit seen o (to_hunk t) = (o + 4 ≤ limit) × (all_apart o seen ≡ true) × (t ≤ last)
 SiteFits last limit seen o (to_reference r) = ⊥
@@ -72,12 +72,12 @@ abbrev pub SitesFit : (last limit : ℕ) → List ℕ → List (ℕ × Adds) →
 SitesFit last limit seen [] = Unit {0}
 SitesFit last limit seen (s ∷ ss) = SiteFits last limit seen s.0 s.1 × SitesFit last limit (s.0 ∷ seen) ss
 
--- the offsets seen behind these sites
+-- the offsets seen after these sites
 abbrev pub seen_with : List ℕ → List (ℕ × Adds) → List ℕ
 seen_with seen [] = seen
 seen_with seen (s ∷ ss) = seen_with (s.0 ∷ seen) ss
 
--- a symbol's name has one longword or more, and fewer than 24 bits count
+-- a symbol's name has at least one longword, and fewer than 2^24
 pub record SymbolFits (s : List ℕ × ℕ) : Type 0 where
   pub some : 1 ≤ length s.0
   pub few : length s.0 < 2 ^ 24
@@ -119,7 +119,7 @@ told_count-merged a b = omega (arith, sum_by-append symbol_count a.symbols b.sym
 
 -- ---- blocks
 
--- The fields before begin with some that tell this, and the rest passes and obeys the rules too.
+-- The fields before begin with some that mean this, and the rest passes and obeys the rules too.
 record Tells (last limit : ℕ) (seen : List ℕ) (t : HunkTables) (rest before : List Field) : Type 0 where
   told : TablesFit last limit seen t
   pass : AllPass rest
@@ -129,7 +129,7 @@ record Tells (last limit : ℕ) (seen : List ℕ) (t : HunkTables) (rest before 
 with_tables-none : (last limit : ℕ) (seen : List ℕ) (rest : List Field) → AllPass rest → Obeys seen rest → Tells last limit seen no_tables rest rest
 with_tables-none last limit seen rest p o = record { told = record { sites = tt; symbols = tt; debugs = tt }; pass = p; obey = o; count = omega arith }
 
--- one field more, which tells nothing
+-- one more field, which adds nothing
 with_tables-field : (last limit : ℕ) (seen : List ℕ) (t : HunkTables) (rest : List Field) (f : Field) (fs : List Field) → Tells last limit seen t rest fs → Tells last limit seen t rest (f ∷ fs)
 with_tables-field last limit seen t rest f fs h = record { told = h.told; pass = h.pass; obey = h.obey; count = omega (arith, h.count) }
 
@@ -142,7 +142,7 @@ with_tables-merged last limit seen a b rest between before x y = record {
   count = omega (arith, told_count-merged a b, x.count, y.count);
 }
 
--- the rules of sites, passed
+-- the rules for sites, passed
 site-fits : (limit : ℕ) (seen : List ℕ) (o : ℕ) → site_judged (Some limit) seen o ≡ None → (o + 4 ≤ limit) × (all_apart o seen ≡ true)
 site-fits limit seen o h = let both = go (nat_le (o + 4) limit) h in (leb-true (o + 4) limit both.0, reject_unless-none (all_apart o seen) (SiteOverlap o) both.1)
   where
@@ -203,7 +203,7 @@ with_tables-short-groups h last limit (g ∷ gs) pad rest seen p o =
     with_tables-merged last limit seen sites (tables_of_groups gs) rest behind _ counted
     (with_tables-short-groups (half_after (suc (length g.others)) h) last limit gs pad rest (seen_with seen sites.sites) here.pass here.obey)
 
--- words, and what is behind them
+-- words, and what comes after them
 record Words (seen ws : List ℕ) (rest : List Field) : Type 0 where
   longs : AllByRecursion IsLongword ws
   pass : AllPass rest
@@ -229,12 +229,12 @@ with_tables-symbols last limit (x ∷ xs) rest seen p o =
     record { told = record { sites = tt; symbols = (fits, tt); debugs = tt }; pass = words.pass.1; obey = words.obey.1; count = omega (arith, words.count) } in
     with_tables-merged last limit seen (one_symbol name x.amount) (tables_of_symbols xs) rest behind _ here (with_tables-symbols last limit xs rest seen here.pass here.obey)
 
--- behind a block's type longword
+-- after a block's type longword
 behind-type : (last size limit b t : ℕ) (y : BlockType) (seen : List ℕ) (fs : List Field) → type_of t ≡ y
     → AllPass (field (block_type (in_load last size) limit) (type_longword b t) ∷ fs) → Obeys seen (field (block_type (in_load last size) limit) (type_longword b t) ∷ fs) → Obeys (seen_at y seen) fs
 behind-type last size limit b t y seen fs is p o = subst (λ q. Obeys (seen_at q seen) fs) (type_longword-type b t is p.0.fits) o.1
 
--- no EXT stands in a load file
+-- there is no EXT in a load file
 no-ext : (last size limit b : ℕ) → Passes (block_type (in_load last size) limit) (type_longword b 1007) → ⊥
 no-ext last size limit b p =
     let t : BlockType = type_of (low (type_longword b 1007)) in
@@ -258,7 +258,7 @@ with_tables-block last size limit r (debug_tree b ws) rest seen p o =
 
 -- ---- hunks
 
--- the same up to the END of a hunk, behind which no site is seen
+-- the same up to the END of a hunk, after which no site is seen
 record TellsAll (last limit : ℕ) (seen : List ℕ) (t : HunkTables) (rest before : List Field) : Type 0 where
   told : TablesFit last limit seen t
   pass : AllPass rest
@@ -282,7 +282,7 @@ ContentFits Code size ws = length ws ≤ size
 ContentFits Data size ws = length ws ≤ size
 ContentFits Bss size ws = ws ≡ []
 
--- a hunk of a load file, of which the header tells the size
+-- a hunk of a load file, with the size from the header
 pub record HunkFits (last size : ℕ) (h : Hunk) : Type 0 where
   pub content : ContentFits h.kind size h.content
   pub told : TablesFit last (4 * size) [] h.tables
@@ -294,7 +294,7 @@ record Ended (last size : ℕ) (h : Hunk) (rest before : List Field) : Type 0 wh
   obey : Obeys [] rest
   count : told_count h.tables + long_count rest ≤ long_count before
 
--- a field of this kind is no site, and ends no hunk
+-- a field of this kind is not a site, and does not end a hunk
 abbrev Quiet : Kind → Type 0
 Quiet k = (n : ℕ) → seen_after k n [] ≡ []
 
@@ -346,7 +346,7 @@ ended-hunk last size t rest p o = go t.name p o
         let behind = ended-content last size (content_type (in_load last size)) t.body.content t.body.blocks t.body.end_bits n.words rest (λ m. refl) words.pass words.obey in
         record { hunk = behind.hunk; pass = behind.pass; obey = behind.obey; count = omega (arith, words.count, behind.count) }
 
--- what a hunk's tree tells
+-- the value of a hunk's tree
 abbrev pub value_of : ℕ → LoadHunkTree → Hunk
 value_of last t = hunk_value (in_load last t.size) t.hunk
 
@@ -368,7 +368,7 @@ and_then-second : (a b : Option Reason) → and_then a b ≡ None → b ≡ None
 and_then-second None b h = h
 and_then-second (Some r) b h = absurd (cc)
 
--- the sizes fit in the room, and what is behind them passes and obeys the rules
+-- the sizes fit in the room, and what comes after them passes and obeys the rules
 pub record SizesFit (room : ℕ) (ts : List LoadHunkTree) (rest before : List Field) : Type 0 where
   pub sum : sum_by (λ t. t.size) ts ≤ room
   pub pass : AllPass rest

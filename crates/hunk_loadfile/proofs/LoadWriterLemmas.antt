@@ -1,4 +1,4 @@
--- What the hunks of a load file come to where they are written.
+-- What the hunks of a load file amount to when they are written.
 use Rattle.std.proofs.Common.{◌≡◌, ◌<◌, ◌≤◌, ◌+◌, ◌*◌, ◌^◌, ◌∙◌, ℕ, List, [], ◌∷◌, ◌++◌, length, take, sum_by, refl, sym, ap, subst, arith}
 use Rattle.std.proofs.lemmas.List.{length-append, length-map}
 use Rattle.std.proofs.lemmas.List.Elements.{All-head, All-tail, All-nil, All-cons, All-take}
@@ -11,8 +11,7 @@ use Rattle.hunk_loadfile.specs.LoadHunk.{FileHunk}
 use Rattle.hunk_loadfile.specs.Rules.{IsLoadFile, IsLoadHunk, carried_by, debug_longwords, most_size, symbol_longwords}
 use Rattle.hunk_loadfile.specs.WrittenForm.{content_words, debug_words, header_words, hunk_words, site_words, size_word, symbols_words}
 use Rattle.hunk_loadfile.proofs.WrittenFormLengthLemmas.{length-content_words-le, length-debugs, length-hunks-le, length-site_words-le, length-symbols_words-le}
-use Rattle.hunk_loadfile.proofs.WritingLemmas.{bytes_of-append, length-bytes_of}
-use Rattle.hunk_loadfile.proofs.LongwordWriterLemmas.{bytes_of-longwords}
+use Rattle.hunk_loadfile.proofs.LongwordWriterLemmas.{bytes_of-append, bytes_of-longwords, length-bytes_of}
 
 -- ---- sizes
 
@@ -68,7 +67,7 @@ debugs-room h debugs carries is =
     let room : 4 * sum_by debug_longwords debugs < 2 ^ 32 = omega (arith, carries, ap (sum_by debug_longwords) is) in
     (room, omega (arith, room, length-bytes_of (flat_map debug_words debugs), length-debugs debugs))
 
--- the parts of a hunk, of which these are the sites, symbols and debug blocks
+-- the parts of a hunk with these sites, symbols and debug blocks
 pub hunk_words-parts : (count : ℕ) (h : FileHunk) (entries : List (ℕ × ℕ)) (symbols : List (List ℕ × ℕ)) (debugs : List (List ℕ)) → entries ≡ h.sites.entries → symbols ≡ h.symbols → debugs ≡ h.debugs
     → hunk_words count h ≡ content_words h.kind h.size (longwords h.content) ++ (site_words count entries ++ (symbols_words symbols ++ (flat_map debug_words debugs ++ 1010 ∷ [])))
 hunk_words-parts count h entries symbols debugs sites named blocks = rw (sites, named, blocks) refl
@@ -81,7 +80,7 @@ counts : (hunks : List FileHunk) → sum_by (λ h. 1) hunks ≡ length hunks
 counts [] = refl
 counts (h ∷ hs) = omega (arith, counts hs, sum_by-cons (λ (k : FileHunk). 1) h hs)
 
--- and so are the hunks in front
+-- and so are the hunks before an index
 pub length-front_hunks-le : (hunks : List FileHunk) (index : ℕ) → IsLoadFile hunks → length (bytes_of (flat_map (hunk_words (length hunks)) (take index hunks))) < 2 ^ 32
 length-front_hunks-le hunks index valid =
     let front = take index hunks in

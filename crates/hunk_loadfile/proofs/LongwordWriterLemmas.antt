@@ -1,83 +1,112 @@
--- Longwords that are written one behind the other, and what the parts of a load file come to.
-use Rattle.std.proofs.Common.{◌≡◌, ◌==◌, ◌<◌, ◌≤◌, ◌+◌, ◌*◌, ◌/◌, ◌%◌, ◌-◌, ◌∙◌, ℕ, zero, suc, List, [], ◌∷◌, ◌++◌, length, take, get_or, replicate, Bool, false, Option, Result, Ok, Err, Vec, sym, ap, refl, subst, arith}
-use Rattle.std.proofs.lemmas.List.{get_or-map, length-append, length-replicate}
+-- Longwords that are written one after another, and what the parts of a load file amount to.
+use Rattle.std.proofs.Common.{◌≡◌, ◌==◌, ◌<◌, ◌≤◌, ◌+◌, ◌*◌, ◌/◌, ◌%◌, ◌-◌, ◌∙◌, ℕ, zero, suc, List, [], ◌∷◌, ◌++◌, length, map, take, get_or, replicate, Bool, false, Option, Result, Ok, Err, Vec, sym, ap, refl, subst, append_assoc, arith}
+use Rattle.byteorder.specs.Endian.{big_bytes}
+use Rattle.std.proofs.lemmas.Grind.{flat_map-append}
+use Rattle.std.proofs.lemmas.List.{get_or-map, length-append, length-map, length-replicate, map-append}
 use Rattle.std.proofs.lemmas.List.Elements.{recursion_from_All}
 use Rattle.std.specs.List.{All, AllByRecursion, flat_map}
 use Rattle.hunk_words.specs.Longwords.{longwords, unfinished}
 use Rattle.hunk_words.specs.Name.{IsNameByte, bytes_of, longword_count, name_words}
+use Rattle.hunk_words.specs.Streams.{Wrote}
 use Rattle.hunk_words.specs.declared.fault.WriteFault.{WriteFault}
 use Rattle.hunk_words.proofs.LongwordsLemmas.{length-whole, unfinished-none}
 use Rattle.hunk_words.proofs.NameLemmas.{big_bytes-of_four, length-name_words, name_words-writes}
+use Rattle.hunk_words.proofs.StreamsWritingLemmas.{Wrote-more, Wrote-part, Wrote-stop, Wrote-then}
 use Rattle.hunk_words.specs.declared.kinds.HunkKind.TheVariants.{Code, Data, Bss}
 use Rattle.hunk_loadfile.specs.LoadHunk.{lists_of}
-use Rattle.hunk_loadfile.specs.Writing.{Wrote}
 use Rattle.hunk_loadfile.specs.WrittenForm.{content_words, symbol_words, symbols_words}
-use Rattle.hunk_loadfile.proofs.WritingLemmas.{Wrote-more, Wrote-part, Wrote-stop, Wrote-then, bytes_of-append, length-bytes_of}
 
--- ---- longwords behind longwords
+-- ---- bytes of longwords
 
--- a text, and then another one
-pub text-then : {W : Type 0} (taken : W → Option (List ℕ)) (failed : W → Bool) (old between new : W) (text first rest : List ℕ) (start middle : ℕ) (r : Result ℕ WriteFault)
-    → text ≡ first ++ rest
-    → Wrote (taken old) (taken between) (failed old) (failed between) first start (Ok middle)
-    → Wrote (taken between) (taken new) (failed between) (failed new) rest middle r
-    → Wrote (taken old) (taken new) (failed old) (failed new) text start r
-text-then taken failed old between new text first rest start middle r is one other =
-    subst (λ t. Wrote (taken old) (taken new) (failed old) (failed new) t start r) (sym is)
-    (Wrote-then (taken old) (taken between) (taken new) (failed old) (failed between) (failed new) first rest start middle r one other)
+pub length-bytes_of : (ws : List ℕ) → length (bytes_of ws) ≡ 4 * length ws
+length-bytes_of [] = refl
+length-bytes_of (w ∷ ws) = omega (arith, length-bytes_of ws)
 
--- a text that more is to follow
-pub text-stop : {W : Type 0} (taken : W → Option (List ℕ)) (failed : W → Bool) (old new : W) (text first rest : List ℕ) (start : ℕ) (fault : WriteFault)
-    → text ≡ first ++ rest
-    → Wrote (taken old) (taken new) (failed old) (failed new) first start (Err fault)
-    → Wrote (taken old) (taken new) (failed old) (failed new) text start (Err fault)
-text-stop taken failed old new text first rest start fault is stopped =
-    subst (λ t. Wrote (taken old) (taken new) (failed old) (failed new) t start (Err fault)) (sym is)
-    (Wrote-stop (taken old) (taken new) (failed old) (failed new) first rest start fault stopped)
-
--- the same of longwords
-pub words-then : {W : Type 0} (taken : W → Option (List ℕ)) (failed : W → Bool) (old between new : W) (ws first rest : List ℕ) (start middle : ℕ) (r : Result ℕ WriteFault)
-    → ws ≡ first ++ rest
-    → Wrote (taken old) (taken between) (failed old) (failed between) (bytes_of first) start (Ok middle)
-    → Wrote (taken between) (taken new) (failed between) (failed new) (bytes_of rest) middle r
-    → Wrote (taken old) (taken new) (failed old) (failed new) (bytes_of ws) start r
-words-then taken failed old between new ws first rest start middle r is one other =
-    text-then taken failed old between new (bytes_of ws) (bytes_of first) (bytes_of rest) start middle r (ap bytes_of is ∙ bytes_of-append first rest) one other
-
-pub words-stop : {W : Type 0} (taken : W → Option (List ℕ)) (failed : W → Bool) (old new : W) (ws first rest : List ℕ) (start : ℕ) (fault : WriteFault)
-    → ws ≡ first ++ rest
-    → Wrote (taken old) (taken new) (failed old) (failed new) (bytes_of first) start (Err fault)
-    → Wrote (taken old) (taken new) (failed old) (failed new) (bytes_of ws) start (Err fault)
-words-stop taken failed old new ws first rest start fault is stopped =
-    text-stop taken failed old new (bytes_of ws) (bytes_of first) (bytes_of rest) start fault (ap bytes_of is ∙ bytes_of-append first rest) stopped
-
--- ---- parts of longwords
+pub bytes_of-append : (ws more : List ℕ) → bytes_of (ws ++ more) ≡ bytes_of ws ++ bytes_of more
+bytes_of-append ws more = flat_map-append (big_bytes 4) ws more
 
 bytes_of-flat_map : {X : Type 0} (part : X → List ℕ) (xs : List X) → bytes_of (flat_map part xs) ≡ flat_map (λ x. bytes_of (part x)) xs
 bytes_of-flat_map part [] = refl
 bytes_of-flat_map part (x ∷ xs) = bytes_of-append (part x) (flat_map part xs) ∙ ap (λ t. bytes_of (part x) ++ t) (bytes_of-flat_map part xs)
 
--- one part more
-pub parts-more : {X W : Type 0} (taken : W → Option (List ℕ)) (failed : W → Bool) (old between new : W) (part : X → List ℕ) (xs : List X) (index : ℕ) (x : X) (start middle written : ℕ)
-    → index < length xs → x ≡ get_or xs index x
-    → Wrote (taken old) (taken between) (failed old) (failed between) (bytes_of (flat_map part (take index xs))) start (Ok middle)
-    → Wrote (taken between) (taken new) (failed between) (failed new) (bytes_of (part x)) middle (Ok written)
-    → Wrote (taken old) (taken new) (failed old) (failed new) (bytes_of (flat_map part (take (index + 1) xs))) start (Ok written)
-parts-more taken failed old between new part xs index x start middle written within is first next =
-    subst (λ t. Wrote (taken old) (taken new) (failed old) (failed new) t start (Ok written)) (sym (bytes_of-flat_map part (take (index + 1) xs)))
-    (Wrote-more (λ y. bytes_of (part y)) xs index x (taken old) (taken between) (taken new) (failed old) (failed between) (failed new) start middle written within is
-    (subst (λ t. Wrote (taken old) (taken between) (failed old) (failed between) t start (Ok middle)) (bytes_of-flat_map part (take index xs)) first) next)
+-- ---- longwords after longwords
 
--- it stopped in the next part
-pub parts-stop : {X W : Type 0} (taken : W → Option (List ℕ)) (failed : W → Bool) (old between new : W) (part : X → List ℕ) (xs : List X) (index : ℕ) (x : X) (start middle : ℕ) (fault : WriteFault)
-    → index < length xs → x ≡ get_or xs index x
-    → Wrote (taken old) (taken between) (failed old) (failed between) (bytes_of (flat_map part (take index xs))) start (Ok middle)
-    → Wrote (taken between) (taken new) (failed between) (failed new) (bytes_of (part x)) middle (Err fault)
-    → Wrote (taken old) (taken new) (failed old) (failed new) (bytes_of (flat_map part xs)) start (Err fault)
-parts-stop taken failed old between new part xs index x start middle fault within is first next =
-    subst (λ t. Wrote (taken old) (taken new) (failed old) (failed new) t start (Err fault)) (sym (bytes_of-flat_map part xs))
-    (Wrote-part (λ y. bytes_of (part y)) xs index x (taken old) (taken between) (taken new) (failed old) (failed between) (failed new) start middle fault within is
-    (subst (λ t. Wrote (taken old) (taken between) (failed old) (failed between) t start (Ok middle)) (bytes_of-flat_map part (take index xs)) first) next)
+module _ {W : Type 0} (taken : W → Option (List ℕ)) (failed : W → Bool) where
+  -- longwords, and then others
+  pub words-then : (old between new : W) (ws first rest : List ℕ) (start middle : ℕ) (r : Result ℕ WriteFault)
+      → ws ≡ first ++ rest
+      → Wrote taken failed old between (bytes_of first) start (Ok middle)
+      → Wrote taken failed between new (bytes_of rest) middle r
+      → Wrote taken failed old new (bytes_of ws) start r
+  words-then old between new ws first rest start middle r is one other =
+      Wrote-then taken failed old between new (bytes_of ws) (bytes_of first) (bytes_of rest) start middle r (ap bytes_of is ∙ bytes_of-append first rest) one other
+
+  -- it stopped in the first ones
+  pub words-stop : (old new : W) (ws first rest : List ℕ) (start : ℕ) (fault : WriteFault)
+      → ws ≡ first ++ rest
+      → Wrote taken failed old new (bytes_of first) start (Err fault)
+      → Wrote taken failed old new (bytes_of ws) start (Err fault)
+  words-stop old new ws first rest start fault is stopped =
+      Wrote-stop taken failed old new (bytes_of ws) (bytes_of first) (bytes_of rest) start fault (ap bytes_of is ∙ bytes_of-append first rest) stopped
+
+  -- it stopped in some between others
+  pub words-inside : (old between new : W) (ws first part rest : List ℕ) (start middle : ℕ) (fault : WriteFault)
+      → ws ≡ first ++ (part ++ rest)
+      → Wrote taken failed old between (bytes_of first) start (Ok middle)
+      → Wrote taken failed between new (bytes_of part) middle (Err fault)
+      → Wrote taken failed old new (bytes_of ws) start (Err fault)
+  words-inside old between new ws first part rest start middle fault is one next =
+      words-then old between new ws first (part ++ rest) start middle (Err fault) is one (words-stop between new (part ++ rest) part rest middle fault refl next)
+
+  -- those of one more element of a list
+  pub parts-more : {X : Type 0} (old between new : W) (part : X → List ℕ) (xs : List X) (index : ℕ) (x : X) (start middle written : ℕ)
+      → index < length xs → x ≡ get_or xs index x
+      → Wrote taken failed old between (bytes_of (flat_map part (take index xs))) start (Ok middle)
+      → Wrote taken failed between new (bytes_of (part x)) middle (Ok written)
+      → Wrote taken failed old new (bytes_of (flat_map part (take (index + 1) xs))) start (Ok written)
+  parts-more old between new part xs index x start middle written within is first next =
+      subst (λ t. Wrote taken failed old new t start (Ok written)) (sym (bytes_of-flat_map part (take (index + 1) xs)))
+      (Wrote-more taken failed (λ y. bytes_of (part y)) xs index x x old between new start middle written within is
+      (subst (λ t. Wrote taken failed old between t start (Ok middle)) (bytes_of-flat_map part (take index xs)) first) next)
+
+  -- it stopped in those of the next element
+  pub parts-stop : {X : Type 0} (old between new : W) (part : X → List ℕ) (xs : List X) (index : ℕ) (x : X) (start middle : ℕ) (fault : WriteFault)
+      → index < length xs → x ≡ get_or xs index x
+      → Wrote taken failed old between (bytes_of (flat_map part (take index xs))) start (Ok middle)
+      → Wrote taken failed between new (bytes_of (part x)) middle (Err fault)
+      → Wrote taken failed old new (bytes_of (flat_map part xs)) start (Err fault)
+  parts-stop old between new part xs index x start middle fault within is first next =
+      subst (λ t. Wrote taken failed old new t start (Err fault)) (sym (bytes_of-flat_map part xs))
+      (Wrote-part taken failed (λ y. bytes_of (part y)) xs index x x old between new start middle fault within is
+      (subst (λ t. Wrote taken failed old between t start (Ok middle)) (bytes_of-flat_map part (take index xs)) first) next)
+
+-- ---- longwords in chunks
+
+-- One longword of each element is written: these so far, and those of the remaining elements.
+module _ {X : Type 0} (word : X → ℕ) (words : List ℕ) (chunk rest all : List X) where
+  -- those of the next chunk, and of the rest
+  pub chunk-around : (left : List X) → left ≡ chunk ++ rest → words ++ map word left ≡ map word all → words ++ (map word chunk ++ map word rest) ≡ map word all
+  chunk-around left parts whole = ap (λ ws. words ++ ws) (sym (ap (map word) parts ∙ map-append word chunk rest)) ∙ whole
+
+  -- then those of the next chunk are written
+  pub chunk-more : (left : List X) → left ≡ chunk ++ rest → words ++ map word left ≡ map word all → (words ++ map word chunk) ++ map word rest ≡ map word all
+  chunk-more left parts whole = append_assoc words (map word chunk) (map word rest) ∙ chunk-around left parts whole
+
+  -- there is room for those of the next chunk
+  pub chunk-room : (left : List X) (next : List ℕ) (start written : ℕ) → left ≡ chunk ++ rest → words ++ map word left ≡ map word all → next ≡ map word chunk
+      → written ≡ start + length (bytes_of words) → written + length (bytes_of next) ≤ start + 4 * length all
+  chunk-room left next start written parts whole is counted =
+      omega (
+        arith,
+        counted,
+        ap length is,
+        ap length (chunk-around left parts whole),
+        length-append words (map word chunk ++ map word rest),
+        length-append (map word chunk) (map word rest),
+        length-map all word,
+        length-bytes_of words,
+        length-bytes_of next,
+      )
 
 -- ---- names and symbols
 
@@ -89,7 +118,7 @@ bytes_of-name_words n zeros h count =
     let same : w.zeros ≡ zeros = omega (arith, count, ap length w.bytes, length-append n (replicate w.zeros z), length-replicate w.zeros z, length-bytes_of (name_words n), length-name_words n) in
     w.bytes ∙ ap (λ (k : ℕ). n ++ replicate k 0) same
 
--- so many zeros of four
+-- `zeros` zeros of four
 zeros_of : (zeros : ℕ) → zeros ≤ 4 → take {A = ℕ} zeros (0 ∷ 0 ∷ 0 ∷ 0 ∷ []) ≡ replicate zeros 0
 zeros_of zero few = refl
 zeros_of (suc zero) few = refl
@@ -101,7 +130,7 @@ zeros_of (suc (suc (suc (suc (suc n))))) few = absurd (omega arith)
 pub name_fill : (bytes count : ℕ) → count ≡ longword_count bytes → (4 * count - bytes ≤ 4) × (bytes + (4 * count - bytes) ≡ 4 * longword_count bytes)
 name_fill bytes count is = (omega arith, omega arith)
 
--- a name, and zeros that fill its longwords up
+-- a name, and the zeros that pad its longwords
 pub name_words-bytes : (n bytes : List ℕ) (count : ℕ) → bytes ≡ n → All IsNameByte n → count ≡ longword_count (length bytes)
     → bytes_of (name_words n) ≡ bytes ++ take {A = ℕ} (4 * count - length bytes) (0 ∷ 0 ∷ 0 ∷ 0 ∷ [])
 name_words-bytes n bytes count is h counted =

@@ -1,19 +1,19 @@
--- What a hunk that has not ended shows, one thing further.
-use Rattle.std.proofs.Common.{◌≡◌, ℕ, zero, suc, ◌+◌, ◌<◌, ◌≤◌, List, [], ◌∷◌, ◌++◌, length, map, Some, Result, Ok, Err, OnOk, OnErr, Vec, if◌then◌else◌, ◌==◌, ◌↔◌, get_or, slice_set, refl, sym, ap, subst, ◌∙◌, append-nil, arith}
+-- What the current hunk shows, after one more event.
+use Rattle.std.proofs.Common.{◌≡◌, ℕ, zero, suc, ◌+◌, ◌<◌, ◌≤◌, List, [], ◌∷◌, ◌++◌, length, map, Bool, true, false, Result, Ok, Err, OnOk, OnErr, Vec, if◌then◌else◌, get_or, slice_set, refl, sym, ap, subst, ◌∙◌, append-nil, arith}
 use Rattle.std.specs.BTreeMap.{insert_entry}
 use Rattle.std.specs.Ordering.{nat_cmp}
-use Rattle.hunk_words.specs.Sites.{SiteMap, Meets, target_at}
-use Rattle.hunk_words.specs.Taker.{JudgesSite}
+use Rattle.byteorder.specs.Endian.{big_bytes}
 use Rattle.hunk_words.specs.EventValue.{on_last}
-use Rattle.hunk_words.specs.Name.{name_of}
+use Rattle.hunk_words.specs.Name.{bytes_of, name_of}
+use Rattle.hunk_words.specs.PartialHunk.{HunkSoFar, HoldsSites, begun_hunk, hunk_with_site, hunk_with_word}
 use Rattle.hunk_words.specs.Values.{Hunk, Adds, with_tables, one_site}
 use Rattle.hunk_words.specs.Values.Adds.{to_hunk}
+use Rattle.hunk_words.specs.declared.kinds.HunkKind.{HunkKind}
 use Rattle.hunk_words.specs.declared.sites.SiteRefusal.{SiteRefusal}
-use Rattle.hunk_words.specs.declared.sites.SiteRefusal.TheVariants.{Outside, Overlap}
-use Rattle.hunk_words.proofs.TakerLemmas.{judges-site, SameSites-more}
+use Rattle.hunk_words.proofs.PartialHunkLemmas.{AddsSite, HoldsSites-begun, bytes_of-append, hunk_with_word-kept, hunk_with_word-dropped}
 use Rattle.hunk_loadfile.specs.LoadHunk.{lists_of}
 use Rattle.hunk_loadfile.specs.LoadFile.{with_site, with_sites}
-use Rattle.hunk_loadfile.specs.OpenHunk.{Shows, TakesSite}
+use Rattle.hunk_loadfile.specs.OpenHunk.{Shows, Takes, TakesSite, told_with_word}
 use Rattle.hunk_loadfile.specs.declared.open_hunk.OpenHunk.{OpenHunk}
 
 -- ---- sites
@@ -22,44 +22,74 @@ pub with_sites-append : (es : List (ℕ × ℕ)) (ss : List (ℕ × Adds)) (o t 
 with_sites-append es [] o t = refl
 with_sites-append es (s ∷ ss) o t = with_sites-append (with_site es s.0 s.1) ss o t
 
--- the map with one site more
-abbrev with_one : SiteMap ℕ → ℕ → ℕ → SiteMap ℕ
-with_one m o t = record m { entries = insert_entry nat_cmp m.entries o t }
-
-Shows-site : {A : Type 0} (h : OpenHunk A) (m : SiteMap ℕ) (o t limit : ℕ) (seen : List ℕ) (told : Hunk) → m ≡ with_one h.sites o t
-    → ((other : ℕ) → target_at m.entries other ≡ (if o == other then Some t else target_at h.sites.entries other))
-    → Shows h limit seen told → Shows (record h { sites = m }) limit (o ∷ seen) (with_tables told (one_site o (to_hunk t)))
-Shows-site h m o t limit seen told adds looks shows = record {
+Shows-site : {A : Type 0} (h : OpenHunk A) (partial : HunkSoFar ℕ) (o t limit : ℕ) (seen : List ℕ) (in_content : Bool) (told : Hunk) → partial ≡ hunk_with_site h.partial o t
+    → HoldsSites limit (o ∷ seen) partial → Shows h limit seen in_content told → Shows (record h { partial = partial }) limit (o ∷ seen) in_content (with_tables told (one_site o (to_hunk t)))
+Shows-site h partial o t limit seen in_content told adds holds shows = record {
   kind = shows.kind;
-  content = shows.content;
-  sites = adds ∙ ap (λ n. with_one n o t) shows.sites ∙ ap (λ es. record { limit = limit; entries = es }) (sym (with_sites-append [] told.tables.sites o t));
-  same = SameSites-more seen h.sites.entries m.entries o t shows.same looks;
+  content = ap (λ p. p.content) adds ∙ shows.content;
+  sites = ap (λ p. p.sites.entries) adds ∙ ap (λ es. insert_entry nat_cmp es o t) shows.sites ∙ sym (with_sites-append [] told.tables.sites o t);
+  holds = holds;
+  words = ap (λ p. p.in_content) adds ∙ shows.words;
   symbols = shows.symbols ∙ sym (ap (λ xs. map (λ s. (name_of s.0, s.1)) xs) (append-nil told.tables.symbols));
   debugs = shows.debugs ∙ sym (append-nil told.tables.debugs);
 }
 
--- What the map of sites answers is what the hunk does.
-pub takes-site : {A : Type 0} (h : OpenHunk A) (m : SiteMap ℕ) (answer : Result (Unit {0}) SiteRefusal) (o t : ℕ)
-    → ((answer ≡ Err Outside) ↔ (h.sites.limit < o + 4)) → ((answer ≡ Err Overlap) ↔ ((o + 4 ≤ h.sites.limit) × Meets h.sites.entries o))
-    → OnOk answer (m ≡ with_one h.sites o t)
-    → OnOk answer ((other : ℕ) → target_at m.entries other ≡ (if o == other then Some t else target_at h.sites.entries other))
-    → OnErr answer (m ≡ h.sites) → TakesSite h (record h { sites = m }) answer o t
-takes-site h m answer o t outside overlap adds looks refused = record {
-  takes = λ limit seen told shows. taken answer adds looks limit seen told shows;
-  refuses = λ limit seen told shows. kept answer refused limit seen told shows;
-  judges = λ limit seen told shows. subst (λ l. JudgesSite l seen o answer) (ap (λ n. n.limit) shows.sites) (judges-site h.sites.limit seen h.sites.entries o answer shows.same outside overlap);
+-- A hunk returns what its sites return.
+pub takes-site : {A : Type 0} (h : OpenHunk A) (partial : HunkSoFar ℕ) (answer : Result (Unit {0}) SiteRefusal) (o t : ℕ) → AddsSite h.partial partial answer o t → TakesSite h (record h { partial = partial }) answer o t
+takes-site h partial answer o t added = record {
+  takes = λ limit seen in_content told shows. taken answer added.adds limit seen in_content told (added.holds limit seen shows.holds) shows;
+  refuses = λ limit seen in_content told shows. kept answer added.refused limit seen in_content told shows;
+  judges = λ limit seen in_content told shows. added.judges limit seen shows.holds;
 }
   where
-    taken : (r : Result (Unit {0}) SiteRefusal) → OnOk r (m ≡ with_one h.sites o t)
-        → OnOk r ((other : ℕ) → target_at m.entries other ≡ (if o == other then Some t else target_at h.sites.entries other))
-        → (limit : ℕ) (seen : List ℕ) (told : Hunk) → Shows h limit seen told
-        → OnOk r (Shows (record h { sites = m }) limit (o ∷ seen) (with_tables told (one_site o (to_hunk t))))
-    taken (Ok d) a l limit seen told shows = Shows-site h m o t limit seen told a l shows
-    taken (Err e) a l limit seen told shows = tt
+    taken : (r : Result (Unit {0}) SiteRefusal) → OnOk r (partial ≡ hunk_with_site h.partial o t) → (limit : ℕ) (seen : List ℕ) (in_content : Bool) (told : Hunk) → OnOk r (HoldsSites limit (o ∷ seen) partial)
+        → Shows h limit seen in_content told → OnOk r (Shows (record h { partial = partial }) limit (o ∷ seen) in_content (with_tables told (one_site o (to_hunk t))))
+    taken (Ok d) adds limit seen in_content told holds shows = Shows-site h partial o t limit seen in_content told adds holds shows
+    taken (Err e) adds limit seen in_content told holds shows = tt
 
-    kept : (r : Result (Unit {0}) SiteRefusal) → OnErr r (m ≡ h.sites) → (limit : ℕ) (seen : List ℕ) (told : Hunk) → Shows h limit seen told → OnErr r (Shows (record h { sites = m }) limit seen told)
-    kept (Ok d) same limit seen told shows = tt
-    kept (Err e) same limit seen told shows = subst (λ n. Shows (record h { sites = n }) limit seen told) (sym same) shows
+    kept : (r : Result (Unit {0}) SiteRefusal) → OnErr r (partial ≡ h.partial) → (limit : ℕ) (seen : List ℕ) (in_content : Bool) (told : Hunk) → Shows h limit seen in_content told → OnErr r (Shows (record h { partial = partial }) limit seen in_content told)
+    kept (Ok d) same limit seen in_content told shows = tt
+    kept (Err e) same limit seen in_content told shows = subst (λ p. Shows (record h { partial = p }) limit seen in_content told) (sym same) shows
+
+-- ---- words of content
+
+-- It keeps a word if it is content, or is left as it was.
+pub takes-word : {A E : Type 0} (h : OpenHunk A) (partial : HunkSoFar ℕ) (answer : Result (Unit {0}) E) (w : ℕ) → OnOk answer (partial ≡ hunk_with_word h.partial w) → OnErr answer (partial ≡ h.partial)
+    → Takes h (record h { partial = partial }) answer (told_with_word w)
+takes-word h partial (Ok d) w adds refused = record { takes = λ limit seen in_content told shows. go in_content limit seen told shows; refuses = λ limit seen in_content told shows. tt }
+  where
+    content_is : (in_content : Bool) (ws : List ℕ) → h.partial.in_content ≡ in_content → h.partial.content ≡ bytes_of ws → partial.content ≡ bytes_of (if in_content then ws ++ (w ∷ []) else ws)
+    content_is true ws words is = ap (λ p. p.content) (adds ∙ hunk_with_word-kept h.partial w words) ∙ ap (λ bytes. bytes ++ big_bytes 4 w) is ∙ sym (bytes_of-append ws w)
+    content_is false ws words is = ap (λ p. p.content) (adds ∙ hunk_with_word-dropped h.partial w words) ∙ is
+
+    go : (in_content : Bool) (limit : ℕ) (seen : List ℕ) (told : Hunk) → Shows h limit seen in_content told → Shows (record h { partial = partial }) limit seen in_content (told_with_word w in_content told)
+    go in_content limit seen told shows = record {
+      kind = shows.kind;
+      content = content_is in_content told.content shows.words shows.content;
+      sites = ap (λ p. p.sites.entries) adds ∙ shows.sites;
+      holds = subst (HoldsSites limit seen) (sym adds) (record { same_limit = shows.holds.same_limit; same_sites = shows.holds.same_sites });
+      words = ap (λ p. p.in_content) adds ∙ shows.words;
+      symbols = shows.symbols;
+      debugs = shows.debugs;
+    }
+takes-word h partial (Err e) w adds refused = record {
+  takes = λ limit seen in_content told shows. tt;
+  refuses = λ limit seen in_content told shows. subst (λ p. Shows (record h { partial = p }) limit seen in_content told) (sym refused) shows;
+}
+
+-- Content begins before the first site, and before the first word of content.
+pub Shows-begun : {A : Type 0} (h : OpenHunk A) (partial : HunkSoFar ℕ) (kind : HunkKind) (limit before : ℕ) (seen : List ℕ) (in_content : Bool) (told : Hunk) (bits size : ℕ) → partial ≡ begun_hunk limit
+    → h.partial.content ≡ [] → h.partial.sites.entries ≡ [] → Shows h before seen in_content told
+    → Shows (record h { kind = kind; partial = partial }) limit seen true (record told { kind = kind; memory = bits; size = size })
+Shows-begun h partial kind limit before seen in_content told bits size is no_content no_sites shows = record {
+  kind = refl;
+  content = ap (λ p. p.content) is ∙ sym no_content ∙ shows.content;
+  sites = ap (λ p. p.sites.entries) is ∙ sym no_sites ∙ shows.sites;
+  holds = HoldsSites-begun limit before seen h.partial partial is no_sites shows.holds;
+  words = ap (λ p. p.in_content) is;
+  symbols = shows.symbols;
+  debugs = shows.debugs;
+}
 
 -- ---- the last debug block
 

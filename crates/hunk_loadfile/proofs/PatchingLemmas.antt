@@ -23,7 +23,7 @@ holds-below offset i below = grind (arith, nat_tests)
 pub holds-behind : (offset i : ℕ) → offset + 4 ≤ i → holds offset i ≡ false
 holds-behind offset i behind = grind (arith, nat_tests)
 
--- a byte is before a site, in it or behind it
+-- a byte is before a site, in it or after it
 pub data Side (offset i : ℕ) : Type 0 where
   before : i < offset → Side offset i
   within : offset ≤ i → i < offset + 4 → Side offset i
@@ -51,7 +51,7 @@ pub slice_index-patched_bytes : {T : Type 0} (count : ℕ) (content : List ℕ) 
     → slice_index (patched_bytes count content sites addend) i ≡ patched content sites addend i
 slice_index-patched_bytes count content sites addend i h = get_or-map-range_with_len (patched content sites addend) 0 count i i 0 h (zero-add i)
 
--- the same bytes, where they are the same one by one
+-- the same bytes, if they are the same one by one
 pub patched_bytes-same : {T U : Type 0} (count : ℕ) (content other : List ℕ) (sites : List (ℕ × T)) (addend : T → ℕ) (others : List (ℕ × U)) (amount : U → ℕ)
     → ((i : ℕ) → patched content sites addend i ≡ patched other others amount i)
     → patched_bytes count content sites addend ≡ patched_bytes count other others amount
@@ -65,7 +65,7 @@ patched_bytes-no_sites {T = T} content addend =
 
 -- ---- the longword at an offset
 
--- of the bytes behind an offset
+-- of the bytes after an offset
 big_from-drop : (n i offset : ℕ) (bytes : List ℕ) → big_from i n (drop offset bytes) ≡ big_from (offset + i) n bytes
 big_from-drop zero i offset bytes = refl
 big_from-drop (suc n) i offset bytes =
@@ -145,7 +145,7 @@ put_mid-added bytes written offset addend read count four fits is_read is_writte
 
 -- ---- several sites, one after another
 
--- no site from here on holds a byte before
+-- no site from here on includes an earlier byte
 pub site_over-before : {T : Type 0} (from limit : ℕ) (sites : List (ℕ × T)) (i : ℕ) → StandFrom from limit sites → i < from → site_over sites i ≡ None
 site_over-before from limit [] i apart low = refl
 site_over-before from limit (site ∷ sites) i apart low =
@@ -181,7 +181,7 @@ module _ {T : Type 0} (bytes : List ℕ) (addend : T → ℕ) (site : ℕ × T) 
   abbrev after_first : List ℕ
   after_first = patched_bytes (length bytes) bytes first (λ a. a)
 
-  -- behind the bytes, where no site lies, both are zeros
+  -- after the end of the bytes, where no site lies, both are zeros
   after_first-behind : (i : ℕ) → length bytes ≤ i → slice_index after_first i ≡ patched {T = ℕ} bytes first (λ a. a) i
   after_first-behind i past =
       get_or_past after_first i 0 (omega (arith, length-patched_bytes (length bytes) bytes first (λ a. a)))
@@ -211,18 +211,18 @@ module _ {T : Type 0} (bytes : List ℕ) (addend : T → ℕ) (site : ℕ × T) 
       ∙ patched-inside {T = ℕ} bytes (λ a. a) (site.0, addend site.1) [] i start high
       ∙ sym (patched-inside bytes addend site sites i start high)
 
-  -- one site, and then those behind it
+  -- one site, and then those after it
   pub patched_bytes-first : (count limit : ℕ) → StandFrom (site.0 + 4) limit sites → patched_bytes count after_first sites addend ≡ patched_bytes count bytes (site ∷ sites) addend
   patched_bytes-first count limit apart = patched_bytes-same count after_first bytes sites addend (site ∷ sites) addend (λ i. patched-after_first limit apart i (side site.0 i))
 
--- ---- sites inside more bytes, and behind an earlier place
+-- ---- sites within more bytes, and after an earlier place
 
 pub StandFrom-wider : {T : Type 0} (from lower limit higher : ℕ) (sites : List (ℕ × T)) → lower ≤ from → limit ≤ higher → StandFrom from limit sites → StandFrom lower higher sites
 StandFrom-wider from lower limit higher [] low high apart = tt
 StandFrom-wider from lower limit higher (site ∷ sites) low high apart =
     (omega (arith, apart.0), omega (arith, apart.1), StandFrom-wider (site.0 + 4) (site.0 + 4) limit higher sites (omega arith) high apart.2)
 
--- what a loop over the sites that are left keeps, where it adds the base of a site's target
+-- what a loop over the remaining sites keeps, when it adds the base of a site's target
 module _ (bases bytes new : List ℕ) (left sites : List (ℕ × ℕ)) (site : ℕ × ℕ) (shown : left ≡ site ∷ sites) (apart : StandFrom 0 (length bytes) left)
     (added : new ≡ patched_bytes (length bytes) bytes ((site.0, slice_index bases site.1) ∷ []) (λ a. a)) where
   at_front : StandFrom 0 (length bytes) (site ∷ sites)
@@ -252,7 +252,7 @@ all-patched bases bytes now left all counted none is =
 pub All-behind : {T : Type 0} (P : T → Type 0) (left rest : List T) (x : T) → left ≡ x ∷ rest → All P left → All P rest
 All-behind P left rest x shown all = λ k d low. subst (All P) shown all (suc k) d (omega arith)
 
--- ---- zeros behind the content
+-- ---- zeros after the content
 
 slice_index-zeros : (count i : ℕ) → slice_index (replicate count 0) i ≡ 0
 slice_index-zeros zero i = refl
@@ -264,7 +264,7 @@ slice_index-filled [] count i = slice_index-zeros count i
 slice_index-filled (byte ∷ content) count zero = refl
 slice_index-filled (byte ∷ content) count (suc i) = slice_index-filled content count i
 
--- zeros behind the content change no byte
+-- zeros after the content change no byte
 pub patched_bytes-filled : {T : Type 0} (limit count zeros : ℕ) (content : List ℕ) (sites : List (ℕ × T)) (addend : T → ℕ) → StandFrom 0 limit sites
     → patched_bytes count (content ++ replicate zeros 0) sites addend ≡ patched_bytes count content sites addend
 patched_bytes-filled limit count zeros content sites addend apart =

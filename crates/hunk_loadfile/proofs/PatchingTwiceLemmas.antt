@@ -13,7 +13,7 @@ use Rattle.hunk_loadfile.proofs.PatchingLemmas.{Side, before, within, behind, si
 
 -- ---- the site over a byte
 
--- behind the limit there is none
+-- after the limit there is none
 site_over-past : {T : Type 0} (from limit : ℕ) (sites : List (ℕ × T)) (i : ℕ) → StandFrom from limit sites → limit ≤ i → site_over sites i ≡ None
 site_over-past from limit [] i apart past = refl
 site_over-past from limit (site ∷ sites) i apart past =
@@ -53,7 +53,7 @@ site_over-is {T = T} from limit (first ∷ sites) i site apart is =
 
 -- ---- the sites with a second part
 
--- one site more, where there is a second part
+-- one more site, if there is a second part
 abbrev one_more : {U : Type 0} → ℕ → Option U → List (ℕ × U) → List (ℕ × U)
 one_more offset second sites = cons_option (option_map (λ u. (offset, u)) second) sites
 
@@ -112,7 +112,7 @@ module _ {T : Type 0} (content : List ℕ) (sites : List (ℕ × T)) (first : T 
   abbrev once : List ℕ
   once = patched_bytes (length content) content sites first
 
-  -- behind the content, where no site lies, both are zeros
+  -- after the content, where no site lies, both are zeros
   slice_index-once : (i : ℕ) → slice_index once i ≡ patched content sites first i
   slice_index-once i = elim (cases_lt i (length content)) [
     | inl low ↦ slice_index-patched_bytes (length content) content sites first i low
@@ -144,7 +144,7 @@ module _ {T U : Type 0} (content : List ℕ) (sites : List (ℕ × T)) (part : T
   abbrev sums : T → ℕ
   sums target = first target + second_addend second (part target)
 
-  -- the byte of a site, where the second part is this
+  -- the byte of a site with this second part
   byte-twice : (site : ℕ × T) → site_over sites i ≡ Some site → (p : Option U)
       → patched_in (once content sites first apart) second (option_map (λ u. (site.0, u)) p) i
       ≡ slice_index (big_bytes 4 ((big_from site.0 4 content + (first site.1 + second_addend second p)) % 2 ^ 32)) (i - site.0)

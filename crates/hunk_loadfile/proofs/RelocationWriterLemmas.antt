@@ -1,5 +1,6 @@
--- The groups of a relocation block, and the sites by rising target that they are made of.
-use Rattle.std.proofs.Common.{◌≡◌, ◌==◌, ◌&&◌, not, ◌<◌, ◌≤◌, ◌+◌, ◌-◌, ◌*◌, ◌^◌, ◌∙◌, ℕ, zero, suc, inl, inr, Bool, false, List, [], ◌∷◌, ◌++◌, length, map, take, drop, get_or, Option, Result, Ok, Err, sym, ap, refl, subst, append-nil, eq-eqb, arith}
+-- The groups of a relocation block, and the sites in ascending order of target that they are made
+-- of.
+use Rattle.std.proofs.Common.{◌≡◌, ◌==◌, ◌&&◌, not, ◌<◌, ◌≤◌, ◌+◌, ◌-◌, ◌*◌, ◌^◌, ◌∙◌, ℕ, zero, suc, inl, inr, false, List, [], ◌∷◌, ◌++◌, length, map, take, drop, get_or, sym, ap, refl, subst, append-nil, eq-eqb, arith}
 use Rattle.std.proofs.lemmas.Bool.{cases_eq, cases_lt, ne_eqb}
 use Rattle.std.proofs.lemmas.List.{length-append, length-drop, length-map, length-take-le, map-append, take-append-drop, get_or-take, get_or-drop}
 use Rattle.std.proofs.lemmas.List.Elements.{All-drop, All-take, All-weaker, filter-append, filter_agree, recursion_from_All}
@@ -12,41 +13,9 @@ use Rattle.std.specs.declared.cmp.Ordering.TheVariants.{Less, Equal, Greater}
 use Rattle.std.proofs.Math.Seq.{drop-append_seam, take-append_seam}
 use Rattle.hunk_words.specs.Name.{bytes_of}
 use Rattle.hunk_words.specs.Sites.{StandFrom}
-use Rattle.hunk_words.specs.declared.fault.WriteFault.{WriteFault}
 use Rattle.hunk_loadfile.specs.RelocationWriter.{AreByTarget, IsGroup}
-use Rattle.hunk_loadfile.specs.Writing.{Wrote}
 use Rattle.hunk_loadfile.specs.WrittenForm.{group_words, groups_words, offsets_to, site_words}
-use Rattle.hunk_loadfile.proofs.WritingLemmas.{Wrote-inside, Wrote-stop, Wrote-then, bytes_of-append, length-bytes_of}
-
--- ---- longwords behind longwords
-
--- longwords, and then others
-pub Wrote-words : (old between new : Option (List ℕ)) (before halfway after : Bool) (first rest whole : List ℕ) (start middle : ℕ) (r : Result ℕ WriteFault)
-    → first ++ rest ≡ whole
-    → Wrote old between before halfway (bytes_of first) start (Ok middle)
-    → Wrote between new halfway after (bytes_of rest) middle r
-    → Wrote old new before after (bytes_of whole) start r
-Wrote-words old between new before halfway after first rest whole start middle r is one next =
-    subst (λ t. Wrote old new before after t start r) (sym (bytes_of-append first rest) ∙ ap bytes_of is)
-    (Wrote-then old between new before halfway after (bytes_of first) (bytes_of rest) start middle r one next)
-
--- it stopped in the first ones
-pub Wrote-words_front : (old new : Option (List ℕ)) (before after : Bool) (part rest whole : List ℕ) (start : ℕ) (fault : WriteFault)
-    → part ++ rest ≡ whole
-    → Wrote old new before after (bytes_of part) start (Err fault)
-    → Wrote old new before after (bytes_of whole) start (Err fault)
-Wrote-words_front old new before after part rest whole start fault is one =
-    subst (λ t. Wrote old new before after t start (Err fault)) (sym (bytes_of-append part rest) ∙ ap bytes_of is) (Wrote-stop old new before after (bytes_of part) (bytes_of rest) start fault one)
-
--- it stopped in the others
-pub Wrote-words_stop : (old between new : Option (List ℕ)) (before halfway after : Bool) (first part rest whole : List ℕ) (start middle : ℕ) (fault : WriteFault)
-    → first ++ (part ++ rest) ≡ whole
-    → Wrote old between before halfway (bytes_of first) start (Ok middle)
-    → Wrote between new halfway after (bytes_of part) middle (Err fault)
-    → Wrote old new before after (bytes_of whole) start (Err fault)
-Wrote-words_stop old between new before halfway after first part rest whole start middle fault is one next =
-    let parts = ap (λ (t : List ℕ). bytes_of first ++ t) (sym (bytes_of-append part rest)) ∙ sym (bytes_of-append first (part ++ rest)) ∙ ap bytes_of is in
-    Wrote-inside old between new before halfway after (bytes_of first) (bytes_of part) (bytes_of rest) (bytes_of whole) start middle fault parts one next
+use Rattle.hunk_loadfile.proofs.LongwordWriterLemmas.{length-bytes_of}
 
 -- ---- the offsets of a target
 
@@ -72,7 +41,7 @@ offsets-all target (x ∷ xs) h = rw (eq-eqb x.1 target h.0) (ap (λ (os : List 
 offsets_to-all : (target : ℕ) (xs : List (ℕ × ℕ)) → All (λ pair. pair.1 ≡ target) xs → offsets_to target xs ≡ map offset_of xs
 offsets_to-all target xs h = offsets-all target xs (recursion_from_All (λ pair. pair.1 ≡ target) xs h)
 
--- a sort by target that is stable keeps the offsets of each target
+-- a stable sort by target keeps the offsets of each target
 ties_is_same : (a b : ℕ) → (not (is_lt (nat_cmp a b)) && not (is_lt (nat_cmp b a))) ≡ (b == a)
 ties_is_same a b = elim (cases_lt a b) [
   | inl below ↦
@@ -122,7 +91,7 @@ pub groups_words-nil : (count : ℕ) → groups_words count [] ≡ []
 groups_words-nil count = groups_from-nil 0 count
 
 module _ (target : ℕ) (group behind : List (ℕ × ℕ)) (same : All (λ (pair : ℕ × ℕ). pair.1 ≡ target) group) (above : All (λ (pair : ℕ × ℕ). target < pair.1) behind) where
-  -- a target that is not above the group's has no site behind the group
+  -- a target that is not above the group's has no site after the group
   behind-none : (other : ℕ) → other ≤ target → offsets_to other behind ≡ []
   behind-none other low = offsets_to-none other behind (All-weaker (λ (pair : ℕ × ℕ). target < pair.1) (λ (pair : ℕ × ℕ). pair.1 ≡ other → ⊥) (λ pair up is. absurd (omega arith)) behind above)
 
@@ -170,7 +139,7 @@ module _ (target : ℕ) (group behind pairs : List (ℕ × ℕ)) (is : IsGroup t
   All-behind P all =
       subst (All P) (drop-append_seam group behind) (All-drop P (length group) (group ++ behind) (subst (All P) is.parts all))
 
-  -- the groups are the first one and those of the sites behind
+  -- the groups are the first one and those of the sites after it
   pub groups_words-first : (count : ℕ) → All (λ (pair : ℕ × ℕ). pair.1 < count) pairs → groups_words count pairs ≡ group_words target (map offset_of group) ++ groups_words count behind
   groups_words-first count below =
       let front = subst (All (λ (pair : ℕ × ℕ). pair.1 < count)) (take-append_seam group behind) (All-take (λ (pair : ℕ × ℕ). pair.1 < count) (length group) (group ++ behind) (subst (All (λ (pair : ℕ × ℕ). pair.1 < count)) is.parts below)) in
@@ -187,9 +156,9 @@ length-group target group behind pairs is =
     let some_offsets : 0 < length (map offset_of group) = omega (arith, same, is.some) in
     omega (arith, length-bytes_of (group_words target (map offset_of group)), length-words target (map offset_of group) some_offsets, same)
 
-pub group_words-some : (target : ℕ) (group : List (ℕ × ℕ)) → 0 < length group → (length group ∷ target ∷ []) ++ map offset_of group ≡ group_words target (map offset_of group)
+pub group_words-some : (target : ℕ) (group : List (ℕ × ℕ)) → 0 < length group → group_words target (map offset_of group) ≡ (length group ∷ target ∷ []) ++ map offset_of group
 group_words-some target [] some = absurd (omega arith)
-group_words-some target (x ∷ xs) some = ap (λ (n : ℕ). n ∷ target ∷ x.0 ∷ map offset_of xs) (sym (length-map (x ∷ xs) offset_of))
+group_words-some target (x ∷ xs) some = ap (λ (n : ℕ). n ∷ target ∷ x.0 ∷ map offset_of xs) (length-map (x ∷ xs) offset_of)
 
 -- the longwords of the group that comes first
 abbrev pub words_of : {target : ℕ} {group behind pairs : List (ℕ × ℕ)} → IsGroup target group behind pairs → List ℕ
@@ -202,32 +171,10 @@ pub groups-around : (target : ℕ) (group behind pairs all : List (ℕ × ℕ)) 
 groups-around target group behind pairs all is words count below whole =
     ap (λ (ws : List ℕ). words ++ ws) (sym (groups_words-first target group behind pairs is count below)) ∙ whole
 
--- it stopped in the next group
-pub Wrote-group_stop : (target : ℕ) (group behind pairs all : List (ℕ × ℕ)) → IsGroup target group behind pairs
-    → (old between new : Option (List ℕ)) (before halfway after : Bool) (words : List ℕ) (count start middle : ℕ) (fault : WriteFault)
-    → All (λ (pair : ℕ × ℕ). pair.1 < count) pairs → words ++ groups_words count pairs ≡ groups_words count all
-    → Wrote old between before halfway (bytes_of words) start (Ok middle)
-    → Wrote between new halfway after (bytes_of (group_words target (map offset_of group))) middle (Err fault)
-    → Wrote old new before after (bytes_of (groups_words count all)) start (Err fault)
-Wrote-group_stop target group behind pairs all is old between new before halfway after words count start middle fault below whole one next =
-    Wrote-words_stop old between new before halfway after words (group_words target (map offset_of group)) (groups_words count behind) (groups_words count all) start middle fault
-    (groups-around target group behind pairs all is words count below whole) one next
-
--- ---- offsets in pieces
-
--- the offsets, around those of the next sites
-pub offsets-around : (words : List ℕ) (left chunk rest all : List (ℕ × ℕ)) → left ≡ chunk ++ rest → words ++ map offset_of left ≡ map offset_of all
-    → words ++ (map offset_of chunk ++ map offset_of rest) ≡ map offset_of all
-offsets-around words left chunk rest all parts whole = ap (λ (ws : List ℕ). words ++ ws) (sym (ap (map offset_of) parts ∙ map-append offset_of chunk rest)) ∙ whole
-
-pub offsets-room : (words offsets : List ℕ) (chunk rest all : List (ℕ × ℕ)) (start written : ℕ) → offsets ≡ map offset_of chunk
-    → words ++ (map offset_of chunk ++ map offset_of rest) ≡ map offset_of all → written ≡ start + length (bytes_of words)
-    → written + length (bytes_of offsets) ≤ start + 4 * length all
-offsets-room words offsets chunk rest all start written filled whole counted =
-    omega (arith, counted, length-bytes_of words, length-bytes_of offsets, ap length filled, ap length whole, length-append words (map offset_of chunk ++ map offset_of rest), length-append (map offset_of chunk) (map offset_of rest), length-map all offset_of)
+-- ---- the block
 
 -- the block around its groups
-pub site_words-some : (count : ℕ) (sites : List (ℕ × ℕ)) → 0 < length sites → (1004 ∷ []) ++ (groups_words count sites ++ 0 ∷ []) ≡ site_words count sites
+pub site_words-some : (count : ℕ) (sites : List (ℕ × ℕ)) → 0 < length sites → site_words count sites ≡ (1004 ∷ []) ++ (groups_words count sites ++ 0 ∷ [])
 site_words-some count [] some = absurd (omega arith)
 site_words-some count (e ∷ es) some = refl
 
@@ -239,8 +186,8 @@ module _ (sites pairs slice : List (ℕ × ℕ)) (order : AreByTarget sites pair
   pub All-sorted : (P : ℕ × ℕ → Type 0) → All P sites → All P slice
   All-sorted P all = subst (All P) (sym is) (All-permutation P sites pairs order.same all)
 
-  pub block-around : (count : ℕ) → 0 < length sites → (1004 ∷ []) ++ (groups_words count slice ++ 0 ∷ []) ≡ site_words count sites
-  block-around count some = ap (λ (ws : List ℕ). 1004 ∷ (ws ++ 0 ∷ [])) (groups-sorted count) ∙ site_words-some count sites some
+  pub block-around : (count : ℕ) → 0 < length sites → site_words count sites ≡ (1004 ∷ []) ++ (groups_words count slice ++ 0 ∷ [])
+  block-around count some = site_words-some count sites some ∙ ap (λ (ws : List ℕ). 1004 ∷ (ws ++ 0 ∷ [])) (sym (groups-sorted count))
 
 -- the first sites, as long as their target is the first one's
 pub IsGroup-split : (target n : ℕ) (group behind pairs : List (ℕ × ℕ)) → group ≡ take n pairs → behind ≡ drop n pairs
@@ -264,7 +211,7 @@ IsGroup-split target n group behind pairs front back rise within some first befo
       rise = subst (IsNonDecreasingBy (λ (pair : ℕ × ℕ). pair.1)) (sym back) (IsNonDecreasingBy-drop (λ (pair : ℕ × ℕ). pair.1) n pairs rise);
     }
 
--- ---- how many sites there may be
+-- ---- the greatest number of sites
 
 stand-few : (from limit : ℕ) (pairs : List (ℕ × ℕ)) → StandFrom from limit pairs → AllByRecursion (λ (pair : ℕ × ℕ). pair.0 < 2 ^ 32) pairs → 4 * length pairs ≤ 2 ^ 32 + 3 - from
 stand-few from limit [] apart typed = omega arith

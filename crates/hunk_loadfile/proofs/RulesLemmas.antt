@@ -15,7 +15,7 @@ fault_at-none : (fault : ℕ → BuildFault) (place : Option ℕ) (next : Option
 fault_at-none fault None next h = (refl, h)
 fault_at-none fault (Some k) next h = absurd (cc)
 
--- where no element fails a test, each passes it
+-- if no element fails a check, each passes it
 no_place : {X : Type 0} (test : X → Bool) (xs : List X) → length xs ≤ position_or_len (λ x. not (test x)) xs → All (λ x. test x ≡ true) xs
 no_place test [] h = All-nil _
 no_place {X} test (x ∷ xs) h = elim (cases_Bool (test x)) [
@@ -33,7 +33,7 @@ list_all-true : {X : Type 0} (test : X → Bool) (xs : List X) → list_all test
 list_all-true test [] h = All-nil _
 list_all-true test (x ∷ xs) h = let both = and_parts (test x) (list_all test xs) h in All-cons (λ y. test y ≡ true) x xs both.0 (list_all-true test xs both.1)
 
--- what the tests tell of a hunk
+-- what the checks say about a hunk
 IsLoadHunk-from : (count : ℕ) (h : FileHunk) → IsTyped h → has_content h ≡ true → has_limit h ≡ true → has_targets count h ≡ true → has_names h ≡ true → IsLoadHunk count h
 IsLoadHunk-from count h typed content limit targets names =
     let parts = and_parts (length h.content % 4 == 0) (nat_le (length h.content) (most_content h.kind h.size)) content in
@@ -68,7 +68,7 @@ IsLoadFile-from hunks none typed =
           (position-none has_names hunks names.0 k d within);
     }
 
--- what accepted hunks carry
+-- the symbols and debug blocks of accepted hunks
 pub carried_longwords-accepted : (hunks : List FileHunk) → build_fault hunks ≡ None → carried_longwords hunks ≤ 2 ^ 27
 carried_longwords-accepted hunks none =
     let small = fault_unless-none _ _ _ (fault_unless-none _ _ _ none).1 in

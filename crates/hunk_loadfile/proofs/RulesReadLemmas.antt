@@ -1,4 +1,4 @@
--- The longwords of a load file are those of hunks that keep the rules for load files.
+-- The longwords of a load file are those of hunks that obey the rules for load files.
 use Rattle.std.proofs.Common.{◌≡◌, ℕ, suc, ◌*◌, ◌^◌, ◌<◌, ◌≤◌, ◌==◌, inl, inr, true, nat_le, ◌&&◌, None, List, [], ◌∷◌, length, map, sum_by, refl, ap, sym, subst, arith}
 use Rattle.std.specs.BTreeMap.{insert_entry}
 use Rattle.std.specs.List.{All, AllByRecursion, position_or_len}
@@ -30,12 +30,12 @@ use Rattle.hunk_words.proofs.TakerLemmas.{SameSites-more, SameSites-none}
 use Rattle.hunk_loadfile.specs.LoadFile.{IsLoad, file_hunk, load_hunk_value, load_value, with_sites}
 use Rattle.hunk_loadfile.specs.LoadHunk.{FileHunk}
 use Rattle.hunk_loadfile.specs.Rules.{IsLoadFile, IsLoadHunk, IsLongword, IsTypedSymbol, carried_longwords, carried_by, most_content, most_name, size_of, symbol_longwords}
-use Rattle.hunk_loadfile.proofs.WritingLemmas.{length-bytes_of}
+use Rattle.hunk_loadfile.proofs.LongwordWriterLemmas.{length-bytes_of}
 use Rattle.hunk_loadfile.proofs.LoadFileSpellingLemmas.{ContentFits, HunkFits, SitesFit, SymbolFits, hunks-fit, long_count, long_count-le, sizes-fit, symbol_count, told_count, value_of}
 
 -- ---- sites
 
--- a site that is apart from those seen shares no byte with one of them
+-- a site that is apart from those seen shares no byte with any of them
 apart-shares : (o p : ℕ) → apart o p ≡ true → SharesByte o p → ⊥
 apart-shares o p e shares = grind (arith, leb_tells)
 
@@ -44,7 +44,7 @@ clear-of o p [] e h shares = h
 clear-of o p (q ∷ seen) e (inl same) shares = apart-shares o q (and_parts (apart o q) (all_apart o seen) e).0 (subst (SharesByte o) (sym same) shares)
 clear-of o p (q ∷ seen) e (inr h) shares = clear-of o p seen (and_parts (apart o q) (all_apart o seen) e).1 h shares
 
--- sites of the first so many hunks
+-- sites of the first `count` hunks
 abbrev Within : ℕ → List (ℕ × ℕ) → Type 0
 Within count entries = AllByRecursion (λ site. site.1 < count) entries
 
@@ -57,7 +57,7 @@ Within-insert_entry count o t (e ∷ es) h all = go (nat_cmp o e.0) (Within-inse
     go Equal more = (h, all.1)
     go Greater more = (all.0, more)
 
--- sites that fit make a map of sites that are apart
+-- sites that fit make a map of disjoint sites
 sites-apart : (last limit : ℕ) (seen : List ℕ) (entries : List (ℕ × ℕ)) (ss : List (ℕ × Adds)) → SitesFit last limit seen ss
     → StandFrom 0 limit entries → SameSites seen entries → Within (suc last) entries → StandFrom 0 limit (with_sites entries ss) × Within (suc last) (with_sites entries ss)
 sites-apart last limit seen entries [] fit stand same within = (stand, within)

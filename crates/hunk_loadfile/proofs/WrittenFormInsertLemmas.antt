@@ -1,4 +1,4 @@
--- The sites of a map, put in again group by group, by rising target, make that map.
+-- The sites of a map, inserted again group by group, in ascending order of target, make that map.
 use Rattle.std.proofs.Common.{◌≡◌, ◌∙◌, ℕ, zero, suc, ◌+◌, ◌<◌, ◌==◌, Bool, nat_lt, inl, inr, List, [], ◌∷◌, ◌++◌, map, refl, ap, sym, arith}
 use Rattle.std.specs.List.{AllByRecursion, filter, flat_map, range_with_len}
 use Rattle.std.specs.BTreeMap.{insert_entry}
@@ -12,7 +12,7 @@ use Rattle.hunk_words.specs.Values.Adds.{to_hunk}
 use Rattle.hunk_loadfile.specs.LoadFile.{with_site, with_sites}
 use Rattle.hunk_loadfile.specs.WrittenForm.{offsets_to}
 
--- ---- behind an offset
+-- ---- after an offset
 
 abbrev AreBehind : ℕ → List (ℕ × ℕ) → Type 0
 AreBehind offset es = AllByRecursion (λ e. offset < e.0) es
@@ -32,7 +32,7 @@ behind-offsets : (offset : ℕ) (es : List (ℕ × ℕ)) → AreBehind offset es
 behind-offsets offset [] behind = tt
 behind-offsets offset (e ∷ es) behind = (behind.0, behind-offsets offset es behind.1)
 
--- ---- putting in
+-- ---- inserting
 
 insert-front : (offset target : ℕ) (es : List (ℕ × ℕ)) → AreBehind offset es → insert_entry nat_cmp es offset target ≡ (offset, target) ∷ es
 insert-front offset target [] behind = refl
@@ -85,7 +85,7 @@ with_sites-append : (sites : List (ℕ × ℕ)) (xs ys : List (ℕ × Adds)) →
 with_sites-append sites [] ys = refl
 with_sites-append sites (x ∷ xs) ys = with_sites-append (with_site sites x.0 x.1) xs ys
 
--- the sites in the order of the file: by rising target, and then by rising offset
+-- the sites in file order: in ascending order of target, and then of offset
 abbrev pub sites_from : ℕ → ℕ → List (ℕ × ℕ) → List (ℕ × Adds)
 sites_from from count es = flat_map (λ target. sites_to target (offsets_to target es)) (range_with_len from count)
 

@@ -1,4 +1,4 @@
--- How long the written form of a load file is.
+-- The length of the written form of a load file.
 use Rattle.std.proofs.Common.{◌≡◌, ℕ, zero, suc, ◌+◌, ◌*◌, ◌≤◌, inl, inr, nat_le, cond, List, [], ◌∷◌, ◌++◌, length, map, sum_by, refl, arith}
 use Rattle.std.specs.List.{All, flat_map, range_with_len}
 use Rattle.std.proofs.lemmas.Bool.{cases_lt, cases_eq, ne_eqb, eq-eqb, le-leb, lt-leb}
@@ -19,7 +19,7 @@ use Rattle.hunk_loadfile.specs.Laws.{WrittenIsShort}
 
 -- ---- groups
 
--- how many sites name a hunk from this one on
+-- the number of sites that name a hunk from this one on
 at_least : ℕ → List (ℕ × ℕ) → ℕ
 at_least from [] = 0
 at_least from (x ∷ xs) = cond (nat_le from x.1) 1 0 + at_least from xs

@@ -1,5 +1,5 @@
--- Fields that spell longwords, each number passing and each site obeying the rules: a lemma for each part of a written
--- hunk, the premise being that what stands behind it spells its longwords.
+-- Fields that spell longwords, each number passing and each site obeying the rules: a lemma for
+-- each part of a written hunk, with the premise that what comes after it spells its longwords.
 use Rattle.std.proofs.Common.{◌≡◌, ◌∙◌, ℕ, zero, suc, ◌+◌, ◌*◌, ◌^◌, ◌<◌, ◌≤◌, ◌==◌, nat_le, nat_lt, Bool, true, None, Some, List, [], ◌∷◌, ◌++◌, length, map, sum_by, append_assoc, refl, ap, sym, subst, arith}
 use Rattle.std.specs.List.{All, AllByRecursion, filter, flat_map, range_with_len}
 use Rattle.std.proofs.lemmas.Bool.{cond-true, eq-eqb, le-leb, lt-ltb}
@@ -30,7 +30,7 @@ use Rattle.hunk_loadfile.specs.WrittenForm.{debug_words, group_words, groups_wor
 use Rattle.hunk_loadfile.proofs.WrittenFormTree.{debug_trees, group_tree, group_trees, site_trees, symbol_of, symbol_trees}
 use Rattle.hunk_loadfile.proofs.WrittenFormSiteLemmas.{AreFree, IsClear, clear-behind, clear-start, free-offsets}
 
--- The fields spell the longwords. Seen are the offsets of the hunk's sites before.
+-- The fields spell the longwords. `seen` are the offsets of the hunk's earlier sites.
 pub record Spells (seen : List ℕ) (fs : List Field) (ws : List ℕ) : Type 0 where
   pub fits : AllPass fs
   pub sites : Obeys seen fs
@@ -141,7 +141,7 @@ spells-groups last size limit from (suc count) es seen fs ws within few small sh
     (spells-group last size limit from os seen (group_trees (from + 1) count es) fs (more ++ 0 ∷ ws) (omega arith) few small fewer (free-offsets from 0 limit seen es stand clear)
     (spells-groups last size limit (from + 1) count es (reverse_onto os seen) fs ws (omega arith) few small short stand (clear-behind from limit seen es stand clear) rest))
 
--- the relocation block, behind which no site stands
+-- the relocation block, after which no site comes
 pub spells-sites : (last size limit count : ℕ) (es : List (ℕ × ℕ)) (blocks : List BlockTree) (fs : List Field) (ws : List ℕ) → count ≤ last + 1 → last < 2 ^ 32 → limit < 2 ^ 32
     → length es < 2 ^ 31 → StandFrom 0 limit es → ((later : List ℕ) → Spells later (blocks_end (in_load last size) limit blocks 0 fs) ws)
     → Spells [] (blocks_end (in_load last size) limit (site_trees count es ++ blocks) 0 fs) (site_words count es ++ ws)

@@ -1,4 +1,5 @@
--- Sites in the order of a written file, by rising target and then by rising offset, each share no byte with one before.
+-- The sites in the order of a written file, in ascending order of target and then of offset, share
+-- no byte with one before.
 use Rattle.std.proofs.Common.{◌≡◌, ℕ, ◌+◌, ◌≤◌, inl, inr, true, List, [], ◌∷◌, refl, sym, subst, arith}
 use Rattle.std.specs.List.{AllByRecursion}
 use Rattle.std.proofs.lemmas.Bool.{and_from, and_parts, cases_eq, eq-eqb, le-leb, lt-leb, ne_eqb}
@@ -13,7 +14,7 @@ apart-behind o p behind = rw (lt-leb (o + 4) p (omega arith), le-leb (p + 4) o b
 apart-before : (o p : ℕ) → o + 4 ≤ p → apart o p ≡ true
 apart-before o p before = rw (le-leb (o + 4) p before) refl
 
--- The offsets, one after the other, lie inside the limit and apart from those seen.
+-- The offsets, one after another, lie within the limit and apart from those seen.
 abbrev pub AreFree : ℕ → List ℕ → List ℕ → Type 0
 AreFree limit seen [] = Unit {0}
 AreFree limit seen (o ∷ os) = (o + 4 ≤ limit) × (all_apart o seen ≡ true) × AreFree limit (o ∷ seen) os

@@ -106,7 +106,7 @@ spells-sizes count last room before (h ∷ hs) fs ws fit small rest =
     spells-header_size last room left before (memory_bits h.memory) h.size _ _ (memory_bits-le h.memory) (omega arith) small
     (spells-sizes count last (room - h.size) (h.size ∷ before) hs fs ws (omega arith) (omega arith) rest)
 
--- what stands before the sizes
+-- what comes before the sizes
 spells-start : (last : ℕ) (fs : List Field) (ws : List ℕ) → suc last ≤ 65535 → Spells [] fs ws
     → Spells [] (field load_start (type_longword 0 1011) ∷ field resident 0 ∷ field table_size (suc last) ∷ field first_hunk 0 ∷ field (last_hunk last) last ∷ fs) (1011 ∷ 0 ∷ suc last ∷ 0 ∷ last ∷ ws)
 spells-start last fs ws few rest =

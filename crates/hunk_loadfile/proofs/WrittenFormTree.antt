@@ -17,12 +17,12 @@ content_tree Code size ws = code_tree 0 0 ws
 content_tree Data size ws = data_tree 0 0 ws
 content_tree Bss size ws = bss_tree 0 0 size
 
--- one group, where there are offsets
+-- one group, if there are offsets
 abbrev pub group_tree : ℕ → List ℕ → List Group
 group_tree target [] = []
 group_tree target (o ∷ os) = record { target = target; first = o; others = os } ∷ []
 
--- the groups of so many targets, from this one on
+-- the groups of `count` targets, from this one on
 abbrev pub group_trees : ℕ → ℕ → List (ℕ × ℕ) → List Group
 group_trees from count sites = flat_map (λ target. group_tree target (offsets_to target sites)) (range_with_len from count)
 
@@ -30,7 +30,7 @@ abbrev pub site_trees : ℕ → List (ℕ × ℕ) → List BlockTree
 site_trees count [] = []
 site_trees count (e ∷ es) = reloc_tree 0 (group_trees 0 count (e ∷ es)) ∷ []
 
--- a symbol, whose name has one longword at least
+-- a symbol, whose name has at least one longword
 abbrev pub symbol_of : List ℕ → ℕ → SymbolTree
 symbol_of [] amount = record { first = 0; others = []; amount = amount }
 symbol_of (w ∷ ws) amount = record { first = w; others = ws; amount = amount }
@@ -42,7 +42,7 @@ symbol_trees (s ∷ ss) = symbol_tree 0 (map (λ t. symbol_of (name_words t.0) t
 abbrev pub debug_trees : List (List ℕ) → List BlockTree
 debug_trees ds = map (λ d. debug_tree 0 d) ds
 
--- one of so many hunks
+-- one of `count` hunks
 abbrev pub body_tree : ℕ → FileHunk → BodyTree
 body_tree count h = record {
   content = content_tree h.kind h.size (longwords h.content);

@@ -26,7 +26,7 @@ use Rattle.hunk_loadfile.proofs.WrittenFormInsertLemmas.{put_in-all, sites_from,
 use Rattle.hunk_loadfile.proofs.WrittenFormContentLemmas.{bytes_of-longwords}
 use Rattle.hunk_loadfile.proofs.WrittenFormTree.{body_tree, content_tree, debug_trees, file_tree, group_tree, group_trees, hunk_tree, site_trees, symbol_of, symbol_trees}
 
--- ---- what the blocks tell
+-- ---- what the blocks mean
 
 abbrev only_sites : List (ℕ × Adds) → HunkTables
 only_sites sites = record { sites = sites; references = []; definitions = []; symbols = []; debugs = [] }
@@ -79,7 +79,7 @@ told-symbols r (s ∷ ss) ds =
     ∙ ap (λ second. merged (others (s ∷ ss) []) second) (told-debugs next ds)
     ∙ ap (λ symbols. record { sites = []; references = []; definitions = []; symbols = symbols; debugs = ds }) (append-nil (in_longwords (s ∷ ss)))
 
--- the sites in the order of the file
+-- the sites in file order
 abbrev in_file_order : ℕ → List (ℕ × ℕ) → List (ℕ × Adds)
 in_file_order count [] = []
 in_file_order count (e ∷ es) = sites_from 0 count (e ∷ es)

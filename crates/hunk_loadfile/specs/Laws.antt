@@ -1,4 +1,4 @@
--- What holds of load files, of their written form and of patching.
+-- Laws about load files, their written form and patching.
 use Rattle.std.specs.Prelude.{◌≡◌, ℕ, ◌+◌, ◌≤◌, List, length, Option, Some, None}
 use Rattle.std.specs.List.{All, filter_map}
 use Rattle.std.specs.Option.{option_map}
@@ -20,16 +20,18 @@ use Rattle.hunk_loadfile.specs.WrittenForm.{written_form}
 abbrev pub OneLoad : Type 0
 OneLoad = (one other : List FileHunk) (ws : List ℕ) → IsLoad one ws → IsLoad other ws → one ≡ other
 
--- The written form of a load file that carries no more than hunks may that are handed in is no longer than a file.
+-- The written form of a load file is no longer than a file may be, if its symbols and debug blocks
+-- are within the limit for hunks that are passed in.
 abbrev pub WrittenIsShort : Type 0
 WrittenIsShort = (hunks : List FileHunk) → IsLoadFile hunks → carried_longwords hunks ≤ most_carried → length (written_form hunks) ≤ most_longwords
 
--- The written form of a load file is that file, where it is no longer than a file may be.
+-- The written form of a load file is that file, if it is no longer than a file may be.
 abbrev pub WrittenIsLoad : Type 0
 WrittenIsLoad = (hunks : List FileHunk) → IsLoadFile hunks → length (written_form hunks) ≤ most_longwords → IsLoad hunks (written_form hunks)
 
--- Hunks that break no rule of a load file have a written form that is no longer than a file may be. What their types say of
--- their bytes, sites and names holds of all hunks that a program can hand in.
+-- Hunks that break no rule of a load file have a written form that is no longer than a file may be.
+-- What their types say about their bytes, sites and names holds of all hunks that a program can
+-- pass in.
 abbrev pub AcceptedIsShort : Type 0
 AcceptedIsShort = (hunks : List FileHunk) → All IsTyped hunks → build_fault hunks ≡ None → length (written_form hunks) ≤ most_longwords
 
@@ -39,16 +41,16 @@ WholeIsPartial = (t : LoadTree) → LoadFits t → partial (events (load_spellin
 
 -- ---- patching
 
--- the sites to whose targets there is a second part, with that part as their target
+-- the sites whose targets have a second part, with that part as their target
 abbrev pub second_sites : {T U : Type 0} → (T → Option U) → List (ℕ × T) → List (ℕ × U)
 second_sites part sites = filter_map (λ site. option_map (λ second. (site.0, second)) (part site.1)) sites
 
--- the addend of a second part, 0 where there is none
+-- the addend of a second part, 0 if there is none
 abbrev pub second_addend : {U : Type 0} → (U → ℕ) → Option U → ℕ
 second_addend addend None = 0
 second_addend addend (Some second) = addend second
 
--- At each site first the one number is added, and then, where there is a second part, that part's.
+-- At each site one number is added first, and then, if there is a second part, that part's.
 abbrev pub PatchedTwice : (T U : Type 0) → Type 0
 PatchedTwice T U =
     (content : List ℕ) (sites : List (ℕ × T)) (part : T → Option U) (first : T → ℕ) (second : U → ℕ) (count : ℕ) → StandFrom 0 (length content) sites

@@ -4,7 +4,6 @@ pub mod Laws
 pub mod Partial
 pub mod Patching
 pub mod Rules
-pub mod Writing
 pub mod WrittenForm
 pub mod OpenHunk
 pub mod LoadBuilder

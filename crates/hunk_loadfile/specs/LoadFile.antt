@@ -1,4 +1,5 @@
--- What a load file says: the value of its tree, as a list of hunks; and which longwords are the file of which hunks.
+-- The meaning of a load file: the value of its tree, as a list of hunks; and which longwords are
+-- the file of which hunks.
 use Rattle.std.specs.Prelude.{◌≡◌, ℕ, zero, suc, ◌*◌, List, [], ◌∷◌, length, map}
 use Rattle.std.specs.BTreeMap.{insert_entry}
 use Rattle.std.specs.Ordering.{nat_cmp}
@@ -13,17 +14,18 @@ use Rattle.hunk_words.specs.Longwords.{longwords, IsWhole}
 use Rattle.hunk_words.specs.declared.event.FileKind.TheVariants.{Load}
 use Rattle.hunk_loadfile.specs.LoadHunk.{FileHunk}
 
--- A site more. In a load file none refers to a name.
+-- One more site. In a load file none refers to a name.
 abbrev pub with_site : List (ℕ × ℕ) → ℕ → Adds → List (ℕ × ℕ)
 with_site sites o (to_hunk t) = insert_entry nat_cmp sites o t
 with_site sites o (to_reference r) = sites
 
--- sites in the order of the file, as a map
+-- sites in file order, as a map
 abbrev pub with_sites : List (ℕ × ℕ) → List (ℕ × Adds) → List (ℕ × ℕ)
 with_sites sites [] = sites
 with_sites sites (s ∷ ss) = with_sites (with_site sites s.0 s.1) ss
 
--- A hunk, of which the header tells the memory and the size. Its name and a BSS block's own size are not kept.
+-- A hunk, with the memory and the size from the header. Its name and the size of a BSS block are
+-- not kept.
 abbrev pub file_hunk : ℕ → ℕ → Hunk → FileHunk
 file_hunk bits size hunk = record {
   kind = hunk.kind;
@@ -35,7 +37,7 @@ file_hunk bits size hunk = record {
   debugs = hunk.tables.debugs;
 }
 
--- last is the number of the last hunk
+-- `last` is the number of the last hunk
 abbrev pub load_hunk_value : ℕ → LoadHunkTree → FileHunk
 load_hunk_value last t = file_hunk t.memory_bits t.size (hunk_value (in_load last t.size) t.hunk)
 

@@ -1,4 +1,4 @@
--- The load file that events told so far: the hunks that ended.
+-- The load file of the events so far: the hunks that have ended.
 use Rattle.std.specs.Prelude.{ℕ, List, [], ◌∷◌}
 use Rattle.hunk_words.specs.Values.{Hunk, Part}
 use Rattle.hunk_words.specs.EventValue.{value_of_events, initial_load}
@@ -6,7 +6,7 @@ use Rattle.hunk_words.specs.declared.event.Event.{Event}
 use Rattle.hunk_loadfile.specs.LoadHunk.{FileHunk}
 use Rattle.hunk_loadfile.specs.LoadFile.{file_hunk}
 
--- hunks, of which the header tells the memory bits and the sizes
+-- hunks, with the memory bits and the sizes from the header
 abbrev pub file_hunks : List (ℕ × ℕ) → List Hunk → List FileHunk
 file_hunks [] hs = []
 file_hunks (s ∷ ss) [] = []

@@ -4,13 +4,14 @@ use Rattle.std.specs.List.{All}
 use Rattle.std.specs.List.Sorted.{IsNonDecreasingBy, IsPermutation}
 use Rattle.hunk_loadfile.specs.WrittenForm.{offsets_to}
 
--- The same sites, by rising target. The offsets of each target stand in the order that they had.
+-- The same sites, in ascending order of target. The offsets of each target are in the order that
+-- they had.
 pub record AreByTarget (sites pairs : List (ℕ × ℕ)) : Type 0 where
   pub same : IsPermutation sites pairs
   pub rise : IsNonDecreasingBy (λ pair. pair.1) pairs
   pub kept : (target : ℕ) → offsets_to target pairs ≡ offsets_to target sites
 
--- The sites of the lowest target, and those behind them, by rising target.
+-- The sites of the lowest target, and those after them, in ascending order of target.
 pub record IsGroup (target : ℕ) (group behind pairs : List (ℕ × ℕ)) : Type 0 where
   pub parts : pairs ≡ group ++ behind
   pub some : 0 < length group

@@ -15,8 +15,8 @@ use Rattle.hunk_loadfile.specs.declared.rules.BuildFault.TheVariants.{HunkCount,
 abbrev pub size_of : List FileHunk → ℕ
 size_of hunks = sum_by (λ hunk. hunk.size) hunks
 
--- The longwords that a symbol takes in a file: the length of its name, the name, the value. A debug block takes two
--- beside its own.
+-- The longwords that a symbol takes in a file: the length of its name, the name, the value. A debug
+-- block takes two in addition to its own.
 abbrev pub symbol_longwords : List ℕ × ℕ → ℕ
 symbol_longwords symbol = 2 + longword_count (length symbol.0)
 
@@ -30,7 +30,7 @@ carried_by hunk = sum_by symbol_longwords hunk.symbols + sum_by debug_longwords 
 abbrev pub carried_longwords : List FileHunk → ℕ
 carried_longwords hunks = sum_by carried_by hunks
 
--- ---- tests (the numbers are own)
+-- ---- checks (the numbers are our own)
 
 abbrev pub most_hunks : ℕ
 most_hunks = 65535
@@ -56,14 +56,14 @@ abbrev pub most_content : HunkKind → ℕ → ℕ
 most_content Bss size = 0
 most_content _ size = 4 * size
 
--- whole longwords, no more than the hunk has in memory, none in a BSS
+-- whole longwords, no longer than the hunk in memory, none in a BSS
 abbrev pub has_content : FileHunk → Bool
 has_content hunk = length hunk.content % 4 == 0 && nat_le (length hunk.content) (most_content hunk.kind hunk.size)
 
 abbrev pub has_limit : FileHunk → Bool
 has_limit hunk = hunk.sites.limit == 4 * hunk.size
 
--- each site names one of so many hunks
+-- each site names one of `count` hunks
 abbrev pub has_targets : ℕ → FileHunk → Bool
 has_targets count hunk = list_all (λ site. nat_lt site.1 count) hunk.sites.entries
 
@@ -76,7 +76,7 @@ abbrev pub fault_unless : Bool → BuildFault → Option BuildFault → Option B
 fault_unless true fault next = next
 fault_unless false fault next = Some fault
 
--- at the lowest hunk that does not pass the test
+-- at the lowest hunk that does not pass the check
 abbrev pub fault_at : (ℕ → BuildFault) → Option ℕ → Option BuildFault → Option BuildFault
 fault_at fault None next = next
 fault_at fault (Some k) next = Some (fault k)
@@ -95,7 +95,7 @@ build_fault hunks =
 abbrev pub IsLongword : ℕ → Type 0
 IsLongword w = w < 2 ^ 32
 
--- what the types of its fields say of a symbol, and of a hunk
+-- what the types of its fields say about a symbol, and about a hunk
 pub record IsTypedSymbol (symbol : List ℕ × ℕ) : Type 0 where
   pub name_bytes : All IsNameByte symbol.0
   pub value : IsLongword symbol.1
@@ -106,7 +106,7 @@ pub record IsTyped (hunk : FileHunk) : Type 0 where
   pub symbols : All IsTypedSymbol hunk.symbols
   pub debugs : All (All IsLongword) hunk.debugs
 
--- One of so many hunks of a load file. Its sites lie in the hunk, apart from one another.
+-- One of `count` hunks of a load file. Its sites lie in the hunk and are disjoint.
 pub record IsLoadHunk (count : ℕ) (hunk : FileHunk) : Type 0 where
   pub typed : IsTyped hunk
   pub whole : length hunk.content % 4 ≡ 0
@@ -115,7 +115,8 @@ pub record IsLoadHunk (count : ℕ) (hunk : FileHunk) : Type 0 where
   pub targets : All (λ site. site.1 < count) hunk.sites.entries
   pub names : All (λ symbol. length symbol.0 ≤ most_name) hunk.symbols
 
--- The hunks of a load file. One that is read may carry as many longwords as a file has.
+-- The hunks of a load file. The symbols and debug blocks of one that is read may take as many
+-- longwords as a file has.
 pub record IsLoadFile (hunks : List FileHunk) : Type 0 where
   pub some : 1 ≤ length hunks
   pub few : length hunks ≤ most_hunks

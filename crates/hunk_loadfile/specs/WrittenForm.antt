@@ -1,5 +1,6 @@
--- The written form of a load file, one list of longwords. Layouts and block types are those of The AmigaDOS Manual,
--- 3rd edition, binary file structure; which of the forms of a file is written is own.
+-- The written form of a load file, one list of longwords. Layouts and block types are those of The
+-- AmigaDOS Manual, 3rd edition, "Amiga binary file structure"; which of the possible forms is
+-- written is own.
 use Rattle.std.specs.Prelude.{ℕ, ◌+◌, ◌-◌, ◌*◌, ◌^◌, ◌==◌, List, [], ◌∷◌, ◌++◌, length, map}
 use Rattle.std.specs.List.{filter, flat_map, range_with_len}
 use Rattle.hunk_words.specs.Longwords.{longwords}
@@ -23,7 +24,7 @@ size_word hunk = memory_bits hunk.memory * 2 ^ 30 + hunk.size
 abbrev pub header_words : List FileHunk → List ℕ
 header_words hunks = 1011 ∷ 0 ∷ length hunks ∷ 0 ∷ (length hunks - 1) ∷ map size_word hunks
 
--- what a file has for a hunk of this kind and size, whose content is in longwords
+-- what a file has for a hunk of this kind and size, with its content in longwords
 abbrev pub content_words : HunkKind → ℕ → List ℕ → List ℕ
 content_words Code size ws = 1001 ∷ length ws ∷ ws
 content_words Data size ws = 1002 ∷ length ws ∷ ws
@@ -33,16 +34,16 @@ content_words Bss size ws = 1003 ∷ size ∷ []
 abbrev pub offsets_to : ℕ → List (ℕ × ℕ) → List ℕ
 offsets_to target sites = map (λ site. site.0) (filter (λ site. site.1 == target) sites)
 
--- a group of a relocation block, where there are offsets
+-- a group of a relocation block, if there are offsets
 abbrev pub group_words : ℕ → List ℕ → List ℕ
 group_words target [] = []
 group_words target (o ∷ os) = length (o ∷ os) ∷ target ∷ o ∷ os
 
--- the groups for each of so many hunks, by rising number
+-- the groups for each of the first `count` hunks, in ascending order
 abbrev pub groups_words : ℕ → List (ℕ × ℕ) → List ℕ
 groups_words count sites = flat_map (λ target. group_words target (offsets_to target sites)) (range_with_len 0 count)
 
--- the relocation block, where there are sites
+-- the relocation block, if there are sites
 abbrev pub site_words : ℕ → List (ℕ × ℕ) → List ℕ
 site_words count [] = []
 site_words count (e ∷ es) = 1004 ∷ groups_words count (e ∷ es) ++ 0 ∷ []
@@ -51,7 +52,7 @@ site_words count (e ∷ es) = 1004 ∷ groups_words count (e ∷ es) ++ 0 ∷ []
 abbrev pub symbol_words : List ℕ × ℕ → List ℕ
 symbol_words s = length (name_words s.0) ∷ name_words s.0 ++ s.1 ∷ []
 
--- the symbol block, where there are symbols
+-- the symbol block, if there are symbols
 abbrev pub symbols_words : List (List ℕ × ℕ) → List ℕ
 symbols_words [] = []
 symbols_words (s ∷ ss) = 1008 ∷ flat_map symbol_words (s ∷ ss) ++ 0 ∷ []
@@ -60,7 +61,7 @@ symbols_words (s ∷ ss) = 1008 ∷ flat_map symbol_words (s ∷ ss) ++ 0 ∷ []
 abbrev pub debug_words : List ℕ → List ℕ
 debug_words ws = 1009 ∷ length ws ∷ ws
 
--- one of so many hunks, to its END
+-- one of `count` hunks, including its END
 abbrev pub hunk_words : ℕ → FileHunk → List ℕ
 hunk_words count hunk =
     content_words hunk.kind hunk.size (longwords hunk.content)

@@ -2,17 +2,17 @@
 ghost use Rattle.std.specs.Prelude.{◌≡◌, ◌+◌, ◌*◌, ◌<◌, ◌≤◌, ◌^◌, length, sum_by};
 ghost use Rattle.std.specs.List.{All, flat_map};
 ghost use Rattle.hunk_words.specs.Name.{bytes_of, longword_count, name_words};
+ghost use Rattle.hunk_words.specs.Streams.{Wrote};
 ghost use Rattle.hunk_loadfile.specs.LoadHunk.{lists_of};
 ghost use Rattle.hunk_loadfile.specs.Rules.{debug_longwords, most_name, symbol_longwords};
-ghost use Rattle.hunk_loadfile.specs.Writing.{Wrote};
 ghost use Rattle.hunk_loadfile.specs.WrittenForm.{debug_words, symbol_words, symbols_words};
 
-use crate::longword_writer::{write_bytes, write_longwords};
+use crate::longword_writer::write_longwords;
 use hunk_words::doshunks::{HUNK_DEBUG, HUNK_SYMBOL};
-use hunk_words::{Name, Sink, WriteFault};
+use hunk_words::{Name, Sink, WriteFault, write_all};
 use std::alloc::Allocator;
 
-/// Writes the symbol block, where there are symbols.
+/// Writes the symbol block, if there are symbols.
 pub(crate) fn write_symbols<A: Allocator + Copy, W: Sink>(
     writer: &mut W,
     written: u64,
@@ -20,7 +20,7 @@ pub(crate) fn write_symbols<A: Allocator + Copy, W: Sink>(
 ) -> Result<u64, WriteFault>
     requires names { All (λ s. length s.0 ≤ most_name) symbols.now }
     requires room { written + 4 * (2 + sum_by symbol_longwords symbols.now) < 2 ^ 64 }
-    ensures wrote { Wrote (W.taken writer.old) (W.taken writer.new) (W.failed writer.old) (W.failed writer.new) (bytes_of (symbols_words symbols.now)) written result }
+    ensures wrote { Wrote W.taken W.failed writer.old writer.new (bytes_of (symbols_words symbols.now)) written result }
 {
     if symbols.is_empty() {
         return Ok(written);
@@ -30,7 +30,7 @@ pub(crate) fn write_symbols<A: Allocator + Copy, W: Sink>(
     write_longwords(writer, written, &[0])
 }
 
-/// Writes these symbols, one behind the other.
+/// Writes these symbols, one after another.
 fn write_each_symbol<A: Allocator + Copy, W: Sink>(
     writer: &mut W,
     written: u64,
@@ -38,7 +38,7 @@ fn write_each_symbol<A: Allocator + Copy, W: Sink>(
 ) -> Result<u64, WriteFault>
     requires names { All (λ s. length s.0 ≤ most_name) symbols.now }
     requires room { written + 4 * sum_by symbol_longwords symbols.now < 2 ^ 64 }
-    ensures wrote { Wrote (W.taken writer.old) (W.taken writer.new) (W.failed writer.old) (W.failed writer.new) (bytes_of (flat_map symbol_words symbols.now)) written result }
+    ensures wrote { Wrote W.taken W.failed writer.old writer.new (bytes_of (flat_map symbol_words symbols.now)) written result }
 {
     let mut written = written;
     for symbol in symbols {
@@ -55,7 +55,7 @@ fn write_symbol<A: Allocator + Copy, W: Sink>(
 ) -> Result<u64, WriteFault>
     requires name { length symbol.now.0 ≤ most_name }
     requires room { written + 4 * symbol_longwords symbol.now < 2 ^ 64 }
-    ensures wrote { Wrote (W.taken writer.old) (W.taken writer.new) (W.failed writer.old) (W.failed writer.new) (bytes_of (symbol_words symbol.now)) written result }
+    ensures wrote { Wrote W.taken W.failed writer.old writer.new (bytes_of (symbol_words symbol.now)) written result }
 {
     let (name, value) = (&symbol.0, symbol.1);
     let count = longword_count(name.bytes().len()) as u32;
@@ -64,14 +64,14 @@ fn write_symbol<A: Allocator + Copy, W: Sink>(
     write_longwords(writer, written, &[value])
 }
 
-/// The fewest longwords that hold a name of so many bytes: one at least.
+/// The fewest longwords that hold a name of `bytes` bytes: at least one.
 fn longword_count(bytes: usize) -> usize
     ensures { result ≡ longword_count bytes }
 {
     bytes.div_ceil(4).max(1)
 }
 
-/// Writes the longwords of a name: its bytes, and zeros that fill them up.
+/// Writes the longwords of a name: its bytes, padded with zeros.
 fn write_name<A: Allocator + Copy, W: Sink>(
     writer: &mut W,
     written: u64,
@@ -79,15 +79,15 @@ fn write_name<A: Allocator + Copy, W: Sink>(
 ) -> Result<u64, WriteFault>
     requires name { length name.now ≤ most_name }
     requires room { written + 4 * longword_count (length name.now) < 2 ^ 64 }
-    ensures wrote { Wrote (W.taken writer.old) (W.taken writer.new) (W.failed writer.old) (W.failed writer.new) (bytes_of (name_words name.now)) written result }
+    ensures wrote { Wrote W.taken W.failed writer.old writer.new (bytes_of (name_words name.now)) written result }
 {
     let bytes = name.bytes();
     let zeros = 4 * longword_count(bytes.len()) - bytes.len();
-    let written = write_bytes(writer, written, bytes)?;
-    write_bytes(writer, written, &[0; 4][..zeros])
+    let written = write_all(writer, written, bytes)?;
+    write_all(writer, written, &[0; 4][..zeros])
 }
 
-/// Writes the debug blocks, one behind the other.
+/// Writes the debug blocks, one after another.
 pub(crate) fn write_debugs<A: Allocator + Copy, W: Sink>(
     writer: &mut W,
     written: u64,
@@ -95,7 +95,7 @@ pub(crate) fn write_debugs<A: Allocator + Copy, W: Sink>(
 ) -> Result<u64, WriteFault>
     requires carries { sum_by debug_longwords (lists_of debugs.now) ≤ 2 ^ 28 }
     requires room { written + 4 * sum_by debug_longwords (lists_of debugs.now) < 2 ^ 64 }
-    ensures wrote { Wrote (W.taken writer.old) (W.taken writer.new) (W.failed writer.old) (W.failed writer.new) (bytes_of (flat_map debug_words (lists_of debugs.now))) written result }
+    ensures wrote { Wrote W.taken W.failed writer.old writer.new (bytes_of (flat_map debug_words (lists_of debugs.now))) written result }
 {
     let mut written = written;
     for debug in debugs {
@@ -108,7 +108,7 @@ pub(crate) fn write_debugs<A: Allocator + Copy, W: Sink>(
 fn write_debug<W: Sink>(writer: &mut W, written: u64, debug: &[u32]) -> Result<u64, WriteFault>
     requires length { length debug.now < 2 ^ 32 }
     requires room { written + 4 * debug_longwords debug.now < 2 ^ 64 }
-    ensures wrote { Wrote (W.taken writer.old) (W.taken writer.new) (W.failed writer.old) (W.failed writer.new) (bytes_of (debug_words debug.now)) written result }
+    ensures wrote { Wrote W.taken W.failed writer.old writer.new (bytes_of (debug_words debug.now)) written result }
 {
     let written = write_longwords(writer, written, &[HUNK_DEBUG, debug.len() as u32])?;
     write_longwords(writer, written, debug)

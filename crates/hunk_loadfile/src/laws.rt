@@ -1,5 +1,4 @@
-//! What holds of load files, of their written form and of patching, each law a function without a
-//! body.
+//! Laws about load files, their written form and patching, each a function without a body.
 ghost use Rattle.hunk_loadfile.specs.Laws.{AcceptedIsShort, OneLoad, PatchedTwice, WholeIsPartial, WrittenIsLoad, WrittenIsShort};
 
 /// Decoding is unambiguous: no longwords are the load files of two values.
@@ -7,14 +6,14 @@ pub fn longwords_tell_load_file()
     ensures { OneLoad }
 {}
 
-/// The written form of a load file is at most 2^28 longwords long where its symbols and debug blocks
-/// take at most 2^27, as in every file of [`LoadFile::new`](crate::LoadFile::new).
+/// The written form of a load file is at most 2^28 longwords long if its symbols and debug blocks
+/// take at most 2^27, as in every file made by [`LoadFile::new`](crate::LoadFile::new).
 pub fn written_is_short()
     ensures { WrittenIsShort }
 {}
 
-/// Hunks that break no rule of [`LoadFile::new`](crate::LoadFile::new) have a written form of at most
-/// 2^28 longwords.
+/// Hunks that break no rule of [`LoadFile::new`](crate::LoadFile::new) have a written form of at
+/// most 2^28 longwords.
 pub fn accepted_is_short()
     ensures { AcceptedIsShort }
 {}
@@ -29,7 +28,7 @@ pub fn events_tell_files()
     ensures { WholeIsPartial }
 {}
 
-/// Adding numbers at sites twice, the second time at some of them, is adding their sums once.
+/// Adding numbers at sites twice, the second time only at some of them, is adding their sums once.
 pub fn patched_twice<T, U>()
     ensures { PatchedTwice T U }
 {}

@@ -1,16 +1,16 @@
 //! Load files: their hunks, and the form in which they are written.
 //!
 //! - `load_hunk`: a hunk of a load file.
-//! - `rules`: which hunks make a load file.
+//! - `rules`: the rules for the hunks of a load file.
 //! - `load_file`: a load file, made of hunks.
-//! - `load_builder`: what builds a load file of the events that its longwords tell.
+//! - `load_builder`: a builder of load files from the events of their longwords.
 //! - `load_decoder`: load files from bytes.
 //! - `load_writer`: load files as bytes.
-//! - `relocation_writer`: the relocation block of a hunk, as it is written.
-//! - `debug_writer`: the symbols and debug blocks of a hunk, as they are written.
-//! - `longword_writer`: bytes and longwords of a text that is written.
+//! - `relocation_writer`: writes the relocation block of a hunk.
+//! - `debug_writer`: writes the symbols and debug blocks of a hunk.
+//! - `longword_writer`: writes bytes and longwords of a text.
 //! - `patching`: adding numbers to the longwords at sites.
-//! - `laws`: what holds of load files and of their written form.
+//! - `laws`: laws about load files, their written form and patching.
 #![tactic(auto)]
 
 mod debug_writer;

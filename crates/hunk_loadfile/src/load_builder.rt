@@ -1,4 +1,4 @@
-//! What builds a load file of the events that its longwords tell.
+//! A builder of load files from the events of their longwords.
 ghost use Rattle.std.specs.Prelude.{◌≡◌, ℕ, List, [], ◌∷◌, ◌*◌, ◌<◌, length, map, slice_index, slice_index_or, IfSome, alloc_error, IsErr, Err};
 ghost use Rattle.hunk_words.specs.declared.event.Event.{Event};
 ghost use Rattle.hunk_words.specs.declared.event.FileKind.TheVariants.{Load};
@@ -9,29 +9,28 @@ use hunk_words::{Event, FileKind, HunkKind, Memory, OpenName, SiteRefusal, Taker
 use std::alloc::{AllocError, Allocator, Global};
 use std::mem;
 
-// Where the next word goes.
+// What takes the next word.
 #[derive(Debug, Drop)]
 enum Receiver<A: Allocator + Copy> {
-    /// It is dropped, as those of a hunk's name are.
-    Nothing,
-    Content,
+    /// The hunk, which keeps it if it is content.
+    Hunk,
     Debug,
     Symbol(OpenName<A>),
 }
 
-/// Builds a load file of the events that its longwords tell: the hunks that ended, and the one that
-/// has not. A refusal leaves it as it was.
+/// Builds a load file from the events of its longwords: the hunks that have ended, and the current
+/// one. An error leaves it as it was.
 #[derive(Debug, Drop)]
 pub(crate) struct LoadBuilder<A: Allocator + Copy = Global> {
     alloc: A,
-    // the memory bits and the sizes of the header
+    // the memory bits and the sizes in the header
     sizes: Vec<(u8, u32), A>,
     hunks: Vec<LoadHunk<A>, A>,
     hunk: OpenHunk<A>,
     receiver: Receiver<A>,
 }
 
-// The bytes in so many longwords.
+// The bytes in `longwords` longwords.
 fn bytes_in(longwords: u32) -> u64
     ensures { result ≡ 4 * longwords }
 {
@@ -41,7 +40,7 @@ fn bytes_in(longwords: u32) -> u64
 impl<A: Allocator + Copy> LoadBuilder<A> {
     ghost use Rattle.hunk_loadfile.specs.LoadBuilder.{StandsFor, Steps};
 
-    /// A builder that took no event. It takes no memory.
+    /// A builder that has taken no event. Does not allocate.
     pub(crate) fn new(alloc: A) -> Self
         ensures { StandsFor result [] }
     {
@@ -50,11 +49,11 @@ impl<A: Allocator + Copy> LoadBuilder<A> {
             sizes: Vec::new(alloc),
             hunks: Vec::new(alloc),
             hunk: OpenHunk::new(alloc, 0),
-            receiver: Receiver::Nothing,
+            receiver: Receiver::Hunk,
         }
     }
 
-    /// The hunks that ended.
+    /// The hunks that have ended.
     pub(crate) fn into_hunks(self) -> Vec<LoadHunk<A>, A>
         ensures { result.items ≡ self.hunks.items }
     {
@@ -80,7 +79,7 @@ impl<A: Allocator + Copy> LoadBuilder<A> {
         }
     }
 
-    // The bits and the size that the header has for the hunk that has not ended.
+    // The bits and the size in the header for the current hunk.
     fn header(&self) -> Option<(u8, u32)>
         ensures within { IfSome result (λ header. length self.now.hunks.items < length self.now.sizes.items) }
         ensures value { IfSome result (λ header. header ≡ slice_index_or self.now.sizes.items (length self.now.hunks.items) header) }
@@ -95,13 +94,11 @@ impl<A: Allocator + Copy> LoadBuilder<A> {
         ensures { (bits size : ℕ) → Steps self.old self.new result (Event.Content kind bits size) }
     {
         let limit = bytes_in(self.size(self.hunks.len()));
-        if !self
-            .hunk
-            .begin(self.alloc, HunkKind::of_block_type(kind), limit)
-        {
+        let kind = HunkKind::of_block_type(kind);
+        if !self.hunk.begin_content(self.alloc, kind, limit) {
             return never_told();
         }
-        self.receiver = Receiver::Content;
+        self.receiver = Receiver::Hunk;
         Ok(())
     }
 
@@ -110,21 +107,29 @@ impl<A: Allocator + Copy> LoadBuilder<A> {
         ensures { Steps self.old self.new result (Event.Word word) }
     {
         match &mut self.receiver {
-            Receiver::Nothing => Ok(()),
-            Receiver::Content => self.hunk.add_content(word),
+            Receiver::Hunk => self.hunk.add_word(word),
             Receiver::Debug => self.hunk.add_debug_word(word),
             Receiver::Symbol(name) => name.push(word),
         }
     }
 
+    fn begin_name(&mut self) -> Result<(), AllocError>
+        ensures { Steps self.old self.new result Event.HunkName }
+    {
+        self.hunk.end_content();
+        self.receiver = Receiver::Hunk;
+        Ok(())
+    }
+
     fn begin_symbol(&mut self) -> Result<(), AllocError>
         ensures { Steps self.old self.new result Event.Symbol }
     {
+        self.hunk.end_content();
         self.receiver = Receiver::Symbol(OpenName::new(self.alloc));
         Ok(())
     }
 
-    // Takes the number of a symbol, whose name came before.
+    // Takes the value of a symbol, whose name came before.
     fn add_value(&mut self, value: u32) -> Result<(), AllocError>
         ensures { Steps self.old self.new result (Event.Value value) }
     {
@@ -135,7 +140,7 @@ impl<A: Allocator + Copy> LoadBuilder<A> {
             },
             _ => return never_told(),
         }
-        self.receiver = Receiver::Nothing;
+        self.receiver = Receiver::Hunk;
         Ok(())
     }
 
@@ -144,6 +149,7 @@ impl<A: Allocator + Copy> LoadBuilder<A> {
     {
         match self.hunk.add_debug(self.alloc) {
             Ok(()) => {
+                self.hunk.end_content();
                 self.receiver = Receiver::Debug;
                 Ok(())
             }
@@ -169,11 +175,11 @@ impl<A: Allocator + Copy> LoadBuilder<A> {
         let hunk = mem::replace(&mut self.hunk, OpenHunk::new(self.alloc, limit));
         self.hunks
             .push_reserved(hunk.close(Memory::of_bits(bits), size));
-        self.receiver = Receiver::Nothing;
+        self.receiver = Receiver::Hunk;
         Ok(())
     }
 
-    // Takes an event that is no site.
+    // Takes an event that is not a site.
     #[inline(always)]
     fn build(&mut self, event: Event) -> Result<(), AllocError>
         ensures steps { Steps self.old self.new result event }
@@ -183,10 +189,7 @@ impl<A: Allocator + Copy> LoadBuilder<A> {
         match event {
             Event::Table(_) => Ok(()),
             Event::HunkSize { bits, size } => self.add_size(bits, size),
-            Event::HunkName => {
-                self.receiver = Receiver::Nothing;
-                Ok(())
-            }
+            Event::HunkName => self.begin_name(),
             Event::Content { kind, .. } => self.begin_content(kind),
             Event::Word(word) => self.add_word(word),
             Event::Symbol => self.begin_symbol(),
@@ -202,7 +205,7 @@ impl<A: Allocator + Copy> LoadBuilder<A> {
     }
 }
 
-// No load file tells this event where it came. It is refused, and changes nothing.
+// No load file has this event at this point. Returns an error and changes nothing.
 fn never_told() -> Result<(), AllocError>
     ensures { result ≡ Err alloc_error }
 {
@@ -218,7 +221,7 @@ impl<A: Allocator + Copy> Taker for LoadBuilder<A> {
 
     const KIND: FileKind = FileKind::Load;
 
-    // Content is most of a file, so a run of words is to make no call a word.
+    // Content is most of a file, so a run of words should make no call per word.
     #[inline(always)]
     fn take(&mut self, event: Event) -> Result<(), SiteRefusal> {
         match event {

@@ -1,5 +1,5 @@
 //! Load files from bytes.
-ghost use Rattle.std.specs.Prelude.{◌≡◌, ℕ, List, [], ◌++◌, Some, None, Err, IfOk, IfErr, OnOk, IsTrue};
+ghost use Rattle.std.specs.Prelude.{◌≡◌, ℕ, ◌+◌, ◌<◌, ◌^◌, List, [], ◌++◌, length, Some, None, Err, IfOk, IfErr, OnOk, IsTrue};
 ghost use Rattle.hunk_words.specs.DecoderCore.{Keeps};
 ghost use Rattle.hunk_words.specs.Files.{IsValidPrefix};
 ghost use Rattle.hunk_loadfile.specs.LoadDecoder.{RefusesRead};
@@ -11,11 +11,11 @@ ghost use Rattle.hunk_words.specs.declared.fault.Refusal.{Refusal};
 
 use crate::load_builder::LoadBuilder;
 use crate::load_file::LoadFile;
-use hunk_words::{Decoder, ReadFault, Refusal, Source, read_all};
+use hunk_words::{Decoder, Feed, ReadFault, Refusal, Source, read_all};
 use std::alloc::{Allocator, Global};
 use std::marker::Model;
 
-/// A decoder of a load file's bytes, in any pieces.
+/// A decoder of the bytes of a load file, in pieces of any size.
 #[derive(Drop)]
 pub struct LoadDecoder<A: Allocator + Copy = Global> {
     decoder: Decoder<LoadBuilder<A>>,
@@ -38,7 +38,7 @@ impl<A: Allocator + Copy> Model for LoadDecoder<A> {
 impl<A: Allocator + Copy> LoadDecoder<A> {
     ghost use Rattle.hunk_loadfile.specs.LoadDecoder.{StandsFor, RefusesBytes, RefusesInput, refusal_of};
 
-    /// A decoder before the first byte. It takes no memory.
+    /// A decoder before the first byte. Does not allocate.
     pub fn new(alloc: A) -> Self
         ensures stands { StandsFor result [] }
         ensures none { refusal_of result ≡ None }
@@ -52,26 +52,31 @@ impl<A: Allocator + Copy> LoadDecoder<A> {
     ///
     /// # Errors
     ///
-    /// A fault comes with the piece that has the last byte of the longword that offends first, at
-    /// its place and for the reason of the table of faults or of the rules of sites; `OutOfMemory`
-    /// only where a growth was refused. A refusal is answered again to every later call.
+    /// - [`Refusal::Fault`] with the first offence, from the call that brings the last byte of the
+    ///   offending longword: its place (a longword, from 0), and its reason by the table of faults
+    ///   or the rules for sites.
+    /// - [`Refusal::OutOfMemory`] only if an allocation failed.
+    ///
+    /// After an error, every later call returns the same error.
     pub fn feed(&mut self, piece: &[u8]) -> Result<(), Refusal>
         ensures stands { (bytes : List ℕ) → StandsFor self.old bytes → StandsFor self.new (bytes ++ piece.now) }
         ensures kept { Keeps (refusal_of self.new) result }
         ensures again { (refusal : Refusal) → refusal_of self.old ≡ Some refusal → result ≡ Err refusal }
         ensures front { OnOk result ((bytes : List ℕ) → StandsFor self.new bytes → IsValidPrefix Load (longwords bytes)) }
         ensures refused { IfErr result (λ refusal. (bytes : List ℕ) → StandsFor self.new bytes → RefusesBytes bytes refusal) }
+        ensures bounded { OnOk result ((bytes : List ℕ) → StandsFor self.new bytes → length bytes < 2 ^ 30 + 4) }
         ensures empty { piece.now ≡ [] → self.new ≡ self.old }
     {
         self.decoder.feed(piece)
     }
 
-    /// The load file of all bytes. It takes no memory.
+    /// The load file of all the bytes. Does not allocate.
     ///
     /// # Errors
     ///
-    /// `PartialLongword` where bytes of a longword are left, `UnexpectedEnd` where the file is not
-    /// complete. A refusal that was kept is answered again, and `OutOfMemory` comes in no other way.
+    /// [`Refusal::Fault`] with `PartialLongword` if bytes of a longword are left over, or with
+    /// `UnexpectedEnd` if the file is not complete. The error of an earlier call is returned again,
+    /// and `OutOfMemory` is returned in no other case.
     pub fn finish(self) -> Result<LoadFile<A>, Refusal>
         ensures file { IfOk result (λ file. (bytes : List ℕ) → StandsFor self bytes → IsLoadOf file bytes) }
         ensures refused { IfErr result (λ refusal. (bytes : List ℕ) → StandsFor self bytes → RefusesInput bytes refusal) }
@@ -85,13 +90,27 @@ impl<A: Allocator + Copy> LoadDecoder<A> {
     }
 }
 
+impl<A: Allocator + Copy> Feed for LoadDecoder<A> {
+    ghost use Rattle.hunk_loadfile.specs.LoadDecoder.{StandsFor, refusal_of};
+
+    ghost stands_for = { StandsFor };
+
+    ghost refused = { λ decoder refusal. refusal_of decoder ≡ Some refusal };
+
+    fn feed(&mut self, piece: &[u8]) -> Result<(), Refusal> {
+        self.feed(piece)
+    }
+}
+
 /// Reads to the end of `reader`, and gives the load file that its bytes are.
 ///
 /// # Errors
 ///
-/// [`ReadFault::Refused`] for the first offence of the bytes read, as [`LoadDecoder::feed`] and
-/// [`LoadDecoder::finish`] tell it, for its end only where the reader ended; [`ReadFault::Device`]
-/// only where a read failed.
+/// - [`ReadFault::Refused`] with the first offence of the bytes read, as [`LoadDecoder::feed`] and
+///   [`LoadDecoder::finish`] return it; for a file that ends too early only once the reader has
+///   ended.
+/// - [`ReadFault::Refused`] with [`Refusal::OutOfMemory`] only if an allocation failed.
+/// - [`ReadFault::Device`] only if a read failed.
 pub fn read_load<R: Source, A: Allocator + Copy>(
     alloc: A,
     reader: &mut R,
@@ -101,13 +120,8 @@ pub fn read_load<R: Source, A: Allocator + Copy>(
     ensures refused { IfErr result (RefusesRead (R.left reader.old) (R.left reader.new) (R.ended reader.new) (R.failed reader.new)) }
 {
     let mut decoder = LoadDecoder::new(alloc);
-    match read_all(reader, &mut decoder.decoder) {
-        Ok(()) => match decoder.finish() {
-            Ok(file) => Ok(file),
-            Err(refusal) => Err(ReadFault::Refused(refusal)),
-        },
-        Err(fault) => Err(fault),
-    }
+    read_all(reader, &mut decoder)?;
+    Ok(decoder.finish()?)
 }
 
 #[cfg(test)]
@@ -118,8 +132,8 @@ mod tests {
     use std::process::Abort;
     use std::test::Fail;
 
-    /// A load file of two hunks. The first is code under a name: two longwords, and one of zeros
-    /// behind them, with a site for each hunk, a symbol and a debug block. The second is a BSS of one
+    /// A load file of two hunks. The first is named code: two longwords, and one of zeros after
+    /// them, with a site for each hunk, a symbol and a debug block. The second is a BSS of one
     /// longword, for which the header has two in chip memory.
     const FILE: [u8; 144] = [
         0, 0, 3, 0xF3, 0, 0, 0, 0, 0, 0, 0, 2, 0, 0, 0, 0, 0, 0, 0, 1, 0, 0, 0, 3, 0x40, 0, 0, 2, //

@@ -29,11 +29,13 @@ impl<A: Allocator + Copy> Model for LoadFile<A> {
 }
 
 impl<A: Allocator + Copy> LoadFile<A> {
-    /// The load file of these hunks, which are handed back where they make none. It takes no memory.
+    /// The load file of these hunks, which are handed back if they do not make one. Does not
+    /// allocate.
     ///
     /// # Errors
     ///
-    /// The first [`BuildFault`](crate::BuildFault) in the order of their list.
+    /// The first [`BuildFault`](crate::BuildFault) in the order of its list, with the hunks as they
+    /// were passed in.
     pub fn new(hunks: Vec<LoadHunk<A>, A>) -> Result<Self, BuildRefusal<A>>
         ensures accepted { IfOk result (λ file. (build_fault hunks.items ≡ None) × (file ≡ hunks.items)) }
         ensures refused { IfErr result (λ r. (build_fault hunks.items ≡ Some r.fault) × (r.hunks.items ≡ hunks.items)) }
@@ -44,7 +46,7 @@ impl<A: Allocator + Copy> LoadFile<A> {
         }
     }
 
-    /// The load file of hunks that are known to make one. It takes no memory.
+    /// The load file of hunks that are known to make one. Does not allocate.
     pub(crate) fn of_hunks(hunks: Vec<LoadHunk<A>, A>) -> Self
         requires { IsLoadFile hunks.items }
         ensures { result ≡ hunks.items }

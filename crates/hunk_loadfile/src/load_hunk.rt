@@ -17,14 +17,14 @@ pub struct LoadHunk<A: Allocator + Copy = Global> {
     pub memory: Memory,
     /// Its size in longwords, in memory.
     pub size: u32,
-    /// The bytes that the file has for it; behind them the hunk is zeros up to its size.
+    /// The bytes that the file has for it; after them the hunk is zeros up to its size.
     pub content: Vec<u8, A>,
     /// The offsets, in bytes, of the longwords to which the base of a hunk is added, each with the
     /// number of that hunk, from 0.
     pub sites: Sites<u32, A>,
-    /// The symbols for a debugger, each a name and a value, in the order of the file.
+    /// The symbols for a debugger, each a name and a value, in file order.
     pub symbols: Vec<(Name<A>, u32), A>,
-    /// The blocks for a debugger, each a list of longwords, in the order of the file.
+    /// The debug blocks, each a list of longwords, in file order.
     pub debugs: Vec<Vec<u32, A>, A>,
 }
 
@@ -37,7 +37,7 @@ impl<A: Allocator + Copy> Model for LoadHunk<A> {
 }
 
 impl<A: Allocator + Copy> LoadHunk<A> {
-    /// The longwords that the file has for the hunk: those of its content.
+    /// The number of longwords that the file has for the hunk: those of its content.
     pub fn stored(&self) -> u32
         requires whole { length self.now.content % 4 ≡ 0 }
         requires within { length self.now.content ≤ 4 * self.now.size }

@@ -1,39 +1,37 @@
 //! Load files as bytes: writing one, hunk by hunk.
-ghost use Rattle.std.specs.Prelude.{◌≡◌, ◌+◌, ◌*◌, ◌<◌, ◌≤◌, ◌^◌, ◌++◌, ℕ, length, map, IfErr, OnOk};
-ghost use Rattle.std.specs.Io.KnownBytes.{Appends};
+ghost use Rattle.std.specs.Prelude.{◌≡◌, ◌+◌, ◌*◌, ◌<◌, ◌≤◌, ◌^◌, ◌++◌, ℕ, length, map};
 ghost use Rattle.std.specs.List.{All, flat_map};
 ghost use Rattle.hunk_words.specs.Longwords.{longwords};
 ghost use Rattle.hunk_words.specs.Name.{bytes_of};
+ghost use Rattle.hunk_words.specs.Streams.{Wrote, WroteAll};
 ghost use Rattle.hunk_loadfile.specs.Rules.{IsLoadFile, IsLoadHunk, carried_by, most_hunks, most_size};
-ghost use Rattle.hunk_loadfile.specs.Writing.{WriteStopped, Wrote};
 ghost use Rattle.hunk_loadfile.specs.WrittenForm.{content_words, header_words, hunk_words, size_word, written_form};
 
 use crate::debug_writer::{write_debugs, write_symbols};
 use crate::load_file::LoadFile;
 use crate::load_hunk::LoadHunk;
-use crate::longword_writer::{write_bytes, write_longwords};
+use crate::longword_writer::write_longwords;
 use crate::relocation_writer::write_sites;
 use hunk_words::doshunks::{HUNK_BSS, HUNK_CODE, HUNK_DATA, HUNK_END, HUNK_HEADER};
-use hunk_words::{HunkKind, Memory, Sink, WriteFault};
+use hunk_words::{HunkKind, Memory, Sink, WriteFault, write_all};
 use std::alloc::Allocator;
 
-/// Writes a load file (The AmigaDOS Manual, 3rd edition, "Amiga binary file structure"; which of the
-/// forms of a file is written is our own). Beside the file it keeps the sites of one hunk at most,
-/// and it does not flush.
+/// Writes a load file in its written form (The AmigaDOS Manual, 3rd edition, "Amiga binary file
+/// structure"; which of the possible forms is written is our own choice). Apart from the file it
+/// keeps at most the sites of one hunk. It does not flush.
 ///
 /// # Errors
 ///
-/// `Device` only where a write failed or took no byte, and `OutOfMemory` only where memory was
-/// refused and no write failed. The writer has then taken exactly the first `written` bytes of the
-/// file.
+/// - [`WriteFault::Device`] only if a write failed or took no byte.
+/// - [`WriteFault::OutOfMemory`] only if an allocation failed and no write failed.
+///
+/// In either case the writer has taken exactly the first `written` bytes of the file.
 pub fn write_load<A: Allocator + Copy, W: Sink>(
     alloc: A,
     file: &LoadFile<A>,
     writer: &mut W,
 ) -> Result<(), WriteFault>
-    ensures ok { OnOk result (Appends (W.taken writer.old) (W.taken writer.new) (bytes_of (written_form file.now))) }
-    ensures quiet { OnOk result (W.failed writer.new ≡ W.failed writer.old) }
-    ensures stopped { IfErr result (WriteStopped (W.taken writer.old) (W.taken writer.new) (W.failed writer.old) (W.failed writer.new) (bytes_of (written_form file.now)) 0) }
+    ensures wrote { WroteAll W.taken W.failed writer.old writer.new (bytes_of (written_form file.now)) result }
 {
     let hunks = file.hunks();
     let written = write_header(writer, hunks)?;
@@ -41,20 +39,20 @@ pub fn write_load<A: Allocator + Copy, W: Sink>(
     Ok(())
 }
 
-/// Writes the header, and gives the number of bytes written then.
+/// Writes the header, and returns the number of bytes written after it.
 fn write_header<A: Allocator + Copy, W: Sink>(
     writer: &mut W,
     hunks: &[LoadHunk<A>],
 ) -> Result<u64, WriteFault>
     requires valid { IsLoadFile hunks.now }
-    ensures wrote { Wrote (W.taken writer.old) (W.taken writer.new) (W.failed writer.old) (W.failed writer.new) (bytes_of (header_words hunks.now)) 0 result }
+    ensures wrote { Wrote W.taken W.failed writer.old writer.new (bytes_of (header_words hunks.now)) 0 result }
 {
     let count = hunks.len() as u32;
     let written = write_longwords(writer, 0, &[HUNK_HEADER, 0, count, 0, count - 1])?;
     write_sizes(writer, written, hunks)
 }
 
-/// Hunks whose sizes are written at once.
+/// The number of hunks whose sizes are written at once.
 const CHUNK: usize = 64;
 
 /// Writes the sizes of a header. They go through an array of fixed size.
@@ -65,7 +63,7 @@ fn write_sizes<A: Allocator + Copy, W: Sink>(
 ) -> Result<u64, WriteFault>
     requires small { All (λ h. h.size ≤ most_size) hunks.now }
     requires room { written + 4 * length hunks.now < 2 ^ 64 }
-    ensures wrote { Wrote (W.taken writer.old) (W.taken writer.new) (W.failed writer.old) (W.failed writer.new) (bytes_of (map size_word hunks.now)) written result }
+    ensures wrote { Wrote W.taken W.failed writer.old writer.new (bytes_of (map size_word hunks.now)) written result }
 {
     let mut room = [0; CHUNK];
     let mut written = written;
@@ -77,7 +75,7 @@ fn write_sizes<A: Allocator + Copy, W: Sink>(
     Ok(written)
 }
 
-/// Makes the sizes of these hunks, as a header has them.
+/// Fills `words` with the sizes of these hunks, as a header has them.
 fn fill_sizes<A: Allocator + Copy>(words: &mut [u32], hunks: &[LoadHunk<A>])
     requires each { length words.old ≡ length hunks.now }
     requires small { All (λ h. h.size ≤ most_size) hunks.now }
@@ -88,7 +86,7 @@ fn fill_sizes<A: Allocator + Copy>(words: &mut [u32], hunks: &[LoadHunk<A>])
     }
 }
 
-/// The size of a hunk, as a header has it: above it are the two bits for the memory.
+/// The size of a hunk as a header has it, with the two bits for the memory above it.
 fn size_word<A: Allocator + Copy>(hunk: &LoadHunk<A>) -> u32
     requires { hunk.now.size ≤ most_size }
     ensures { result ≡ size_word hunk.now }
@@ -101,7 +99,7 @@ fn size_word<A: Allocator + Copy>(hunk: &LoadHunk<A>) -> u32
     bits + hunk.size
 }
 
-/// Writes these hunks, each to its END.
+/// Writes these hunks, each including its END.
 fn write_hunks<A: Allocator + Copy, W: Sink>(
     alloc: A,
     writer: &mut W,
@@ -110,7 +108,7 @@ fn write_hunks<A: Allocator + Copy, W: Sink>(
 ) -> Result<u64, WriteFault>
     requires valid { IsLoadFile hunks.now }
     requires room { written < 2 ^ 32 }
-    ensures wrote { Wrote (W.taken writer.old) (W.taken writer.new) (W.failed writer.old) (W.failed writer.new) (bytes_of (flat_map (hunk_words (length hunks.now)) hunks.now)) written result }
+    ensures wrote { Wrote W.taken W.failed writer.old writer.new (bytes_of (flat_map (hunk_words (length hunks.now)) hunks.now)) written result }
 {
     let mut written = written;
     for hunk in hunks {
@@ -119,7 +117,7 @@ fn write_hunks<A: Allocator + Copy, W: Sink>(
     Ok(written)
 }
 
-/// Writes a hunk, to its END.
+/// Writes a hunk, including its END.
 fn write_hunk<A: Allocator + Copy, W: Sink>(
     alloc: A,
     writer: &mut W,
@@ -130,7 +128,7 @@ fn write_hunk<A: Allocator + Copy, W: Sink>(
     requires small { hunk.now.size ≤ most_size }
     requires carries { carried_by hunk.now ≤ 2 ^ 28 }
     requires room { written < 2 ^ 36 }
-    ensures wrote { (count : ℕ) → All (λ site. site.1 < count) hunk.now.sites.entries → Wrote (W.taken writer.old) (W.taken writer.new) (W.failed writer.old) (W.failed writer.new) (bytes_of (hunk_words count hunk.now)) written result }
+    ensures wrote { (count : ℕ) → All (λ site. site.1 < count) hunk.now.sites.entries → Wrote W.taken W.failed writer.old writer.new (bytes_of (hunk_words count hunk.now)) written result }
 {
     let written = write_content(writer, written, hunk)?;
     let written = write_sites(alloc, writer, written, &hunk.sites)?;
@@ -139,7 +137,7 @@ fn write_hunk<A: Allocator + Copy, W: Sink>(
     write_longwords(writer, written, &[HUNK_END])
 }
 
-/// Writes what a file has for the content of a hunk. The bytes are written as they lie.
+/// Writes what a file has for the content of a hunk. The bytes are written unchanged, in one call.
 fn write_content<A: Allocator + Copy, W: Sink>(
     writer: &mut W,
     written: u64,
@@ -147,13 +145,13 @@ fn write_content<A: Allocator + Copy, W: Sink>(
 ) -> Result<u64, WriteFault>
     requires valid { IsLoadHunk most_hunks hunk.now }
     requires room { written + 4 * (2 + hunk.now.size) < 2 ^ 64 }
-    ensures wrote { Wrote (W.taken writer.old) (W.taken writer.new) (W.failed writer.old) (W.failed writer.new) (bytes_of (content_words hunk.now.kind hunk.now.size (longwords hunk.now.content))) written result }
+    ensures wrote { Wrote W.taken W.failed writer.old writer.new (bytes_of (content_words hunk.now.kind hunk.now.size (longwords hunk.now.content))) written result }
 {
     let written = write_longwords(writer, written, &content_head(hunk))?;
-    write_bytes(writer, written, &hunk.content)
+    write_all(writer, written, &hunk.content)
 }
 
-/// The longwords of a content before its own.
+/// The longwords of a content block before its content.
 fn content_head<A: Allocator + Copy>(hunk: &LoadHunk<A>) -> [u32; 2]
     requires valid { IsLoadHunk most_hunks hunk.now }
     ensures { result ++ longwords hunk.now.content ≡ content_words hunk.now.kind hunk.now.size (longwords hunk.now.content) }
@@ -172,8 +170,8 @@ mod tests {
     use std::alloc::Global;
     use std::test::Fail;
 
-    /// The longwords of the file of two hunks below: the header, the first hunk's data, its sites by
-    /// target, its four symbols and its two debug blocks, and the second hunk.
+    /// The longwords of the file of two hunks below: the header, the first hunk's data, its sites
+    /// by target, its four symbols and its two debug blocks, and the second hunk.
     const FILE: [&[u32]; 12] = [
         &[1011, 0, 2, 0, 1, 0x8000_0003, 0x4000_0005],
         &[1002, 3, 0x4E71_0000, 0x0000_0001, 0x0000_4E75],

@@ -1,100 +1,92 @@
-//! A hunk of a load file that has not ended.
-ghost use Rattle.std.specs.Prelude.{◌≡◌, ℕ, ◌*◌, List, [], ◌∷◌, ◌++◌, IsTrue, IsFalse, OnErr};
-ghost use Rattle.byteorder.specs.Endian.{big_bytes};
+//! The current hunk of a load file.
+ghost use Rattle.std.specs.Prelude.{◌≡◌, ℕ, ◌*◌, Bool, true, false, List, [], ◌∷◌, ◌++◌, IsTrue, IsFalse, OnErr};
 ghost use Rattle.hunk_words.specs.EventValue.{on_last};
 ghost use Rattle.hunk_words.specs.OpenName.{Opens};
 ghost use Rattle.hunk_words.specs.Values.{Hunk, empty, with_tables, one_debug, one_symbol};
-ghost use Rattle.hunk_words.specs.declared.kinds.HunkKind.{HunkKind};
 ghost use Rattle.hunk_loadfile.specs.LoadFile.{file_hunk};
 ghost use Rattle.hunk_words.specs.Kinds.{memory_of};
 
 use crate::load_hunk::LoadHunk;
-use byteorder::{BigEndian, ByteOrder};
-use hunk_words::{HunkKind, Memory, Name, OpenName, SiteRefusal, Sites};
+use hunk_words::{HunkKind, Memory, Name, OpenName, PartialHunk, SiteRefusal};
 use std::alloc::{AllocError, Allocator};
 use std::mem;
 
-/// A hunk of a load file that has not ended. A refused growth leaves it as it was.
+/// A hunk of a load file that has not ended. If an allocation fails, it is left as it was.
 #[derive(Debug, Drop)]
 pub(crate) struct OpenHunk<A: Allocator + Copy> {
     kind: HunkKind,
-    content: Vec<u8, A>,
-    sites: Sites<u32, A>,
+    partial: PartialHunk<u32, A>,
     symbols: Vec<(Name<A>, u32), A>,
     debugs: Vec<Vec<u32, A>, A>,
 }
 
-// The bytes of a longword, the most significant one first.
-#[inline(always)]
-fn big_endian(word: u32) -> [u8; 4]
-    ensures { result ≡ big_bytes 4 word }
-{
-    let mut bytes = [0; 4];
-    BigEndian::write_u32(&mut bytes, word);
-    bytes
-}
-
 impl<A: Allocator + Copy> OpenHunk<A> {
-    ghost use Rattle.hunk_loadfile.specs.OpenHunk.{Shows, Takes, TakesSite};
+    ghost use Rattle.hunk_loadfile.specs.OpenHunk.{Shows, Takes, TakesSite, told_with_word};
 
-    /// A hunk of which nothing was told, with this limit for sites. It takes no memory.
+    /// A hunk of which nothing is known yet, with this limit for sites. Does not allocate.
     pub(crate) fn new(alloc: A, limit: u64) -> Self
-        ensures { Shows result limit [] empty }
+        ensures { Shows result limit [] false empty }
     {
         OpenHunk {
             kind: HunkKind::Bss,
-            content: Vec::new(alloc),
-            sites: Sites::new(alloc, limit),
+            partial: PartialHunk::new(alloc, limit),
             symbols: Vec::new(alloc),
             debugs: Vec::new(alloc),
         }
     }
 
-    /// The limit of its sites.
+    /// The limit for its sites.
     pub(crate) fn limit(&self) -> u64
-        ensures { (limit : ℕ) (seen : List ℕ) (told : Hunk) → Shows self.now limit seen told → result ≡ limit }
+        ensures { (limit : ℕ) (seen : List ℕ) (in_content : Bool) (told : Hunk) → Shows self.now limit seen in_content told → result ≡ limit }
     {
-        self.sites.limit()
+        self.partial.limit()
     }
 
-    /// Takes the type of the content, and the limit of the sites. Where there is a site already it
-    /// answers false, and stands as it was.
-    pub(crate) fn begin(&mut self, alloc: A, kind: HunkKind, limit: u64) -> bool
-        ensures takes { (before : ℕ) (seen : List ℕ) (told : Hunk) (content : HunkKind) (bits size : ℕ) → Shows self.old before seen told → kind ≡ content →
-            IsTrue result → Shows self.new limit seen (record told { kind = content; memory = bits; size = size }) }
-        ensures refuses { (before : ℕ) (seen : List ℕ) (told : Hunk) → Shows self.old before seen told → IsFalse result → Shows self.new before seen told }
+    /// Takes the type of the content, which begins, and the limit for the sites. If there already is
+    /// content or a site, it returns `false` and is left as it was.
+    pub(crate) fn begin_content(&mut self, alloc: A, kind: HunkKind, limit: u64) -> bool
+        ensures takes { (before : ℕ) (seen : List ℕ) (in_content : Bool) (told : Hunk) (bits size : ℕ) → Shows self.old before seen in_content told →
+            IsTrue result → Shows self.new limit seen true (record told { kind = kind; memory = bits; size = size }) }
+        ensures refuses { (before : ℕ) (seen : List ℕ) (in_content : Bool) (told : Hunk) → Shows self.old before seen in_content told →
+            IsFalse result → Shows self.new before seen in_content told }
     {
-        if self.sites.walk().next().is_some() {
+        if !self.partial.begin_content(alloc, limit) {
             return false;
         }
         self.kind = kind;
-        self.sites = Sites::new(alloc, limit);
         true
     }
 
-    /// Takes a longword of content.
+    /// Takes a word, which is kept if it is content.
     #[inline(always)]
-    pub(crate) fn add_content(&mut self, word: u32) -> Result<(), AllocError>
-        ensures { Takes self.old self.new result (λ told. record told { content = told.content ++ word ∷ [] }) }
+    pub(crate) fn add_word(&mut self, word: u32) -> Result<(), AllocError>
+        ensures { Takes self.old self.new result (told_with_word word) }
     {
-        self.content.extend_from_slice(&big_endian(word))
+        self.partial.add_word(word)
     }
 
-    /// Adds the site of four bytes from an offset, to which the base of a hunk is added.
+    /// The next word is not content.
+    pub(crate) fn end_content(&mut self)
+        ensures { (limit : ℕ) (seen : List ℕ) (in_content : Bool) (told : Hunk) → Shows self.old limit seen in_content told → Shows self.new limit seen false told }
+    {
+        self.partial.end_content();
+    }
+
+    /// Adds a site: the four bytes from `offset`, to which the base of the hunk `target` is added.
     pub(crate) fn add_site(&mut self, offset: u32, target: u32) -> Result<(), SiteRefusal>
         ensures { TakesSite self.old self.new result offset target }
     {
-        self.sites.try_add(offset, target)
+        self.partial.add_site(offset, target)
     }
 
-    /// Takes a symbol, whose name is left without a longword.
+    /// Takes a symbol, which leaves its name without longwords.
     pub(crate) fn add_symbol(
         &mut self,
         alloc: A,
         name: &mut OpenName<A>,
         value: u32,
     ) -> Result<(), AllocError>
-        ensures takes { (words : List ℕ) → Opens name.old words → Takes self.old self.new result (λ told. with_tables told (one_symbol words value)) }
+        ensures takes { (words : List ℕ) → Opens name.old words → Takes self.old self.new result (λ in_content told. with_tables told (one_symbol words value)) }
         ensures name { OnErr result (name.new ≡ name.old) }
     {
         self.symbols.reserve(1)?;
@@ -105,7 +97,7 @@ impl<A: Allocator + Copy> OpenHunk<A> {
 
     /// Begins a debug block.
     pub(crate) fn add_debug(&mut self, alloc: A) -> Result<(), AllocError>
-        ensures { Takes self.old self.new result (λ told. with_tables told (one_debug [])) }
+        ensures { Takes self.old self.new result (λ in_content told. with_tables told (one_debug [])) }
     {
         match self.debugs.push(Vec::new(alloc)) {
             Ok(()) => Ok(()),
@@ -115,7 +107,7 @@ impl<A: Allocator + Copy> OpenHunk<A> {
 
     /// Takes a longword of the last debug block, if there is one.
     pub(crate) fn add_debug_word(&mut self, word: u32) -> Result<(), AllocError>
-        ensures { Takes self.old self.new result (λ told. record told { tables = record told.tables { debugs = on_last (λ ws. ws ++ word ∷ []) told.tables.debugs } }) }
+        ensures { Takes self.old self.new result (λ in_content told. record told { tables = record told.tables { debugs = on_last (λ ws. ws ++ word ∷ []) told.tables.debugs } }) }
     {
         match self.debugs.last_mut() {
             Some(debug) => match debug.push(word) {
@@ -126,16 +118,17 @@ impl<A: Allocator + Copy> OpenHunk<A> {
         }
     }
 
-    /// The hunk, of which the header tells the memory and the size.
+    /// The hunk, with the memory and the size that the header has for it.
     pub(crate) fn close(self, memory: Memory, size: u32) -> LoadHunk<A>
-        ensures { (bits : ℕ) (seen : List ℕ) (told : Hunk) → Shows self (4 * size) seen told → memory ≡ memory_of bits → result ≡ file_hunk bits size told }
+        ensures { (bits : ℕ) (seen : List ℕ) (in_content : Bool) (told : Hunk) → Shows self (4 * size) seen in_content told → memory ≡ memory_of bits → result ≡ file_hunk bits size told }
     {
+        let (content, sites) = self.partial.into_parts();
         LoadHunk {
             kind: self.kind,
             memory,
             size,
-            content: self.content,
-            sites: self.sites,
+            content,
+            sites,
             symbols: self.symbols,
             debugs: self.debugs,
         }

@@ -9,9 +9,10 @@ use hunk_words::Sites;
 use std::alloc::Allocator;
 
 /// Adds to the longword at each site the base of the hunk that the site names, modulo 2^32, and
-/// changes no other byte. Longwords stand most significant byte first.
+/// changes no other byte. In a longword the most significant byte comes first (The AmigaDOS Manual,
+/// 3rd edition, "Amiga binary file structure").
 ///
-/// The sites lie inside the bytes, and there is a base for each hunk that they name.
+/// The sites must lie within the bytes, and there must be a base for each hunk that they name.
 pub fn patch<A: Allocator + Copy>(bytes: &mut [u8], sites: &Sites<u32, A>, bases: &[u32])
     requires inside { sites.now.limit ≤ length bytes.old }
     requires based { All (λ site. site.1 < length bases.now) sites.now.entries }
@@ -22,8 +23,8 @@ pub fn patch<A: Allocator + Copy>(bytes: &mut [u8], sites: &Sites<u32, A>, bases
     }
 }
 
-/// Adds a number to the longword of the four bytes from an offset, modulo 2^32. They lie inside the
-/// bytes.
+/// Adds a number to the longword of the four bytes from `offset`, in bytes, modulo 2^32. They must
+/// lie within the bytes.
 pub fn add_at(bytes: &mut [u8], offset: usize, addend: u32)
     requires { offset + 4 ≤ length bytes.old }
     ensures { bytes.new ≡ patched_bytes (length bytes.old) bytes.old ((offset, addend) ∷ []) (λ added. added) }

@@ -3,8 +3,8 @@ ghost use Rattle.std.specs.Prelude.{◌≡◌, ◌≢◌, ◌+◌, ◌*◌, ◌<
 ghost use Rattle.std.specs.List.{All};
 ghost use Rattle.std.specs.List.Sorted.{IsNonDecreasingBy};
 ghost use Rattle.hunk_words.specs.Name.{bytes_of};
+ghost use Rattle.hunk_words.specs.Streams.{Wrote};
 ghost use Rattle.hunk_loadfile.specs.RelocationWriter.{AreByTarget, IsGroup};
-ghost use Rattle.hunk_loadfile.specs.Writing.{Wrote};
 ghost use Rattle.hunk_loadfile.specs.WrittenForm.{group_words, groups_words, site_words};
 
 use crate::longword_writer::write_longwords;
@@ -12,18 +12,18 @@ use hunk_words::doshunks::HUNK_RELOC32;
 use hunk_words::{Sink, Sites, WriteFault};
 use std::alloc::{AllocError, Allocator};
 
-/// Writes the relocation block of a hunk, where it has sites, and gives the number of bytes written
-/// then. The block has a group for each target, by rising number, with its offsets by rising number
-/// (The AmigaDOS Manual, 3rd edition, "Amiga binary file structure"; the order is our own).
+/// Writes the relocation block of a hunk, if it has sites, and returns the number of bytes written
+/// after it. The block has a group for each target, in ascending order, with its offsets in
+/// ascending order (The AmigaDOS Manual, 3rd edition, "Amiga binary file structure"; the order is
+/// our own).
 ///
-/// It keeps the pairs of offset and target of this hunk alone, and takes their memory before it
-/// writes.
+/// It keeps only the pairs of offset and target of this hunk, and allocates them before it writes.
 ///
 /// # Errors
 ///
-/// `OutOfMemory` only where memory was refused: nothing of the block is written then. `Device` only
-/// where a write failed or took no byte. The writer has then taken exactly the first `written`
-/// bytes of the text.
+/// `OutOfMemory` only if an allocation failed: nothing of the block is written then. `Device` only
+/// if a write failed or took no byte. In either case the writer has taken exactly the first
+/// `written` bytes of the text.
 pub(crate) fn write_sites<W: Sink, A: Allocator + Copy>(
     alloc: A,
     writer: &mut W,
@@ -31,7 +31,7 @@ pub(crate) fn write_sites<W: Sink, A: Allocator + Copy>(
     sites: &Sites<u32, A>,
 ) -> Result<u64, WriteFault>
     requires room { written + 4 * (2 + 3 * length sites.now.entries) < 2 ^ 64 }
-    ensures wrote { (count : ℕ) → All (λ site. site.1 < count) sites.now.entries → Wrote (W.taken writer.old) (W.taken writer.new) (W.failed writer.old) (W.failed writer.new) (bytes_of (site_words count sites.now.entries)) written result }
+    ensures wrote { (count : ℕ) → All (λ site. site.1 < count) sites.now.entries → Wrote W.taken W.failed writer.old writer.new (bytes_of (site_words count sites.now.entries)) written result }
 {
     let Ok(pairs) = by_target(alloc, sites) else {
         return Err(WriteFault::OutOfMemory { written });
@@ -44,7 +44,7 @@ pub(crate) fn write_sites<W: Sink, A: Allocator + Copy>(
     write_longwords(writer, grouped, &[0])
 }
 
-/// The sites by rising target, those of one target by rising offset.
+/// The sites in ascending order of target, those of one target in ascending order of offset.
 fn by_target<A: Allocator + Copy>(
     alloc: A,
     sites: &Sites<u32, A>,
@@ -60,7 +60,7 @@ fn by_target<A: Allocator + Copy>(
     Ok(pairs)
 }
 
-/// Writes the groups of sites that stand by rising target.
+/// Writes the groups of sites that are in ascending order of target.
 fn write_groups<W: Sink>(
     writer: &mut W,
     written: u64,
@@ -69,7 +69,7 @@ fn write_groups<W: Sink>(
     requires rise { IsNonDecreasingBy (λ pair. pair.1) pairs.now }
     requires few { length pairs.now < 2 ^ 32 }
     requires room { written + 12 * length pairs.now < 2 ^ 64 }
-    ensures wrote { (count : ℕ) → All (λ pair. pair.1 < count) pairs.now → Wrote (W.taken writer.old) (W.taken writer.new) (W.failed writer.old) (W.failed writer.new) (bytes_of (groups_words count pairs.now)) written result }
+    ensures wrote { (count : ℕ) → All (λ pair. pair.1 < count) pairs.now → Wrote W.taken W.failed writer.old writer.new (bytes_of (groups_words count pairs.now)) written result }
     ensures bound { IfOk result (λ end. end ≤ written + 12 * length pairs.now) }
 {
     let mut written = written;
@@ -83,7 +83,7 @@ fn write_groups<W: Sink>(
     Ok(written)
 }
 
-/// The sites of the first target, and those behind them.
+/// The sites of the first target, and those after them.
 fn split_group(pairs: &[(u32, u32)], target: u32) -> (&[(u32, u32)], &[(u32, u32)])
     requires rise { IsNonDecreasingBy (λ pair. pair.1) pairs.now }
     requires some { 0 < length pairs.now }
@@ -93,7 +93,7 @@ fn split_group(pairs: &[(u32, u32)], target: u32) -> (&[(u32, u32)], &[(u32, u32
     pairs.split_at(group_length(pairs, target))
 }
 
-/// The number of sites in front that have this target.
+/// The number of sites at the start that have this target.
 fn group_length(pairs: &[(u32, u32)], target: u32) -> usize
     ensures within { result ≤ length pairs.now }
     ensures before { (k : ℕ) (d : ℕ × ℕ) → k < result → (slice_index_or pairs.now k d).1 ≡ target }
@@ -117,13 +117,13 @@ fn write_group<W: Sink>(
     requires some { 0 < length group.now }
     requires few { length group.now < 2 ^ 32 }
     requires room { written + 4 * (2 + length group.now) < 2 ^ 64 }
-    ensures wrote { Wrote (W.taken writer.old) (W.taken writer.new) (W.failed writer.old) (W.failed writer.new) (bytes_of (group_words target (map (λ pair. pair.0) group.now))) written result }
+    ensures wrote { Wrote W.taken W.failed writer.old writer.new (bytes_of (group_words target (map (λ pair. pair.0) group.now))) written result }
 {
     let begun = write_longwords(writer, written, &[group.len() as u32, target])?;
     write_offsets(writer, begun, group)
 }
 
-/// Offsets that are written at once.
+/// The number of offsets that are written at once.
 const CHUNK: usize = 256;
 
 /// Writes the offsets of these sites. They go through an array of fixed size.
@@ -133,7 +133,7 @@ fn write_offsets<W: Sink>(
     group: &[(u32, u32)],
 ) -> Result<u64, WriteFault>
     requires room { written + 4 * length group.now < 2 ^ 64 }
-    ensures wrote { Wrote (W.taken writer.old) (W.taken writer.new) (W.failed writer.old) (W.failed writer.new) (bytes_of (map (λ pair. pair.0) group.now)) written result }
+    ensures wrote { Wrote W.taken W.failed writer.old writer.new (bytes_of (map (λ pair. pair.0) group.now)) written result }
 {
     let mut room = [0; CHUNK];
     let mut written = written;
@@ -145,7 +145,7 @@ fn write_offsets<W: Sink>(
     Ok(written)
 }
 
-/// Makes these the offsets of the sites.
+/// Fills `offsets` with the offsets of the sites.
 fn fill_offsets(offsets: &mut [u32], pairs: &[(u32, u32)])
     requires each { length offsets.old ≡ length pairs.now }
     ensures { offsets.new ≡ map (λ pair. pair.0) pairs.now }
@@ -210,7 +210,7 @@ mod tests {
         Ok(())
     }
 
-    // Six hundred sites, in turn for hunk 0 and for hunk 1.
+    // Six hundred sites, alternating between hunk 0 and hunk 1.
     #[test]
     fn writes_many_offsets_of_two_targets(rt: HostRuntime) -> Result<(), Fail> {
         let mut sites = Sites::new(rt.alloc(), 2400);

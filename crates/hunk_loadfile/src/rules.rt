@@ -1,4 +1,4 @@
-//! Which hunks make a load file.
+//! The rules for the hunks of a load file.
 ghost use Rattle.std.specs.Prelude.{◌≡◌, ◌≤◌, ◌<◌, ◌+◌, not, length, sum_by, position, MatchOption, OnSome, IfSome, IfNone, IsTrue};
 ghost use Rattle.std.specs.List.{All};
 ghost use Rattle.hunk_loadfile.specs.Rules.{IsLongword, IsTyped, IsTypedSymbol, build_fault, carried_longwords, carried_by, debug_longwords, has_content, has_limit, has_names, has_targets, is_hunk_count, is_small, most_hunks, symbol_longwords};
@@ -9,47 +9,48 @@ use crate::load_hunk::LoadHunk;
 use hunk_words::{HunkKind, Name};
 use std::alloc::{Allocator, Global};
 
-/// Hunks in a load file.
+/// The most hunks in a load file.
 const MOST_HUNKS: usize = 65_535;
 
-/// Longwords of all hunks.
+/// The most longwords of all hunks.
 const MOST_SIZE: u64 = 0x100_0000;
 
-/// Longwords of all symbols and debug blocks in the file.
+/// The most longwords of all symbols and debug blocks in the file.
 const MOST_CARRIED: u64 = 0x800_0000;
 
-/// Bytes of a symbol's name: its longwords are counted in 24 bits.
+/// The most bytes of a symbol's name: its longwords are counted in 24 bits.
 const MOST_NAME: usize = 0x3FF_FFFC;
 
-/// Why hunks make no load file: the first rule, in this order, that is broken, and the lowest hunk
-/// that breaks it, from 0. The limits are our own.
+/// Why hunks do not make a load file: the first rule, in this order, that is broken, and the lowest
+/// hunk that breaks it, from 0. The limits are our own.
 #[derive(Clone, Copy, Debug, PartialEq, Eq)]
 pub enum BuildFault {
-    /// There is no hunk, or there are more than 65,535.
+    /// There are no hunks, or more than 65,535.
     HunkCount,
     /// The sizes add up to more than 2^24 longwords; or the symbols and debug blocks take more than
     /// 2^27 longwords in the file.
     TooLarge,
-    /// A content that is no whole number of longwords, or longer than the hunk, or a BSS hunk's.
+    /// The content is not a whole number of longwords, is longer than the hunk, or belongs to a BSS
+    /// hunk.
     Content(u32),
     /// The sites' limit is not the size of the hunk in bytes.
     SiteLimit(u32),
-    /// A site names a hunk that is not there.
+    /// A site names a hunk that does not exist.
     Target(u32),
     /// A symbol's name has more than 2^26 - 4 bytes.
     LongName(u32),
 }
 
-/// Hunks that make no load file, handed back, and why.
+/// Hunks that do not make a load file, handed back, and the reason.
 #[derive(Debug, Drop)]
 pub struct BuildRefusal<A: Allocator + Copy = Global> {
     /// The first fault.
     pub fault: BuildFault,
-    /// The hunks, as they were handed in.
+    /// The hunks, as they were passed in.
     pub hunks: Vec<LoadHunk<A>, A>,
 }
 
-/// Whether the content is whole longwords, no more than the hunk has, and none in a BSS hunk.
+/// Whether the content is whole longwords, no longer than the hunk, and empty for a BSS hunk.
 fn has_content<A: Allocator + Copy>(hunk: &LoadHunk<A>) -> bool
     ensures content { result ≡ has_content hunk.now }
 {
@@ -67,7 +68,7 @@ fn has_limit<A: Allocator + Copy>(hunk: &LoadHunk<A>) -> bool
     hunk.sites.limit() == 4 * u64::from(hunk.size)
 }
 
-/// Whether each site names one of so many hunks.
+/// Whether each site names one of `count` hunks.
 fn has_targets<A: Allocator + Copy>(hunk: &LoadHunk<A>, count: usize) -> bool
     ensures { result ≡ has_targets count hunk.now }
 {
@@ -79,7 +80,7 @@ fn has_targets<A: Allocator + Copy>(hunk: &LoadHunk<A>, count: usize) -> bool
     true
 }
 
-/// Whether a file can tell the length of each symbol's name.
+/// Whether the longwords of each symbol's name can be counted in 24 bits.
 fn has_names<A: Allocator + Copy>(hunk: &LoadHunk<A>) -> bool
     ensures { result ≡ has_names hunk.now }
 {
@@ -105,7 +106,7 @@ fn debug_longwords(debug: &[u32]) -> u64
     2 + debug.len() as u64
 }
 
-/// What is left of `room` longwords behind these symbols, if they take no more.
+/// What is left of `room` longwords after these symbols, if they take no more.
 fn room_behind_symbols<A: Allocator + Copy>(room: u64, symbols: &[(Name<A>, u32)]) -> Option<u64>
     ensures room { MatchOption result (room < sum_by symbol_longwords symbols.now) (λ left. left + sum_by symbol_longwords symbols.now ≡ room) }
     ensures typed { OnSome result (All IsTypedSymbol symbols.now) }
@@ -121,7 +122,7 @@ fn room_behind_symbols<A: Allocator + Copy>(room: u64, symbols: &[(Name<A>, u32)
     Some(left)
 }
 
-/// The same behind these debug blocks.
+/// The same after these debug blocks.
 fn room_behind_debugs<A: Allocator + Copy>(room: u64, debugs: &[Vec<u32, A>]) -> Option<u64>
     ensures room { MatchOption result (room < sum_by (λ debug. debug_longwords debug.items) debugs.now) (λ left. left + sum_by (λ debug. debug_longwords debug.items) debugs.now ≡ room) }
     ensures typed { OnSome result (All (All IsLongword) (lists_of debugs.now)) }
@@ -137,7 +138,7 @@ fn room_behind_debugs<A: Allocator + Copy>(room: u64, debugs: &[Vec<u32, A>]) ->
     Some(left)
 }
 
-/// The same behind what a hunk carries.
+/// The same after the symbols and debug blocks of a hunk.
 fn room_behind<A: Allocator + Copy>(room: u64, hunk: &LoadHunk<A>) -> Option<u64>
     ensures room { MatchOption result (room < carried_by hunk.now) (λ left. left + carried_by hunk.now ≡ room) }
     ensures symbols { OnSome result (All IsTypedSymbol hunk.now.symbols) }
@@ -149,7 +150,7 @@ fn room_behind<A: Allocator + Copy>(room: u64, hunk: &LoadHunk<A>) -> Option<u64
     }
 }
 
-/// The number of the bytes.
+/// The number of bytes.
 fn byte_count(bytes: &[u8]) -> usize
     ensures count { result ≡ length bytes.now }
     ensures typed { All (λ b. b < 256) bytes.now }
@@ -157,7 +158,7 @@ fn byte_count(bytes: &[u8]) -> usize
     bytes.len()
 }
 
-/// The size of a hunk in longwords. The types of its content and of its sites tell what they hold.
+/// The size of a hunk in longwords. The types of its content and of its sites say what they hold.
 fn size_of<A: Allocator + Copy>(hunk: &LoadHunk<A>) -> u32
     ensures size { result ≡ hunk.now.size }
     ensures bytes { All (λ b. b < 256) hunk.now.content }
@@ -186,14 +187,14 @@ fn is_small<A: Allocator + Copy>(hunks: &[LoadHunk<A>]) -> bool
     size <= MOST_SIZE
 }
 
-/// Whether a load file may have so many hunks.
+/// Whether a load file may have `count` hunks.
 fn is_hunk_count(count: usize) -> bool
     ensures { result ≡ is_hunk_count count }
 {
     1 <= count && count <= MOST_HUNKS
 }
 
-/// The lowest hunk whose content is not as it has to be.
+/// The lowest hunk whose content breaks the rule.
 fn without_content<A: Allocator + Copy>(hunks: &[LoadHunk<A>]) -> Option<usize>
     ensures lowest { result ≡ position (λ h. not (has_content h)) hunks.now }
     ensures within { IfSome result (λ hunk. hunk < length hunks.now) }
@@ -201,7 +202,7 @@ fn without_content<A: Allocator + Copy>(hunks: &[LoadHunk<A>]) -> Option<usize>
     hunks.iter().position(|hunk| !has_content(hunk))
 }
 
-/// The lowest hunk whose sites have another limit than its size.
+/// The lowest hunk whose sites have a limit other than its size.
 fn without_limit<A: Allocator + Copy>(hunks: &[LoadHunk<A>]) -> Option<usize>
     ensures lowest { result ≡ position (λ h. not (has_limit h)) hunks.now }
     ensures within { IfSome result (λ hunk. hunk < length hunks.now) }
@@ -209,7 +210,7 @@ fn without_limit<A: Allocator + Copy>(hunks: &[LoadHunk<A>]) -> Option<usize>
     hunks.iter().position(|hunk| !has_limit(hunk))
 }
 
-/// The lowest hunk that has a site for a hunk that is not there.
+/// The lowest hunk with a site for a hunk that does not exist.
 fn without_targets<A: Allocator + Copy>(hunks: &[LoadHunk<A>]) -> Option<usize>
     ensures lowest { result ≡ position (λ h. not (has_targets (length hunks.now) h)) hunks.now }
     ensures within { IfSome result (λ hunk. hunk < length hunks.now) }
@@ -218,7 +219,7 @@ fn without_targets<A: Allocator + Copy>(hunks: &[LoadHunk<A>]) -> Option<usize>
     hunks.iter().position(|hunk| !has_targets(hunk, count))
 }
 
-/// The lowest hunk that has a symbol with too long a name.
+/// The lowest hunk with a symbol whose name is too long.
 fn without_names<A: Allocator + Copy>(hunks: &[LoadHunk<A>]) -> Option<usize>
     ensures lowest { result ≡ position (λ h. not (has_names h)) hunks.now }
     ensures within { IfSome result (λ hunk. hunk < length hunks.now) }

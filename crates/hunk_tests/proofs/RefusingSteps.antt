@@ -1,5 +1,6 @@
--- `refuses_next` at a call: what it is handed, a `&` to the growths and a token of its lifetime, and what a
--- caller has of it, some answer and the token. The counter is a cell, so nothing is known of the answer.
+-- `refuses_next` at a call: what it is given, a `&` to the counts and a token of its lifetime, and
+-- what a caller gets back, some result and the token. The counter is a cell, so nothing is known of
+-- the result.
 use Rattle.std.proofs.Common.{◌≡◌, ℕ, List, [], ◌∷◌, Bool, refl, ap}
 use seplogic.Ra.Ura.{Ura}
 use mir.Val.{Val, vbool, vptr}
@@ -19,7 +20,7 @@ use Rattle.hunk_tests.specs.declared.refusing.Growths.{Growths}
 use Rattle.hunk_tests.specs.contracts.refusing.Growths as growths
 use Rattle.hunk_tests.specs.contracts.refusing.Growths.refuses_next as f
 
--- a `&` to the growths at a place
+-- a `&` to the counts at a place
 abbrev pub lent : Lft → ℕ × ℕ → Growths → Fml
 lent κ place g = hidden_shr growths.the_row κ g place.0 place.1
 
@@ -33,7 +34,7 @@ module _ {M : Type 1} {𝓤 : Ura M} (𝓛 : Logic 𝓤) (at_mem : Memory → SP
     abbrev pub at_asks : Asks.Ghost
     at_asks = (((κ, tt), (q, tt), tt, (record { ref_ptr = place; now = g }, tt), (vptr place.0 place.1 ∷ [], tt)), tt)
 
-    -- some answer, and the token
+    -- some result, and the token
     abbrev pub Told : Val → Bool → SProp 𝓤
     Told v answer = guard 𝓤 (v ≡ vbool answer) (A.lft κ q)
 

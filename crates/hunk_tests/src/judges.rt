@@ -1,70 +1,45 @@
-//! Takers that judge sites alone, for each kind of file.
+//! Takers that check nothing but sites, one for each kind of file.
 
-ghost use Rattle.std.specs.Prelude.{◌≡◌, ℕ, List, [], ◌∷◌, slice_index, OnOk, OnErr};
-ghost use Rattle.hunk_words.specs.Taker.{JudgesSite};
+ghost use Rattle.std.specs.Prelude.{◌≡◌, ℕ, List, [], slice_index, OnOk, OnErr};
+ghost use Rattle.hunk_words.specs.PartialHunk.{HoldsSites};
 ghost use Rattle.hunk_words.specs.SiteContext.{content_limit};
+ghost use Rattle.hunk_words.specs.Taker.{JudgesNone};
 ghost use Rattle.hunk_words.specs.Kinds.{hunk_kind_of};
 ghost use Rattle.hunk_words.specs.declared.event.FileKind.TheVariants.{Object, Load};
-ghost use Rattle.hunk_tests.specs.Judges.{HoldsSites, ObjectStandsFor, LoadStandsFor};
+ghost use Rattle.hunk_tests.specs.Judges.{ObjectStandsFor, LoadStandsFor};
 
-use hunk_words::{Event, FileKind, SiteRefusal, Sites, Taker};
+use hunk_words::{Event, FileKind, HunkKind, PartialHunk, SiteRefusal, Taker};
 use std::alloc::{Allocator, Global};
 
-// Behind the last byte of a site at the last offset.
-const PAST_SITES: u64 = 0x1_0000_0003;
-
-/// The sites of the hunk that the events told, and the bytes in which they are to lie.
-#[derive(Drop)]
-pub struct HunkSites<A: Allocator + Copy = Global> {
+// The content begins: the sites must lie in this many bytes. In a file no site comes before.
+fn begin<A: Allocator + Copy>(
+    hunk: &mut PartialHunk<u32, A>,
     alloc: A,
     limit: u64,
-    sites: Sites<u32, A>,
-}
-
-impl<A: Allocator + Copy> HunkSites<A> {
-    /// No hunk has begun.
-    pub fn new(alloc: A) -> Self
-        ensures { HoldsSites 0 [] result }
-    {
-        HunkSites {
-            alloc,
-            limit: 0,
-            sites: Sites::new(alloc, PAST_SITES),
-        }
-    }
-
-    /// The content begins: the sites are to lie in this many bytes.
-    pub fn begin(&mut self, limit: u64)
-        ensures { (before : ℕ) (seen : List ℕ) → HoldsSites before seen self.old → HoldsSites limit seen self.new }
-    {
-        self.limit = limit;
-    }
-
-    /// The hunk ends: it has no sites any more.
-    pub fn end(&mut self)
-        ensures { (limit : ℕ) (seen : List ℕ) → HoldsSites limit seen self.old → HoldsSites limit [] self.new }
-    {
-        self.sites = Sites::new(self.alloc, PAST_SITES);
-    }
-
-    /// Adds a site, or tells the first rule of sites that it breaks. A refusal changes nothing;
-    /// `OutOfMemory` comes only where a growth was refused.
-    pub fn add(&mut self, offset: u32, target: u32) -> Result<(), SiteRefusal>
-        ensures adds { OnOk result ((limit : ℕ) (seen : List ℕ) → HoldsSites limit seen self.old → HoldsSites limit (offset ∷ seen) self.new) }
-        ensures refuses { OnErr result (self.new ≡ self.old) }
-        ensures judges { (limit : ℕ) (seen : List ℕ) → HoldsSites limit seen self.old → JudgesSite limit seen offset result }
-    {
-        if u64::from(offset) + 4 > self.limit {
-            return Err(SiteRefusal::Outside);
-        }
-        self.sites.try_add(offset, target)
+) -> Result<(), SiteRefusal>
+    ensures holds { (before : ℕ) (seen : List ℕ) → HoldsSites before seen hunk.old → OnOk result (HoldsSites limit seen hunk.new) }
+    ensures refuses { OnErr result (hunk.new ≡ hunk.old) }
+    ensures judges { JudgesNone result }
+{
+    if hunk.begin_content(alloc, limit) {
+        Ok(())
+    } else {
+        Err(SiteRefusal::OutOfMemory)
     }
 }
 
-/// Judges the sites of an object file.
+// The hunk ends: it has no sites any more.
+fn end<A: Allocator + Copy>(hunk: &mut PartialHunk<u32, A>, alloc: A)
+    ensures { (limit : ℕ) (seen : List ℕ) → HoldsSites limit seen hunk.old → HoldsSites limit [] hunk.new }
+{
+    *hunk = PartialHunk::new(alloc, hunk.limit());
+}
+
+/// Checks the sites of an object file.
 #[derive(Drop)]
 pub struct ObjectJudge<A: Allocator + Copy = Global> {
-    hunk: HunkSites<A>,
+    alloc: A,
+    hunk: PartialHunk<u32, A>,
 }
 
 impl<A: Allocator + Copy> ObjectJudge<A> {
@@ -73,18 +48,19 @@ impl<A: Allocator + Copy> ObjectJudge<A> {
         ensures { ObjectStandsFor result [] }
     {
         ObjectJudge {
-            hunk: HunkSites::new(alloc),
+            alloc,
+            hunk: PartialHunk::new(alloc, 0),
         }
     }
 }
 
-// The bytes in which the sites of an object file's hunk lie.
+// The number of bytes in which the sites of an object file's hunk must lie.
 fn content_bytes(kind: u32, size: u32) -> u64
     ensures { result ≡ content_limit Object 0 (hunk_kind_of kind) size }
 {
-    match kind {
-        1001 | 1002 => 4 * size as u64,
-        _ => 0,
+    match HunkKind::of_block_type(kind) {
+        HunkKind::Code | HunkKind::Data => 4 * u64::from(size),
+        HunkKind::Bss => 0,
     }
 }
 
@@ -97,13 +73,17 @@ impl<A: Allocator + Copy> Taker for ObjectJudge<A> {
 
     fn take(&mut self, event: Event) -> Result<(), SiteRefusal> {
         match event {
-            Event::Content { kind, size, .. } => self.hunk.begin(content_bytes(kind, size)),
-            Event::Site { offset, target } => return self.hunk.add(offset, target),
-            Event::RefSite(offset) => return self.hunk.add(offset, 0),
-            Event::HunkEnd => self.hunk.end(),
-            _ => {}
+            Event::Content { kind, size, .. } => {
+                begin(&mut self.hunk, self.alloc, content_bytes(kind, size))
+            }
+            Event::Site { offset, target } => self.hunk.add_site(offset, target),
+            Event::RefSite(offset) => self.hunk.add_site(offset, 0),
+            Event::HunkEnd => {
+                end(&mut self.hunk, self.alloc);
+                Ok(())
+            }
+            _ => Ok(()),
         }
-        Ok(())
     }
 
     fn size_of(&self, _hunk: u32) -> u32 {
@@ -111,12 +91,13 @@ impl<A: Allocator + Copy> Taker for ObjectJudge<A> {
     }
 }
 
-/// Judges the sites of a load file, and keeps the sizes of its header.
+/// Checks the sites of a load file, and keeps the sizes in its header.
 #[derive(Drop)]
 pub struct LoadJudge<A: Allocator + Copy = Global> {
+    alloc: A,
     sizes: Vec<u32, A>,
     ended: usize,
-    hunk: HunkSites<A>,
+    hunk: PartialHunk<u32, A>,
 }
 
 impl<A: Allocator + Copy> LoadJudge<A> {
@@ -125,13 +106,14 @@ impl<A: Allocator + Copy> LoadJudge<A> {
         ensures { LoadStandsFor result [] }
     {
         LoadJudge {
+            alloc,
             sizes: Vec::new(alloc),
             ended: 0,
-            hunk: HunkSites::new(alloc),
+            hunk: PartialHunk::new(alloc, 0),
         }
     }
 
-    // The header's size of this hunk, in longwords.
+    // The size of this hunk in the header, in longwords.
     fn size(&self) -> u32
         ensures { result ≡ slice_index self.now.sizes.items self.now.ended }
     {
@@ -152,22 +134,22 @@ impl<A: Allocator + Copy> Taker for LoadJudge<A> {
     fn take(&mut self, event: Event) -> Result<(), SiteRefusal> {
         match event {
             Event::HunkSize { size, .. } => match self.sizes.push(size) {
-                Ok(()) => {}
-                Err(_) => return Err(SiteRefusal::OutOfMemory),
+                Ok(()) => Ok(()),
+                Err(_) => Err(SiteRefusal::OutOfMemory),
             },
             Event::Content { .. } => {
-                let size = self.size();
-                self.hunk.begin(4 * size as u64);
+                let limit = 4 * u64::from(self.size());
+                begin(&mut self.hunk, self.alloc, limit)
             }
-            Event::Site { offset, target } => return self.hunk.add(offset, target),
-            Event::RefSite(offset) => return self.hunk.add(offset, 0),
+            Event::Site { offset, target } => self.hunk.add_site(offset, target),
+            Event::RefSite(offset) => self.hunk.add_site(offset, 0),
             Event::HunkEnd => {
                 self.ended = self.ended.saturating_add(1);
-                self.hunk.end();
+                end(&mut self.hunk, self.alloc);
+                Ok(())
             }
-            _ => {}
+            _ => Ok(()),
         }
-        Ok(())
     }
 
     fn size_of(&self, hunk: u32) -> u32 {

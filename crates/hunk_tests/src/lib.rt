@@ -1,8 +1,8 @@
-//! Tests that cross the crates, and an allocator that refuses.
+//! Tests that cross the crates, and an allocator that fails on demand.
 //!
-//! - `judges`: takers that judge sites alone.
-//! - `refusing`: an allocator that refuses one growth.
-//! - `tests`: files from bytes to report, and what they are refused with.
+//! - `judges`: takers that check nothing but sites.
+//! - `refusing`: an allocator that fails one allocation.
+//! - `tests`: files from bytes to report, and the errors that they cause.
 #![tactic(auto)]
 
 pub mod judges;

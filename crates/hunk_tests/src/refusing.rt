@@ -1,9 +1,9 @@
-//! An allocator that refuses one growth.
+//! An allocator that fails one allocation.
 
 use std::alloc::{AllocError, Allocator};
 use std::cell::Cell;
 
-/// Counts growths, and tells which one to refuse.
+/// Counts allocations, and says which one is to fail.
 #[derive(Drop)]
 struct Growths {
     refused: u64,
@@ -11,7 +11,7 @@ struct Growths {
 }
 
 impl Growths {
-    // Counts one growth more, and tells whether it is the one to refuse.
+    // Counts one more allocation, and returns whether it is the one to fail.
     fn refuses_next(&self) -> bool {
         let number = self.asked.get();
         self.asked.set(number.saturating_add(1));
@@ -19,7 +19,8 @@ impl Growths {
     }
 }
 
-/// An allocator that refuses one of the growths that it is asked for, and passes on every other one.
+/// An allocator that fails one of the allocations that it is asked for, and passes every other one
+/// on.
 ///
 /// It is owned: the collections of a test share it through a `&`, which is an allocator too.
 pub struct Refusing<B: Allocator> {
@@ -30,7 +31,7 @@ pub struct Refusing<B: Allocator> {
 impl<B: Allocator> Refusing<B> {
     ghost use Rattle.hunk_tests.specs.Refusing.{RefusesOne};
 
-    /// An allocator over `inner` that refuses the growth of number `refused`, from 0.
+    /// An allocator over `inner` that fails allocation number `refused`, from 0.
     pub fn new(inner: B, refused: u64) -> Refusing<B>
         ensures { RefusesOne result inner refused }
     {
@@ -43,7 +44,7 @@ impl<B: Allocator> Refusing<B> {
         }
     }
 
-    /// How many growths it was asked for, the refused one too.
+    /// How many allocations it was asked for, including the one that failed.
     pub fn asked(&self) -> u64 {
         self.growths.asked.get()
     }

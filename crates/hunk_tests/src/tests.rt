@@ -1,21 +1,21 @@
-//! Files from bytes to values, memory and reports, by public calls alone.
+//! Files from bytes to values, memory and reports, by public calls only.
 //!
-//! - `builds`: hunks that make a load file, and that make none.
+//! - `builds`: hunks that make a load file, and hunks that don't.
 //! - `decoded`: load files as values.
-//! - `decoders`: what judges the bytes of a file.
+//! - `decoders`: what checks the bytes of a file.
 //! - `devices`: readers and writers that fail.
 //! - `endless`: a reader that never ends.
 //! - `files`: the files of the tests, and their reports.
-//! - `growths`: growths of the calls on load files that are refused.
-//! - `kept`: refusals that are answered again.
+//! - `growths`: allocations that fail in the calls on load files.
+//! - `kept`: errors that are returned again.
 //! - `load_words`: the longwords of further load files.
 //! - `loaded`: load files in memory.
-//! - `memory`: growths that are refused.
-//! - `refusals`: addresses that are refused.
+//! - `memory`: allocations that fail.
+//! - `refusals`: addresses that are rejected.
 //! - `reports`: files that are loaded.
-//! - `streaming`: what the loader that streams asks for.
-//! - `values`: what the hunks of a load file are to be.
-//! - `vectors`: files of both kinds through all that reads them.
+//! - `streaming`: what `ImageLoader` allocates.
+//! - `values`: the expected hunks of a load file.
+//! - `vectors`: files of both kinds through everything that reads them.
 //! - `words`: their longwords.
 //! - `written`: load files that are written.
 

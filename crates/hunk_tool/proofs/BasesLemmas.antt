@@ -1,4 +1,4 @@
--- The numbers that the parts of a list write.
+-- The numbers that the parts of a list stand for.
 use Rattle.std.proofs.Common.{◌≡◌, ℕ, ◌^◌, ◌<◌, ◌≤◌, ◌≢◌, true, cond, List, [], ◌∷◌, length, take, map, slice_index, slice_index_or, Option, Some, None, Result, refl, sym, ap, subst, ◌∙◌, arith}
 use Rattle.std.proofs.Math.Nat.{pow-le-pow_right}
 use Rattle.std.specs.Prelude.{is_none, position}
@@ -40,7 +40,7 @@ digits_value_small part digits short =
 is_number-from_parts : (part : List ℕ) → 1 ≤ length part → length part ≤ 8 → list_all is_ascii_hexdigit part ≡ true → is_number part ≡ true
 is_number-from_parts part some short digits = and_from _ _ (and_from _ _ (le-leb 1 (length part) some) (le-leb (length part) 8 short)) digits
 
--- what std reads from such a part
+-- what std parses from such a part
 pub result_ok-number_of : {E : Type 0} (part : List ℕ) (r : Result ℕ E) → 1 ≤ length part → length part ≤ 8 → list_all is_ascii_hexdigit part ≡ true → ParsesUnsigned 32 16 part r → result_ok r ≡ number_of part
 result_ok-number_of part r some short digits parsed =
     let plain = without_leading_plus_none part (no_plus part digits) in
@@ -61,13 +61,13 @@ none_before (n ∷ found) (Some m ∷ all) fronts within none =
     let rest : take (length found) all ≡ map Some found = cc in
     let e = none_before found all rest (omega arith) none in omega (arith, e)
 
--- the first place without a number, where each before it has one
+-- the first place without a number, if each place before it has one
 position-is_none : (found : List ℕ) (all : List (Option ℕ)) → take (length found) all ≡ map Some found → length found < length all → slice_index_or all (length found) None ≡ None → position is_none all ≡ Some (length found)
 position-is_none found all fronts within none =
     let e = none_before found all fronts within none in
     rw e (ap (λ b. cond b (Some (length found)) None) (lt-ltb (length found) (length all) within))
 
--- ---- the parts that a loop has read, each seen by v
+-- ---- the parts that a loop has read, each mapped by v
 
 pub map-number_of : {X : Type 0} (v : X → List ℕ) (read : List X) (all : List (List ℕ)) (found : List ℕ) → map (λ x. number_of (v x)) read ≡ map Some found → map v read ≡ all → map number_of all ≡ map Some found
 map-number_of v read all found numbers whole = ap (map number_of) (sym whole) ∙ map-map number_of v read ∙ numbers

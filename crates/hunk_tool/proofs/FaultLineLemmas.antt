@@ -1,9 +1,9 @@
--- The text of a refusal, put together from the pieces that are written.
+-- The text of a fault, put together from the pieces that are written.
 use Rattle.std.proofs.Common.{◌≡◌, ℕ, List, [], ◌∷◌, ◌++◌, slice_index_or, sym, ap, ◌∙◌, append_assoc}
 use Rattle.std.specs.Prelude.{codes}
 use Rattle.std.specs.Fmt.{decimal}
 use Rattle.hunk_words.specs.declared.fault.Fault.{Fault}
-use Rattle.hunk_tool.specs.FaultLine.{fault_line, fault_text, name_of, reason_text}
+use Rattle.hunk_tool.specs.FaultLine.{fault_line, fault_text, name_of, program_line, reason_text}
 use Rattle.hunk_tool.specs.Printing.{line}
 use Rattle.hunk_tool.specs.declared.tool_fault.ToolFault.{ToolFault}
 use Rattle.hunk_tool.specs.declared.tool_fault.ToolFault.TheVariants.{Input}
@@ -21,8 +21,10 @@ fault_text-Input names file fault first second one two =
     ∙ five-append (slice_index_or names file []) (codes ": longword ") (decimal fault.place) (codes ": ") (reason_text fault.reason)
 
 -- the line as it is written: the program's name, the input's name, and the rest
-pub fault_line-split : (names : List (List ℕ)) (fault : ToolFault) (name told : List ℕ) → name ≡ name_of names fault → name_of names fault ++ told ≡ fault_text names fault
-    → fault_line names fault ≡ codes "amihunk: " ++ (name ++ line told)
-fault_line-split names fault name told same whole =
-    ap (λ text. line (codes "amihunk: " ++ text)) (sym whole ∙ ap (λ front. front ++ told) (sym same))
-    ∙ ap (λ text. codes "amihunk: " ++ text) (append_assoc name told (10 ∷ []))
+pub program_line-split : (name told : List ℕ) → program_line (name ++ told) ≡ codes "amihunk: " ++ (name ++ line told)
+program_line-split name told = ap (λ text. codes "amihunk: " ++ text) (append_assoc name told (10 ∷ []))
+
+-- the line of a fault, by the name of its input and what is told after it
+pub program_line-fault : (names : List (List ℕ)) (fault : ToolFault) (name told : List ℕ) → name ≡ name_of names fault → name_of names fault ++ told ≡ fault_text names fault
+    → program_line (name ++ told) ≡ fault_line names fault
+program_line-fault names fault name told same whole = ap program_line (ap (λ front. front ++ told) same ∙ whole)

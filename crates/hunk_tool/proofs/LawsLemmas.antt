@@ -1,4 +1,5 @@
--- What was read has one outcome: it is a file or has a first offence, and never both; and a file has one value.
+-- What was read has one outcome: it is a file or has a first offence, never both; and a file has
+-- one value.
 use Rattle.std.proofs.Common.{◌≡◌, ◌⊎◌, ℕ, ◌^◌, ◌<◌, List, ◌∷◌, ◌++◌, length, append_assoc, append-nil, ap, ap₂, subst, sym, refl, ◌∙◌, inl, inr, Bool, true, slice_index, EachIndex}
 use Rattle.std.proofs.lemmas.List.{nil_from_length}
 use Rattle.std.specs.List.{All}
@@ -20,9 +21,9 @@ use Rattle.hunk_loader.specs.Sizes.{sizes_of}
 use Rattle.hunk_loader.specs.Loading.{loaded}
 use Rattle.hunk_loader.proofs.PlacesLemmas.{IsFirstRefusal-unique, Placed-unrefused, placed-or-refused}
 use Rattle.hunk_tool.specs.Laws.{HasOutcome, NotPlacedForOne, OutcomeExists, RefusedBeginsNone, RefusedForOne, ReportedIsPlaced}
-use Rattle.hunk_tool.specs.Load.{IsRefused}
+use Rattle.hunk_loader.specs.ImageReader.{IsRefused}
 
--- What offends does so with more behind it.
+-- What offends still does with more after it.
 OffendsAt-append : (ws more : List ℕ) (place : ℕ) (r : Reason) → OffendsAt Load ws place r → OffendsAt Load (ws ++ more) place r
 OffendsAt-append ws more place r offends = record {
   front = offends.front;
@@ -73,7 +74,7 @@ not-placed-for-one bases bytes fault other one two =
 
 -- ---- one outcome always holds
 
--- a file's outcome is told by its placement
+-- the outcome of a file follows from its placement
 file-outcome : (bases bytes : List ℕ) (hunks : List FileHunk) → IsLoadOf hunks bytes → EachIndex bases (λ hunk. slice_index bases hunk < 2 ^ 32) → HasOutcome bases bytes
 file-outcome bases bytes hunks file addresses = elim (placed-or-refused (sizes_of hunks) bases addresses) [
   | inl placed ↦ inl (loaded hunks bases, record { hunks = hunks; is_file = file; placed = placed; image_is = refl })

@@ -4,6 +4,5 @@ pub mod DigitsLemmas
 pub mod FaultLineLemmas
 pub mod LawsLemmas
 pub mod LoadLemmas
-pub mod PrintingLemmas
 pub mod ReportExampleLemmas
 pub mod ReportLemmas

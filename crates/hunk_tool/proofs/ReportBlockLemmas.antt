@@ -1,18 +1,18 @@
--- The lines of rows, block by block: those of a front of whole rows, and those of the rest.
+-- The lines of rows, block by block: those of the first whole rows, and those of the rest.
 use Rattle.std.proofs.Common.{◌≡◌, ◌≤◌, ◌+◌, ◌-◌, ◌*◌, min, ℕ, zero, suc, List, ◌++◌, length, take, drop, length-drop, length-take, inl, inr, refl, sym, ap, ◌∙◌, add-one, add-zero, append-nil, append_assoc, arith}
 use Rattle.std.proofs.Math.Nat.{add-suc}
 use Rattle.std.proofs.Math.Seq.{drop-append-add}
 use Rattle.std.proofs.lemmas.Bool.{cases_lt}
 use Rattle.std.proofs.lemmas.List.{drop-append-le, drop-take, drop_all, length-append, take-append-drop, take-append-le, take-take, take_all, take_min}
 use Rattle.hunk_tool.specs.Report.{first_row_lines, row_count, row_line, row_lines, row_of}
-use Rattle.hunk_tool.proofs.PrintingLemmas.{length-front-le}
+use Rattle.hunk_words.proofs.StreamsWritingLemmas.{length-front-le}
 use Rattle.hunk_tool.proofs.ReportLemmas.{first_row_lines-more}
 
 first_row_lines-suc : (base : ℕ) (bytes : List ℕ) (index : ℕ) → first_row_lines base bytes (suc index) ≡ first_row_lines base bytes index ++ row_line (base + 16 * index) (row_of bytes index)
 first_row_lines-suc base bytes index =
     ap (λ count. first_row_lines base bytes count) (sym (add-one index)) ∙ first_row_lines-more base bytes index
 
--- ---- a front of whole rows
+-- ---- the first whole rows
 
 row_of-front : (front rest : List ℕ) (index : ℕ) → 16 * index + 16 ≤ length front → row_of (front ++ rest) index ≡ row_of front index
 row_of-front front rest index within =
@@ -57,7 +57,8 @@ row_lines-append base front rest whole size =
     ∙ first_row_lines-behind base front rest whole (row_count rest) size
     ∙ ap (λ lines. lines ++ row_lines (base + 16 * whole) rest) (first_row_lines-front base front rest whole (omega arith) ∙ ap (λ count. first_row_lines base front count) own)
 
--- the rows of the first bytes, so many rows of them, or all where there are fewer; and those behind them
+-- the rows of the first bytes: `whole` rows of them, or all if there are fewer; and those after
+-- them
 row_lines-split : (base whole start : ℕ) (bytes : List ℕ) → start ≡ 16 * whole → row_lines base bytes ≡ row_lines base (take start bytes) ++ row_lines (base + start) (drop start bytes)
 row_lines-split base whole start bytes at =
     elim (cases_lt start (length bytes)) [
@@ -75,7 +76,7 @@ row_lines-split base whole start bytes at =
 
 -- ---- blocks
 
--- the bytes of the block with that index: 1024, or fewer where the hunk ends
+-- the bytes of the block with that index: 1024, or fewer if the hunk ends
 abbrev pub block_of : List ℕ → ℕ → List ℕ
 block_of bytes index = take 1024 (drop (1024 * index) bytes)
 
@@ -87,7 +88,7 @@ lines_before base bytes index = row_lines base (take (1024 * index) bytes)
 abbrev pub block_lines : ℕ → List ℕ → ℕ → List ℕ
 block_lines base bytes index = row_lines (base + 1024 * index) (block_of bytes index)
 
--- what stands behind them
+-- what comes after them
 pub lines_behind : ℕ → List ℕ → ℕ → List ℕ
 lines_behind base bytes index = row_lines (base + 1024 * index + 1024) (drop 1024 (drop (1024 * index) bytes))
 

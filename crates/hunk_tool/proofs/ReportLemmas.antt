@@ -12,7 +12,7 @@ use Rattle.hunk_loader.specs.Image.{hunks_of}
 use Rattle.hunk_tool.specs.Report.{EndsInside, first_row_lines, hunk_line, hunk_lines, numbered_lines, report, row_count, row_line, row_lines, row_of}
 use Rattle.hunk_tool.specs.Digits.{eight_digits}
 use Rattle.hunk_tool.proofs.DigitsLemmas.{length-decimal}
-use Rattle.hunk_tool.proofs.PrintingLemmas.{flat_map-around, length-front-le}
+use Rattle.hunk_words.proofs.StreamsWritingLemmas.{flat_map-around, length-front-le}
 
 -- ---- rows
 
@@ -38,7 +38,7 @@ first_row_lines-more base bytes index =
 
 -- ---- hunks
 
--- the hunk of a number, whose base and bytes are these
+-- the hunk with that number, whose base and bytes are these
 pub record IsHunk (hunks : List (ℕ × List ℕ)) (number base : ℕ) (bytes : List ℕ) : Type 0 where
   pub within : number < length hunks
   pub at : slice_index_or hunks number (base, bytes) ≡ (base, bytes)
@@ -52,7 +52,7 @@ hunks_of-at {A} hunks number hunk bytes within found same =
     let with_bytes : List ℕ → ℕ × List ℕ = λ b. (hunk.0, b) in
     get_or-map seen hunks number hunk (hunk.0, bytes) within ∙ ap seen (sym found) ∙ ap with_bytes (sym same)
 
--- a hunk as it is lent
+-- a hunk as `Image::hunks` returns it
 pub IsHunk-hunks_of : {A : Type 0} (hunks : List (ℕ × Vec ℕ A)) (number : ℕ) (hunk : ℕ × Vec ℕ A) (bytes : List ℕ) → number < length hunks → hunk ≡ slice_index_or hunks number hunk → bytes ≡ hunk.1.items → IsHunk (hunks_of hunks) number hunk.0 bytes
 IsHunk-hunks_of {A} hunks number hunk bytes within found same =
     record {
@@ -63,7 +63,7 @@ IsHunk-hunks_of {A} hunks number hunk bytes within found same =
 pub ends_inside : (hunks : List (ℕ × List ℕ)) (number base : ℕ) (bytes : List ℕ) → IsHunk hunks number base bytes → All EndsInside hunks → base + length bytes ≤ 2 ^ 32
 ends_inside hunks number base bytes here inside = subst EndsInside here.at (inside number (base, bytes) here.within)
 
--- the lines of the first hunks, so many of them
+-- the lines of the first `count` hunks
 abbrev pub first_hunk_lines : List (ℕ × List ℕ) → ℕ → List ℕ
 first_hunk_lines hunks count = flat_map numbered_lines (take count (enumerate_from 0 hunks))
 
@@ -83,7 +83,7 @@ first_hunk_lines-more hunks number base bytes here =
     ∙ flat_map-append numbered_lines (take number numbered) (slice_index_or numbered number (number, (base, bytes)) ∷ [])
     ∙ ap (λ last. first_hunk_lines hunks number ++ last) (append-nil _ ∙ ap numbered_lines (numbered-at hunks number base bytes here))
 
--- what stands behind the lines of the hunk of a number
+-- what comes after the lines of the hunk with that number
 pub hunks_behind : List (ℕ × List ℕ) → ℕ → List ℕ
 hunks_behind hunks number = flat_map numbered_lines (drop (number + 1) (enumerate_from 0 hunks))
 

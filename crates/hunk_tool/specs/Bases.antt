@@ -1,4 +1,4 @@
--- What a list of addresses says: numbers in hexadecimal digits, with one comma between two.
+-- What a list of addresses means: numbers in hexadecimal digits, separated by commas.
 use Rattle.std.specs.Prelude.{◌≡◌, ℕ, Bool, ◌&&◌, ◌==◌, nat_le, if◌then◌else◌, List, length, map, position, Option, Some, None, is_none}
 use Rattle.std.specs.Char.{is_ascii_hexdigit}
 use Rattle.std.specs.List.{list_all, slice_split}
@@ -6,7 +6,7 @@ use Rattle.std.specs.Str.Parse.{digits_value}
 use Rattle.hunk_tool.specs.declared.bases.BasesFault.{BasesFault}
 use Rattle.hunk_tool.specs.declared.bases.BasesFault.TheVariants.{BadNumber, OutOfMemory}
 
--- what stands between the commas of a text
+-- the parts of a text between its commas
 abbrev pub parts : List ℕ → List (List ℕ)
 parts text = slice_split (λ byte. byte == 44) text
 
@@ -14,7 +14,7 @@ parts text = slice_split (λ byte. byte == 44) text
 abbrev pub is_number : List ℕ → Bool
 is_number part = nat_le 1 (length part) && nat_le (length part) 8 && list_all is_ascii_hexdigit part
 
--- the number that such a part writes
+-- the number that such a part stands for
 abbrev pub number_of : List ℕ → Option ℕ
 number_of part = if is_number part then Some (digits_value 16 part) else None
 
@@ -22,7 +22,7 @@ number_of part = if is_number part then Some (digits_value 16 part) else None
 abbrev pub numbers : List ℕ → List (Option ℕ)
 numbers text = map number_of (parts text)
 
--- a bad number is the first part that is none; want of memory says nothing of the text
+-- a bad number is the first part that is not one; out of memory says nothing about the text
 abbrev pub IsBasesFault : List ℕ → BasesFault → Type 0
 IsBasesFault text (BadNumber index) = position is_none (numbers text) ≡ Some index
 IsBasesFault text OutOfMemory = Unit {0}

@@ -1,4 +1,4 @@
--- The line that tells why an engine stopped.
+-- The line that reports why an operation failed.
 use Rattle.std.specs.Prelude.{ℕ, ◌<◌, List, [], ◌++◌, slice_index_or, codes}
 use Rattle.std.specs.Fmt.{decimal}
 use Rattle.hunk_words.specs.declared.fault.Reason.{Reason}
@@ -10,7 +10,7 @@ use Rattle.hunk_tool.specs.Digits.{eight_digits}
 use Rattle.hunk_tool.specs.declared.tool_fault.ToolFault.{ToolFault}
 use Rattle.hunk_tool.specs.declared.tool_fault.ToolFault.TheVariants.{Input, InputDevice, Place, Output, OutOfMemory}
 
--- why a longword is refused
+-- why a longword is rejected
 abbrev pub reason_text : Reason → List ℕ
 reason_text PartialLongword = codes "file ends inside a longword"
 reason_text UnexpectedEnd = codes "file ends too early"
@@ -36,7 +36,7 @@ place_text WrongCount = codes "wrong number of addresses"
 place_text (PastEnd hunk) = codes "hunk " ++ decimal hunk ++ codes " passes the end of memory"
 place_text (Overlap earlier later) = codes "hunks " ++ decimal earlier ++ codes " and " ++ decimal later ++ codes " overlap"
 
--- the name of the input that is refused, and nothing where none is
+-- the name of the input that the fault is about; empty if it is about none
 abbrev pub name_of : List (List ℕ) → ToolFault → List ℕ
 name_of names (Input file fault) = slice_index_or names file []
 name_of names (InputDevice file) = slice_index_or names file []
@@ -44,7 +44,7 @@ name_of names (Place fault) = []
 name_of names (Output written) = []
 name_of names (OutOfMemory written) = []
 
--- why an engine stopped, where its inputs have these names
+-- why an operation failed, if its inputs have these names
 abbrev pub fault_text : List (List ℕ) → ToolFault → List ℕ
 fault_text names (Input file fault) =
     slice_index_or names file [] ++ codes ": longword " ++ decimal fault.place ++ codes ": " ++ reason_text fault.reason
@@ -53,11 +53,15 @@ fault_text names (Place fault) = codes "places: " ++ place_text fault
 fault_text names (Output written) = codes "output: write failed"
 fault_text names (OutOfMemory written) = codes "out of memory"
 
+-- a line of the program
+abbrev pub program_line : List ℕ → List ℕ
+program_line text = line (codes "amihunk: " ++ text)
+
 -- the whole line
 abbrev pub fault_line : List (List ℕ) → ToolFault → List ℕ
-fault_line names fault = line (codes "amihunk: " ++ fault_text names fault)
+fault_line names fault = program_line (fault_text names fault)
 
--- a file that the refusal names is one of so many
+-- a file in the fault is one of n inputs
 abbrev pub IsOfInputs : ℕ → ToolFault → Type 0
 IsOfInputs count (Input file fault) = file < count
 IsOfInputs count (InputDevice file) = file < count

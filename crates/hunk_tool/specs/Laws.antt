@@ -1,4 +1,4 @@
--- What holds of the outcomes of what was read: one of them is right, and no other.
+-- Laws about the outcomes of what was read: one of them holds, and no other.
 use Rattle.std.specs.Prelude.{◌≡◌, ◌⊎◌, List, [], ℕ, ◌^◌, ◌<◌, ◌++◌, Bool, true, IsTrue, Option, slice_index, EachIndex}
 use Rattle.std.specs.List.{All}
 use Rattle.hunk_words.specs.declared.fault.Fault.{Fault}
@@ -6,26 +6,28 @@ use Rattle.hunk_loadfile.specs.LoadHunk.{FileHunk}
 use Rattle.hunk_loadfile.specs.LoadFile.{IsLoadOf}
 use Rattle.hunk_loader.specs.ImageLoader.{IsNotPlaced, LoadsAs}
 use Rattle.hunk_loader.specs.declared.places.PlaceFault.{PlaceFault}
-use Rattle.hunk_tool.specs.Load.{IsRefused, IsReported}
+use Rattle.hunk_loader.specs.ImageReader.{IsRefused}
+use Rattle.hunk_tool.specs.Load.{IsReported}
 
--- No load file begins with what is refused; what is refused at its end is none.
+-- What is rejected is not the beginning of a load file, and not one if it is rejected at its end.
 abbrev pub RefusedBeginsNone : Type 0
 RefusedBeginsNone =
     (fault : Fault) (ended : Bool) (hunks : List FileHunk) (bytes more : List ℕ) → IsRefused fault ended bytes → (IsTrue ended → more ≡ []) → IsLoadOf hunks (bytes ++ more) → ⊥
 
--- What was read is refused for one fault.
+-- What was read is rejected for one fault.
 abbrev pub RefusedForOne : Type 0
 RefusedForOne = (fault other : Fault) (ended also_ended : Bool) (bytes : List ℕ) → IsRefused fault ended bytes → IsRefused other also_ended bytes → fault ≡ other
 
--- What is reported has hunks that are placed, and is not refused for its bases.
+-- What is reported has hunks that are placed, and is not rejected for its bases.
 abbrev pub ReportedIsPlaced : Type 0
 ReportedIsPlaced = (bases : List ℕ) (old new : Option (List ℕ)) (fault : PlaceFault) (bytes : List ℕ) → IsReported bases old new bytes → IsNotPlaced bases bytes fault → ⊥
 
--- Bases are refused for one fault.
+-- Bases are rejected for one fault.
 abbrev pub NotPlacedForOne : Type 0
 NotPlacedForOne = (bases bytes : List ℕ) (fault other : PlaceFault) → IsNotPlaced bases bytes fault → IsNotPlaced bases bytes other → fault ≡ other
 
--- What was read to a reader's end is a load file whose hunks are placed, one whose hunks are not, or is refused.
+-- What was read up to a reader's end is a load file whose hunks are placed, or one whose hunks
+-- cannot be placed, or it is rejected.
 abbrev pub HasOutcome : (bases bytes : List ℕ) → Type 0
 HasOutcome bases bytes =
     ((image : List (ℕ × List ℕ)) × LoadsAs bases bytes image)

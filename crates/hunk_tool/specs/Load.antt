@@ -1,48 +1,36 @@
--- What it means that a load file was loaded at these bases and its report written, or why not.
-use Rattle.std.specs.Prelude.{◌≡◌, ◌⊎◌, ℕ, List, length, Bool, IsTrue, Option}
+-- What it means that a load file was loaded at these bases and its report was written, or why it
+-- was not.
+use Rattle.std.specs.Prelude.{◌≡◌, ℕ, List, Bool, IsTrue, Option}
 use Rattle.std.specs.Io.KnownBytes.{Appends, Keeps}
-use Rattle.hunk_words.specs.FirstOffence.{OffendsAt, EndsEarly}
-use Rattle.hunk_words.specs.Longwords.{longwords, unfinished}
 use Rattle.hunk_words.specs.Streams.{HasRead, TookFront}
-use Rattle.hunk_words.specs.declared.event.FileKind.TheVariants.{Load}
-use Rattle.hunk_words.specs.declared.fault.Fault.{Fault}
-use Rattle.hunk_words.specs.declared.fault.Refusal.{Refusal}
-use Rattle.hunk_words.specs.declared.fault.Refusal.TheVariants as refusal_is
 use Rattle.hunk_loadfile.specs.LoadHunk.{FileHunk}
 use Rattle.hunk_loadfile.specs.LoadFile.{IsLoadOf}
 use Rattle.hunk_loader.specs.ImageLoader.{IsNotPlaced}
+use Rattle.hunk_loader.specs.ImageReader.{IsRefused}
 use Rattle.hunk_loader.specs.Loading.{loaded}
 use Rattle.hunk_loader.specs.Places.{Placed}
 use Rattle.hunk_loader.specs.Sizes.{sizes_of}
-use Rattle.hunk_loader.specs.declared.loading.LoadRefusal.{LoadRefusal}
-use Rattle.hunk_loader.specs.declared.loading.LoadRefusal.TheVariants as load_refusal_is
 use Rattle.hunk_tool.specs.Report.{report}
 use Rattle.hunk_tool.specs.declared.tool_fault.ToolFault.{ToolFault}
 use Rattle.hunk_tool.specs.declared.tool_fault.ToolFault.TheVariants.{Input, InputDevice, Place, Output, OutOfMemory}
 
--- The bytes are the load file of these hunks, and its report at these placed bases went to the writer.
+-- The bytes are the load file of these hunks, and its report at these placed bases was written.
 pub record IsReported (bases : List ℕ) (old new : Option (List ℕ)) (bytes : List ℕ) : Type 0 where
   pub hunks : List FileHunk
   pub is_file : IsLoadOf hunks bytes
   pub placed : Placed (sizes_of hunks) bases
   pub written : Appends old new (report (loaded hunks bases))
 
--- The bytes are the load file of these hunks, and of its report at these placed bases the writer took exactly the first
--- bytes, so many.
+-- The bytes are the load file of these hunks, and the writer took exactly the first `written` bytes
+-- of its report at these placed bases.
 pub record IsCutShort (bases : List ℕ) (old new : Option (List ℕ)) (written : ℕ) (bytes : List ℕ) : Type 0 where
   pub hunks : List FileHunk
   pub is_file : IsLoadOf hunks bytes
   pub placed : Placed (sizes_of hunks) bases
   pub front : TookFront old new (report (loaded hunks bases)) 0 written
 
--- What was read offends first at the place of the fault, for its reason; or the reader ended, and that is where and why
--- what was read ends too early.
-abbrev pub IsRefused : Fault → Bool → List ℕ → Type 0
-IsRefused fault ended bytes =
-    OffendsAt Load (longwords bytes) fault.place fault.reason
-    ⊎ (IsTrue ended × EndsEarly Load (longwords bytes) (length (unfinished bytes)) fault.place fault.reason)
-
--- what is known of a reader and a writer before and after a call: the bytes left and taken, and what they tell of themselves
+-- what is known of a reader and a writer before and after a call: the bytes left and taken, and
+-- what they report about themselves
 pub record Ends : Type 0 where
   pub left : Option (List ℕ)
   pub left_then : Option (List ℕ)
@@ -56,7 +44,8 @@ abbrev pub ends_of : (left left_then : Option (List ℕ)) (read_failed ended : B
 ends_of left left_then read_failed ended taken taken_then write_failed =
     record { left = left; left_then = left_then; read_failed = read_failed; ended = ended; taken = taken; taken_then = taken_then; write_failed = write_failed }
 
--- Why the report of a file at these bases was not written, or not whole. Before the reader ended nothing was written.
+-- Why the report of a file at these bases was not written, or not in full. Nothing was written
+-- before the reader ended.
 abbrev pub IsLoadFault : List ℕ → Ends → ToolFault → Type 0
 IsLoadFault bases ends (Input file fault) = (file ≡ 0) × HasRead ends.left ends.left_then (IsRefused fault ends.ended) × Keeps ends.taken ends.taken_then
 IsLoadFault bases ends (InputDevice file) = (file ≡ 0) × IsTrue ends.read_failed × Keeps ends.taken ends.taken_then
@@ -65,22 +54,3 @@ IsLoadFault bases ends (Place fault) =
 IsLoadFault bases ends (Output written) =
     IsTrue ends.ended × HasRead ends.left ends.left_then (IsCutShort bases ends.taken ends.taken_then written) × IsTrue ends.write_failed
 IsLoadFault bases ends (OutOfMemory written) = (written ≡ 0) × Keeps ends.taken ends.taken_then
-
--- why the image of a file at these bases was not made
-abbrev pub IsReadFault : List ℕ → (left left_then : Option (List ℕ)) (failed ended : Bool) → ToolFault → Type 0
-IsReadFault bases left left_then failed ended (Input file fault) = (file ≡ 0) × HasRead left left_then (IsRefused fault ended)
-IsReadFault bases left left_then failed ended (InputDevice file) = (file ≡ 0) × IsTrue failed
-IsReadFault bases left left_then failed ended (Place fault) = IsTrue ended × HasRead left left_then (λ bytes. IsNotPlaced bases bytes fault)
-IsReadFault bases left left_then failed ended (Output written) = ⊥
-IsReadFault bases left left_then failed ended (OutOfMemory written) = written ≡ 0
-
--- what a refusal of the bytes is told as, before anything is written
-abbrev pub fault_of : Refusal → ToolFault
-fault_of (refusal_is.Fault fault) = Input 0 fault
-fault_of refusal_is.OutOfMemory = OutOfMemory 0
-
--- the same of a refusal of loading
-abbrev pub load_fault_of : LoadRefusal → ToolFault
-load_fault_of (load_refusal_is.File fault) = Input 0 fault
-load_fault_of (load_refusal_is.Place fault) = Place fault
-load_fault_of load_refusal_is.OutOfMemory = OutOfMemory 0

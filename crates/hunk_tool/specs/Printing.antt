@@ -7,6 +7,6 @@ use Rattle.std.specs.List.{flat_map}
 abbrev pub line : List ℕ → List ℕ
 line text = text ++ 10 ∷ []
 
--- pieces of text, one after the other
+-- pieces of text, one after another
 abbrev pub joined : List (Bor (List ℕ)) → List ℕ
 joined pieces = flat_map (λ piece. piece.now) pieces

@@ -12,11 +12,11 @@ abbrev pub hunk_line : ℕ → ℕ → ℕ → List ℕ
 hunk_line number base size =
     line (codes "hunk " ++ decimal number ++ codes " at " ++ eight_digits base ++ codes " size " ++ decimal size)
 
--- the line of a row: the address of its first byte, and two digits a byte
+-- the line of a row: the address of its first byte, and two digits per byte
 abbrev pub row_line : ℕ → List ℕ → List ℕ
 row_line address row = line (eight_digits address ++ codes " " ++ encode_lower row)
 
--- the bytes of the row with that index: 16, or fewer where the hunk ends
+-- the bytes of the row with that index: 16, or fewer if the hunk ends
 abbrev pub row_of : List ℕ → ℕ → List ℕ
 row_of bytes index = take 16 (drop (16 * index) bytes)
 
@@ -24,7 +24,7 @@ row_of bytes index = take 16 (drop (16 * index) bytes)
 abbrev pub row_count : List ℕ → ℕ
 row_count bytes = div_ceil (length bytes) 16
 
--- the lines of the first rows of a hunk, so many of them
+-- the lines of the first `count` rows of a hunk
 abbrev pub first_row_lines : ℕ → List ℕ → ℕ → List ℕ
 first_row_lines base bytes count = flat_map (λ index. row_line (base + 16 * index) (row_of bytes index)) (range_with_len 0 count)
 
@@ -36,7 +36,7 @@ row_lines base bytes = first_row_lines base bytes (row_count bytes)
 abbrev pub hunk_lines : ℕ → ℕ → List ℕ → List ℕ
 hunk_lines number base bytes = hunk_line number base (length bytes) ++ row_lines base bytes
 
--- the same of a hunk with its number
+-- the same for a hunk with its number
 abbrev pub numbered_lines : ℕ × (ℕ × List ℕ) → List ℕ
 numbered_lines hunk = hunk_lines hunk.0 hunk.1.0 hunk.1.1
 

@@ -1,8 +1,25 @@
--- The exit status of a refusal: 1 what was read is refused, 3 a device failed, 4 want of memory.
+-- What the faults of the parts of an engine are as its own, and the exit status of each.
 use Rattle.std.specs.Prelude.{ℕ}
+use Rattle.hunk_words.specs.declared.fault.WriteFault.{WriteFault}
+use Rattle.hunk_words.specs.declared.fault.WriteFault.TheVariants as write_fault
+use Rattle.hunk_loader.specs.declared.image_reader.ImageFault.{ImageFault}
+use Rattle.hunk_loader.specs.declared.image_reader.ImageFault.TheVariants as image_fault
+use Rattle.hunk_loader.specs.declared.loading.LoadRefusal.TheVariants as load_refusal
 use Rattle.hunk_tool.specs.declared.tool_fault.ToolFault.{ToolFault}
 use Rattle.hunk_tool.specs.declared.tool_fault.ToolFault.TheVariants.{Input, InputDevice, Place, Output, OutOfMemory}
 
+-- A fault of the only input, which has the number 0, before anything is written.
+abbrev pub tool_fault_of_image : ImageFault → ToolFault
+tool_fault_of_image (image_fault.Refused (load_refusal.File fault)) = Input 0 fault
+tool_fault_of_image (image_fault.Refused (load_refusal.Place fault)) = Place fault
+tool_fault_of_image (image_fault.Refused load_refusal.OutOfMemory) = OutOfMemory 0
+tool_fault_of_image image_fault.Device = InputDevice 0
+
+abbrev pub tool_fault_of_write : WriteFault → ToolFault
+tool_fault_of_write (write_fault.Device written) = Output written
+tool_fault_of_write (write_fault.OutOfMemory written) = OutOfMemory written
+
+-- 1 where what was read is refused, 3 where a device failed, 4 where an allocation failed
 abbrev pub status : ToolFault → ℕ
 status (Input file fault) = 1
 status (InputDevice file) = 3

@@ -1,4 +1,4 @@
-//! The list of addresses that a command line gives, one for each hunk.
+//! The list of addresses on a command line, one for each hunk.
 
 ghost use Rattle.std.specs.Prelude.{◌≡◌, map, IfOk, IfErr};
 ghost use Rattle.std.specs.Char.{is_ascii_hexdigit};
@@ -8,19 +8,24 @@ ghost use Rattle.hunk_tool.specs.Bases.{numbers, number_of, IsBasesFault};
 use std::alloc::Allocator;
 use thiserror::Error;
 
-/// Why a list of addresses was refused.
+/// Why a list of addresses is rejected.
 #[derive(Clone, Copy, Debug, PartialEq, Eq, Error)]
 pub enum BasesFault {
-    /// The first part that is not 1 to 8 hexadecimal digits: its index in the list, from 0.
+    /// The index in the list, from 0, of the first part that is not 1 to 8 hexadecimal digits.
     #[error("part {0} is not 1 to 8 hexadecimal digits")]
     BadNumber(usize),
-    /// A growth of memory was refused.
+    /// An allocation failed.
     #[error("out of memory")]
     OutOfMemory,
 }
 
-/// The addresses of a list: numbers of 1 to 8 hexadecimal digits of either case, with one comma
-/// between two (own rule). The empty text has one part, which is no number.
+/// Parses a list of addresses: numbers of 1 to 8 hexadecimal digits of either case, separated by
+/// commas (own rule). The empty text has one part, which is not a number.
+///
+/// # Errors
+///
+/// - [`BasesFault::BadNumber`] with the index of the first part that is not a number.
+/// - [`BasesFault::OutOfMemory`] if an allocation failed.
 pub fn parse_bases<A: Allocator + Copy>(alloc: A, text: &str) -> Result<Vec<u32, A>, BasesFault>
     ensures numbers { IfOk result (λ bases. numbers text.now ≡ map Some bases.items) }
     ensures refused { IfErr result (λ fault. IsBasesFault text.now fault) }
@@ -35,7 +40,7 @@ pub fn parse_bases<A: Allocator + Copy>(alloc: A, text: &str) -> Result<Vec<u32,
     Ok(bases)
 }
 
-/// The number of 1 to 8 hexadecimal digits.
+/// The number that 1 to 8 hexadecimal digits stand for.
 fn number(part: &str) -> Option<u32>
     ensures { result ≡ number_of part.now }
 {

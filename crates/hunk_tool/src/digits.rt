@@ -1,4 +1,4 @@
-//! The digits of numbers, in arrays of fixed size, so that they take no memory.
+//! The digits of numbers, in arrays of fixed size, so that they need no allocation.
 
 ghost use Rattle.std.specs.Prelude.{◌≡◌, ◌≤◌, List, [], ℕ, drop, length};
 ghost use Rattle.std.specs.Fmt.{decimal};
@@ -6,7 +6,7 @@ ghost use Rattle.hunk_tool.specs.Digits.{eight_digits};
 
 use std::marker::Model;
 
-/// The most digits of a number of 64 bits.
+/// The most digits of a 64-bit number.
 const MOST_DIGITS: usize = 20;
 
 /// The digits of a number.

@@ -1,10 +1,9 @@
-//! The line that tells why an engine stopped.
+//! The line that reports why an operation failed.
 
-ghost use Rattle.std.specs.Prelude.{◌≡◌, ◌++◌, ◌+◌, ◌<◌, ◌^◌, ℕ, List, codes, length, map, IfOk, IfErr, OnOk};
-ghost use Rattle.std.specs.Io.KnownBytes.{Appends};
+ghost use Rattle.std.specs.Prelude.{◌≡◌, ◌++◌, ◌+◌, ◌<◌, ◌^◌, ℕ, List, codes, length, map, IfErr};
 ghost use Rattle.std.specs.String.{string_bytes};
-ghost use Rattle.hunk_words.specs.Streams.{DeviceStopped};
-ghost use Rattle.hunk_tool.specs.FaultLine.{fault_line, fault_text, name_of, place_text, reason_text, IsOfInputs};
+ghost use Rattle.hunk_words.specs.Streams.{IsDevice, Wrote, WroteAll};
+ghost use Rattle.hunk_tool.specs.FaultLine.{fault_line, fault_text, name_of, place_text, program_line, reason_text, IsOfInputs};
 ghost use Rattle.hunk_tool.specs.Phrase.{phrase_text};
 ghost use Rattle.hunk_tool.specs.Printing.{line};
 
@@ -14,31 +13,48 @@ use crate::tool_fault::ToolFault;
 use hunk_loader::PlaceFault;
 use hunk_words::{Reason, Sink, WriteFault, write_all};
 
-/// Writes the line that tells why an engine stopped, whose inputs have these names: a `file` in the
-/// fault is an index of `files`. It takes no memory.
+/// Writes the line that reports why an operation failed. `files` are the names of its inputs: a
+/// `file` in the fault is an index into them. Does not allocate.
 ///
 /// # Errors
 ///
-/// [`WriteFault::Device`] where a write failed, or took no byte.
+/// [`WriteFault::Device`] if a write failed or took no byte, with the number of bytes of the line
+/// that were written.
 pub fn write_fault<W: Sink>(
     files: &[String],
     fault: &ToolFault,
     writer: &mut W,
 ) -> Result<(), WriteFault>
     requires { IsOfInputs (length files.now) fault.now }
-    ensures text { OnOk result (Appends (W.taken writer.old) (W.taken writer.new) (fault_line (map string_bytes files.now) fault.now)) }
-    ensures quiet { OnOk result (W.failed writer.new ≡ W.failed writer.old) }
-    ensures stopped { IfErr result (DeviceStopped (W.taken writer.old) (W.taken writer.new) (W.failed writer.new) (fault_line (map string_bytes files.now) fault.now) 0) }
+    ensures wrote { WroteAll W.taken W.failed writer.old writer.new (fault_line (map string_bytes files.now) fault.now) result }
+    ensures device { IfErr result IsDevice }
 {
-    let name = named_file(files, fault);
     let (first, second) = phrases(fault);
+    write_line(named_file(files, fault), &first, &second, writer)
+}
+
+/// Writes a line of the program: `amihunk: `, a name, and what is told after it. It does not
+/// allocate.
+///
+/// # Errors
+///
+/// [`WriteFault::Device`] where a write failed, or took no byte.
+pub fn write_line<W: Sink>(
+    name: &[u8],
+    first: &Phrase,
+    second: &Phrase,
+    writer: &mut W,
+) -> Result<(), WriteFault>
+    ensures wrote { WroteAll W.taken W.failed writer.old writer.new (program_line (name.now ++ (phrase_text first.now ++ phrase_text second.now))) result }
+    ensures device { IfErr result IsDevice }
+{
     let written = write_all(writer, 0, b"amihunk: ")?;
     let written = write_all(writer, written, name)?;
-    write_end(writer, written, &first, &second)?;
+    write_end(writer, written, first, second)?;
     Ok(())
 }
 
-/// Writes what ends a line.
+/// Writes the rest of a line.
 fn write_end<W: Sink>(
     writer: &mut W,
     written: u64,
@@ -46,10 +62,8 @@ fn write_end<W: Sink>(
     second: &Phrase,
 ) -> Result<u64, WriteFault>
     requires { written + length (line (phrase_text first.now ++ phrase_text second.now)) < 2 ^ 64 }
-    ensures count { IfOk result (λ n. n ≡ written + length (line (phrase_text first.now ++ phrase_text second.now))) }
-    ensures text { OnOk result (Appends (W.taken writer.old) (W.taken writer.new) (line (phrase_text first.now ++ phrase_text second.now))) }
-    ensures quiet { OnOk result (W.failed writer.new ≡ W.failed writer.old) }
-    ensures stopped { IfErr result (DeviceStopped (W.taken writer.old) (W.taken writer.new) (W.failed writer.new) (line (phrase_text first.now ++ phrase_text second.now)) written) }
+    ensures wrote { Wrote W.taken W.failed writer.old writer.new (line (phrase_text first.now ++ phrase_text second.now)) written result }
+    ensures device { IfErr result IsDevice }
 {
     write_pieces(
         writer,
@@ -66,7 +80,7 @@ fn write_end<W: Sink>(
     )
 }
 
-/// The name of the input that is refused, and nothing where none is.
+/// The name of the input that the fault is about; empty if it is about none.
 fn named_file<'a>(files: &'a [String], fault: &ToolFault) -> &'a [u8]
     requires { IsOfInputs (length files.now) fault.now }
     ensures { result.now ≡ name_of (map string_bytes files.now) fault.now }
@@ -77,7 +91,7 @@ fn named_file<'a>(files: &'a [String], fault: &ToolFault) -> &'a [u8]
     }
 }
 
-/// What is told behind that name.
+/// What comes after that name.
 fn phrases(fault: &ToolFault) -> (Phrase, Phrase)
     ensures { (names : List (List ℕ)) → name_of names fault.now ++ (phrase_text result.0 ++ phrase_text result.1) ≡ fault_text names fault.now }
 {
@@ -94,7 +108,7 @@ fn phrases(fault: &ToolFault) -> (Phrase, Phrase)
     }
 }
 
-/// Why addresses are refused.
+/// Why addresses are rejected.
 fn place_phrases(fault: PlaceFault) -> (Phrase, Phrase)
     ensures { phrase_text result.0 ++ phrase_text result.1 ≡ codes "places: " ++ place_text fault }
 {
@@ -114,7 +128,7 @@ fn place_phrases(fault: PlaceFault) -> (Phrase, Phrase)
     }
 }
 
-/// Why a longword is refused.
+/// Why a longword is rejected.
 fn reason_phrase(reason: Reason) -> Phrase
     ensures { phrase_text result ≡ reason_text reason }
 {

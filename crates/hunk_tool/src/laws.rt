@@ -1,9 +1,10 @@
-//! What holds of the outcomes of the engines, each law a function without a body.
+//! Laws about the outcomes of the operations, each a function without a body.
 
 ghost use Rattle.hunk_tool.specs.Laws.{NotPlacedForOne, OutcomeExists, RefusedBeginsNone, RefusedForOne, ReportedIsPlaced};
 
-/// What was read has at most one outcome at the same bases. What is refused is no load file and
-/// begins none, and there is one fault. A file is reported, or its bases are refused for one fault.
+/// What was read has at most one outcome at the same bases. What is rejected is not a load file and
+/// not the beginning of one, and there is only one fault. A file is either reported or its bases
+/// are rejected, for one fault.
 pub fn outcomes_exclude_each_other()
     ensures refused { RefusedBeginsNone }
     ensures one_refusal { RefusedForOne }
@@ -11,8 +12,8 @@ pub fn outcomes_exclude_each_other()
     ensures one_place_fault { NotPlacedForOne }
 {}
 
-/// What was read to a reader's end always has an outcome at bases that are addresses: it is a load
-/// file whose hunks are placed, one whose hunks are not, or it is refused.
+/// What was read up to a reader's end always has an outcome at bases that are addresses: it is a
+/// load file whose hunks are placed, or one whose hunks cannot be placed, or it is rejected.
 pub fn an_outcome_exists()
     ensures { OutcomeExists }
 {}

@@ -1,12 +1,13 @@
-//! The engines of `amihunk` and the texts that it reads and prints.
+//! The operations of `amihunk`, and the texts that it reads and prints.
 //!
 //! - `bases`: the list of addresses on the command line.
-//! - `laws`: what holds of the answers of the engines.
+//! - `laws`: laws about the outcomes of the operations.
 //! - `load`: loads a file and writes the report of its memory.
 //! - `report`: the report of an image.
-//! - `tool_fault`: what an engine is refused with.
-//! - `fault_line`: the line that tells why an engine stopped.
-//! - `digits`, `phrase`, `printing`: digits, texts with at most one number, lines written in pieces.
+//! - `tool_fault`: why an operation failed.
+//! - `fault_line`: the line that reports why an operation failed.
+//! - `digits`, `phrase`, `printing`: digits, texts with at most one number, lines written in
+//!   pieces.
 #![tactic(auto)]
 
 pub mod bases;
@@ -14,12 +15,14 @@ mod digits;
 pub mod fault_line;
 pub mod laws;
 pub mod load;
-mod phrase;
+pub mod phrase;
 mod printing;
 mod report;
 pub mod tool_fault;
 
 pub use bases::{BasesFault, parse_bases};
-pub use fault_line::write_fault;
+pub use fault_line::{write_fault, write_line};
+pub use hunk_loader::PlaceFault;
 pub use load::load_run;
+pub use phrase::Phrase;
 pub use tool_fault::{ToolFault, status_of};

@@ -8,7 +8,7 @@ use crate::digits::Digits;
 
 /// A text with at most one number in it, and at most 64 bytes around it.
 #[derive(Drop)]
-pub(crate) struct Phrase {
+pub struct Phrase {
     before: &'static str,
     digits: Digits,
     after: &'static str,
@@ -37,7 +37,7 @@ impl Phrase {
     }
 
     /// A text without a number.
-    pub(crate) fn plain(text: &'static str) -> Phrase
+    pub fn plain(text: &'static str) -> Phrase
         requires { length text.now ≤ 64 }
         ensures { phrase_text result ≡ text.now }
     {
@@ -49,7 +49,7 @@ impl Phrase {
     }
 
     /// A text around a number in decimal digits.
-    pub(crate) fn decimal(before: &'static str, number: u64, after: &'static str) -> Phrase
+    pub fn decimal(before: &'static str, number: u64, after: &'static str) -> Phrase
         requires { length before.now + length after.now ≤ 64 }
         ensures { phrase_text result ≡ before.now ++ decimal number ++ after.now }
     {
@@ -61,7 +61,7 @@ impl Phrase {
     }
 
     /// A text around a longword in eight hexadecimal digits.
-    pub(crate) fn hexadecimal(before: &'static str, number: u32, after: &'static str) -> Phrase
+    pub fn hexadecimal(before: &'static str, number: u32, after: &'static str) -> Phrase
         requires { length before.now + length after.now ≤ 64 }
         ensures { phrase_text result ≡ before.now ++ eight_digits number ++ after.now }
     {

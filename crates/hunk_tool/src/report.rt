@@ -1,10 +1,9 @@
 //! The report of an image, line by line as it is written.
 
-ghost use Rattle.std.specs.Prelude.{◌≡◌, ◌+◌, ◌*◌, ◌<◌, ◌≤◌, ◌^◌, ℕ, List, length, take, IfOk, IfErr, OnOk};
-ghost use Rattle.std.specs.Io.KnownBytes.{Appends};
+ghost use Rattle.std.specs.Prelude.{◌≡◌, ◌+◌, ◌*◌, ◌<◌, ◌≤◌, ◌^◌, ℕ, List, length, take, IfErr};
 ghost use Rattle.std.specs.List.{All};
 ghost use Rattle.hex.specs.Hex.{encode_lower};
-ghost use Rattle.hunk_words.specs.Streams.{DeviceStopped};
+ghost use Rattle.hunk_words.specs.Streams.{IsDevice, Wrote, WroteAll};
 ghost use Rattle.hunk_loader.specs.Image.{hunks_of};
 ghost use Rattle.hunk_tool.specs.Report.{hunk_line, hunk_lines, report, row_count, row_line, row_lines, EndsInside};
 
@@ -13,26 +12,26 @@ use crate::printing::write_pieces;
 use hunk_words::{Sink, WriteFault, write_all};
 use std::alloc::Allocator;
 
-/// Bytes in a row of the report.
+/// Bytes per row of the report.
 const ROW: usize = 16;
 
 /// Bytes of the rows that are written at once: 64 rows.
 const BLOCK: usize = 64 * ROW;
 
-/// The most bytes of their lines: 42 for a row of 16 bytes.
+/// The most bytes of the lines of these rows: 42 for a row of 16 bytes.
 const MOST_LINES: usize = 64 * 42;
 
-/// Writes the report of an image, whose hunks are these: each a base, which is an address, and its
-/// bytes, the last of which has an address. Every hunk is told, empty ones too. It takes no memory.
+/// Writes the report of an image with these hunks: each is a base, which is an address, and bytes,
+/// the last of which has an address too. Every hunk is reported, even an empty one. Does not
+/// allocate.
 pub(crate) fn write_report<A: Allocator, W: Sink>(
     hunks: &[(u32, Vec<u8, A>)],
     writer: &mut W,
 ) -> Result<(), WriteFault>
     requires few { length hunks.now < 2 ^ 16 }
     requires inside { All EndsInside (hunks_of hunks.now) }
-    ensures text { OnOk result (Appends (W.taken writer.old) (W.taken writer.new) (report (hunks_of hunks.now))) }
-    ensures quiet { OnOk result (W.failed writer.new ≡ W.failed writer.old) }
-    ensures stopped { IfErr result (DeviceStopped (W.taken writer.old) (W.taken writer.new) (W.failed writer.new) (report (hunks_of hunks.now)) 0) }
+    ensures wrote { WroteAll W.taken W.failed writer.old writer.new (report (hunks_of hunks.now)) result }
+    ensures device { IfErr result IsDevice }
 {
     let mut written = 0;
     for (number, (base, bytes)) in hunks.iter().enumerate() {
@@ -41,7 +40,7 @@ pub(crate) fn write_report<A: Allocator, W: Sink>(
     Ok(())
 }
 
-/// Writes all lines of a hunk, of which `written` bytes stand before them.
+/// Writes all lines of a hunk, after `written` bytes of the report.
 fn write_hunk<W: Sink>(
     writer: &mut W,
     written: u64,
@@ -51,10 +50,8 @@ fn write_hunk<W: Sink>(
 ) -> Result<u64, WriteFault>
     requires inside { base + length bytes.now ≤ 2 ^ 32 }
     requires room { written + length (hunk_lines number base bytes.now) < 2 ^ 64 }
-    ensures count { IfOk result (λ n. n ≡ written + length (hunk_lines number base bytes.now)) }
-    ensures text { OnOk result (Appends (W.taken writer.old) (W.taken writer.new) (hunk_lines number base bytes.now)) }
-    ensures quiet { OnOk result (W.failed writer.new ≡ W.failed writer.old) }
-    ensures stopped { IfErr result (DeviceStopped (W.taken writer.old) (W.taken writer.new) (W.failed writer.new) (hunk_lines number base bytes.now) written) }
+    ensures wrote { Wrote W.taken W.failed writer.old writer.new (hunk_lines number base bytes.now) written result }
+    ensures device { IfErr result IsDevice }
 {
     let written = write_hunk_line(writer, written, number, base, bytes.len() as u64)?;
     write_rows(writer, written, base, bytes)
@@ -69,10 +66,8 @@ fn write_hunk_line<W: Sink>(
     size: u64,
 ) -> Result<u64, WriteFault>
     requires { written + length (hunk_line number base size) < 2 ^ 64 }
-    ensures count { IfOk result (λ n. n ≡ written + length (hunk_line number base size)) }
-    ensures text { OnOk result (Appends (W.taken writer.old) (W.taken writer.new) (hunk_line number base size)) }
-    ensures quiet { OnOk result (W.failed writer.new ≡ W.failed writer.old) }
-    ensures stopped { IfErr result (DeviceStopped (W.taken writer.old) (W.taken writer.new) (W.failed writer.new) (hunk_line number base size) written) }
+    ensures wrote { Wrote W.taken W.failed writer.old writer.new (hunk_line number base size) written result }
+    ensures device { IfErr result IsDevice }
 {
     let number = Digits::decimal(number);
     let base = Digits::hexadecimal(base);
@@ -101,10 +96,8 @@ fn write_rows<W: Sink>(
 ) -> Result<u64, WriteFault>
     requires inside { base + length bytes.now ≤ 2 ^ 32 }
     requires room { written + length (row_lines base bytes.now) < 2 ^ 64 }
-    ensures count { IfOk result (λ n. n ≡ written + length (row_lines base bytes.now)) }
-    ensures text { OnOk result (Appends (W.taken writer.old) (W.taken writer.new) (row_lines base bytes.now)) }
-    ensures quiet { OnOk result (W.failed writer.new ≡ W.failed writer.old) }
-    ensures stopped { IfErr result (DeviceStopped (W.taken writer.old) (W.taken writer.new) (W.failed writer.new) (row_lines base bytes.now) written) }
+    ensures wrote { Wrote W.taken W.failed writer.old writer.new (row_lines base bytes.now) written result }
+    ensures device { IfErr result IsDevice }
 {
     let mut written = written;
     for index in 0..bytes.len().div_ceil(BLOCK) {
@@ -115,7 +108,7 @@ fn write_rows<W: Sink>(
     Ok(written)
 }
 
-/// Writes the lines of the rows of a block at once. The first byte of the block stands at that address.
+/// Writes the lines of the rows of a block at once. `address` is that of the block's first byte.
 fn write_block<W: Sink>(
     writer: &mut W,
     written: u64,
@@ -125,17 +118,15 @@ fn write_block<W: Sink>(
     requires inside { address + length block.now ≤ 2 ^ 32 }
     requires short { length block.now ≤ 1024 }
     requires room { written + length (row_lines address block.now) < 2 ^ 64 }
-    ensures count { IfOk result (λ n. n ≡ written + length (row_lines address block.now)) }
-    ensures text { OnOk result (Appends (W.taken writer.old) (W.taken writer.new) (row_lines address block.now)) }
-    ensures quiet { OnOk result (W.failed writer.new ≡ W.failed writer.old) }
-    ensures stopped { IfErr result (DeviceStopped (W.taken writer.old) (W.taken writer.new) (W.failed writer.new) (row_lines address block.now) written) }
+    ensures wrote { Wrote W.taken W.failed writer.old writer.new (row_lines address block.now) written result }
+    ensures device { IfErr result IsDevice }
 {
     let mut lines = [0; MOST_LINES];
     let end = put_rows(&mut lines, address, block);
     write_all(writer, written, &lines[..end])
 }
 
-/// Puts the lines of the rows of a block at the front of `lines`, and gives their length.
+/// Puts the lines of the rows of a block at the start of `lines`, and returns their length.
 fn put_rows(lines: &mut [u8], address: u32, block: &[u8]) -> usize
     requires inside { address + length block.now ≤ 2 ^ 32 }
     requires room { 42 * row_count block.now ≤ length lines.old }
@@ -157,7 +148,7 @@ fn put_rows(lines: &mut [u8], address: u32, block: &[u8]) -> usize
     end
 }
 
-/// The length of the line of a row of so many bytes.
+/// The length of the line of a row of `count` bytes.
 fn line_length(count: usize) -> usize
     requires { count ≤ 16 }
     ensures { result ≡ 10 + 2 * count }
@@ -165,7 +156,7 @@ fn line_length(count: usize) -> usize
     10 + 2 * count
 }
 
-/// Puts the line of a row, the first byte of which stands at that address, into a place of its length.
+/// Fills `line` with the line of a row, whose first byte is at `address`.
 fn put_row(line: &mut [u8], address: u32, row: &[u8])
     requires { length line.old ≡ 10 + 2 * length row.now }
     ensures { line.new ≡ row_line address row.now }
@@ -177,7 +168,7 @@ fn put_row(line: &mut [u8], address: u32, row: &[u8])
     line[last] = b'\n';
 }
 
-/// Puts two lower-case hexadecimal digits a byte into a place of their length.
+/// Fills `place` with two lower-case hexadecimal digits per byte.
 fn put_digits(place: &mut [u8], bytes: &[u8])
     requires { length place.old ≡ 2 * length bytes.now }
     ensures { place.new ≡ encode_lower bytes.now }

@@ -1,4 +1,4 @@
--- What a core stands for, one longword further.
+-- What a core stands for, after one more longword.
 use Rattle.std.proofs.Common.{◌≡◌, ℕ, zero, suc, ◌+◌, ◌*◌, ◌<◌, ◌≤◌, ◌^◌, List, [], ◌∷◌, ◌++◌, length, Some, None, Result, Ok, Err, refl, sym, ap, subst, ◌∙◌, append_assoc, length-append, arith}
 use Rattle.hunk_words.specs.Kinds.{Width, Kind, Field, width}
 use Rattle.hunk_words.specs.Kinds.Width.{long, half}
@@ -43,7 +43,7 @@ labels-append (w ∷ ws) us s e reads =
     let after = word_next v s w in
     ap (λ fs. word_labels v s w fs) (labels-append ws us after e reads.1) ∙ sym (word_labels-append v s w (labels after ws) (labels e us))
 
--- what the machine makes of longwords behind the first
+-- what the machine makes of the longwords after the first
 abbrev read_rest : Result Progress Reason → ℕ → List ℕ → Result Progress (ℕ × Reason)
 read_rest r p ws = elim r [ Ok d ↦ read_words d (p + 1) ws | Err e ↦ Err (p, e) ]
 
@@ -78,7 +78,7 @@ OffendsAt-append kind ws more p r offends = record {
   blames = offends.blames;
 }
 
--- what keeps a refusal stands for all that comes
+-- what keeps an error stands for everything that comes
 pub StandsBy-append : (kind : FileKind) (Stands : List Event → Type 0) (s : CoreState) (ws more : List ℕ) (refusal : Refusal) → s.refusal ≡ Some refusal
     → StandsBy kind Stands s ws → StandsBy kind Stands s (ws ++ more)
 StandsBy-append kind Stands s ws more refusal keeps stands = record {
@@ -86,7 +86,7 @@ StandsBy-append kind Stands s ws more refusal keeps stands = record {
   faulty = λ fault is. OffendsAt-append kind ws more fault.place fault.reason (stands.faulty fault is);
 }
 
--- ---- one longword further
+-- ---- one more longword
 
 pub StandsBy-taken : (kind : FileKind) (Before After : List Event → Type 0) (s : CoreState) (ws : List ℕ) (w : ℕ) (state : State) (b : Behind kind Before s ws)
     → s.place < most_longwords → w < 2 ^ 32 → WordAnswered kind After (fields_read kind ws) b.progress w (Ok state)
@@ -167,7 +167,7 @@ length-told : (fs : List Field) → length (events fs) ≤ length fs
 length-told [] = omega arith
 length-told (f ∷ fs) = omega (arith, length-events_one (event_of f) (events fs), length-told fs)
 
--- each longword tells two events at most
+-- each longword has at most two events
 pub length-told-events : (kind : FileKind) (Stands : List Event → Type 0) (s : CoreState) (ws : List ℕ) → Behind kind Stands s ws → length (events (fields_read kind ws)) ≤ 2 * s.place
 length-told-events kind Stands s ws b = omega (arith, length-told (fields_read kind ws), length-labels ws (start_of kind ∷ []), b.place)
 
@@ -175,7 +175,7 @@ pub few-events : (kind : FileKind) (Stands : List Event → Type 0) (s : CoreSta
     → length (events (fields_read kind ws)) + 1 < 2 ^ 29
 few-events kind Stands s ws b room = omega (arith, length-told-events kind Stands s ws b)
 
--- where no refusal is kept, the longwords are a good front
+-- if no error is kept, the longwords are a valid prefix
 pub StandsBy-front : (kind : FileKind) (Stands : List Event → Type 0) (s : CoreState) (ws : List ℕ) → s.refusal ≡ None → StandsBy kind Stands s ws → IsValidPrefix kind ws
 StandsBy-front kind Stands s ws none stands = let b = stands.good none in read-front kind ws b.progress b.long b.few b.read
 

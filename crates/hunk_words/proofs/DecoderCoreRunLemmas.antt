@@ -1,4 +1,4 @@
--- A run of words: what a core stands for behind many of them at once.
+-- A run of words: what a core stands for after many of them at once.
 use Rattle.std.proofs.Common.{◌≡◌, ℕ, suc, ◌+◌, ◌-◌, ◌<◌, ◌≤◌, ◌^◌, List, [], ◌∷◌, ◌++◌, length, Some, None, Ok, refl, sym, ap, subst, append_assoc, false, arith}
 use Rattle.std.proofs.lemmas.List.{append-nil}
 use Rattle.hunk_words.specs.Kinds.{is_half, width}
@@ -119,7 +119,7 @@ StandsBy-run kind Before After s more count then place ws us stands some within 
       faulty = λ fault is. absurd cc;
     }
 
--- a state in which a run of words is due
+-- a state in which a run of words is expected
 pub StandsBy-due : (kind : FileKind) (Stands : List Event → Type 0) (s : CoreState) (more : ℕ) (then : AfterWords) (ws : List ℕ) → s.state.due ≡ Word more then → s.refusal ≡ None
     → StandsBy kind Stands s ws → StandsBy kind Stands (record { state = record s.state { due = Word more then }; place = s.place; refusal = None }) ws
 StandsBy-due kind Stands s more then ws is none stands =

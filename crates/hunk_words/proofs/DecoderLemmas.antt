@@ -1,4 +1,4 @@
--- What a decoder stands for, some bytes further, and at their end.
+-- What a decoder stands for, after more bytes, and at their end.
 use Rattle.std.proofs.Common.{◌≡◌, ℕ, ◌+◌, ◌-◌, ◌*◌, ◌<◌, ◌≤◌, ◌^◌, List, [], ◌∷◌, ◌++◌, length, take, drop, get_or, Option, Some, None, Result, Ok, Err, OnOk, sym, ap, subst, ◌∙◌, append_assoc, length-drop, arith}
 use Rattle.std.proofs.lemmas.List.{take_more, take-append-drop, take_all}
 use Rattle.hunk_words.specs.Longwords.{longwords, unfinished}
@@ -18,7 +18,7 @@ use Rattle.hunk_words.specs.declared.fault.Refusal.TheVariants as refusal_is
 use Rattle.hunk_words.proofs.LongwordsLemmas.{longwords-append, unfinished-append, length-longwords, length-unfinished, list-none, unfinished-none}
 use Rattle.hunk_words.proofs.DecoderCoreLemmas.{StandsBy-append, StandsBy-front}
 
--- what keeps a refusal stands for all that comes
+-- what keeps an error stands for everything that comes
 pub StandsFor-append : {T : Type 0} (kind : FileKind) (stands_for : T → List Event → Type 0) (d : Decoder T) (bytes more : List ℕ) (refusal : Refusal) → kept d.core ≡ Some refusal
     → StandsFor kind stands_for d bytes → StandsFor kind stands_for d (bytes ++ more)
 StandsFor-append kind stands_for d bytes more refusal keeps stands = record {
@@ -26,11 +26,11 @@ StandsFor-append kind stands_for d bytes more refusal keeps stands = record {
   core = rw longwords-append (StandsBy-append kind (stands_for d.core.taker) d.core.state (longwords bytes) _ refusal keeps stands.core);
 }
 
--- one byte further in a piece
+-- one more byte of a piece
 pub append-next : (bytes piece : List ℕ) (i : ℕ) → i < length piece → (bytes ++ take i piece) ++ get_or piece i 0 ∷ [] ≡ bytes ++ take (i + 1) piece
 append-next bytes piece i within = append_assoc bytes (take i piece) (get_or piece i 0 ∷ []) ∙ ap (λ xs. bytes ++ xs) (sym (take_more piece i 0 within))
 
--- a front of a piece, and the rest of it
+-- the beginning of a piece, and the rest of it
 pub append-rest : (bytes piece : List ℕ) (i : ℕ) → (bytes ++ take i piece) ++ drop i piece ≡ bytes ++ piece
 append-rest bytes piece i = append_assoc bytes (take i piece) (drop i piece) ∙ ap (λ xs. bytes ++ xs) (take-append-drop i piece)
 
@@ -38,7 +38,7 @@ pub append-tail : (bytes piece : List ℕ) (n : ℕ) → n ≤ length piece → 
 append-tail bytes piece n within =
     ap (λ xs. (bytes ++ take n piece) ++ xs) (take_all (length piece - n) (drop n piece) (omega (arith, length-drop n piece))) ∙ append-rest bytes piece n
 
--- longwords behind whole ones
+-- longwords after whole ones
 pub StandsFor-words : {T : Type 0} (kind : FileKind) (stands_for : T → List Event → Type 0) (d : Decoder T) (core : Core T) (bytes whole : List ℕ) (rest n : ℕ) → kept d.core ≡ None
     → StandsFor kind stands_for d bytes → ((bs : List ℕ) → SplitterStandsFor d.splitter bs → rest ≡ length (unfinished bs)) → rest ≡ 0 → length whole ≡ 4 * n
     → CoreStandsFor kind stands_for core (longwords bytes ++ longwords whole)
@@ -50,12 +50,12 @@ StandsFor-words kind stands_for d core bytes whole rest n none stands held zero_
       core = subst (λ ws. CoreStandsFor kind stands_for core ws) (sym (longwords-append bytes whole ∙ ap (λ xs. longwords bytes ++ longwords (xs ++ whole)) empty)) taken;
     }
 
--- what a step answers that keeps its refusal
+-- the result of a step that keeps its error
 pub OnOk-kept : {A P : Type 0} (o : Option Refusal) (result : Result A Refusal) → Keeps o result → (o ≡ None → P) → OnOk result P
 OnOk-kept o (Ok done) keeps fact = fact keeps
 OnOk-kept o (Err refusal) keeps fact = tt
 
--- ---- where no refusal is kept
+-- ---- if no error is kept
 
 pub StandsFor-front : {T : Type 0} (kind : FileKind) (stands_for : T → List Event → Type 0) (d : Decoder T) (bytes : List ℕ) → kept d.core ≡ None
     → StandsFor kind stands_for d bytes → IsValidPrefix kind (longwords bytes)
@@ -87,7 +87,7 @@ Finished-end kind stands_for d bytes rest result None none stands held answered 
 Finished-end kind stands_for d bytes rest result (Some refusal) keeps stands held answered again =
     subst (λ r. Finished kind stands_for bytes r) (sym (again refusal keeps)) (kept-finished kind stands_for d bytes refusal keeps stands)
 
--- a refusal in a front of a piece stands for the whole of it
+-- an error in the beginning of a piece stands for the whole of it
 pub StandsFor-rest : {T : Type 0} (kind : FileKind) (stands_for : T → List Event → Type 0) (d : Decoder T) (bytes piece : List ℕ) (n : ℕ) (refusal : Refusal) → kept d.core ≡ Some refusal
     → StandsFor kind stands_for d (bytes ++ take n piece) → StandsFor kind stands_for d (bytes ++ piece)
 StandsFor-rest kind stands_for d bytes piece n refusal keeps stands =

@@ -1,5 +1,5 @@
--- What the events of blocks and hunks build: a lemma for each part of a tree, the premise being what is built of the
--- events behind it.
+-- What the events of blocks and hunks build: a lemma for each part of a tree, with a premise on
+-- what the events after it build.
 use Rattle.std.proofs.Common.{◌≡◌, ℕ, zero, suc, pred, ◌+◌, ◌^◌, List, [], ◌∷◌, ◌++◌, length, Option, Some, None, append_assoc, append-nil, length-append, refl, ap, sym, subst, ◌∙◌, arith}
 use Rattle.hunk_words.specs.Kinds.{Within, Kind, Field, field, type_of, entry_type, flip, half_after, content_bits, site_limit}
 use Rattle.hunk_words.specs.FaultTable.{Passes, AllPass}
@@ -25,7 +25,7 @@ use Rattle.hunk_words.specs.EventValue.Receiver.{to_name, to_content, to_debug, 
 use Rattle.hunk_words.proofs.SpellingBitLemmas.{joined_bits-div, type_longword-low, type_longword-type}
 use Rattle.hunk_words.proofs.KindsTypeLemmas.{type-reloc, type-ext, type-symbol, type-debug, type-end, type-short}
 
--- ---- what is told, one thing after another
+-- ---- what hunks contain, one thing after another
 
 merged-no_tables : (a : HunkTables) → merged a no_tables ≡ a
 merged-no_tables a = simp append-nil
@@ -44,21 +44,21 @@ on_last-append f [] x = refl
 on_last-append f (y ∷ []) x = refl
 on_last-append f (y ∷ z ∷ xs) x = ap (λ q. y ∷ q) (on_last-append f (z ∷ xs) x)
 
--- ---- the hunk that has not ended
+-- ---- the current hunk
 
 -- built so far, with this hunk and receiver
 abbrev pub holding : EventValue → Hunk → Receiver → EventValue
 holding b h r = record b { hunk = h; receiver = r }
 
--- with this hunk, whatever the receiver, the fields behind build what has the property
+-- with this hunk, whatever the receiver, the fields after it build something with the property
 abbrev pub Onward : (EventValue → Type 0) → EventValue → Hunk → List Field → Type 0
 Onward Q b h rest = (r : Receiver) → AllPass rest → Q (value_of_events (holding b h r) (events rest))
 
--- the hunk tells nothing more
+-- the hunk contains nothing more
 onward-same : (Q : EventValue → Type 0) (b : EventValue) (h : Hunk) (rest : List Field) → Onward Q b (with_tables h no_tables) rest → Onward Q b h rest
 onward-same Q b h rest next = subst (λ q. Onward Q b q rest) (with_tables-no_tables h) next
 
--- it tells a and then c
+-- it contains a and then c
 onward-merged : (Q : EventValue → Type 0) (b : EventValue) (h : Hunk) (a c : HunkTables) (rest : List Field) → Onward Q b (with_tables h (merged a c)) rest → Onward Q b (with_tables (with_tables h a) c) rest
 onward-merged Q b h a c rest next = subst (λ q. Onward Q b q rest) (sym (with_tables-with_tables h a c)) next
 
@@ -105,7 +105,7 @@ value_of_events-short-groups half last limit (g ∷ gs) pad rest b h r Q p next 
     (λ s q. value_of_events-short-groups (half_after (suc (length g.others)) half) last limit gs pad rest b (with_tables h (tables_of_sites (g.first ∷ g.others) (to_hunk g.target))) s Q q
     (onward-merged Q b h (tables_of_sites (g.first ∷ g.others) (to_hunk g.target)) (tables_of_groups gs) rest next))
 
--- the offsets of the latest reference, c references being before it
+-- the offsets of the latest reference, with c earlier references
 value_of_events-ref-offsets : (limit c : ℕ) (ns : List ℕ) (rest : List Field) (b : EventValue) (h : Hunk) (r : Receiver) (Q : EventValue → Type 0)
     → length h.tables.references ≡ suc c
     → AllPass (each (ref_offset limit) ns rest) → Onward Q b (with_tables h (tables_of_sites ns (to_reference c))) rest
@@ -116,7 +116,7 @@ value_of_events-ref-offsets limit c (n ∷ ns) rest b h r Q is p next =
     (value_of_events-ref-offsets limit c ns rest b (with_tables h (one_site n (to_reference c))) r Q (ap length (append-nil h.tables.references) ∙ is) p.1
     (onward-merged Q b h (one_site n (to_reference c)) (tables_of_sites ns (to_reference c)) rest next))
 
--- an entry tells its type
+-- the event of an entry has its type
 event-entry : (limit t n : ℕ) → entry_type n ≡ suc t → event_at (ext_entry limit) n ≡ Some (Entry (suc t))
 event-entry limit t zero is = absurd (omega (arith, is))
 event-entry limit t (suc n) is = ap (λ x. Some (Entry x)) is
@@ -189,7 +189,7 @@ value_of_events-debug ws rest b h Q p next =
     (λ vs w. ap (λ q. holding b (record h { tables = record (merged h.tables (one_debug vs)) { debugs = q } }) to_debug) (on_last-append (λ xs. xs ++ (w ∷ [])) h.tables.debugs vs))
     [] ws rest Q p (next to_debug)
 
--- a block's type tells something where it is END
+-- a block's type has an event if it is END
 value_of_events-type : (w : Within) (limit b t : ℕ) (y : BlockType) (fs : List Field) (x : EventValue) (Q : EventValue → Type 0)
     → type_of t ≡ y → Passes (block_type w limit) (type_longword b t) → Q (value_of_events x (with_event (at_end y) (events fs)))
     → Q (value_of_events x (events (field (block_type w limit) (type_longword b t) ∷ fs)))
@@ -211,7 +211,7 @@ value_of_events-block w limit c (debug_tree a ws) rest b h r Q is p next =
 
 -- ---- hunks
 
--- with this hunk at its END the fields behind build what has the property
+-- with this hunk at its END, the fields after it build something with the property
 abbrev pub Ended : (EventValue → Type 0) → EventValue → Hunk → List Field → Type 0
 Ended Q b h rest = AllPass rest → Q (value_of_events (step (holding b h nothing_more) HunkEnd) (events rest))
 
@@ -245,11 +245,11 @@ value_of_events-stored w y m c ws xs a rest b n r Q is p next =
     (value_of_events-words (λ vs. holding b (begun vs) to_content) (λ vs v. refl) [] ws behind Q p.1
     (λ q. value_of_events-blocks-end w (site_limit w (length ws)) 0 xs a rest b (begun ws) to_content Q refl q next)))
 
--- numbers of this kind tell nothing
+-- numbers of this kind have no event
 abbrev pub Silent : Kind → Type 0
 Silent k = (n : ℕ) → event_at k n ≡ None
 
--- a field that tells nothing
+-- a field without an event
 pub value_of_events-silent : (k : Kind) (n : ℕ) (fs : List Field) (b : EventValue) (Q : EventValue → Type 0) → Silent k → Q (value_of_events b (events fs)) → Q (value_of_events b (events (field k n ∷ fs)))
 value_of_events-silent k n fs b Q silent next = subst (λ e. Q (value_of_events b (with_event e (events fs)))) (sym (silent n)) next
 

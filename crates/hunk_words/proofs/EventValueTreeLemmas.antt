@@ -19,7 +19,8 @@ use Rattle.hunk_words.proofs.EventValueLemmas.{Silent, value_of_events-silent, v
 abbrev pub in_part : List (ℕ × ℕ) → List Part → List ℕ → List Hunk → Receiver → EventValue
 in_part s ps n hs r = record { parts = ps ++ (record { name = n; hunks = hs } ∷ []); sizes = s; hunk = empty; receiver = r }
 
--- with these hunks in the part, whatever the receiver, the fields behind build what has the property
+-- with these hunks in the part, whatever the receiver, the fields after them build something with
+-- the property
 abbrev pub With : (EventValue → Type 0) → List (ℕ × ℕ) → List Part → List ℕ → List Hunk → List Field → Type 0
 With Q s ps n hs rest = (r : Receiver) → AllPass rest → Q (value_of_events (in_part s ps n hs r) (events rest))
 

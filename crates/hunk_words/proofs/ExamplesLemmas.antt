@@ -1,4 +1,4 @@
--- What the machine computes of a worked file is what the definitions say of it.
+-- What the machine computes for a worked file is what the definitions say about it.
 use Rattle.std.proofs.Common.{◌≡◌, ℕ, ◌+◌, ◌^◌, ◌<◌, ◌≤◌, List, [], ◌∷◌, length, Bool, true, false, ◌&&◌, nat_lt, nat_le, Result, Ok, Err, refl, ap, sym, ◌∙◌, arith}
 use Rattle.std.proofs.lemmas.Bool.Decides.{nat_tests}
 use Rattle.hunk_words.specs.Kinds.{Kind}
@@ -20,7 +20,7 @@ use Rattle.hunk_words.proofs.FilesReadingLemmas.{complete-file}
 use Rattle.hunk_words.proofs.FirstOffenceLemmas.{ends-early, offends-at}
 use Rattle.hunk_words.proofs.ReadingSameLemmas.{object-labels, load-labels}
 
--- ---- tests that compute
+-- ---- checks that compute
 
 abbrev pub all_long : List ℕ → Bool
 all_long [] = true
@@ -47,7 +47,7 @@ long-all : (ws : List ℕ) → all_long ws ≡ true → AllLong ws
 long-all [] e = tt
 long-all (w ∷ ws) e = (is-below w (2 ^ 32) (and-first (nat_lt w (2 ^ 32)) (all_long ws) e), long-all ws (and-second (nat_lt w (2 ^ 32)) (all_long ws) e))
 
--- what the machine comes to, where it does not stop
+-- what the machine comes to, if it does not stop
 abbrev pub reached : FileKind → List ℕ → Progress
 reached kind ws = elim (read_words (initial_progress kind) 0 ws) [ Ok d ↦ d | Err stop ↦ initial_progress kind ]
 

@@ -1,4 +1,5 @@
--- From what passes back to the number: what a type or an entry is tells its number, and a longword is made of its parts.
+-- From what passes back to the number: the kind of a type or an entry determines its number, and a
+-- longword is made of its parts.
 use Rattle.std.proofs.Common.{◌≡◌, ℕ, ◌/◌, ◌%◌, ◌^◌, ◌<◌, Bool, true, false, Option, Some, None, List, [], ◌∷◌, ◌==◌, if◌then◌else◌, refl, ap, sym, subst, ◌∙◌, arith}
 use Rattle.std.proofs.lemmas.Grind.{common_steps}
 use Rattle.std.proofs.lemmas.Bool.{eqb-true}
@@ -12,7 +13,7 @@ use Rattle.hunk_words.specs.declared.kinds.EntryType.{EntryType}
 use Rattle.hunk_words.specs.declared.kinds.EntryType.TheVariants.{Definition as definition, Absolute as absolute, Reference as reference, Other as other_entry}
 use Rattle.hunk_words.specs.declared.fault.Reason.{Reason}
 
--- ---- tests that passed
+-- ---- checks that passed
 
 pub reject_unless-none : (b : Bool) (r : Reason) → reject_unless b r ≡ None → b ≡ true
 reject_unless-none true r h = refl

@@ -23,13 +23,14 @@ abbrev pub next_at : Width → Half
 next_at long = upper
 next_at (half h) = flip h
 
--- where what a kind makes due ends
+-- where what a kind makes expected ends
 abbrev pub ends_at : Kind → Half
 ends_at (short_hunk h last limit more) = half_after (suc more) (flip h)
 ends_at (short_offset h limit target) = flip h
 ends_at _ = upper
 
--- what is due starts at this half, each kind where the one before it ends, and the last ends a longword
+-- what is expected starts at this half, each kind where the one before it ends, and the last ends a
+-- longword
 abbrev pub Aligned : Half → List Kind → Type 0
 Aligned h [] = h ≡ upper
 Aligned h (k ∷ s) = (starts_at (width k) ≡ h) × Aligned (ends_at k) s

@@ -1,4 +1,4 @@
--- What is read is the front of a file, and each file that begins so bears the same there.
+-- What is read is the beginning of a file, and each file with this beginning has the same there.
 use Rattle.std.proofs.Common.{◌≡◌, ℕ, ◌+◌, ◌*◌, ◌/◌, ◌^◌, ◌<◌, List, [], ◌∷◌, ◌++◌, length, Some, None, refl, ap, sym, subst, ◌∙◌, arith}
 use Rattle.std.proofs.lemmas.Nat.{div-mul-add}
 use Rattle.hunk_words.specs.Kinds.{Kind, Width, Field, bound, width}
@@ -67,7 +67,7 @@ aligned-front kind ws m r = aligned-reads ws (start kind) m r (aligned-start kin
 finishable-front : (kind : FileKind) (ws : List ℕ) (m : List Kind) → Reads (start kind) ws m → Finishable m
 finishable-front kind ws m r = finishable-reads ws (start kind) m r (finishable-start kind)
 
--- ---- what a file that begins so bears
+-- ---- what a file with this beginning has
 
 pub next-passes : (kind : FileKind) (ws more : List ℕ) (w : ℕ) (m : List Kind) (t : Tree kind) → Reads (start kind) ws m → Fits kind t → longwords_spelled kind t ≡ ws ++ (w ∷ more) → WordPasses (width (due m)) m w
 next-passes kind ws more w m t r f l =
@@ -92,7 +92,7 @@ aligned-complete [] c = refl
 aligned-complete (unit_type ∷ []) c = (refl, refl)
 aligned-complete _ c = absurd c
 
--- a finish of what is due completes what was read
+-- a finish of what is expected completes what was read
 completed : (kind : FileKind) (ws : List ℕ) (m : List Kind) → Reads (start kind) ws m → (f : Finish m) → (t : Tree kind) × Fits kind t × (longwords_spelled kind t ≡ ws ++ longwords_of f.fields)
 completed kind ws m r f =
     read-spelled kind (ws ++ longwords_of f.fields) f.after
@@ -127,14 +127,14 @@ completion-finish kind ws m r f w more l =
     let t = completed kind ws m r f in
     (record { tree = t.0; fits = t.1; next = w; more = more; begins = t.2 ∙ ap (λ x. ws ++ x) l }, refl)
 
--- where anything is due, there is a completion
+-- where anything is expected, there is a completion
 pub completion : (kind : FileKind) (ws : List ℕ) (k : Kind) (s : List Kind) → Reads (start kind) ws (k ∷ s) → Completion kind ws
 completion kind ws k s r =
     let b : Begin k s = begin-stack k s (finishable-front kind ws (k ∷ s) r) in
     let l = longwords-cons (width k) b.number b.behind.fields in
     (completion-finish kind ws (k ∷ s) r (finish-begin b) l.0 l.1 l.2).0
 
--- where halves are due, there is one with any upper half that passes
+-- where halves are expected, there is one with any upper half that passes
 pub completion-upper : (kind : FileKind) (ws : List ℕ) (k : Kind) (s : List Kind) (h : Half) (n : ℕ) → Reads (start kind) ws (k ∷ s) → width k ≡ half h → Passes k n → (c : Completion kind ws) × (c.next / 2 ^ 16 ≡ n)
 completion-upper kind ws k s h n r is p =
     let q : Finishable (k ∷ s) = finishable-front kind ws (k ∷ s) r in

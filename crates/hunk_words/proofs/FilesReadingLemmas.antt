@@ -1,4 +1,4 @@
--- Good fronts and files: the machine reads each, and nothing else.
+-- Valid prefixes and files: the machine reads each, and nothing else.
 use Rattle.std.proofs.Common.{◌≡◌, ℕ, zero, suc, ◌≤◌, List, [], ◌∷◌, ◌++◌, length, Ok, refl, ap, sym, subst, ◌∙◌, append-nil, append_assoc, length-append, arith}
 use Rattle.hunk_words.specs.Kinds.{Width, Field, width}
 use Rattle.hunk_words.specs.Kinds.Width.{long, half}
@@ -16,7 +16,7 @@ use Rattle.hunk_words.proofs.ReadingProgressLemmas.{WordsRead, words-read, words
 
 -- ---- fields of longwords
 
--- of a front of longwords the sites obey the rules where all do
+-- the sites of the first longwords obey the rules if all do
 pub obeys-fields_from : (h : Half) (n : ℕ) (fs : List Field) (seen : List ℕ) → Obeys seen fs → Obeys seen (fields_from h n fs)
 obeys-fields_from upper zero fs seen o = tt
 obeys-fields_from upper (suc n) [] seen o = tt
@@ -45,9 +45,9 @@ fields-front upper (w ∷ ws) us (f ∷ fs) = fields-front-at (width f.kind) (le
 fields-front lower ws us [] = refl
 fields-front lower ws us (f ∷ fs) = ap (λ x. f ∷ x) (fields-front upper ws us fs)
 
--- ---- fronts and files
+-- ---- prefixes and files
 
--- a front of a good front is good
+-- a prefix of a valid prefix is valid
 pub front-front : (kind : FileKind) (ws us : List ℕ) → IsValidPrefix kind (ws ++ us) → IsValidPrefix kind ws
 front-front kind ws us g = record {
   tree = g.tree;
@@ -59,7 +59,7 @@ front-front kind ws us g = record {
   short_enough = let n : length (ws ++ us) ≤ most_longwords = g.short_enough in omega (arith, length-append ws us);
 }
 
--- a file is a good front
+-- a file is a valid prefix
 pub file-front : (kind : FileKind) (ws : List ℕ) → IsFile kind ws → IsValidPrefix kind ws
 file-front kind ws g = record {
   tree = g.tree;
@@ -70,14 +70,14 @@ file-front kind ws g = record {
   short_enough = g.is_file.short_enough;
 }
 
--- each good front is read
+-- each valid prefix is read
 pub front-read : (kind : FileKind) (ws : List ℕ) → IsValidPrefix kind ws → (d : Progress) × (read_words (initial_progress kind) 0 ws ≡ Ok d) × WordsRead (initial_progress kind) ws d
 front-read kind ws g =
     let r : Reads (start kind) (ws ++ g.more) (end_of kind) = subst (λ x. Reads (start kind) x (end_of kind)) g.begins (spelling-read kind g.tree g.fits) in
     let m = reads-split ws g.more (start kind) (end_of kind) r in
     words-go ws (initial_progress kind) 0 m.0 m.1 (subst (λ fs. Obeys [] fs) (spelling-in kind g.tree ws g.more g.fits g.begins) g.sites)
 
--- what is read is a good front
+-- what is read is a valid prefix
 pub read-front : (kind : FileKind) (ws : List ℕ) (d : Progress) → AllLong ws → length ws ≤ most_longwords → read_words (initial_progress kind) 0 ws ≡ Ok d → IsValidPrefix kind ws
 read-front kind ws d longs short h =
     let r = words-read ws (initial_progress kind) 0 d longs h in
@@ -90,7 +90,7 @@ read-front kind ws d longs short h =
       short_enough = short;
     }
 
--- and a file, where it may end there
+-- and a file, if it may end there
 pub complete-file : (kind : FileKind) (ws : List ℕ) (d : Progress) → AllLong ws → length ws ≤ most_longwords → read_words (initial_progress kind) 0 ws ≡ Ok d → IsComplete d.stack → IsFile kind ws
 complete-file kind ws d longs short h c =
     let r = words-read ws (initial_progress kind) 0 d longs h in
@@ -100,7 +100,7 @@ complete-file kind ws d longs short h c =
       is_file = record { fits = t.1; spelled = t.2; sites = subst (λ fs. Obeys [] fs) (sym same) r.obeys; short_enough = short };
     }
 
--- a file is read to where it may end
+-- a file is read up to where it may end
 pub file-reads : (kind : FileKind) (ws : List ℕ) → IsFile kind ws → Reads (start kind) ws (end_of kind)
 file-reads kind ws g = subst (λ x. Reads (start kind) x (end_of kind)) g.is_file.spelled (spelling-read kind g.tree g.is_file.fits)
 

@@ -1,4 +1,5 @@
--- What is due behind a good front, and what is blamed there: the machine stops for the reason of the first offence.
+-- What is expected after a valid prefix, and what is blamed there: the machine stops for the reason
+-- of the first offence.
 use Rattle.std.proofs.Common.{◌≡◌, ℕ, ◌/◌, ◌%◌, ◌^◌, ◌<◌, List, [], ◌∷◌, length, Option, Some, None, Result, Ok, Err, ◌⊎◌, inl, inr, refl, ap, sym, subst, ◌∙◌, arith}
 use Rattle.hunk_words.specs.Kinds.{Kind, Width, Field, field, width, bound}
 use Rattle.hunk_words.specs.FaultTable.{Passes, judged, and_then}
@@ -21,9 +22,9 @@ use Rattle.hunk_words.proofs.FilesPrefixLemmas.{start, end_of, spelling-read, re
 use Rattle.hunk_words.proofs.ReadingProgressLemmas.{and_then-none, WordsRead, words-read}
 use Rattle.hunk_words.proofs.FilesReadingLemmas.{complete-file, file-reads}
 
--- ---- what completions bear
+-- ---- what completions have
 
--- of the next longword's fields the first, and the second where it has two
+-- the first field of the next longword, and the second if it has two
 first-due : (w : Width) (m : List Kind) (n : ℕ) (fs : List Field) → first_kind (word_labels w m n fs) ≡ Some (due m)
 first-due long m n fs = refl
 first-due (half h) m n fs = refl
@@ -35,7 +36,7 @@ borne-due kind ws m c r =
 borne-seen : (kind : FileKind) (ws : List ℕ) (c : Completion kind ws) → seen_before (length ws) (spelling kind c.tree) ≡ seen_all [] (labels (start kind) ws)
 borne-seen kind ws c = ap (λ x. seen_all [] x) (spelling-in kind c.tree ws (c.next ∷ c.more) c.fits c.begins)
 
--- where halves are due, and the upper one is n
+-- where halves are expected, and the upper one is n
 borne-halves : (kind : FileKind) (ws : List ℕ) (m : List Kind) (h : Half) (n : ℕ) (c : Completion kind ws) → Reads (start kind) ws m → width (due m) ≡ half h → c.next / 2 ^ 16 ≡ n
     → (fs : List Field) × (fields_after (length ws) (spelling kind c.tree) ≡ field (due m) n ∷ field (due (next m n)) (c.next % 2 ^ 16) ∷ fs)
 borne-halves kind ws m h n c r is u =
@@ -102,7 +103,7 @@ blames-width (half x) kind ws k s seen bad r wide short small reads is h =
           (unless-err (wrong_with (due (push k (bad / 2 ^ 16) s)) (seen_after k (bad / 2 ^ 16) seen) (bad % 2 ^ 16)) _ r e.1)
     ]
 
--- only a load file ends where nothing is due
+-- only a load file ends where nothing is expected
 load-ends : (kind : FileKind) (ws : List ℕ) → Reads (start kind) ws [] → kind ≡ Load
 load-ends Load ws r = refl
 load-ends Object ws r =
@@ -125,7 +126,7 @@ blames-stop kind ws (k ∷ s) seen bad r longs short small h e =
 some-one : {A : Type 0} {a b : A} → Some a ≡ Some b → a ≡ b
 some-one h = cc
 
--- what is due is the machine's
+-- what is expected is what the machine expects
 due-read : (kind : FileKind) (ws : List ℕ) (d : Progress) (k : Kind) (seen : List ℕ) → WordsRead (initial_progress kind) ws d → IsDue kind ws k seen → (due d.stack ≡ k) × (d.seen ≡ seen)
 due-read kind ws d k seen r is =
     (some-one (sym (borne-due kind ws d.stack is.some r.reads) ∙ is.bears is.some), sym r.seen ∙ sym (borne-seen kind ws is.some) ∙ is.before is.some)
@@ -137,14 +138,14 @@ lower-due-read kind ws d h n l seen r wide is = (
   ap (λ x. seen_after (due d.stack) n x) (sym r.seen) ∙ sym (borne-seen_lower kind ws d.stack h n is.some r.reads wide is.some_is) ∙ is.before is.some is.some_is,
 )
 
--- behind a whole load file
+-- after a whole load file
 reason-behind : (kind : FileKind) (ws : List ℕ) (d : Progress) (bad : ℕ) (r : Reason) → WordsRead (initial_progress kind) ws d → kind ≡ Load → IsFile kind ws → judged past_end bad ≡ Some r → read_word d bad ≡ Err r
 reason-behind Object ws d bad r reads load file past = absurd (cc)
 reason-behind Load ws d bad r reads load file past =
     let empty : [] ≡ d.stack = reads-one ws (start Load) [] d.stack (file-reads Load ws file) reads.reads in
     subst (λ s. read_word (record { stack = s; seen = d.seen }) bad ≡ Err r) empty (ap (λ o. unless (and_then o None) (field_next (record { stack = []; seen = d.seen }) bad)) past)
 
--- where the reason is blamed behind fewer longwords than the most
+-- where the reason is blamed after fewer longwords than the most
 pub reason-read : (kind : FileKind) (ws : List ℕ) (d : Progress) (bad : ℕ) (r : Reason) → WordsRead (initial_progress kind) ws d → length ws < most_longwords → Blames kind ws bad r → read_word d bad ≡ Err r
 reason-read kind ws d bad r reads short (too_large e is) = absurd (omega arith)
 reason-read kind ws d bad r reads short (behind_file _ load file past) = reason-behind kind ws d bad r reads load file past

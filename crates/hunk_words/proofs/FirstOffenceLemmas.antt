@@ -1,4 +1,5 @@
--- The first offence: the machine stops there, longwords that are no file have one, and it is one.
+-- The first offence: the machine stops there, longwords that are not a file have one, and it is
+-- unique.
 use Rattle.std.proofs.Common.{◌≡◌, ℕ, zero, suc, ◌+◌, ◌^◌, ◌<◌, ◌≤◌, List, [], ◌∷◌, ◌++◌, length, Result, Ok, Err, ◌⊎◌, inl, inr, refl, ap, sym, subst, ◌∙◌, append_assoc, length-append, arith}
 use Rattle.hunk_words.specs.Kinds.{Kind}
 use Rattle.hunk_words.specs.Kinds.Kind.{unit_type}
@@ -22,7 +23,7 @@ long-append : (xs ys : List ℕ) → AllLong (xs ++ ys) → AllLong xs × AllLon
 long-append [] ys h = (tt, h)
 long-append (x ∷ xs) ys h = let r = long-append xs ys h.1 in ((h.0, r.0), r.1)
 
--- a list that is longer than n, cut behind the first n
+-- a list that is longer than n, cut after the first n
 cut : (n : ℕ) (ws : List ℕ) → n < length ws → (front : List ℕ) × (bad : ℕ) × (behind : List ℕ) × (ws ≡ front ++ (bad ∷ behind)) × (length front ≡ n)
 cut n [] h = absurd (omega arith)
 cut zero (w ∷ ws) h = ([], w, ws, refl, refl)
@@ -125,7 +126,7 @@ complete-or-not [] = inl tt
 complete-or-not (unit_type ∷ []) = inl tt
 complete-or-not _ = inr (λ x. x)
 
--- with more longwords behind it, the offence is the same
+-- with more longwords after it, the offence is the same
 offends-more : (kind : FileKind) (ws us : List ℕ) (p : ℕ) (r : Reason) → OffendsAt kind ws p r → OffendsAt kind (ws ++ us) p r
 offends-more kind ws us p r o = record {
   front = o.front;
@@ -181,7 +182,7 @@ file-or-offence kind ws rest longs =
 
 -- ---- never both
 
--- a good front has no offence
+-- a valid prefix has no offence
 front-no-offence : (kind : FileKind) (ws : List ℕ) (p : ℕ) (r : Reason) → IsValidPrefix kind ws → OffendsAt kind ws p r → ⊥
 front-no-offence kind ws p r g o =
     o.no_longer (front-front kind (o.front ++ (o.bad ∷ [])) o.behind (subst (λ x. IsValidPrefix kind x) (o.parts ∙ sym (append_assoc o.front (o.bad ∷ []) o.behind)) g))
@@ -190,9 +191,9 @@ pub file-no-offence : (kind : FileKind) (ws : List ℕ) (place : ℕ) (r : Reaso
 file-no-offence kind ws place r f (longword_offends o) = front-no-offence kind ws place r (file-front kind ws f) o
 file-no-offence kind ws place r f (end_offends e) = e.not_whole refl f
 
--- ---- and one
+-- ---- uniqueness
 
--- behind the most longwords nothing else is blamed
+-- after the most longwords nothing else is blamed
 blames-most : (kind : FileKind) (ws : List ℕ) (bad : ℕ) (r : Reason) → length ws ≡ most_longwords → Blames kind ws bad r → r ≡ TooLarge
 blames-most kind ws bad r long (too_large _ is) = is
 blames-most kind ws bad r long (behind_file short _ _ _) = absurd (omega arith)

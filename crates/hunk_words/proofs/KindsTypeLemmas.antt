@@ -1,4 +1,4 @@
--- What the types of blocks and of external symbols are, number by number.
+-- The types of blocks and of external symbols, number by number.
 use Rattle.std.proofs.Common.{◌≡◌, ℕ, refl, ap}
 use Rattle.hunk_words.specs.Kinds.{type_of, entry_of, entry_type, lookup_or, entry_types}
 use Rattle.hunk_words.specs.declared.kinds.HunkKind.TheVariants.{Code, Data, Bss}

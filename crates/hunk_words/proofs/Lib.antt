@@ -1,6 +1,7 @@
 pub mod LongwordsLemmas
 pub mod SplitterLemmas
 pub mod StreamsLemmas
+pub mod StreamsWritingLemmas
 pub mod NameLemmas
 pub mod SitesLemmas
 pub mod StateLemmas
@@ -36,4 +37,5 @@ pub mod DecoderLemmas
 pub mod DecoderCoreRunLemmas
 pub mod OpenNameLemmas
 pub mod TakerLemmas
+pub mod PartialHunkLemmas
 pub mod ExamplesLemmas

@@ -16,7 +16,7 @@ go (w ∷ ws) h =
 pub longwords-bytes_of : (ws : List ℕ) → All (λ w. w < 2 ^ 32) ws → longwords (bytes_of ws) ≡ ws
 longwords-bytes_of ws h = go ws (recursion_from_All (λ w. w < 2 ^ 32) ws h)
 
--- and nothing is left behind the last one
+-- and nothing is left after the last one
 pub bytes_of-IsWhole : (ws : List ℕ) → IsWhole (bytes_of ws)
 bytes_of-IsWhole [] = refl
 bytes_of-IsWhole (w ∷ ws) = bytes_of-IsWhole ws

@@ -26,7 +26,7 @@ length-unfinished (a ∷ b ∷ []) = omega arith
 length-unfinished (a ∷ b ∷ c ∷ []) = omega arith
 length-unfinished (a ∷ b ∷ c ∷ d ∷ bytes) = length-unfinished bytes
 
--- Fewer than four bytes are no longword.
+-- Fewer than four bytes are not a longword.
 pub unfinished-short : (bytes : List ℕ) → length bytes ≤ 3 → unfinished bytes ≡ bytes
 unfinished-short [] h = refl
 unfinished-short (a ∷ []) h = refl
@@ -63,7 +63,7 @@ longwords-four (a ∷ b ∷ []) four = absurd (omega arith)
 longwords-four (a ∷ b ∷ c ∷ []) four = absurd (omega arith)
 longwords-four (a ∷ b ∷ c ∷ d ∷ bytes) four = let e : bytes ≡ [] = list-none bytes (omega arith) in rw e refl
 
--- one longword further
+-- one more longword
 pub longwords-next : (bytes : List ℕ) (i : ℕ) → 4 * i + 4 ≤ length bytes
     → longwords (take (4 * (i + 1)) bytes) ≡ longwords (take (4 * i) bytes) ++ big_number 4 (take 4 (drop (4 * i) bytes)) ∷ []
 longwords-next bytes i within =
@@ -75,7 +75,7 @@ longwords-next bytes i within =
     ∙ ap (λ xs. longwords front ++ longwords (xs ++ four)) none
     ∙ ap (λ ws. longwords front ++ ws) (longwords-four four (length-take-le 4 (drop (4 * i) bytes) (omega (arith, length-drop (4 * i) bytes))))
 
--- all longwords stand before the bytes left over
+-- all longwords come before the bytes left over
 pub longwords-front : (bytes : List ℕ) (n : ℕ) → 4 * n ≤ length bytes → length bytes ≤ 4 * n + 3 → longwords (take (4 * n) bytes) ≡ longwords bytes
 longwords-front bytes n within few =
     let front = take (4 * n) bytes in
@@ -84,24 +84,24 @@ longwords-front bytes n within few =
     sym (ap longwords (sym (take-append-drop (4 * n) bytes)) ∙ longwords-append front rest ∙ ap (λ xs. longwords front ++ longwords (xs ++ rest)) none
     ∙ ap (λ ws. longwords front ++ ws) (longwords-short rest (omega (arith, length-drop (4 * n) bytes))) ∙ append-nil (longwords front))
 
--- one longword further behind others
+-- one more longword after others
 pub words-next : (ws bytes : List ℕ) (i word : ℕ) → 4 * i + 4 ≤ length bytes → word ≡ big_number 4 (take 4 (drop (4 * i) bytes))
     → (ws ++ longwords (take (4 * i) bytes)) ++ word ∷ [] ≡ ws ++ longwords (take (4 * (i + 1)) bytes)
 words-next ws bytes i word within is =
     append_assoc ws (longwords (take (4 * i) bytes)) (word ∷ [])
     ∙ ap (λ us. ws ++ us) (ap (λ w. longwords (take (4 * i) bytes) ++ w ∷ []) is ∙ sym (longwords-next bytes i within))
 
--- the longwords of a front of bytes, and what comes behind them
+-- the longwords of the first bytes, and what comes after them
 pub words-rest : (ws bytes : List ℕ) (n : ℕ) → (ws ++ longwords (take n bytes)) ++ longwords (unfinished (take n bytes) ++ drop n bytes) ≡ ws ++ longwords bytes
 words-rest ws bytes n =
     append_assoc ws (longwords (take n bytes)) _
     ∙ ap (λ us. ws ++ us) (sym (longwords-append (take n bytes) (drop n bytes)) ∙ ap longwords (take-append-drop n bytes))
 
--- the first longword behind others
+-- the first longword after others
 pub words-first : (ws bytes : List ℕ) (word : ℕ) → 4 ≤ length bytes → word ≡ big_number 4 (take 4 bytes) → ws ++ word ∷ [] ≡ ws ++ longwords (take 4 bytes)
 words-first ws bytes word within is = ap (λ w. ws ++ w ∷ []) is ∙ ap (λ us. ws ++ us) (sym (longwords-four (take 4 bytes) (length-take-le 4 bytes within)))
 
--- some longwords further behind others
+-- some more longwords after others
 pub words-more : (ws bytes : List ℕ) (i n : ℕ) → 4 * i ≤ length bytes → (ws ++ longwords (take (4 * i) bytes)) ++ longwords (take (4 * n) (drop (4 * i) bytes)) ≡ ws ++ longwords (take (4 * (i + n)) bytes)
 words-more ws bytes i n within =
     let front = take (4 * i) bytes in
@@ -111,7 +111,7 @@ words-more ws bytes i n within =
     append_assoc ws (longwords front) (longwords more)
     ∙ ap (λ us. ws ++ us) (ap (λ xs. longwords front ++ longwords (xs ++ more)) (sym none) ∙ sym (longwords-append front more) ∙ ap longwords (sym (take-add (4 * i) (4 * n) bytes)) ∙ ap (λ m. longwords (take m bytes)) next)
 
--- all longwords behind whole ones
+-- all longwords after whole ones
 pub words-all : (ws bytes : List ℕ) (i : ℕ) → 4 * i ≤ length bytes → (ws ++ longwords (take (4 * i) bytes)) ++ longwords (drop (4 * i) bytes) ≡ ws ++ longwords bytes
 words-all ws bytes i within =
     let none : unfinished (take (4 * i) bytes) ≡ [] = unfinished-none (take (4 * i) bytes) i (length-take-le (4 * i) bytes within) in

@@ -1,5 +1,5 @@
--- What a kind begins: the parts of a tree that stand where it is due, up to what was due behind it. A stack is filled by
--- what each of its kinds begins.
+-- What a kind begins: the parts of a tree that come where it is expected, up to what was expected
+-- after it. A stack is filled by what each of its kinds begins.
 use Rattle.std.specs.Prelude.{◌≡◌, ℕ, suc, ◌^◌, List, [], ◌∷◌, length}
 use Rattle.hunk_words.specs.Kinds.{Kind, Field, field, flip, site_limit}
 use Rattle.hunk_words.specs.Kinds.Within.{in_load}
@@ -13,7 +13,7 @@ abbrev pub Hunks : List ℕ → Type 0
 Hunks [] = Unit {0}
 Hunks (size ∷ sizes) = HunkTree × Hunks sizes
 
--- The hunks of these sizes, of which the latest stands first in the list.
+-- The hunks of these sizes, the latest first.
 abbrev pub hunks_before : ℕ → (sizes : List ℕ) → Hunks sizes → List Field → List Field
 hunks_before last [] hs rest = rest
 hunks_before last (size ∷ sizes) hs rest = hunks_before last sizes hs.1 (hunk_at (hunk_type last size) (in_load last size) hs.0.name hs.0.body rest)

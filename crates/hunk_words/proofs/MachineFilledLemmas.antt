@@ -1,4 +1,4 @@
--- What is taken to where a file may end is filled: an induction on the fields.
+-- What is taken up to where a file may end is filled: an induction on the fields.
 use Rattle.std.proofs.Common.{◌≡◌, ℕ, zero, suc, ◌≤◌, List, [], ◌∷◌, true, nat_le, ◌&&◌, refl, ap, sym, subst, ◌∙◌, arith}
 use Rattle.std.proofs.lemmas.Grind.{common_steps}
 use Rattle.hunk_words.specs.Kinds.{Kind, Field, field, low, bits, type_of, entry_of}
@@ -16,7 +16,7 @@ use Rattle.hunk_words.proofs.MachineFilledPartLemmas.{HunkBegun, lengths-of-time
 table-positive : (n : ℕ) → (nat_le 1 n && nat_le n 65535) ≡ true → 1 ≤ n
 table-positive n h = grind (arith, common_steps)
 
--- A kind whose number passes begins what it makes due and what that begins.
+-- A kind whose number passes begins what it makes expected and what that begins.
 pub build : (k : Kind) (n : ℕ) (s : List Kind) → Passes k n → (x : Filled (push k n s)) → Begun k n s (filled (push k n s) x)
 build object_start n s p x = (
   (record { first = record { type_bits = bits n; name = x.0; hunks = x.1.0.0 }; others = x.1.0.1 }, x.1.1),
@@ -58,7 +58,7 @@ build (short_hunk h last limit more) n s p x = build-short_hunk h last limit mor
 build (short_offset h limit target) n s p x = ((n, x), refl)
 build short_pad n s p x = ((n, x), refl)
 
--- where a file may end all is filled
+-- where a file may end, all is filled
 filled-complete : (e : List Kind) → IsComplete e → (x : Filled e) × (filled e x ≡ [])
 filled-complete [] c = (tt, refl)
 filled-complete (unit_type ∷ []) c = ((([], []), tt), refl)

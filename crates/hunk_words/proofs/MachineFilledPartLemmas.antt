@@ -1,4 +1,5 @@
--- What a number makes due is begun, then so is what its kind begins: a lemma for the kinds of one part of a tree.
+-- What a number makes expected is begun, then so is what its kind begins: a lemma for the kinds of
+-- one part of a tree.
 use Rattle.std.proofs.Common.{◌≡◌, ℕ, zero, suc, ◌-◌, ◌^◌, ◌≤◌, true, List, [], ◌∷◌, length, Some, None, refl, ap, sym, ◌∙◌, arith}
 use Rattle.hunk_words.specs.Kinds.{Within, Kind, Field, field, low, bits, entry_type, entry_length, is_entry, flip, half_after, content_bits, site_limit}
 use Rattle.hunk_words.specs.FaultTable.{is_content, may_follow, begins_in_unit, begins_in_load}
@@ -20,9 +21,9 @@ use Rattle.hunk_words.specs.Machine.{times, short_times, reverse_onto, hunks_due
 use Rattle.hunk_words.proofs.FaultTableLemmas.{TypeIs, EntryIs, type_longword-whole, entry-whole}
 use Rattle.hunk_words.proofs.MachineFilled.{Hunks, hunks_before, Made, made, Filled, filled, Begun}
 
--- ---- kinds that are due several times
+-- ---- kinds that are expected several times
 
--- the numbers of a kind that is due n times
+-- the numbers of a kind that is expected n times
 abbrev pub Each : Kind → ℕ → List Kind → List Field → Type 0
 Each k n s fs = (ns : List ℕ) × (x : Filled s) × (length ns ≡ n) × (each k ns (filled s x) ≡ fs)
 
@@ -46,7 +47,7 @@ each-of-short_times (suc n) h limit target s x =
     let r : EachShort (flip h) limit target n s (filled (short_times n (flip h) limit target s) x.1) = each-of-short_times n (flip h) limit target s x.1 in
     (x.0 ∷ r.0, r.1, ap (λ q. suc q) r.2, ap (λ q. field (short_offset h limit target) x.0 ∷ q) r.3)
 
--- the hunks of a load file, each due by its size
+-- the hunks of a load file, each expected by its size
 abbrev pub AllHunks : ℕ → List ℕ → List ℕ → List Kind → List Field → Type 0
 AllHunks last before sizes s fs = (hs : Hunks before) × (x : Filled (hunks_due last sizes s)) × (hunks_before last before hs (filled (hunks_due last sizes s) x) ≡ fs)
 
@@ -117,7 +118,7 @@ entry-words : (limit n t : ℕ) (ns : List ℕ) (fs gs : List Field) → entry_t
 entry-words limit n t ns fs gs is len named =
     ap (λ q. field (ext_entry limit) q ∷ each word ns fs) (entry-whole n t (length ns) is (sym len)) ∙ ap (λ q. field (ext_entry limit) n ∷ q) named
 
--- a name and what stands behind it
+-- a name and what comes after it
 abbrev Named : ℕ → EntryType → ℕ → List Kind → List Field → Type 0
 Named limit type n s fs = Each word n (entry_tail limit type ∷ ext_entry limit ∷ s) fs
 
@@ -179,7 +180,7 @@ build-content_type w n s (content c) is p x =
     ((r.0, x.1), r.1)
 build-content_type w n s _ is p x = absurd (cc)
 
--- a hunk, whose first longword is of the kind k
+-- a hunk, whose first longword is of kind k
 abbrev pub HunkBegun : Kind → Within → ℕ → List Kind → List Field → Type 0
 HunkBegun k w n s fs = (t : HunkTree) × (x : Filled s) × (hunk_at k w t.name t.body (filled s x) ≡ field k n ∷ fs)
 

@@ -1,5 +1,6 @@
--- Whatever is due on a finishable stack can be taken: 0 for what is no type, 1 for the size of the hunk table, the number of
--- the last hunk, END where it passes, and empty BSS for each hunk that is still missing.
+-- Whatever is expected on a finishable stack can be taken: 0 for what is not a type, 1 for the size
+-- of the hunk table, the number of the last hunk, END where it passes, and empty BSS for each hunk
+-- that is still missing.
 use Rattle.std.proofs.Common.{◌≡◌, ℕ, zero, suc, ◌-◌, ◌^◌, ◌<◌, List, [], ◌∷◌, None, Bool, true, refl, ap, sym, subst, arith}
 use Rattle.std.specs.Prelude.{nat_le, ◌==◌}
 use Rattle.std.proofs.lemmas.Grind.{common_steps}
@@ -15,14 +16,14 @@ use Rattle.hunk_words.specs.declared.kinds.HunkKind.TheVariants.{Code, Data, Bss
 use Rattle.hunk_words.specs.Machine.{times, short_times, reverse_onto, hunks_due, push, Takes, IsComplete}
 use Rattle.hunk_words.proofs.MachineStackLemmas.{Passable, Finishable}
 
--- fields that the machine takes from this stack to where a file may end
+-- fields that the machine takes from this stack up to where a file may end
 pub record Finish (s : List Kind) : Type 0 where
   pub fields : List Field
   pub after : List Kind
   pub takes : Takes s fields after
   pub complete : IsComplete after
 
--- a number that passes under the kind, and a finish behind it
+-- a number that passes under the kind, and a finish after it
 pub record Begin (k : Kind) (s : List Kind) : Type 0 where
   pub number : ℕ
   pub passes : Passes k number
@@ -160,6 +161,6 @@ pub finish-stack : (s : List Kind) → Finishable s → Finish s
 finish-stack [] q = done [] tt
 finish-stack (k ∷ s) q = finish-begin (finish-kind k s q.0 (finish-stack s q.1))
 
--- and one with a number in front, where anything is due
+-- and one with a number in front, if anything is expected
 pub begin-stack : (k : Kind) (s : List Kind) → Finishable (k ∷ s) → Begin k s
 begin-stack k s q = finish-kind k s q.0 (finish-stack s q.1)

@@ -12,11 +12,11 @@ use Rattle.byteorder.specs.Endian.{big_bytes, big_number}
 use Rattle.byteorder.specs.Numbers.{big_from-lt}
 use Rattle.hunk_words.specs.Name.{IsNameByte, Names, Writes, bytes_of, name_of, name_words, longword_count}
 
--- what stands before the first zero byte
+-- what comes before the first zero byte
 abbrev before_zero : List ℕ → List ℕ
 before_zero bs = before_first (λ b. b == 0) bs
 
--- the test of a byte that belongs to a name
+-- whether a byte belongs to a name
 abbrev not_zero : ℕ → Bool
 not_zero b = not (b == 0)
 
@@ -82,7 +82,7 @@ before_zero-position bs = elim (cases_lt (position_or_len (λ b. b == 0) bs) (le
   | inr above ↦ let test : nat_lt (position_or_len (λ b. b == 0) bs) (length bs) ≡ false = le-ltb _ _ above in rw test (take_all (prefix_len not_zero bs) bs above)
 ]
 
--- the cut stands at the first zero, if there is one
+-- the cut is at the first zero, if there is one
 pub before_zero-at : (bs : List ℕ) (place : Option ℕ) → place ≡ position (λ b. b == 0) bs
     → MatchOption place (before_first (λ b. b == 0) bs ≡ bs) (λ end. before_first (λ b. b == 0) bs ≡ take end bs)
 before_zero-at bs place e = rw e (before_zero-position bs)
@@ -106,7 +106,8 @@ before_zero-long (suc b ∷ xs) ys h =
     let longer : length xs ≤ length (before_zero xs) = omega arith in
     before_zero-more b (xs ++ ys) ∙ ap (λ (t : List ℕ). suc b ∷ t) (before_zero-long xs ys longer) ∙ ap (λ (t : List ℕ). t ++ before_zero ys) (sym e)
 
--- The name of longwords, of which the first i gave `items`, and the next one gives `front`: it ends here, or goes on.
+-- The name of longwords, the first i of which yielded `items`, and the next one yields `front`: it
+-- ends here, or continues.
 pub name_of-stops : (words items long front : List ℕ) (i : ℕ) → i < length words
     → long ≡ big_bytes 4 (get_or words i 0) → front ≡ before_first (λ b. b == 0) long
     → name_of words ≡ items ++ name_of (drop i words) → length front < 4 → items ++ front ≡ name_of words
@@ -131,7 +132,7 @@ name_of-goes_on words items long front i within bytes stop so_far whole =
     ∙ ap (λ (t : List ℕ). items ++ (t ++ name_of (drop (i + 1) words))) (sym cut)
     ∙ sym (append_assoc items front (name_of (drop (i + 1) words)))
 
--- each byte of a name that longwords hold is one of a name
+-- each byte of a name that longwords hold is a name byte
 pub name_of-bytes : (ws : List ℕ) → All IsNameByte (name_of ws)
 name_of-bytes ws = All-from_recursion IsNameByte (name_of ws) (before_zero-bytes (bytes_of ws) (AreBytes-bytes_of ws))
 
@@ -168,7 +169,7 @@ big_bytes-of_four a b c d rest ha hb hc hd =
 abbrev words_from : List ℕ → ℕ → ℕ → List ℕ
 words_from n k count = map (λ i. big_number 4 (drop (4 * i) n)) (range_with_len k count)
 
--- one longword more of the name's
+-- one more longword of the name
 pub name_words-more : (ws bytes : List ℕ) (k w : ℕ) → ws ≡ map (λ i. big_number 4 (drop (4 * i) bytes)) (range_with_len 0 k)
     → w ≡ big_number 4 (drop (4 * k) bytes) → ws ++ w ∷ [] ≡ map (λ i. big_number 4 (drop (4 * i) bytes)) (range_with_len 0 (k + 1))
 name_words-more ws bytes k w so_far next =
@@ -180,7 +181,7 @@ AreBytes-drop zero bs h = h
 AreBytes-drop (suc k) [] h = tt
 AreBytes-drop (suc k) (b ∷ bs) h = AreBytes-drop k bs h.1
 
--- a longword and the bytes behind it, filled up with zeros
+-- a longword and the bytes after it, padded with zeros
 pad-step : (d : List ℕ) (count : ℕ) → length d ≤ 4 * suc count → AreBytes d
     → big_bytes 4 (big_number 4 d) ++ (drop 4 d ++ replicate (4 * count - length (drop 4 d)) 0) ≡ d ++ replicate (4 * suc count - length d) 0
 pad-step [] count fits h =
@@ -233,7 +234,7 @@ name_words-writes n h =
       fewest = fewest_zeros (length n);
     }
 
--- how many longwords a name takes
+-- the number of longwords that a name takes
 pub length-name_words : (n : List ℕ) → length (name_words n) ≡ longword_count (length n)
 length-name_words n = length-map-range_with_len (λ k. big_number 4 (drop (4 * k) n)) 0 (longword_count (length n))
 

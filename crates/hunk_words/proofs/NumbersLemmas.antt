@@ -1,4 +1,4 @@
--- One number more: what is taken, what it tells, and how the taker's answer judges it.
+-- One more number: what is taken, its event, and how the taker's result judges it.
 use Rattle.std.proofs.Common.{◌≡◌, ℕ, zero, suc, List, [], ◌∷◌, ◌++◌, Option, Some, None, Result, Ok, Err, refl, sym, ap, subst, ◌∙◌, rules, tests}
 use Rattle.hunk_words.specs.Kinds.{Kind, Field, field, low, type_of}
 use Rattle.hunk_words.specs.FaultTable.{Passes, judged, and_then}
@@ -63,7 +63,7 @@ sizes-one file v (Some e) = refl
 pub sizes_told-append : (file : FileKind) (es : List Event) (o : Option Event) → sizes_told file (es ++ with_event o []) ≡ sizes_with o (sizes_told file es)
 sizes_told-append file es o = ap (λ v. v.position.sizes) (context_after-append file initial_context es (with_event o [])) ∙ sizes-one file (context_of file es) o
 
--- what events tell of the limit where an offset is due
+-- what events say about the limit where an offset is expected
 pub record LimitTold (watch : SiteContext) (k : Kind) (seen : List ℕ) : Type 0 where
   pub same_limit : (limit : ℕ) → limit_of k ≡ Some limit → limit ≡ watch.position.limit
   pub same_seen : watch.seen ≡ seen
@@ -78,9 +78,9 @@ LimitTold-taken Load fs s taken = record {
   same_seen = context_after-seen Load initial_context fs;
 }
 
--- ---- a taker's answer to a number
+-- ---- a taker's result for a number
 
--- what the rules of sites say by that answer
+-- what the rules for sites say for that result
 abbrev pub SiteAnswered : Option ℕ → List ℕ → ℕ → Result (Unit {0}) SiteRefusal → Type 0
 SiteAnswered limit seen n (Ok done) = site_judged limit seen n ≡ None
 SiteAnswered limit seen n (Err Outside) = site_judged limit seen n ≡ Some (SiteOutside n)
@@ -121,15 +121,15 @@ site-answered watch symbol_entry (suc n) seen answer told judges = no-site seen 
 site-answered watch (block_type w limit) n seen answer told judges = end-site watch seen n (type_of (low n)) answer judges
 site-answered watch k n seen answer told judges = no-site seen n answer judges
 
--- ---- the whole answer
+-- ---- the whole result
 
--- a number that the table refuses
+-- a number that the table rejects
 pub number-refused : (kind : FileKind) (Stands : List Event → Type 0) (s : State) (fs : List Field) (at : Progress) (n : ℕ) (reason : Reason)
     → Reached kind Stands s fs at → judged (due (view s (sizes_told kind (events fs)))) n ≡ Some reason → field_judged at n ≡ Some reason
 number-refused kind Stands s fs at n reason reached refused =
     ap (λ j. and_then j (site_judged (limit_of (due at.stack)) at.seen n)) (ap (λ t. judged (due t) n) (sym reached.stack) ∙ refused)
 
--- how the rules of sites judge it, by the taker's answer
+-- how the rules for sites judge it, by the taker's result
 pub number-answered : (kind : FileKind) (Stands : List Event → Type 0) (s : State) (fs : List Field) (at : Progress) (n : ℕ) (step : Step) (answer : Result (Unit {0}) SiteRefusal)
     → Reached kind Stands s fs at → Steps s (sizes_told kind (events fs)) n step → JudgesEvent (context_of kind (events fs)) step.event answer
     → SiteAnswered (limit_of (due at.stack)) at.seen n answer
@@ -139,7 +139,7 @@ number-answered kind Stands s fs at n step answer reached steps judges =
     subst (λ seen. SiteAnswered (limit_of (due at.stack)) seen n answer) (sym reached.seen)
     (site-answered _ (due at.stack) n (seen_all [] fs) answer told (subst (λ e. JudgesEvent (context_of kind (events fs)) e answer) event judges))
 
--- a number that is taken, with the taker's answer
+-- a number that is taken, with the taker's result
 pub number-taken : (kind : FileKind) (Before Behind : List Event → Type 0) (s : State) (fs : List Field) (at : Progress) (n : ℕ) (step : Step)
     → Reached kind Before s fs at → MayCome fs at n → Steps s (sizes_told kind (events fs)) n step
     → site_judged (limit_of (due at.stack)) at.seen n ≡ None → Behind (events fs ++ with_event step.event [])
@@ -161,7 +161,7 @@ number-taken kind Before Behind s fs at n step reached may steps sited behind =
       },
     )
 
--- a number that passes the table and breaks a rule of sites
+-- a number that passes the table and breaks a rule for sites
 pub site-refused : (kind : FileKind) (Stands : List Event → Type 0) (s : State) (fs : List Field) (at : Progress) (n : ℕ) (step : Step) (reason : Reason)
     → Reached kind Stands s fs at → Steps s (sizes_told kind (events fs)) n step → site_judged (limit_of (due at.stack)) at.seen n ≡ Some reason → field_judged at n ≡ Some reason
 site-refused kind Stands s fs at n step reason reached steps refused =

@@ -1,4 +1,4 @@
--- One longword more: one number, or two halves.
+-- One more longword: one number, or two halves.
 use Rattle.std.proofs.Common.{◌≡◌, ℕ, ◌+◌, ◌<◌, ◌≤◌, ◌/◌, ◌%◌, ◌^◌, Bool, true, false, List, [], ◌∷◌, ◌++◌, length, Option, Some, None, Result, Ok, Err, refl, sym, ap, subst, ◌∙◌, append_assoc, length-append, arith}
 use Rattle.hunk_words.specs.Kinds.{Width, Field, field, width, bound, is_half}
 use Rattle.hunk_words.specs.Kinds.Width.{long, half}
@@ -16,7 +16,7 @@ use Rattle.hunk_words.specs.declared.numbers.NumberRefusal.TheVariants.{Refused,
 use Rattle.hunk_words.specs.declared.state.State.{State}
 use Rattle.hunk_words.proofs.NumbersLemmas.{events-append}
 
--- a field tells one event at most
+-- a field has at most one event
 pub length-events_one : (o : Option Event) (es : List Event) → length (with_event o es) ≤ length es + 1
 length-events_one None es = omega arith
 length-events_one (Some e) es = omega arith
@@ -60,7 +60,7 @@ low-fits (half h) w = omega arith
 pub MayCome-lower : (fs : List Field) (f : Field) (at : Progress) (w : ℕ) → length (events fs) + 1 < 2 ^ 29 → MayCome (fs ++ f ∷ []) at (w % 2 ^ 16)
 MayCome-lower fs f at w few = record { fits = low-fits _ w; few = omega (arith, length-events fs f) }
 
--- the step over two halves, the upper one being judged
+-- the step over two halves, with the upper one judged
 upper-step : (v : Width) (at : Progress) (w : ℕ) (o : Option Reason) → is_half v ≡ true → field_judged at (w / 2 ^ 16) ≡ o
     → width_step v at w ≡ (unless o (field_next at (w / 2 ^ 16)) >>= λ lower. field_step lower (w % 2 ^ 16))
 upper-step long at w o is judged = absurd cc
@@ -85,7 +85,7 @@ WordAnswered-halves kind Stands fs at w (Err (Refused reason)) is passes answere
     upper-step _ at w None is passes ∙ ap (λ o. unless o (field_next lower (w % 2 ^ 16))) answered
 WordAnswered-halves kind Stands fs at w (Err OutOfMemory) is passes answered = tt
 
--- what is due is as wide as the state tells
+-- what is expected is as wide as the state says
 pub is_half-reached : (kind : FileKind) (Stands : List Event → Type 0) (s : State) (fs : List Field) (at : Progress) (b : Bool) → Reached kind Stands s fs at
     → b ≡ is_half (width (due (expected_view s.due (around s (sizes_told kind (events fs)))))) → is_half (width (due at.stack)) ≡ b
 is_half-reached kind Stands s fs at b reached is = ap (λ t. is_half (width (due t))) (sym reached.stack) ∙ sym is

@@ -1,4 +1,4 @@
--- A name, one longword further.
+-- A name, after one more longword.
 use Rattle.std.proofs.Common.{◌≡◌, ℕ, zero, suc, ◌+◌, ◌<◌, ◌≤◌, ◌==◌, List, [], ◌∷◌, ◌++◌, length, refl, sym, ap, ◌∙◌, arith, nat_lt, inl, inr, true, false}
 use Rattle.std.proofs.lemmas.List.{append_assoc, length-append}
 use Rattle.std.specs.List.{before_first}
@@ -13,7 +13,7 @@ pub bytes_of-push : (ws : List ℕ) (w : ℕ) → bytes_of (ws ++ (w ∷ [])) �
 bytes_of-push [] w = refl
 bytes_of-push (x ∷ ws) w = ap (λ t. big_bytes 4 x ++ t) (bytes_of-push ws w) ∙ sym (append_assoc (big_bytes 4 x) (bytes_of ws) (big_bytes 4 w))
 
--- behind the first zero byte nothing more is of the name
+-- nothing after the first zero byte belongs to the name
 pub name_of-ended : (ws : List ℕ) (w : ℕ) → length (name_of ws) < length (bytes_of ws) → name_of (ws ++ (w ∷ [])) ≡ name_of ws
 name_of-ended ws w short = ap (λ t. before_first (λ b. b == 0) t) (bytes_of-push ws w) ∙ before_zero-short (bytes_of ws) (big_bytes 4 w) short
 

@@ -1,4 +1,5 @@
--- What is read is taken as its labels, and its labels have its longwords. So it is spelled by a tree where a file may end.
+-- What is read is taken as its labels, and its labels have its longwords. So it is the spelling of
+-- a tree where a file may end.
 use Rattle.std.proofs.Common.{◌≡◌, ℕ, ◌+◌, ◌*◌, ◌/◌, ◌%◌, ◌^◌, List, [], ◌∷◌, Some, None, refl, ap, sym, subst, ◌∙◌, arith}
 use Rattle.hunk_words.specs.Kinds.{Width, Kind, Field, field, width}
 use Rattle.hunk_words.specs.FaultTable.{Passes, AllPass}

@@ -31,7 +31,7 @@ reads-halves k l m n s t ws e k_is pushed l_is p q r =
 upper-not-lower : upper ≡ lower → ⊥
 upper-not-lower h = search rules
 
--- ---- all of them: from a whole longword on, and behind an upper half
+-- ---- all of them: from a whole longword on, and after an upper half
 
 abbrev pub FromUpper : List Field → List Kind → Type 0
 FromUpper fs e = (s : List Kind) → Aligned upper s → Takes s fs e → Reads s (longwords_after None fs) e
@@ -47,7 +47,7 @@ upper-step long k n fs s e up down is start a p t = rw is (reads-long k n s (lon
 upper-step (half h) k n fs s e up down is start a p t =
     rw is (down k n s (push k n s) (is ∙ ap half start) p refl (subst (λ x. Aligned (flip x) (push k n s)) start a) t)
 
--- the same behind an upper half
+-- the same after an upper half
 lower-step : (v : Width) (k l : Kind) (m n : ℕ) (fs : List Field) (s t e : List Kind) → FromUpper fs e
     → width k ≡ half upper → Passes k m → push k m s ≡ l ∷ t
     → width l ≡ v → starts_at v ≡ lower → Aligned (next_at v) (push l n t) → Passes l n → Takes (push l n t) fs e

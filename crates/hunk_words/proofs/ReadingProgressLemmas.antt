@@ -1,4 +1,4 @@
--- The machine with the rules of sites reads what passes and obeys them.
+-- The machine with the rules for sites reads what passes and obeys them.
 use Rattle.std.proofs.Common.{◌≡◌, ℕ, ◌+◌, ◌/◌, ◌%◌, ◌^◌, ◌<◌, List, [], ◌∷◌, ◌++◌, length, Option, Some, None, Result, Ok, Err, refl, ap, sym, subst, ◌∙◌, arith}
 use Rattle.hunk_words.specs.Kinds.{Kind, Width, Field, width, bound}
 use Rattle.hunk_words.specs.FaultTable.{judged, and_then}
@@ -29,7 +29,7 @@ bind-ok (Some r) c d f h = absurd (cc)
 
 -- ---- a longword
 
--- What it is that a longword has been read.
+-- What it means that a longword has been read.
 record WordRead (w : Width) (c : Progress) (n : ℕ) (d : Progress) : Type 0 where
   passes : WordPasses w c.stack n
   stack : d.stack ≡ word_next w c.stack n
@@ -87,7 +87,7 @@ read-cons c b d w ws first rest = record {
   seen = first.seen (labels (word_next (width (due c.stack)) c.stack w) ws) ∙ ap (λ s. seen_all b.seen (labels s ws)) (sym first.stack) ∙ rest.seen;
 }
 
--- what the machine makes of longwords behind the first
+-- what the machine makes of the longwords after the first
 abbrev read_rest : Result Progress Reason → ℕ → List ℕ → Result Progress (ℕ × Reason)
 read_rest r p ws = elim r [ Ok d ↦ read_words d (p + 1) ws | Err e ↦ Err (p, e) ]
 
@@ -185,7 +185,7 @@ pub stops : (ws : List ℕ) (c : Progress) (from p : ℕ) (r : Reason) → read_
 stops [] c from p r h = absurd (cc)
 stops (w ∷ ws) c from p r h = stop-rest (read_word c w) c w ws from p r refl h (λ d g. stops ws d (from + 1) p r g)
 
--- behind a refused longword it stays stopped
+-- after a rejected longword it stays stopped
 pub stays : (ws behind : List ℕ) (bad : ℕ) (c d : Progress) (p : ℕ) (r : Reason) → read_words c p ws ≡ Ok d → read_word d bad ≡ Err r → (q : ℕ) × (read_words c p (ws ++ (bad ∷ behind)) ≡ Err (q, r))
 stays [] behind bad c d p r h e =
     let same : c ≡ d = cc in (p, ap (λ x. read_rest x p behind) (ap (λ x. read_word x bad) same ∙ e))

@@ -1,4 +1,4 @@
--- What is read in parts: the stack between them, and the fields that stand in each.
+-- What is read in parts: the stack between them, and the fields in each.
 use Rattle.std.proofs.Common.{◌≡◌, ℕ, suc, ◌/◌, ◌%◌, ◌^◌, List, [], ◌∷◌, ◌++◌, length, drop, refl, ap, sym, subst, ◌∙◌}
 use Rattle.std.proofs.Math.Seq.{drop-append_seam}
 use Rattle.hunk_words.specs.Kinds.{Kind, Width, Field, field, width, flip}
@@ -41,7 +41,7 @@ takes-due (k ∷ s) f fs e t = (t.0, t.1)
 
 -- ---- from a whole longword to a whole longword
 
--- where halves are due at a whole longword, the upper one is
+-- where halves are expected at a whole longword, the upper one is
 pub upper-due : (k : Kind) (s : List Kind) (h : Half) → width k ≡ half h → Aligned upper (k ∷ s) → h ≡ upper
 upper-due k s h is a = sym (ap (λ w. starts_at w) is) ∙ a.0
 
@@ -49,7 +49,7 @@ pub aligned-upper : (k : Kind) (s : List Kind) (h : Half) (n : ℕ) → width k 
 aligned-upper k s h n is a =
     subst (λ x. Aligned (flip x) (push k n s)) (upper-due k s h is a) (subst (λ w. Aligned (next_at w) (push k n s)) is (aligned-push k n s a.1))
 
--- where a stack begins at a lower half, a lower half is due
+-- where a stack begins at a lower half, a lower half is expected
 width-lower : (w : Width) → starts_at w ≡ lower → w ≡ half lower
 width-lower long h = absurd (cc)
 width-lower (half h) e = ap (λ x. half x) e
@@ -83,7 +83,7 @@ labels-append (w ∷ ws) us s m r =
     let t : List Kind = word_next (width (due s)) s w in
     ap (λ x. word_labels (width (due s)) s w x) (labels-append ws us t m r.1) ∙ word_labels-append (width (due s)) s w (labels t ws) (labels m us)
 
--- the fields of the first longword and n more
+-- the fields of the first longword and of n more
 abbrev fields_at : Width → ℕ → Field → List Field → List Field
 fields_at w n f fs = elim w [ long ↦ f ∷ fields_from upper n fs | half h ↦ f ∷ fields_from lower n fs ]
 
@@ -94,7 +94,7 @@ fields_in-word (half h) s v n fs gs is e =
     let g : Field = field (due (next s (v / 2 ^ 16))) (v % 2 ^ 16) in
     ap (λ w. fields_at w n f (g ∷ fs)) is ∙ ap (λ x. f ∷ g ∷ x) e
 
--- The fields that stand in the first longwords are their labels.
+-- The fields in the first longwords are their labels.
 pub fields_in-labels : (ws us : List ℕ) (s : List Kind) → fields_in (length ws) (labels s (ws ++ us)) ≡ labels s ws
 fields_in-labels [] us s = refl
 fields_in-labels (w ∷ ws) us s =

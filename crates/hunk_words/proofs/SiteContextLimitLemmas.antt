@@ -1,4 +1,4 @@
--- The site limit, told by events, is that of each kind that is due.
+-- The site limit from the events is that of each kind that is expected.
 use Rattle.std.proofs.Common.{◌≡◌, ℕ, zero, suc, ◌*◌, List, [], ◌∷◌, ◌++◌, length, Bool, true, false, Option, Some, None, slice_index, get_or, append_assoc, length-append, refl, ap, sym, subst, ◌∙◌, arith, rules}
 use Rattle.std.proofs.Math.Seq.{get_or-append_seam}
 use Rattle.hunk_words.specs.Kinds.{Within, Kind, Field, low, bits, type_of, entry_of, entry_length, flip, site_limit}
@@ -24,7 +24,7 @@ use Rattle.hunk_words.specs.declared.kinds.EntryType.{EntryType}
 use Rattle.hunk_words.specs.declared.kinds.EntryType.TheVariants.{Definition as definition, Absolute as absolute, Reference as reference, Other as other_entry}
 use Rattle.hunk_words.proofs.SiteContextSeenLemmas.{position_with, context_with_event, context_after-with}
 
--- ---- what events say of what is due
+-- ---- what events say about what is expected
 
 abbrev pub IsObject : FileKind → Type 0
 IsObject Object = Unit {0}
@@ -34,12 +34,12 @@ abbrev pub IsLoad : FileKind → Type 0
 IsLoad Object = ⊥
 IsLoad Load = Unit {0}
 
--- hunk i stands within this; a load file's header told its size
+-- hunk i is within this, with its size in a load file's header
 abbrev pub IsIn : FileKind → List ℕ → ℕ → Within → Type 0
 IsIn file sizes i in_unit = IsObject file
 IsIn file sizes i (in_load last size) = IsLoad file × (size ≡ slice_index sizes i)
 
--- what is due behind the current hunk, from hunk i on
+-- what is expected after the current hunk, from hunk i on
 abbrev pub Later : FileKind → List ℕ → ℕ → List Kind → Type 0
 Later file sizes i [] = Unit {0}
 Later file sizes i (hunk_type last size ∷ s) = IsIn file sizes i (in_load last size) × Later file sizes (suc i) s
@@ -50,7 +50,7 @@ Later file sizes i (_ ∷ s) = ⊥
 abbrev pub InHeader : FileKind → HunkPosition → List ℕ → List Kind → Type 0
 InHeader file v sizes s = IsLoad file × (v.sizes ≡ sizes) × (v.ended ≡ 0) × (s ≡ [])
 
--- what is due now
+-- what is expected now
 abbrev pub Now : FileKind → HunkPosition → List Kind → Type 0
 Now file v [] = Unit {0}
 Now file v (object_start ∷ s) = IsObject file × (s ≡ [])
@@ -109,7 +109,7 @@ reverse_onto-append : (xs ys zs : List ℕ) → reverse_onto xs ys ++ zs ≡ rev
 reverse_onto-append [] ys zs = refl
 reverse_onto-append (x ∷ xs) ys zs = reverse_onto-append xs (x ∷ ys) zs
 
--- ---- one field further
+-- ---- one more field
 
 reject_unless-true : (b : Bool) (r : Reason) → reject_unless b r ≡ None → b ≡ true
 reject_unless-true true r h = refl
@@ -240,7 +240,7 @@ now-taken file v (f ∷ fs) (k ∷ s) e h t =
     (now-taken file (context_with_event file v (event_of f)) fs (push k f.number s) e
     (subst (λ q. Now file (position_with file v.position (event_at q f.number)) (push k f.number s)) (sym t.0) (now-push file v.position k f.number s t.1.passes h)) t.2)
 
--- the limit of an offset that is due
+-- the limit of an offset that is expected
 pub now-limit : (file : FileKind) (v : HunkPosition) (s : List Kind) (limit : ℕ) → Now file v s → limit_of (due s) ≡ Some limit → limit ≡ v.limit
 now-limit file v [] limit h is = search rules
 now-limit file v (offset l target ∷ s) limit h is = grind (arith, is, h.0)

@@ -1,4 +1,4 @@
--- The sites of the current hunk, told by events, are those of the fields.
+-- The sites of the current hunk by the events are those of the fields.
 use Rattle.std.proofs.Common.{◌≡◌, ℕ, zero, suc, List, [], ◌∷◌, Option, Some, None, refl, ap, ◌∙◌}
 use Rattle.hunk_words.specs.Kinds.{Kind, Field, low, type_of}
 use Rattle.hunk_words.specs.Kinds.Kind.{block_type, ext_entry, symbol_entry}
@@ -10,7 +10,7 @@ use Rattle.hunk_words.specs.declared.event.Event.{Event}
 use Rattle.hunk_words.specs.declared.kinds.BlockType.{BlockType}
 use Rattle.hunk_words.specs.declared.kinds.BlockType.TheVariants.{End as end}
 
--- what a field changes, if it tells anything
+-- what a field changes, if it has an event
 abbrev pub position_with : FileKind → HunkPosition → Option Event → HunkPosition
 position_with file v None = v
 position_with file v (Some e) = position_after file v e

@@ -8,7 +8,7 @@ use Rattle.hunk_words.specs.Kinds.Width.{long}
 use Rattle.hunk_words.specs.Spelling.{joined_bits, type_longword}
 use Rattle.hunk_words.specs.declared.kinds.BlockType.{BlockType}
 
--- the lower part is not too wide where the whole is a longword
+-- the lower part is not too wide if the whole is a longword
 pub joined_bits-lower : (unit high low : ℕ) → joined_bits unit high low < 2 ^ 32 → low < unit
 unfolding joined_bits
 joined_bits-lower unit high low h = grind (arith, common_steps)

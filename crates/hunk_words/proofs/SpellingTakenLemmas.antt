@@ -1,4 +1,5 @@
--- What is spelled is taken: a lemma for each part of a tree, the premise being that what stands behind it is taken.
+-- What is spelled is taken: a lemma for each part of a tree, with the premise that what comes after
+-- it is taken.
 use Rattle.std.proofs.Common.{◌≡◌, ℕ, zero, suc, ◌-◌, ◌^◌, ◌<◌, List, [], ◌∷◌, length, map, Option, Some, None, Bool, true, false, refl, ap, sym, subst, ◌∙◌, arith, rules}
 use Rattle.hunk_words.specs.Kinds.{Within, Kind, Field, field, width, low, bits, type_of, entry_of, entry_type, entry_length, flip, half_after, content_bits, site_limit}
 use Rattle.hunk_words.specs.FaultTable.{Passes, AllPass, may_follow, reject_unless, refused_type, knows_short}
@@ -82,7 +83,7 @@ takes-short-groups lower last limit (g ∷ gs) pad rest s e p next = (
   ),
 )
 
--- an entry's first longword is no zero
+-- an entry's first longword is not zero
 push-entry : (limit n : ℕ) (s : List Kind) (y : EntryType) (m : ℕ) → 0 < n → entry_of n ≡ y → entry_length n ≡ m → push (ext_entry limit) n s ≡ entry_part limit y m s
 push-entry limit zero s y m h is len = absurd (omega (arith, h))
 push-entry limit (suc n) s y m h is len = ap (λ x. entry_part limit x (entry_length (suc n)) s) is ∙ ap (λ x. entry_part limit y x s) len
@@ -127,7 +128,7 @@ reject_unless-false : (b : Bool) (r : Reason) → b ≡ false → reject_unless 
 reject_unless-false true r h p = search rules
 reject_unless-false false r h p = search rules
 
--- no EXT stands in a load file, and no short block in a unit
+-- there is no EXT in a load file, and no short block in a unit
 refuses : (w : Within) (limit b t : ℕ) (y : BlockType) → type_of t ≡ y → may_follow w y ≡ false → Passes (block_type w limit) (type_longword b t) → ⊥
 refuses w limit b t y is not p =
     reject_unless-false (may_follow w (type_of (low (type_longword b t)))) (refused_type (knows_short w) (type_of (low (type_longword b t))) (low (type_longword b t))) (ap (λ x. may_follow w x) (type_longword-type b t is p.fits) ∙ not) p.passes
@@ -149,8 +150,8 @@ takes-blocks-end w limit (x ∷ xs) b rest s e p next = takes-block w limit x _ 
 
 -- ---- hunks
 
--- A hunk may begin with a number of the kind k: where that is a content block's type, its size is due on the stack t,
--- and where it is a name's, its length and then the content's type.
+-- A hunk may begin with a number of kind k: if that is a content block's type, its size is expected
+-- on the stack t, and if it is a name's, its length and then the content's type.
 pub record Begins (k : Kind) (w : Within) (s t : List Kind) : Type 0 where
   pub is_long : width k ≡ long
   pub content_next : (n : ℕ) (c : HunkKind) → type_of (low n) ≡ content c → push k n s ≡ content_size w c (content_bits w (bits n)) ∷ t

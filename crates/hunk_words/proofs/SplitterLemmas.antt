@@ -1,4 +1,4 @@
--- What a splitter holds behind one more byte.
+-- What a splitter holds after one more byte.
 use Rattle.std.proofs.Common.{◌≡◌, ℕ, List, [], ◌∷◌, ◌++◌, sym, ap, ◌∙◌}
 use Rattle.hunk_words.specs.Longwords.{longwords, unfinished}
 use Rattle.hunk_words.proofs.LongwordsLemmas.{unfinished-append, longwords-append}

@@ -1,19 +1,21 @@
--- What a taker of events that keeps its sites in a map answers, and the lists of events that it took, one event further.
+-- What a taker of events that keeps its sites in a map returns, and the lists of events that it has
+-- taken, after one more event.
 use Rattle.std.proofs.Common.{◌≡◌, ℕ, ◌+◌, ◌<◌, ◌≤◌, ◌⊎◌, inl, inr, List, [], ◌∷◌, ◌++◌, Bool, true, false, Option, Some, None, IsSome, Result, Ok, Err, ◌==◌, if◌then◌else◌, cond, nat_le, ◌&&◌, ◌↔◌, refl, sym, ap, subst, ◌∙◌, arith, eq-eqb}
 use Rattle.std.proofs.lemmas.Bool.{cases_lt, eqb-true}
 use Rattle.std.proofs.lemmas.Bool.Decides.{leb_tells}
 use Rattle.hunk_words.specs.SiteRules.{apart, all_apart}
 use Rattle.hunk_words.specs.Sites.{Meets, SharesByte, target_at}
 use Rattle.hunk_words.specs.SiteContext.{Has, SameSites}
-use Rattle.hunk_words.specs.Taker.{JudgesSite}
+use Rattle.hunk_words.specs.Taker.{Judges, JudgesSite}
 use Rattle.hunk_words.specs.EventValue.{EventValue, value_of_events, step}
 use Rattle.hunk_words.specs.SiteContext.{SiteContext, context_after, context_with}
 use Rattle.hunk_words.specs.declared.event.FileKind.{FileKind}
 use Rattle.hunk_words.specs.declared.event.Event.{Event}
+use Rattle.hunk_words.specs.declared.event.Event.TheVariants as event
 use Rattle.hunk_words.specs.declared.sites.SiteRefusal.{SiteRefusal}
 use Rattle.hunk_words.specs.declared.sites.SiteRefusal.TheVariants.{Outside, Overlap, OutOfMemory}
 
--- ---- one event further
+-- ---- one more event
 
 pub value_of_events-append : (b : EventValue) (es : List Event) (e : Event) → value_of_events b (es ++ (e ∷ [])) ≡ step (value_of_events b es) e
 value_of_events-append b [] e = refl
@@ -23,7 +25,7 @@ pub context_after-append : (file : FileKind) (v : SiteContext) (es : List Event)
 context_after-append file v [] e = refl
 context_after-append file v (d ∷ es) e = context_after-append file (context_with file v d) es e
 
--- ---- sites apart
+-- ---- disjoint sites
 
 apart-shares : (o p : ℕ) → SharesByte o p → apart o p ≡ false
 apart-shares o p shares = grind (arith, leb_tells)
@@ -71,7 +73,7 @@ not-false : (b : Bool) → (b ≡ false → ⊥) → b ≡ true
 not-false true h = refl
 not-false false h = absurd (h refl)
 
--- The answer of a map of sites is what the rules of sites say.
+-- What a map of sites returns is what the rules for sites say.
 pub judges-site : {T : Type 0} (limit : ℕ) (seen : List ℕ) (entries : List (ℕ × T)) (o : ℕ) (answer : Result (Unit {0}) SiteRefusal) → SameSites seen entries
     → ((answer ≡ Err Outside) ↔ (limit < o + 4)) → ((answer ≡ Err Overlap) ↔ ((o + 4 ≤ limit) × Meets entries o)) → JudgesSite limit seen o answer
 judges-site limit seen entries o (Ok done) same outside overlap =
@@ -85,7 +87,7 @@ judges-site limit seen entries o (Err Outside) same outside overlap = outside.0 
 judges-site limit seen entries o (Err Overlap) same outside overlap = let both = overlap.0 refl in (both.0, meets-shared seen entries o same both.1)
 judges-site limit seen entries o (Err OutOfMemory) same outside overlap = tt
 
--- A site that is added is seen.
+-- A site that was added is seen.
 pub SameSites-more : {T : Type 0} (seen : List ℕ) (entries more : List (ℕ × T)) (o : ℕ) (target : T) → SameSites seen entries
     → ((other : ℕ) → target_at more other ≡ (if o == other then Some target else target_at entries other)) → SameSites (o ∷ seen) more
 SameSites-more seen entries more o target same looks = record {
@@ -104,3 +106,39 @@ SameSites-more seen entries more o target same looks = record {
     found : (p : ℕ) (b : Bool) → (o == p) ≡ b → IsSome (cond b (Some target) (target_at entries p)) → (o ≡ p) ⊎ Has seen p
     found p true e h = inl (eqb-true o p e)
     found p false e h = inr (same.of_map p h)
+
+-- ---- results for events that are not sites
+
+-- What is not a site is not refused as one.
+pub judges-other : (context : SiteContext) (e : Event) (d : Unit {0}) → ((o t : ℕ) → e ≡ event.Site o t → ⊥) → ((o : ℕ) → e ≡ event.RefSite o → ⊥) → Judges context e (Ok d)
+judges-other context event.Unit d no_site no_reference = tt
+judges-other context (event.Table n) d no_site no_reference = tt
+judges-other context (event.HunkSize bits n) d no_site no_reference = tt
+judges-other context event.HunkName d no_site no_reference = tt
+judges-other context (event.Content c bits n) d no_site no_reference = tt
+judges-other context (event.Word n) d no_site no_reference = tt
+judges-other context (event.Site o t) d no_site no_reference = absurd (no_site o t refl)
+judges-other context (event.Entry t) d no_site no_reference = tt
+judges-other context (event.Count n) d no_site no_reference = tt
+judges-other context (event.RefSite o) d no_site no_reference = absurd (no_reference o refl)
+judges-other context event.Symbol d no_site no_reference = tt
+judges-other context (event.Value v) d no_site no_reference = tt
+judges-other context (event.Debug n) d no_site no_reference = tt
+judges-other context event.HunkEnd d no_site no_reference = tt
+
+-- An allocation that failed blames no event.
+pub judges-memory : (context : SiteContext) (e : Event) → Judges context e (Err OutOfMemory)
+judges-memory context event.Unit = tt
+judges-memory context (event.Table n) = tt
+judges-memory context (event.HunkSize bits n) = tt
+judges-memory context event.HunkName = tt
+judges-memory context (event.Content c bits n) = tt
+judges-memory context (event.Word n) = tt
+judges-memory context (event.Site o t) = tt
+judges-memory context (event.Entry t) = tt
+judges-memory context (event.Count n) = tt
+judges-memory context (event.RefSite o) = tt
+judges-memory context event.Symbol = tt
+judges-memory context (event.Value v) = tt
+judges-memory context (event.Debug n) = tt
+judges-memory context event.HunkEnd = tt

@@ -1,4 +1,5 @@
--- No longwords are a file of two values, since the value is what the events of their fields build.
+-- No longwords are the files of two values, since the value is what the events of their fields
+-- build.
 use Rattle.std.proofs.Common.{List, [], ◌∷◌, ap, sym, ◌∙◌}
 use Rattle.hunk_words.specs.Event.{events}
 use Rattle.hunk_words.specs.Values.{Hunk, Part}

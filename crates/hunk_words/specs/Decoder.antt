@@ -14,16 +14,17 @@ use Rattle.hunk_words.specs.declared.fault.Refusal.TheVariants as refusal_is
 abbrev pub taker_of : {T : Type 0} → Decoder T → T
 taker_of decoder = core_taker decoder.core
 
--- the refusal that it keeps
+-- the error that it keeps
 abbrev pub refusal_of : {T : Type 0} → Decoder T → Option Refusal
 refusal_of decoder = kept decoder.core
 
--- Its core stands for their longwords. Where no refusal is kept, the bytes of an unfinished longword are held.
+-- Its core stands for their longwords. If no error is kept, the bytes of an unfinished longword are
+-- held.
 pub record StandsFor {T : Type 0} (kind : FileKind) (stands_for : T → List Event → Type 0) (decoder : Decoder T) (bytes : List ℕ) : Type 0 where
   pub held : refusal_of decoder ≡ None → SplitterStandsFor decoder.splitter bytes
   pub core : CoreStandsFor kind stands_for decoder.core (longwords bytes)
 
--- The answer to the end of the bytes: they are whole and a file, or this is their first offence.
+-- The result at the end of the bytes: they are whole and a file, or this is their first offence.
 abbrev pub Finished : {T : Type 0} → FileKind → (T → List Event → Type 0) → List ℕ → Result T Refusal → Type 0
 Finished kind stands_for bytes (Ok taker) = IsWhole bytes × TellsFile kind (stands_for taker) (longwords bytes)
 Finished kind stands_for bytes (Err (refusal_is.Fault fault)) = FirstOffence kind (longwords bytes) (length (unfinished bytes)) fault.place fault.reason

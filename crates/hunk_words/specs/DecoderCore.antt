@@ -15,11 +15,12 @@ use Rattle.hunk_words.specs.declared.fault.Refusal.TheVariants as refusal_is
 use Rattle.hunk_words.specs.declared.decoder_core.Core.{Core}
 use Rattle.hunk_words.specs.declared.decoder_core.CoreState.{CoreState}
 
--- the fields of longwords as the machine reads them
+-- the fields of longwords, as the machine reads them
 abbrev pub fields_read : FileKind → List ℕ → List Field
 fields_read kind ws = labels (start_of kind ∷ []) ws
 
--- The longwords were all read: the state is the one behind them, and the taker stands for their events.
+-- The longwords were all read: the state is the one after them, and the taker stands for their
+-- events.
 pub record Behind (kind : FileKind) (Stands : List Event → Type 0) (state : CoreState) (ws : List ℕ) : Type 0 where
   pub progress : Progress
   pub read : read_words (initial_progress kind) 0 ws ≡ Ok progress
@@ -28,7 +29,7 @@ pub record Behind (kind : FileKind) (Stands : List Event → Type 0) (state : Co
   pub few : length ws ≤ most_longwords
   pub long : AllLong ws
 
--- Where no refusal is kept, the longwords were all read. A fault that is kept is their first offence.
+-- If no error is kept, the longwords were all read. A fault that is kept is their first offence.
 pub record StandsBy (kind : FileKind) (Stands : List Event → Type 0) (state : CoreState) (ws : List ℕ) : Type 0 where
   pub good : state.refusal ≡ None → Behind kind Stands state ws
   pub faulty : (fault : Fault) → state.refusal ≡ Some (refusal_is.Fault fault) → OffendsAt kind ws fault.place fault.reason
@@ -37,14 +38,14 @@ pub record StandsBy (kind : FileKind) (Stands : List Event → Type 0) (state : 
 abbrev pub taker_of : {T : Type 0} → Core T → T
 taker_of core = core.taker
 
--- the refusal that a core keeps
+-- the error that a core keeps
 abbrev pub kept : {T : Type 0} → Core T → Option Refusal
 kept core = core.state.refusal
 
 abbrev pub StandsFor : {T : Type 0} → FileKind → (T → List Event → Type 0) → Core T → List ℕ → Type 0
 StandsFor kind stands_for core ws = StandsBy kind (stands_for (taker_of core)) core.state ws
 
--- The answer is the refusal kept.
+-- The result is the error that is kept.
 abbrev pub Keeps : {A : Type 0} → Option Refusal → Result A Refusal → Type 0
 Keeps refusal (Ok done) = refusal ≡ None
 Keeps refusal (Err e) = refusal ≡ Some e
@@ -55,18 +56,18 @@ pub record TellsFile (kind : FileKind) (Stands : List Event → Type 0) (ws : Li
   pub is_file : IsFileOf kind tree ws
   pub stands : Stands (events (spelling kind tree))
 
--- the answer at the end of longwords, with this many bytes behind them
+-- the result at the end of longwords, with this many bytes after them
 abbrev pub EndAnswered : {T : Type 0} → FileKind → (T → List Event → Type 0) → List ℕ → ℕ → Result T Refusal → Type 0
 EndAnswered kind stands_for ws rest (Ok taker) = (rest ≡ 0) × TellsFile kind (stands_for taker) ws
 EndAnswered kind stands_for ws rest (Err (refusal_is.Fault fault)) = FirstOffence kind ws rest fault.place fault.reason
 EndAnswered kind stands_for ws rest (Err refusal_is.OutOfMemory) = Unit {0}
 
--- This many longwords of the bytes were taken; or a refusal is kept.
+-- This many longwords of the bytes were taken; or an error is kept.
 abbrev pub SomeTaken : {T : Type 0} → FileKind → (T → List Event → Type 0) → Core T → (ws bytes : List ℕ) → Result ℕ Refusal → Type 0
 SomeTaken kind stands_for core ws bytes (Ok count) = StandsFor kind stands_for core (ws ++ longwords (take (4 * count) bytes))
 SomeTaken kind stands_for core ws bytes (Err refusal) = StandsFor kind stands_for core (ws ++ longwords bytes)
 
--- one or more of the longwords of these bytes
+-- at least one of the longwords of these bytes
 abbrev pub TakesSome : List ℕ → Result ℕ Refusal → Type 0
 TakesSome bytes (Ok count) = (0 < count) × (4 * count ≤ length bytes)
 TakesSome bytes (Err refusal) = Unit {0}

@@ -1,4 +1,4 @@
--- What the fields of a file tell.
+-- The events of the fields of a file.
 use Rattle.std.specs.Prelude.{ℕ, zero, suc, List, [], ◌∷◌, Option, Some, None}
 use Rattle.hunk_words.specs.Kinds.{Kind, Field, low, bits, entry_type, hunk_kind_number, type_of}
 use Rattle.hunk_words.specs.Kinds.Kind.{block_type, unit_length, name_length, word, value, content_size, offset, debug_length, ext_entry, ref_count, ref_offset, symbol_entry, table_size, header_size, short_offset}
@@ -33,7 +33,7 @@ event_at symbol_entry (suc n) = Some Symbol
 event_at (block_type w limit) n = at_end (type_of (low n))
 event_at _ n = None
 
--- what a field tells, if anything
+-- the event of a field, if it has one
 abbrev pub event_of : Field → Option Event
 event_of f = event_at f.kind f.number
 
@@ -41,12 +41,12 @@ abbrev pub with_event : Option Event → List Event → List Event
 with_event None es = es
 with_event (Some e) es = e ∷ es
 
--- what fields tell, in order
+-- the events of fields, in order
 abbrev pub events : List Field → List Event
 events [] = []
 events (f ∷ fs) = with_event (event_of f) (events fs)
 
--- what words tell
+-- the events of words
 abbrev pub word_events : List ℕ → List Event
 word_events [] = []
 word_events (w ∷ ws) = Word w ∷ word_events ws

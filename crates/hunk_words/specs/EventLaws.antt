@@ -1,4 +1,4 @@
--- What holds of the events that a file tells.
+-- Laws about the events of a file.
 use Rattle.std.specs.Prelude.{◌≡◌, ℕ, List, [], ◌∷◌, length, Some}
 use Rattle.hunk_words.specs.Kinds.{Kind, Field}
 use Rattle.hunk_words.specs.Kinds.Kind.{object_start, load_start}
@@ -21,7 +21,7 @@ abbrev pub LoadTold : Type 0
 LoadTold = (t : LoadTree) → LoadFits t → ((value_of_events initial_load (events (load_spelling t))).sizes ≡ load_sizes t)
     × ((value_of_events initial_load (events (load_spelling t))).parts ≡ record { name = []; hunks = load_hunk_values (length t.others) (t.first ∷ t.others) } ∷ [])
 
--- No list of longwords is a file of two values.
+-- No longwords are the files of two values.
 abbrev pub ObjectOneValue : Type 0
 ObjectOneValue = (t u : ObjectTree) → ObjectFits t → ObjectFits u → longwords_of (object_spelling t) ≡ longwords_of (object_spelling u) → object_value t ≡ object_value u
 
@@ -29,7 +29,7 @@ abbrev pub LoadOneValue : Type 0
 LoadOneValue = (t u : LoadTree) → LoadFits t → LoadFits u → longwords_of (load_spelling t) ≡ longwords_of (load_spelling u)
     → (load_sizes t ≡ load_sizes u) × (load_hunk_values (length t.others) (t.first ∷ t.others) ≡ load_hunk_values (length u.others) (u.first ∷ u.others))
 
--- Where an offset is due, its limit and the sites before it are what the events tell.
+-- Where an offset is expected, its limit and the earlier sites are those of the events.
 abbrev pub ObjectLimit : Type 0
 ObjectLimit = (fs : List Field) (s : List Kind) (limit : ℕ) → Takes (object_start ∷ []) fs s → limit_of (due s) ≡ Some limit
     → (limit ≡ (context_after Object initial_context (events fs)).position.limit) × ((context_after Object initial_context (events fs)).seen ≡ seen_all [] fs)

@@ -1,4 +1,4 @@
--- What is built of events, one after another.
+-- What is built from events, in order.
 use Rattle.std.specs.Prelude.{ℕ, zero, suc, pred, List, [], ◌∷◌, ◌++◌, length}
 use Rattle.hunk_words.specs.Kinds.{hunk_kind_of}
 use Rattle.hunk_words.specs.Values.{HunkTables, Hunk, Part, no_tables, empty, with_tables, one_site, one_reference, one_definition, one_symbol, one_debug}
@@ -17,7 +17,7 @@ pub data Receiver : Type 0 where
   to_symbol : List ℕ → Receiver
   to_entry : ℕ → List ℕ → Receiver
 
--- the parts so far, the sizes of the header, and the hunk that has not ended
+-- the parts so far, the sizes in the header, and the current hunk
 pub record EventValue : Type 0 where
   pub parts : List Part
   pub sizes : List (ℕ × ℕ)
@@ -50,7 +50,7 @@ abbrev pub count_to : Receiver → ℕ → HunkTables
 count_to (to_entry t ws) (suc n) = one_reference ws
 count_to _ n = no_tables
 
--- what is built, one event further
+-- what is built, after one more event
 abbrev pub step : EventValue → Event → EventValue
 step built UnitBegins = record built { parts = built.parts ++ (record { name = []; hunks = [] } ∷ []); receiver = to_unit_name }
 step built (Table n) = built

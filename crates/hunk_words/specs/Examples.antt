@@ -1,4 +1,5 @@
--- Worked files: which longwords are files, where and why the others offend first, and what files say.
+-- Worked files: which longwords are files, where and why the others offend first, and what the
+-- files mean.
 use Rattle.std.specs.Prelude.{◌≡◌, ℕ, List, [], ◌∷◌, ◌++◌, length}
 use Rattle.hunk_words.specs.Files.{IsFile, IsFileOf}
 use Rattle.hunk_words.specs.FirstOffence.{FirstOffence}
@@ -39,7 +40,7 @@ header size hunks = 0x3F3 ∷ 0 ∷ 1 ∷ 0 ∷ 0 ∷ size ∷ hunks
 abbrev pub small_load : List ℕ
 small_load = header 1 (0x3E9 ∷ 1 ∷ 0x4E754E71 ∷ 0x3F2 ∷ [])
 
--- the same with other longwords in the place of its content block, and with others in the place of its END
+-- the same with other longwords in place of its content block, and with others in place of its END
 abbrev pub block_changed : ℕ → ℕ → List ℕ
 block_changed type size = header 1 (type ∷ size ∷ 0x4E754E71 ∷ 0x3F2 ∷ [])
 
@@ -50,11 +51,11 @@ end_changed behind = header 1 (0x3E9 ∷ 1 ∷ 0x4E754E71 ∷ behind)
 abbrev pub header_changed : ℕ → ℕ → ℕ → ℕ → List ℕ
 header_changed resident table first last = 0x3F3 ∷ resident ∷ table ∷ first ∷ last ∷ 1 ∷ 0x3E9 ∷ 1 ∷ 0x4E754E71 ∷ 0x3F2 ∷ []
 
--- one hunk of three longwords, whose last is not stored and holds a site
+-- one hunk of three longwords, the last of which is not stored and has a site
 abbrev pub site_in_zeros : List ℕ
 site_in_zeros = header 3 (0x3E9 ∷ 1 ∷ 0x4E754E71 ∷ 0x3EC ∷ 1 ∷ 0 ∷ 8 ∷ 0 ∷ 0x3F2 ∷ [])
 
--- two hunks, not in the form in which a linker writes them
+-- two hunks, not in the form that a linker writes
 abbrev pub unusual_load : List ℕ
 unusual_load = 0x3F3 ∷ 0 ∷ 2 ∷ 0 ∷ 1 ∷ 3 ∷ 0x40000001
     ∷ 0x3E8 ∷ 1 ∷ 0x54455854 ∷ 0x3E9 ∷ 3 ∷ 0 ∷ 0 ∷ 4
@@ -68,7 +69,7 @@ short_load words = header 2 (0x3E9 ∷ 2 ∷ 4 ∷ 0 ∷ 0x3FC ∷ words)
 
 -- ---- object files
 
--- two longwords of code, which refer to a name at the offset 2
+-- two longwords of code, which refer to a name at offset 2
 abbrev pub object_a : List ℕ → List ℕ
 object_a external = 0x3E7 ∷ 0 ∷ 0x3E9 ∷ 2 ∷ 0x4EB90000 ∷ 0x4E75 ∷ external
 
@@ -86,13 +87,14 @@ object_e symbol = 0x3E7 ∷ 1 ∷ 0x74657374 ∷ 0x3E8 ∷ 1 ∷ 0x434F4445 ∷ 
     ∷ 0x3F0 ∷ symbol ∷ 0x6C6F6F70 ∷ 6 ∷ 0 ∷ 0x3F1 ∷ 1 ∷ 0x12345678 ∷ 0x3F2
     ∷ 0x400003EB ∷ 2 ∷ 0x3F2 ∷ []
 
--- three longwords of zeros, with references to two names, one twice, one dropped, and a relocation
+-- three longwords of zeros, with references to two names, one of them twice and one dropped, and a
+-- relocation
 abbrev pub references_twice : List ℕ
 references_twice = 0x3E7 ∷ 1 ∷ 0x55000000 ∷ 0x3E9 ∷ 3 ∷ 0 ∷ 0 ∷ 0
     ∷ 0x3EF ∷ 0x81000001 ∷ 0x78000000 ∷ 1 ∷ 8 ∷ 0x81000001 ∷ 0x79000000 ∷ 0 ∷ 0x81000001 ∷ 0x78000000 ∷ 1 ∷ 0 ∷ 0
     ∷ 0x3EC ∷ 1 ∷ 0 ∷ 4 ∷ 0 ∷ 0x3F2 ∷ []
 
--- ---- what they say
+-- ---- what they mean
 
 abbrev pub references_twice_units : List Part
 references_twice_units = record {
@@ -172,7 +174,7 @@ short_hunks = record {
   tables = record { sites = (0, to_hunk 0) ∷ (4, to_hunk 0) ∷ []; references = []; definitions = []; symbols = []; debugs = [] };
 } ∷ []
 
--- ---- what is said of them
+-- ---- what the definitions say about them
 
 pub record LoadExamples : Type 0 where
   pub empty_ends_early : OffendsFirst Load [] 0 UnexpectedEnd
@@ -230,9 +232,9 @@ pub record ObjectExamples : Type 0 where
   pub symbol_in_ext : OffendsFirst Object (object_b (1 ∷ [])) 7 (UnsupportedExt 0)
   pub symbol_of_kind : OffendsFirst Object (object_e 0x1000001) 21 (SymbolKind 1)
 
--- what files say
+-- what the files mean
 pub record ValueExamples : Type 0 where
-  -- a reference without offsets is dropped, and one to the same name stands again
+  -- a reference without offsets is dropped, and a second one to the same name is kept
   pub references_twice_told : TellsUnits references_twice references_twice_units
   pub every_block_told : TellsUnits (object_e 1) every_block_units
   pub unusual_told : TellsHunks unusual_load ((0, 3) ∷ (1, 1) ∷ []) unusual_hunks

@@ -1,6 +1,8 @@
--- The one table of faults: which numbers pass where they are due, and the reason for the others.
+-- The one table of faults: which numbers pass where they are expected, and the reason for the
+-- others.
 --
--- What passes is that of The AmigaDOS Manual, 3rd edition, binary file structure; own where a comment says so.
+-- What passes is that of The AmigaDOS Manual, 3rd edition, "Amiga binary file structure"; own where
+-- a comment says so.
 use Rattle.std.specs.Prelude.{◌≡◌, ℕ, zero, suc, ◌*◌, ◌/◌, ◌%◌, ◌^◌, ◌<◌, Bool, true, false, Option, Some, None, List, [], ◌∷◌, nat_lt, nat_le, ◌==◌, ◌&&◌, if◌then◌else◌}
 use Rattle.hunk_words.specs.declared.kinds.HunkKind.{HunkKind}
 use Rattle.hunk_words.specs.declared.kinds.HunkKind.TheVariants.{Code, Data, Bss}
@@ -16,12 +18,13 @@ use Rattle.hunk_words.specs.Kinds.{Within, Kind, Width, Field, low, bits, entry_
 use Rattle.hunk_words.specs.Kinds.Within.{in_unit, in_load}
 use Rattle.hunk_words.specs.Kinds.Kind.{object_start, load_start, unit_type, hunk_type, content_type, block_type, past_end, unit_length, name_length, word, value, content_size, reloc_count, hunk_number, offset, debug_length, ext_entry, ref_count, ref_offset, symbol_entry, resident, table_size, first_hunk, last_hunk, header_size, short_count, short_hunk, short_offset, short_pad}
 
--- passes where the test holds
+-- passes if the check holds
 abbrev pub reject_unless : Bool → Reason → Option Reason
 reject_unless true reason = None
 reject_unless false reason = Some reason
 
--- The rule for types. 1020 is known in a load file behind the header (own: in an object file it is no type).
+-- The rule for types. 1020 is known in a load file after the header (own: in an object file it is
+-- not a type).
 abbrev pub refused_type : Bool → BlockType → ℕ → Reason
 refused_type known unsupported t = UnsupportedBlock t
 refused_type known unknown t = UnknownType t
@@ -67,8 +70,8 @@ abbrev pub and_then : Option Reason → Option Reason → Option Reason
 and_then None second = second
 and_then (Some reason) second = Some reason
 
--- The table of faults: for each kind the reason of a number that doesn't pass. The rules of sites are apart: an offset
--- always passes here.
+-- The table of faults: for each kind, the reason of a number that doesn't pass. The rules for sites
+-- are separate: an offset always passes here.
 abbrev pub judged : Kind → ℕ → Option Reason
 judged object_start n = reject_unless (low n == 999) WrongStart
 judged load_start n = reject_unless (low n == 1011) WrongStart
@@ -104,7 +107,7 @@ judged (short_hunk half last limit more) n = reject_unless (nat_le n last) (NoSu
 judged (short_offset half limit target) n = None
 judged short_pad n = None
 
--- the number is as wide as it may be, and the table lets it pass
+-- the number is not too wide, and the table lets it pass
 pub record Passes (k : Kind) (n : ℕ) : Type 0 where
   pub fits : n < bound (width k)
   pub passes : judged k n ≡ None

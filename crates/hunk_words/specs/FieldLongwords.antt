@@ -1,4 +1,4 @@
--- The longwords of fields: a whole one each, or one for two halves, the upper before the lower.
+-- The longwords of fields: a whole one for each, or one for two halves, the upper before the lower.
 use Rattle.std.specs.Prelude.{ℕ, zero, suc, ◌+◌, ◌*◌, ◌^◌, List, [], ◌∷◌, length, drop, Option, Some, None}
 use Rattle.hunk_words.specs.Kinds.{Field, width}
 use Rattle.hunk_words.specs.Kinds.Width.{long, half}
@@ -24,10 +24,10 @@ fields_from upper (suc n) (f ∷ fs) = elim (width f.kind) [ long ↦ f ∷ fiel
 fields_from lower n [] = []
 fields_from lower n (f ∷ fs) = f ∷ fields_from upper n fs
 
--- the fields that stand in the first n longwords
+-- the fields in the first n longwords
 abbrev pub fields_in : ℕ → List Field → List Field
 fields_in n fs = fields_from upper n fs
 
--- the fields behind the first n longwords
+-- the fields after the first n longwords
 abbrev pub fields_after : ℕ → List Field → List Field
 fields_after n fs = drop (length (fields_in n fs)) fs

@@ -1,5 +1,5 @@
--- What is a file, and what a file begins with. A file is spelled by a tree, each number passes, and its sites obey the
--- rules. It has at most 2^28 longwords (own).
+-- What a file is, and how a file may begin. A file is the spelling of a tree, each number passes,
+-- and its sites obey the rules. It has at most 2^28 longwords (own).
 use Rattle.std.specs.Prelude.{◌≡◌, ℕ, ◌^◌, ◌<◌, ◌≤◌, List, [], ◌∷◌, ◌++◌, length}
 use Rattle.hunk_words.specs.Kinds.{Field}
 use Rattle.hunk_words.specs.FaultTable.{AllPass}
@@ -23,14 +23,14 @@ abbrev pub spelling : (kind : FileKind) → Tree kind → List Field
 spelling Object t = object_spelling t
 spelling Load t = load_spelling t
 
--- Each of its numbers passes. This says nothing of its sites.
+-- Each of its numbers passes. This says nothing about its sites.
 abbrev pub Fits : (kind : FileKind) → Tree kind → Type 0
 Fits kind t = AllPass (spelling kind t)
 
 abbrev pub longwords_spelled : (kind : FileKind) → Tree kind → List ℕ
 longwords_spelled kind t = longwords_of (spelling kind t)
 
--- the longwords that a file may have
+-- the most longwords that a file may have
 abbrev pub most_longwords : ℕ
 most_longwords = 2 ^ 28
 
@@ -45,8 +45,9 @@ pub record IsFile (kind : FileKind) (ws : List ℕ) : Type 0 where
   pub tree : Tree kind
   pub is_file : IsFileOf kind tree ws
 
--- A good front: numbers that pass begin with it, and the sites at its own places obey the rules. What it goes on with may
--- be of any length, and its sites may break the rules, so the sites behind a front are never blamed on it.
+-- A valid prefix: numbers that pass begin with it, and the sites at its own places obey the rules.
+-- What follows it may be of any length, and the sites in what follows may break the rules, so a
+-- prefix is never blamed for sites after it.
 pub record IsValidPrefix (kind : FileKind) (ws : List ℕ) : Type 0 where
   pub tree : Tree kind
   pub fits : Fits kind tree

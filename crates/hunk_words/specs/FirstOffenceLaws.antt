@@ -1,4 +1,4 @@
--- What holds of files, good fronts and the first offence. The machine stops exactly there.
+-- Laws about files, valid prefixes and the first offence. The machine stops exactly there.
 use Rattle.std.specs.Prelude.{◌≡◌, ℕ, ◌<◌, ◌≤◌, List, [], ◌∷◌, ◌++◌, length, Ok, Err, ◌⊎◌, ◌↔◌}
 use Rattle.hunk_words.specs.Machine.{IsComplete}
 use Rattle.hunk_words.specs.Reading.{Progress, initial_progress, read_word, read_words}
@@ -8,7 +8,8 @@ use Rattle.hunk_words.specs.declared.event.FileKind.{FileKind}
 use Rattle.hunk_words.specs.declared.fault.Reason.{Reason}
 use Rattle.hunk_words.specs.declared.fault.Reason.TheVariants.{TooLarge}
 
--- The machine stops at this place for this reason, behind a good front: the means of the proofs of the first offence.
+-- The machine stops at this place for this reason, after a valid prefix: a means to prove the first
+-- offence.
 pub record Offends (kind : FileKind) (ws : List ℕ) (p : ℕ) (r : Reason) : Type 0 where
   pub front : List ℕ
   pub bad : ℕ
@@ -21,36 +22,37 @@ pub record Offends (kind : FileKind) (ws : List ℕ) (p : ℕ) (r : Reason) : Ty
   pub comes_to : read_words (initial_progress kind) 0 front ≡ Ok reached
   pub reason : read_word reached bad ≡ Err r
 
--- The machine goes on over good fronts alone, and over each.
+-- The machine reads exactly the valid prefixes.
 abbrev pub ReadIsPrefix : Type 0
 ReadIsPrefix = (kind : FileKind) (ws : List ℕ) (reached : Progress) → AllLong ws → length ws ≤ most_longwords → read_words (initial_progress kind) 0 ws ≡ Ok reached → IsValidPrefix kind ws
 
 abbrev pub PrefixIsRead : Type 0
 PrefixIsRead = (kind : FileKind) (ws : List ℕ) → IsValidPrefix kind ws → (reached : Progress) × (read_words (initial_progress kind) 0 ws ≡ Ok reached)
 
--- Where it stops, a good front ends.
+-- Where it stops, a valid prefix ends.
 abbrev pub StopsAfterPrefix : Type 0
 StopsAfterPrefix = (kind : FileKind) (ws : List ℕ) (p : ℕ) (r : Reason) → AllLong ws → p < most_longwords → read_words (initial_progress kind) 0 ws ≡ Err (p, r) → Offends kind ws p r
 
--- It stops at the first offence, for the reason of the table or of the rules of sites.
+-- It stops at the first offence, for the reason of the table or of the rules for sites.
 abbrev pub StopsAtOffence : Type 0
 StopsAtOffence = (kind : FileKind) (ws : List ℕ) (p : ℕ) (r : Reason) → AllLong ws → p < most_longwords → read_words (initial_progress kind) 0 ws ≡ Err (p, r) → OffendsAt kind ws p r
 
--- A longword behind the most that a file may have is too much.
+-- A longword after the most that a file may have is too much.
 abbrev pub TooLongOffends : Type 0
 TooLongOffends = (kind : FileKind) (front behind : List ℕ) (bad : ℕ) (reached : Progress) → AllLong front → length front ≡ most_longwords → read_words (initial_progress kind) 0 front ≡ Ok reached → OffendsAt kind (front ++ (bad ∷ behind)) most_longwords TooLarge
 
--- Behind a good front the machine tells whether it is a file.
+-- After a valid prefix the machine decides whether it is a file.
 abbrev pub CompleteIsFile : Type 0
 CompleteIsFile = (kind : FileKind) (ws : List ℕ) (reached : Progress) → AllLong ws → length ws ≤ most_longwords → read_words (initial_progress kind) 0 ws ≡ Ok reached → IsComplete reached.stack ↔ IsFile kind ws
 
--- Where the longwords of a good front end and are not complete, or bytes of a further one follow, they end too early.
+-- If the longwords of a valid prefix end and are not complete, or bytes of a further one follow,
+-- they end too early.
 abbrev pub EndsAfterPrefix : Type 0
 EndsAfterPrefix = (kind : FileKind) (ws : List ℕ) (rest : ℕ) (reached : Progress) → AllLong ws → length ws ≤ most_longwords → read_words (initial_progress kind) 0 ws ≡ Ok reached → (rest ≡ 0 → IsComplete reached.stack → ⊥) → EndsEarly kind ws rest (length ws) (end_reason rest)
 
 -- ---- without the machine
 
--- Longwords are a file or have a first offence, and never both; it is one.
+-- Longwords are a file or have a first offence, never both; and it is unique.
 abbrev pub FileOrOffence : Type 0
 FileOrOffence = (kind : FileKind) (ws : List ℕ) (rest : ℕ) → AllLong ws → (IsFile kind ws × (rest ≡ 0)) ⊎ ((place : ℕ) × (r : Reason) × FirstOffence kind ws rest place r)
 

@@ -1,7 +1,7 @@
--- What may be due at a place of a file, and the one table of faults.
+-- What may be expected at a place of a file.
 --
--- Block types, layouts and entry types are those of The AmigaDOS Manual, 3rd edition, binary file structure;
--- the type 1020 is that of doshunks.h. What passes is the manual's, and own where a comment says so.
+-- Block types, layouts and entry types are those of The AmigaDOS Manual, 3rd edition, "Amiga binary
+-- file structure"; the type 1020 is that of doshunks.h.
 use Rattle.std.specs.Prelude.{◌≡◌, ℕ, zero, suc, ◌*◌, ◌/◌, ◌%◌, ◌^◌, ◌<◌, Bool, true, false, Option, Some, None, List, [], ◌∷◌, nat_lt, nat_le, ◌==◌, ◌&&◌, if◌then◌else◌}
 use Rattle.hunk_words.specs.declared.kinds.HunkKind.{HunkKind}
 use Rattle.hunk_words.specs.declared.kinds.HunkKind.TheVariants.{Code, Data, Bss}
@@ -16,13 +16,14 @@ use Rattle.hunk_words.specs.declared.kinds.EntryType.TheVariants.{Definition as 
 use Rattle.hunk_words.specs.declared.fault.Reason.{Reason}
 use Rattle.hunk_words.specs.declared.fault.Reason.TheVariants.{WrongStart, UnknownType, MisplacedType, UnsupportedBlock, UnsupportedExt, BothMemoryBits, ResidentNames, HunkTable, TooLarge, ContentTooLong, NoSuchHunk, SymbolKind, TrailingData}
 
--- Where a hunk stands: in a unit; or in a load file, with the number of the last hunk and the header's size.
+-- Where a hunk is: in a unit; or in a load file, with the number of the last hunk and the size in
+-- the header.
 pub data Within : Type 0 where
   in_unit : Within
   in_load : (last size : ℕ) → Within
 
--- The memory bits that a content block tells, and its site limit: in a load file the header tells the memory, and sites
--- may lie in the zeros behind the content.
+-- The memory bits of a content block, and its site limit: in a load file the memory is in the
+-- header, and sites may lie in the zeros after the content.
 abbrev pub content_bits : Within → ℕ → ℕ
 content_bits in_unit b = b
 content_bits (in_load last size) b = 0
@@ -36,22 +37,23 @@ abbrev pub flip : Half → Half
 flip upper = lower
 flip lower = upper
 
--- the half n words on
+-- the half n words later
 abbrev pub half_after : ℕ → Half → Half
 half_after zero h = h
 half_after (suc n) h = half_after n (flip h)
 
--- What is due. A kind carries what the table asks and what the next step reads: the hunk's place, its site limit,
--- how many are still to come, and in a load file's header what is left.
+-- What is expected. A kind carries what the table needs and what the next step reads: the hunk's
+-- place, its site limit, how many are still to come, and in a load file's header what is left.
 pub data Kind : Type 0 where
-  -- types: at the start of a file, in a unit between hunks, in a load file between hunks, behind a hunk's name, behind content or a block
+  -- types: at the start of a file, in a unit between hunks, in a load file between hunks, after a
+  -- hunk's name, after content or a block
   object_start : Kind
   load_start : Kind
   unit_type : Kind
   hunk_type : (last size : ℕ) → Kind
   content_type : Within → Kind
   block_type : Within → (limit : ℕ) → Kind
-  -- anything behind the last END of a load file
+  -- anything after the last END of a load file
   past_end : Kind
   -- the lengths of names; longwords of a name, of content or of a debug block; values of names
   unit_length : Kind
@@ -60,7 +62,7 @@ pub data Kind : Type 0 where
   value : Kind
   -- the size of CODE, DATA or BSS, with the memory bits of its type longword
   content_size : Within → HunkKind → (bits : ℕ) → Kind
-  -- RELOC32: the count, the hunk number with the number of offsets behind the first, an offset
+  -- RELOC32: the count, the hunk number with the number of offsets after the first, an offset
   reloc_count : Within → (limit : ℕ) → Kind
   hunk_number : Within → (limit more : ℕ) → Kind
   offset : (limit target : ℕ) → Kind
@@ -70,14 +72,14 @@ pub data Kind : Type 0 where
   ref_count : (limit : ℕ) → Kind
   ref_offset : (limit : ℕ) → Kind
   symbol_entry : Kind
-  -- the header: resident names, table size, first and last hunk, and the sizes, with the room that is left of 2^24,
-  -- how many sizes follow this one, and the sizes before it, the latest first
+  -- the header: resident names, table size, first and last hunk, and the sizes, with the room that
+  -- is left of 2^24, how many sizes follow this one, and the earlier sizes, the latest first
   resident : Kind
   table_size : Kind
   first_hunk : Kind
   last_hunk : (last : ℕ) → Kind
   header_size : (last room left : ℕ) → (sizes : List ℕ) → Kind
-  -- the 16-bit words of RELOC32SHORT, as those of RELOC32, and the pad behind an odd number of them
+  -- the 16-bit words of RELOC32SHORT, as those of RELOC32, and the pad after an odd number of them
   short_count : Half → (last limit : ℕ) → Kind
   short_hunk : Half → (last limit more : ℕ) → Kind
   short_offset : Half → (limit target : ℕ) → Kind
@@ -97,11 +99,12 @@ entry_length n = n % 2 ^ 24
 abbrev pub entry_type : ℕ → ℕ
 entry_type n = n / 2 ^ 24
 
--- the types that are left out on purpose: overlays, libraries, and relocations of other widths or bases
+-- the types that are deliberately left out: overlays, libraries, and relocations of other widths or
+-- bases
 abbrev pub is_unsupported : ℕ → Bool
 is_unsupported t = if t == 1005 then true else if t == 1006 then true else if t == 1021 then true else if t == 1022 then true else nat_le 1013 t && nat_le t 1019
 
--- what the table has beside the number, or else the last
+-- what the table has for the number, or the last argument
 abbrev pub lookup_or : {A : Type 0} → List (ℕ × A) → A → ℕ → A
 lookup_or [] other t = other
 lookup_or (row ∷ rows) other t = if t == row.0 then row.1 else lookup_or rows other t
@@ -112,7 +115,7 @@ block_types = (999, unit) ∷ (1000, name) ∷ (1001, content Code) ∷ (1002, c
 unfoldable pub type_of : ℕ → BlockType
 type_of t = lookup_or block_types (if is_unsupported t then unsupported else unknown) t
 
--- the number of a content block's type, and what a number stands for as such
+-- the type number of a content block, and the content type for a number
 abbrev pub hunk_kind_number : HunkKind → ℕ
 hunk_kind_number Code = 1001
 hunk_kind_number Data = 1002
@@ -121,7 +124,7 @@ hunk_kind_number Bss = 1003
 abbrev pub hunk_kind_of : ℕ → HunkKind
 hunk_kind_of n = lookup_or ((1001, Code) ∷ (1002, Data) ∷ []) Bss n
 
--- what the two memory bits ask for; both of them together do not pass
+-- what the two memory bits ask for; both together are rejected
 abbrev pub memory_of : ℕ → Memory
 memory_of zero = Any
 memory_of (suc zero) = Chip
@@ -139,7 +142,7 @@ is_entry _ = true
 
 -- ---- fields
 
--- a number of a file under its kind
+-- a number of a file, with its kind
 pub record Field : Type 0 where
   pub kind : Kind
   pub number : ℕ

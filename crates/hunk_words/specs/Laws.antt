@@ -1,4 +1,4 @@
--- What holds of trees, their spelling and the machine: it reads exactly what is spelled.
+-- Laws about trees, their spelling and the machine: it reads exactly what is spelled.
 use Rattle.std.specs.Prelude.{◌≡◌, ℕ, List, [], ◌∷◌, ◌++◌}
 use Rattle.hunk_words.specs.Kinds.{Kind, Field, width}
 use Rattle.hunk_words.specs.FaultTable.{Passes}
@@ -9,7 +9,7 @@ use Rattle.hunk_words.specs.FieldLongwords.{longwords_of}
 use Rattle.hunk_words.specs.Machine.{due, Takes, IsComplete}
 use Rattle.hunk_words.specs.Reading.{WordPasses, Reads}
 
--- What is spelled is taken, each field under the kind of its spelling, to where a file may end.
+-- What is spelled is taken, each field under the kind of its spelling, up to where a file may end.
 abbrev pub ObjectIsTaken : Type 0
 ObjectIsTaken = (t : ObjectTree) → ObjectFits t → Takes (object_start ∷ []) (object_spelling t) (unit_type ∷ [])
 
@@ -22,28 +22,28 @@ ObjectIsRead = (t : ObjectTree) → ObjectFits t → Reads (object_start ∷ [])
 abbrev pub LoadIsRead : Type 0
 LoadIsRead = (t : LoadTree) → LoadFits t → Reads (load_start ∷ []) (longwords_of (load_spelling t)) []
 
--- What is read to where a file may end is spelled by a tree.
+-- What is read up to where a file may end is the spelling of a tree.
 abbrev pub ReadIsObject : Type 0
 ReadIsObject = (ws : List ℕ) (after : List Kind) → Reads (object_start ∷ []) ws after → IsComplete after → (t : ObjectTree) × ObjectFits t × (longwords_of (object_spelling t) ≡ ws)
 
 abbrev pub ReadIsLoad : Type 0
 ReadIsLoad = (ws : List ℕ) (after : List Kind) → Reads (load_start ∷ []) ws after → IsComplete after → (t : LoadTree) × LoadFits t × (longwords_of (load_spelling t) ≡ ws)
 
--- What is read so far is the front of a file.
+-- What has been read so far is the beginning of a file.
 abbrev pub ObjectPrefix : Type 0
 ObjectPrefix = (ws : List ℕ) (stack : List Kind) → Reads (object_start ∷ []) ws stack → (more : List ℕ) × (t : ObjectTree) × ObjectFits t × (longwords_of (object_spelling t) ≡ ws ++ more)
 
 abbrev pub LoadPrefix : Type 0
 LoadPrefix = (ws : List ℕ) (stack : List Kind) → Reads (load_start ∷ []) ws stack → (more : List ℕ) × (t : LoadTree) × LoadFits t × (longwords_of (load_spelling t) ≡ ws ++ more)
 
--- Where a longword doesn't pass no file begins with it behind that front.
+-- If a longword doesn't pass, no file has it after that prefix.
 abbrev pub ObjectNext : Type 0
 ObjectNext = (ws more : List ℕ) (w : ℕ) (stack : List Kind) (t : ObjectTree) → Reads (object_start ∷ []) ws stack → ObjectFits t → longwords_of (object_spelling t) ≡ ws ++ (w ∷ more) → WordPasses (width (due stack)) stack w
 
 abbrev pub LoadNext : Type 0
 LoadNext = (ws more : List ℕ) (w : ℕ) (stack : List Kind) (t : LoadTree) → Reads (load_start ∷ []) ws stack → LoadFits t → longwords_of (load_spelling t) ≡ ws ++ (w ∷ more) → WordPasses (width (due stack)) stack w
 
--- The kind that is due is the one that each file bears there.
+-- The kind that is expected is the one that each file has there.
 abbrev pub ObjectDue : Type 0
 ObjectDue = (fs gs : List Field) (g : Field) (stack : List Kind) (t : ObjectTree) → Takes (object_start ∷ []) fs stack → ObjectFits t → object_spelling t ≡ fs ++ (g ∷ gs) → (g.kind ≡ due stack) × Passes (due stack) g.number
 
@@ -57,6 +57,6 @@ ObjectSame = (t u : ObjectTree) → ObjectFits t → ObjectFits u → longwords_
 abbrev pub LoadSame : Type 0
 LoadSame = (t u : LoadTree) → LoadFits t → LoadFits u → longwords_of (load_spelling t) ≡ longwords_of (load_spelling u) → load_spelling t ≡ load_spelling u
 
--- Behind the last END nothing passes.
+-- Nothing passes after the last END.
 abbrev pub NothingFollows : Type 0
 NothingFollows = (w : ℕ) (ws : List ℕ) (after : List Kind) → Reads [] (w ∷ ws) after → ⊥

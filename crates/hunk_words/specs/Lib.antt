@@ -30,3 +30,4 @@ pub mod Watched
 pub mod Name
 pub mod OpenName
 pub mod Sites
+pub mod PartialHunk

@@ -1,5 +1,5 @@
--- The longwords of bytes, most significant byte first. A file is longwords.
--- (The AmigaDOS Manual, 3rd edition, the Amiga binary file structure.)
+-- The longwords of bytes, the most significant byte first. A file is longwords (The AmigaDOS
+-- Manual, 3rd edition, "Amiga binary file structure").
 use Rattle.std.specs.Prelude.{◌≡◌, ℕ, List, [], ◌∷◌}
 use Rattle.byteorder.specs.Endian.{big_number}
 
@@ -7,7 +7,7 @@ abbrev pub longwords : List ℕ → List ℕ
 longwords (a ∷ b ∷ c ∷ d ∷ bytes) = big_number 4 (a ∷ b ∷ c ∷ d ∷ []) ∷ longwords bytes
 longwords _ = []
 
--- the bytes behind the last whole longword
+-- the bytes after the last whole longword
 abbrev pub unfinished : List ℕ → List ℕ
 unfinished (a ∷ b ∷ c ∷ d ∷ bytes) = unfinished bytes
 unfinished bytes = bytes

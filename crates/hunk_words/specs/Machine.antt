@@ -1,6 +1,6 @@
--- The machine: what is due is a stack of kinds, and each number takes the top one away and puts on it what it makes due.
--- What a file is, is said without it, by trees and their spelling; it is the means of the proofs, and what a state
--- of the decoder stands for.
+-- The machine: what is expected is a stack of kinds, and each number removes the top one and pushes
+-- what it makes expected. What a file is, is defined without it, by trees and their spelling; the
+-- machine is a means of the proofs, and what a state of the decoder stands for.
 use Rattle.std.specs.Prelude.{◌≡◌, ℕ, zero, suc, pred, ◌-◌, ◌^◌, List, [], ◌∷◌}
 use Rattle.hunk_words.specs.Kinds.{Within, Kind, Field, low, bits, entry_length, entry_of, type_of, flip, half_after, content_bits, site_limit}
 use Rattle.hunk_words.specs.FaultTable.{Passes}
@@ -25,7 +25,7 @@ abbrev pub short_times : ℕ → Half → ℕ → ℕ → List Kind → List Kin
 short_times zero h limit target stack = stack
 short_times (suc n) h limit target stack = short_offset h limit target ∷ short_times n (flip h) limit target stack
 
--- the first list backwards, and then the second
+-- the first list reversed, and then the second
 abbrev pub reverse_onto : List ℕ → List ℕ → List ℕ
 reverse_onto [] xs = xs
 reverse_onto (a ∷ others) xs = reverse_onto others (a ∷ xs)
@@ -34,7 +34,7 @@ abbrev pub hunks_due : ℕ → List ℕ → List Kind → List Kind
 hunks_due last [] stack = stack
 hunks_due last (size ∷ sizes) stack = hunk_type last size ∷ hunks_due last sizes stack
 
--- what a type longword makes due
+-- what a type longword makes expected
 abbrev pub unit_part : BlockType → ℕ → List Kind → List Kind
 unit_part unit b stack = unit_length ∷ unit_type ∷ stack
 unit_part name b stack = name_length ∷ content_type in_unit ∷ unit_type ∷ stack
@@ -58,7 +58,7 @@ abbrev pub content_part : Within → HunkKind → ℕ → List Kind → List Kin
 content_part w Bss n stack = block_type w (site_limit w 0) ∷ stack
 content_part w _ n stack = times n word (block_type w (site_limit w n) ∷ stack)
 
--- what stands behind the name of an EXT entry
+-- what comes after the name of an EXT entry
 abbrev pub entry_tail : ℕ → EntryType → Kind
 entry_tail limit reference = ref_count limit
 entry_tail limit _ = value
@@ -67,7 +67,7 @@ entry_tail limit _ = value
 abbrev pub entry_part : ℕ → EntryType → ℕ → List Kind → List Kind
 entry_part limit type n stack = times n word (entry_tail limit type ∷ ext_entry limit ∷ stack)
 
--- What stands on the stack s in place of the kind, once the number has passed.
+-- What replaces the kind on the stack s, once the number has passed.
 abbrev pub push : Kind → ℕ → List Kind → List Kind
 push object_start n stack = unit_length ∷ unit_type ∷ stack
 push load_start n stack = resident ∷ table_size ∷ stack
@@ -113,13 +113,14 @@ abbrev pub next : List Kind → ℕ → List Kind
 next [] n = []
 next (k ∷ stack) n = push k n stack
 
--- Where the file may end. Behind it an object file may go on.
+-- Where the file may end. An object file may continue after it.
 abbrev pub IsComplete : List Kind → Type 0
 IsComplete [] = Unit {0}
 IsComplete (unit_type ∷ []) = Unit {0}
 IsComplete _ = ⊥
 
--- From the first stack the machine takes the fields, each labelled with the kind that is due, and what is due behind them is the second.
+-- From the first stack the machine takes the fields, each labelled with the kind that is expected,
+-- and what is expected after them is the second.
 abbrev pub Takes : List Kind → List Field → List Kind → Type 0
 Takes stack [] after = stack ≡ after
 Takes [] (f ∷ fs) after = ⊥

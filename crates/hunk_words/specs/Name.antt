@@ -1,4 +1,4 @@
--- Names, as longwords hold them: the bytes before the first zero byte, or all of them where there is none.
+-- Names in longwords: the bytes before the first zero byte, or all of them if there is none.
 use Rattle.std.specs.Prelude.{◌≡◌, ℕ, ◌+◌, ◌*◌, ◌/◌, ◌<◌, ◌==◌, List, ◌∷◌, ◌++◌, length, drop, map, max, replicate, ◌⊎◌}
 use Rattle.std.specs.List.{All, flat_map, before_first, range_with_len}
 use Rattle.byteorder.specs.Endian.{big_bytes, big_number}
@@ -20,16 +20,17 @@ pub record Names (n ws : List ℕ) : Type 0 where
 abbrev pub name_of : List ℕ → List ℕ
 name_of ws = before_first (λ b. b == 0) (bytes_of ws)
 
--- how many longwords a name of so many bytes takes: the fewest, and one at least
+-- the number of longwords that a name of this many bytes takes: the fewest, and at least one
 abbrev pub longword_count : ℕ → ℕ
 longword_count bytes = max 1 ((bytes + 3) / 4)
 
--- The longwords that hold the name n, the last one filled up with zeros. A byte that big_number finds missing is a zero.
+-- The longwords that hold the name n, the last one padded with zeros. A byte that big_number does
+-- not find is a zero.
 abbrev pub name_words : List ℕ → List ℕ
 name_words n = map (λ k. big_number 4 (drop (4 * k) n)) (range_with_len 0 (longword_count (length n)))
 
--- The longwords are the bytes n, and after them the fewest zero bytes that make whole longwords. A name takes one longword
--- at least.
+-- The longwords are the bytes n, followed by the fewest zero bytes that make whole longwords. A
+-- name takes at least one longword.
 pub record Writes (n ws : List ℕ) : Type 0 where
   pub zeros : ℕ
   pub bytes : bytes_of ws ≡ n ++ replicate zeros 0

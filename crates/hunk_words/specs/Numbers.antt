@@ -1,4 +1,4 @@
--- What a decoder's state and its taker stand for, a number at a time.
+-- What a decoder's state and its taker stand for, one number at a time.
 use Rattle.std.specs.Prelude.{◌≡◌, ℕ, ◌<◌, ◌^◌, List, [], ◌∷◌, ◌++◌, length, Some, None, Result, Ok, Err}
 use Rattle.hunk_words.specs.Kinds.{Field, field, width, bound}
 use Rattle.hunk_words.specs.Machine.{due, Takes}
@@ -13,8 +13,8 @@ use Rattle.hunk_words.specs.declared.state.State.{State}
 use Rattle.hunk_words.specs.declared.numbers.NumberRefusal.{NumberRefusal}
 use Rattle.hunk_words.specs.declared.numbers.NumberRefusal.TheVariants.{Refused, OutOfMemory}
 
--- Behind these fields of a file the machine has come to this, the state is seen as what is due, and the taker stands for
--- the events.
+-- After these fields of a file the machine has come to this point, the state is what is expected
+-- there, and the taker stands for the events.
 pub record Reached (kind : FileKind) (Stands : List Event → Type 0) (state : State) (fs : List Field) (at : Progress) : Type 0 where
   pub taken : Takes (start_of kind ∷ []) fs at.stack
   pub seen : at.seen ≡ seen_all [] fs
@@ -23,18 +23,18 @@ pub record Reached (kind : FileKind) (Stands : List Event → Type 0) (state : S
   pub is_state : IsState state (sizes_told kind (events fs))
   pub stands : Stands (events fs)
 
--- the answer to a number behind these fields
+-- the result of a number after these fields
 abbrev pub NumberAnswered : FileKind → (List Event → Type 0) → List Field → Progress → ℕ → Result State NumberRefusal → Type 0
 NumberAnswered kind Stands fs at n (Ok state) = (field_judged at n ≡ None) × Reached kind Stands state (fs ++ field (due at.stack) n ∷ []) (field_next at n)
 NumberAnswered kind Stands fs at n (Err (Refused reason)) = field_judged at n ≡ Some reason
 NumberAnswered kind Stands fs at n (Err OutOfMemory) = Unit {0}
 
--- a number that may come: it is as wide as it may be, and there is room for its event
+-- a number that may come: it is not too wide, and there is room for its event
 pub record MayCome (fs : List Field) (at : Progress) (n : ℕ) : Type 0 where
   pub fits : n < bound (width (due at.stack))
   pub few : length (events fs) < 2 ^ 29
 
--- the answer to a longword behind these fields
+-- the result of a longword after these fields
 abbrev pub WordAnswered : FileKind → (List Event → Type 0) → List Field → Progress → ℕ → Result State NumberRefusal → Type 0
 WordAnswered kind Stands fs at w (Ok state) = (next : Progress) × (read_word at w ≡ Ok next) × Reached kind Stands state (fs ++ word_labels (width (due at.stack)) at.stack w []) next
 WordAnswered kind Stands fs at w (Err (Refused reason)) = read_word at w ≡ Err reason

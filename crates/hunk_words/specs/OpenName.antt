@@ -1,9 +1,9 @@
--- What an open name stands for: the longwords that it took.
+-- What an open name stands for: the longwords that it has taken.
 use Rattle.std.specs.Prelude.{◌≡◌, ℕ, ◌<◌, ◌≤◌, List, length, true, false}
 use Rattle.hunk_words.specs.Name.{bytes_of, name_of}
 use Rattle.hunk_words.specs.declared.name.open_name.OpenName.{OpenName}
 
--- It holds their name, and has ended where a byte of them is zero.
+-- It holds their name, and has ended if a byte of them is zero.
 pub record Opens {A : Type 0} (n : OpenName A) (ws : List ℕ) : Type 0 where
   pub name : n.bytes.items ≡ name_of ws
   pub ended : n.ended ≡ true → length (name_of ws) < length (bytes_of ws)

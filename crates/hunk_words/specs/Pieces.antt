@@ -1,13 +1,13 @@
--- What a reader over memory answers, read by read.
+-- What a reader over memory returns, read by read.
 use Rattle.std.specs.Prelude.{◌≡◌, ℕ, ◌+◌, ◌-◌, ◌^◌, ◌==◌, min, List, length, drop, Bool, false, Option, Some, None, Result, Ok, Err, if◌then◌else◌}
 use Rattle.hunk_words.specs.declared.fault.DeviceFault.{DeviceFault}
 use Rattle.hunk_words.specs.declared.pieces.Pieces.{Pieces}
 
--- the bytes not read yet
+-- the bytes that have not been read yet
 abbrev pub bytes_left : {A : Type 0} → Pieces A → List ℕ
 bytes_left pieces = drop pieces.position pieces.bytes.items
 
--- Before its first read it has all of these bytes, and the rules of its reads.
+-- Before its first read it has all of these bytes, and these rules for its reads.
 pub record IsFresh {A : Type 0} (pieces : Pieces A) (bytes : List ℕ) (most : ℕ) (fails_at : Option ℕ) : Type 0 where
   pub all : bytes_left pieces ≡ bytes
   pub at_most : pieces.most ≡ most
@@ -20,7 +20,8 @@ abbrev pub is_number : Option ℕ → ℕ → Bool
 is_number None reads = false
 is_number (Some number) reads = number == reads
 
--- A read fails where its number says so; else it gives as many bytes as there are, as there is room for, at most so many.
+-- A read fails if it has the number of the one to fail; otherwise it returns as many bytes as there
+-- are, as there is room for, and at most `most`.
 abbrev pub answer_of : {A : Type 0} → Pieces A → ℕ → Result ℕ DeviceFault
 answer_of pieces room = if is_number pieces.fails_at pieces.reads then Err record {} else Ok (min (min room (length (bytes_left pieces))) pieces.most)
 

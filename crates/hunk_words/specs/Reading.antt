@@ -1,4 +1,5 @@
--- The machine over longwords: where halves are due, it takes the upper one before the lower one.
+-- The machine over longwords: where halves are expected, it takes the upper one before the lower
+-- one.
 use Rattle.std.specs.Prelude.{◌≡◌, ℕ, ◌+◌, ◌/◌, ◌%◌, ◌^◌, List, [], ◌∷◌, Option, Some, None, Result, Ok, Err}
 use Rattle.hunk_words.specs.Kinds.{Width, Kind, Field, field, width}
 use Rattle.hunk_words.specs.FaultTable.{Passes, judged, and_then}
@@ -14,7 +15,7 @@ abbrev pub word_next : Width → List Kind → ℕ → List Kind
 word_next long stack w = next stack w
 word_next (half h) stack w = next (next stack (w / 2 ^ 16)) (w % 2 ^ 16)
 
--- A longword passes: where halves are due, the upper one before the lower one.
+-- A longword passes: where halves are expected, the upper one before the lower one.
 abbrev pub WordPasses : Width → List Kind → ℕ → Type 0
 WordPasses long stack w = Passes (due stack) w
 WordPasses (half h) stack w = Passes (due stack) (w / 2 ^ 16) × Passes (due (next stack (w / 2 ^ 16))) (w % 2 ^ 16)
@@ -24,7 +25,7 @@ abbrev pub Reads : List Kind → List ℕ → List Kind → Type 0
 Reads stack [] after = stack ≡ after
 Reads stack (w ∷ ws) after = WordPasses (width (due stack)) stack w × Reads (word_next (width (due stack)) stack w) ws after
 
--- a longword under the kind that is due, or its halves under theirs
+-- a longword under the kind that is expected, or its halves under theirs
 abbrev pub word_labels : Width → List Kind → ℕ → List Field → List Field
 word_labels long stack w fs = field (due stack) w ∷ fs
 word_labels (half h) stack w fs = field (due stack) (w / 2 ^ 16) ∷ field (due (next stack (w / 2 ^ 16))) (w % 2 ^ 16) ∷ fs
@@ -33,9 +34,9 @@ abbrev pub labels : List Kind → List ℕ → List Field
 labels stack [] = []
 labels stack (w ∷ ws) = word_labels (width (due stack)) stack w (labels (word_next (width (due stack)) stack w) ws)
 
--- ---- the machine with the rules of sites, a field at a time
+-- ---- the machine with the rules for sites, a field at a time
 
--- what is due, and the offsets of the sites of this hunk so far
+-- what is expected, and the offsets of this hunk's sites so far
 pub record Progress : Type 0 where
   pub stack : List Kind
   pub seen : List ℕ
@@ -62,16 +63,17 @@ abbrev pub width_step : Width → Progress → ℕ → Result Progress Reason
 width_step long progress w = field_step progress w
 width_step (half h) progress w = field_step progress (w / 2 ^ 16) >>= λ further. field_step further (w % 2 ^ 16)
 
--- one longword: what is due behind it, or the reason
+-- one longword: what is expected after it, or the reason
 abbrev pub read_word : Progress → ℕ → Result Progress Reason
 read_word progress w = width_step (width (due progress.stack)) progress w
 
--- what the machine makes of longwords: what is due behind them, or the place and the reason of the first offence
+-- what the machine makes of longwords: what is expected after them, or the place and the reason of
+-- the first offence
 abbrev pub read_words : Progress → ℕ → List ℕ → Result Progress (ℕ × Reason)
 read_words progress p [] = Ok progress
 read_words progress p (w ∷ ws) = elim (read_word progress w) [ Ok further ↦ read_words further (p + 1) ws | Err r ↦ Err (p, r) ]
 
--- what is due at the start of a file of this kind
+-- what is expected at the start of a file of this kind
 abbrev pub start_of : FileKind → Kind
 start_of Object = object_start
 start_of Load = load_start

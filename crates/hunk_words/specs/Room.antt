@@ -1,4 +1,4 @@
--- What a writer over memory answers, write by write.
+-- What a writer over memory returns, write by write.
 use Rattle.std.specs.Prelude.{◌≡◌, ℕ, ◌-◌, ◌==◌, ◌&&◌, nat_lt, min, List, [], length, Bool, false, Result, Ok, Err, if◌then◌else◌}
 use Rattle.hunk_words.specs.declared.fault.DeviceFault.{DeviceFault}
 use Rattle.hunk_words.specs.declared.room.Room.{Room}
@@ -7,7 +7,7 @@ use Rattle.hunk_words.specs.declared.room.Room.{Room}
 abbrev pub bytes_taken : {A : Type 0} → Room A → List ℕ
 bytes_taken writer = writer.bytes.items
 
--- Before its first write it has taken nothing, and has the rules of its writes.
+-- Before its first write it has taken nothing, and has these rules for its writes.
 pub record IsEmpty {A : Type 0} (writer : Room A) (most room : ℕ) (zero : Bool) : Type 0 where
   pub nothing : bytes_taken writer ≡ []
   pub at_most : writer.most ≡ most
@@ -18,7 +18,8 @@ pub record IsEmpty {A : Type 0} (writer : Room A) (most room : ℕ) (zero : Bool
 abbrev pub room_left : {A : Type 0} → Room A → ℕ
 room_left writer = writer.room - length (bytes_taken writer)
 
--- Where there is no room left for a byte, a write fails or takes nothing; else it takes what there is room for, at most so many.
+-- If there is no room left for a byte, a write fails or takes nothing; otherwise it takes what
+-- there is room for, and at most `most`.
 abbrev pub answer_of : {A : Type 0} → Room A → ℕ → Result ℕ DeviceFault
 answer_of writer len = if (room_left writer == 0) && nat_lt 0 len then (if writer.zero then Ok 0 else Err record {}) else Ok (min (min len (room_left writer)) writer.most)
 

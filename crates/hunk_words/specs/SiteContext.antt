@@ -1,4 +1,4 @@
--- The site limit and the sites of the current hunk, told by events alone: what a taker can know.
+-- The site limit and the sites of the current hunk, from events alone: what a taker can know.
 use Rattle.std.specs.Prelude.{◌≡◌, ℕ, suc, ◌*◌, ◌++◌, ◌⊎◌, List, [], ◌∷◌, IsSome, slice_index}
 use Rattle.hunk_words.specs.Sites.{target_at}
 use Rattle.hunk_words.specs.Kinds.{hunk_kind_of}
@@ -9,7 +9,7 @@ use Rattle.hunk_words.specs.declared.event.FileKind.TheVariants.{Object, Load}
 use Rattle.hunk_words.specs.declared.event.Event.{Event}
 use Rattle.hunk_words.specs.declared.event.Event.TheVariants.{HunkSize, Content, Site, RefSite, HunkEnd}
 
--- the header's sizes, the hunks that ended, and this hunk's site limit
+-- the sizes in the header, the number of hunks that have ended, and this hunk's site limit
 pub record HunkPosition : Type 0 where
   pub sizes : List ℕ
   pub ended : ℕ
@@ -37,7 +37,7 @@ seen_after_event seen (RefSite o) = o ∷ seen
 seen_after_event seen HunkEnd = []
 seen_after_event seen _ = seen
 
--- the context, one event further
+-- the context after one more event
 abbrev pub context_with : FileKind → SiteContext → Event → SiteContext
 context_with file context event = record { position = position_after file context.position event; seen = seen_after_event context.seen event }
 
@@ -49,13 +49,13 @@ context_after file context (event ∷ events) = context_after file (context_with
 abbrev pub initial_context : SiteContext
 initial_context = record { position = record { sizes = []; ended = 0; limit = 0 }; seen = [] }
 
--- ---- the offsets of the sites that events told, and a map of sites
+-- ---- the offsets of the sites of events, and a map of sites
 
 abbrev pub Has : List ℕ → ℕ → Type 0
 Has [] o = ⊥
 Has (p ∷ ps) o = (p ≡ o) ⊎ Has ps o
 
--- the map has a site at each of the offsets, and at no other one
+-- the map has a site at each of the offsets, and at no other
 pub record SameSites {T : Type 0} (seen : List ℕ) (entries : List (ℕ × T)) : Type 0 where
   pub of_seen : (o : ℕ) → Has seen o → IsSome (target_at entries o)
   pub of_map : (o : ℕ) → IsSome (target_at entries o) → Has seen o

@@ -1,5 +1,6 @@
--- The rules of sites: a site is the four bytes from an offset, it lies inside its hunk, and no two sites of a hunk share
--- a byte (own: the sum would depend on the order). They stand apart from the table of faults.
+-- The rules for sites: a site is the four bytes from an offset, it lies inside its hunk, and no two
+-- sites of a hunk share a byte (own: the sum would depend on the order). They are separate from the
+-- table of faults.
 use Rattle.std.specs.Prelude.{◌≡◌, ℕ, ◌+◌, Bool, true, List, [], ◌∷◌, Option, Some, None, nat_le, ◌&&◌, if◌then◌else◌}
 use Rattle.hunk_words.specs.Kinds.{Kind, Field, low, type_of}
 use Rattle.hunk_words.specs.FaultTable.{reject_unless}
@@ -24,13 +25,13 @@ abbrev pub all_apart : ℕ → List ℕ → Bool
 all_apart o [] = true
 all_apart o (p ∷ ps) = apart o p && all_apart o ps
 
--- A site lies inside its hunk's limit, and shares no byte with one before it. Seen are the offsets of the sites of this
--- hunk so far.
+-- A site lies inside its hunk's limit, and shares no byte with an earlier one. `seen` are the
+-- offsets of this hunk's sites so far.
 abbrev pub site_judged : Option ℕ → List ℕ → ℕ → Option Reason
 site_judged None seen o = None
 site_judged (Some limit) seen o = if nat_le (o + 4) limit then reject_unless (all_apart o seen) (SiteOverlap o) else Some (SiteOutside o)
 
--- a hunk's sites so far, behind a block's type: none behind END
+-- a hunk's sites so far, after a block's type: none after END
 abbrev pub seen_at : BlockType → List ℕ → List ℕ
 seen_at end seen = []
 seen_at _ seen = seen
@@ -42,7 +43,7 @@ seen_after (short_offset h limit target) n seen = n ∷ seen
 seen_after (block_type w limit) n seen = seen_at (type_of (low n)) seen
 seen_after k n seen = seen
 
--- the offsets of this hunk's sites behind these fields
+-- the offsets of this hunk's sites after these fields
 abbrev pub seen_all : List ℕ → List Field → List ℕ
 seen_all seen [] = seen
 seen_all seen (f ∷ fs) = seen_all (seen_after f.kind f.number seen) fs

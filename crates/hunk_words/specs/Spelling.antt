@@ -1,6 +1,6 @@
--- The one spelling of a tree: its fields in the order of the file, each under its kind. Each function puts its fields
--- in front of a rest. Layouts are those of The AmigaDOS Manual, 3rd edition, binary file structure; that of the short
--- relocation block is own, after its name in doshunks.h.
+-- The single spelling of a tree: its fields in file order, each with its kind. Each function puts
+-- its fields in front of a rest. Layouts are those of The AmigaDOS Manual, 3rd edition, "Amiga
+-- binary file structure"; that of the short relocation block is own, its name is from doshunks.h.
 use Rattle.std.specs.Prelude.{ℕ, suc, ◌+◌, ◌-◌, ◌*◌, ◌^◌, List, [], ◌∷◌, length, Option, Some, None, nat_lt, if◌then◌else◌}
 use Rattle.hunk_words.specs.Kinds.{Within, Kind, Field, field, flip, half_after, content_bits, site_limit}
 use Rattle.hunk_words.specs.FaultTable.{AllPass}
@@ -14,7 +14,8 @@ use Rattle.hunk_words.specs.Trees.ExtTree.{ext_def, ext_abs, ext_ref}
 use Rattle.hunk_words.specs.Trees.BlockTree.{reloc_tree, short_tree, ext_tree, symbol_tree, debug_tree}
 use Rattle.hunk_words.specs.Trees.ContentTree.{code_tree, data_tree, bss_tree}
 
--- A longword of two parts. Where the lower part is too wide there is none, and what is given is no longword.
+-- A longword of two parts. If the lower part is too wide there is none, and the result is not a
+-- longword.
 unfoldable pub joined_bits : (unit high low : ℕ) → ℕ
 joined_bits unit high low = if nat_lt low unit then high * unit + low else 2 ^ 32
 
@@ -60,7 +61,7 @@ abbrev pub symbols : List SymbolTree → List Field → List Field
 symbols [] rest = field symbol_entry 0 ∷ rest
 symbols (x ∷ xs) rest = field symbol_entry (suc (length x.others)) ∷ field word x.first ∷ each word x.others (field value x.amount ∷ symbols xs rest)
 
--- in a load file alone: a unit's machine refuses the block's type
+-- only in a load file: in a unit the machine rejects the block's type
 abbrev pub last_of : Within → ℕ
 last_of in_unit = 0
 last_of (in_load last size) = last
@@ -85,7 +86,7 @@ content_then k w (bss_tree b c n) xs e rest = field k (type_longword b 1003) ∷
 abbrev pub body : Kind → Within → BodyTree → List Field → List Field
 body k w t rest = content_then k w t.content t.blocks t.end_bits rest
 
--- a hunk, whose first longword is of the kind k
+-- a hunk, whose first longword is of kind k
 abbrev pub hunk_at : Kind → Within → Option NameTree → BodyTree → List Field → List Field
 hunk_at k w None t rest = body k w t rest
 hunk_at k w (Some n) t rest = field k (type_longword n.type_bits 1000) ∷ field name_length (length n.words) ∷ each word n.words (body (content_type w) w t rest)
@@ -94,7 +95,7 @@ abbrev pub unit_hunks : List HunkTree → List Field → List Field
 unit_hunks [] rest = rest
 unit_hunks (t ∷ ts) rest = hunk_at unit_type in_unit t.name t.body (unit_hunks ts rest)
 
--- a unit, whose first longword is of the kind k
+-- a unit, whose first longword is of kind k
 abbrev pub unit_at : Kind → UnitTree → List Field → List Field
 unit_at k u rest = field k (type_longword u.type_bits 999) ∷ field unit_length (length u.name) ∷ each word u.name (unit_hunks u.hunks rest)
 
@@ -105,7 +106,7 @@ units (u ∷ us) rest = unit_at unit_type u (units us rest)
 abbrev pub object_spelling : ObjectTree → List Field
 object_spelling t = unit_at object_start t.first (units t.others [])
 
--- Each hunk's size, with the room that is left and the sizes before it, the latest first.
+-- Each hunk's size, with the room that is left and the earlier sizes, the latest first.
 abbrev pub sizes_at : ℕ → ℕ → List ℕ → List LoadHunkTree → List Field → List Field
 sizes_at last room before [] rest = rest
 sizes_at last room before (t ∷ ts) rest = field (header_size last room (length ts) before) (type_longword t.memory_bits t.size) ∷ sizes_at last (room - t.size) (t.size ∷ before) ts rest

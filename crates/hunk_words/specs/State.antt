@@ -1,5 +1,5 @@
--- What a state of the decoder stands for: a stack of what is due. The sizes are those of a load file's header, as far as
--- they were read.
+-- What a state of the decoder stands for: a stack of what is expected. The sizes are those of a
+-- load file's header, as far as they have been read.
 use Rattle.std.specs.Prelude.{◌≡◌, ℕ, suc, ◌+◌, ◌≤◌, ◌^◌, List, [], ◌∷◌, ◌++◌, drop, length, reverse, slice_index, Option, Some, None, Result, Ok, Err}
 use Rattle.hunk_words.specs.declared.fault.Reason.{Reason}
 use Rattle.hunk_words.specs.declared.event.Event.{Event}
@@ -19,8 +19,9 @@ use Rattle.hunk_words.specs.Kinds.Kind.{object_start, load_start, unit_type, hun
 use Rattle.hunk_words.specs.Machine.{times, short_times, hunks_due, due, next}
 use Rattle.hunk_words.specs.Event.{event_at}
 
--- What lies around the number that is due: the hunk's place and site limit, the last hunk and this hunk's size in the
--- header, the sizes read, the latest first, and what is due behind this hunk.
+-- The surroundings of the number that is expected: the hunk's place and site limit, the last hunk
+-- and this hunk's size in the header, the sizes read, the latest first, and what is expected after
+-- this hunk.
 pub record Around : Type 0 where
   pub place : Within
   pub limit : ℕ
@@ -33,7 +34,7 @@ abbrev pub within_of : FileKind → ℕ → ℕ → Within
 within_of Object last size = in_unit
 within_of Load last size = in_load last size
 
--- what is due behind this hunk, the sizes being those of the hunks behind it
+-- what is expected after this hunk, with the sizes of the hunks after it
 abbrev pub below_of : FileKind → ℕ → List ℕ → List Kind
 below_of Object last sizes = unit_type ∷ []
 below_of Load last sizes = hunks_due last sizes []
@@ -48,7 +49,7 @@ around state sizes = record {
   below = below_of state.file state.last (drop (suc state.hunk) sizes);
 }
 
--- what is due behind a block
+-- what is expected after a block
 abbrev pub more_blocks : Around → List Kind
 more_blocks a = block_type a.place a.limit ∷ a.below
 
@@ -107,7 +108,7 @@ IsAfterWordsIn after_words_is.EntryValue file = file ≡ Object
 IsAfterWordsIn after_words_is.RefCount file = file ≡ Object
 IsAfterWordsIn then file = Unit {0}
 
--- what is due in files of one kind alone
+-- what is expected only in files of one kind
 abbrev pub IsExpectedIn : Expected → FileKind → Type 0
 IsExpectedIn expected_is.ObjectStart file = file ≡ Object
 IsExpectedIn expected_is.UnitType file = file ≡ Object
@@ -131,7 +132,7 @@ IsExpectedIn (expected_is.ShortOffset half more target) file = file ≡ Load
 IsExpectedIn expected_is.ShortPad file = file ≡ Load
 IsExpectedIn due file = Unit {0}
 
--- how many sizes of a load file's header were read: none, those before this one, or all
+-- how many sizes of a load file's header have been read: none, those before this one, or all
 abbrev pub SizesRead : Expected → (last hunk : ℕ) → List ℕ → Type 0
 SizesRead expected_is.LoadStart last hunk sizes = sizes ≡ []
 SizesRead expected_is.Resident last hunk sizes = sizes ≡ []
@@ -145,19 +146,19 @@ abbrev pub SizesIn : FileKind → Expected → (last hunk : ℕ) → List ℕ �
 SizesIn Object due last hunk sizes = Unit {0}
 SizesIn Load due last hunk sizes = SizesRead due last hunk sizes
 
--- The state is one of a file whose header's sizes so far are these.
+-- The state is that of a file with these sizes in its header so far.
 pub record IsState (state : State) (sizes : List ℕ) : Type 0 where
   pub due_in : IsExpectedIn state.due state.file
   pub sizes_in : SizesIn state.file state.due state.last state.hunk sizes
 
--- ---- what the answer to a number says
+-- ---- what the result of a number means
 
--- the sizes of the header, one event further
+-- the sizes in the header, after one more event
 abbrev pub sizes_with : Option Event → List ℕ → List ℕ
 sizes_with (Some (HunkSize bits size)) sizes = sizes ++ size ∷ []
 sizes_with event sizes = sizes
 
--- The number passes, it tells this, and what is due behind it is this.
+-- The number passes, this is its event, and this is expected after it.
 pub record Steps (state : State) (sizes : List ℕ) (n : ℕ) (step : Step) : Type 0 where
   pub passes : judged (due (view state sizes)) n ≡ None
   pub tells : step.event ≡ event_at (due (view state sizes)) n
@@ -169,7 +170,7 @@ abbrev pub Stepped : State → List ℕ → ℕ → Result Step Reason → Type 
 Stepped state sizes n (Ok step) = Steps state sizes n step
 Stepped state sizes n (Err reason) = judged (due (view state sizes)) n ≡ Some reason
 
--- the answer to a number where this is due
+-- the result of a number where this is expected
 abbrev pub StepsFrom : State → Expected → ℕ → Result Step Reason → Type 0
 StepsFrom state due n result = (sizes : List ℕ) → IsState (record state { due = due }) sizes → Stepped (record state { due = due }) sizes n result
 
@@ -184,11 +185,11 @@ abbrev pub SizeIs : FileKind → List ℕ → (hunk size : ℕ) → Type 0
 SizeIs Object sizes hunk size = Unit {0}
 SizeIs Load sizes hunk size = slice_index sizes hunk ≡ size
 
--- the answer where this is due, given this hunk's size
+-- the result where this is expected, with this hunk's size
 abbrev pub SizedStepsFrom : State → Expected → (size n : ℕ) → Result Step Reason → Type 0
 SizedStepsFrom state due size n result = (sizes : List ℕ) → SizeIs state.file sizes state.hunk size → IsState (record state { due = due }) sizes → Stepped (record state { due = due }) sizes n result
 
--- The size is given where it is asked for: where the size of content is due.
+-- The size is given where it is needed: where the size of content is expected.
 abbrev pub GivenAt : Expected → Type 0 → Type 0
 GivenAt (expected_is.ContentSize content bits) Given = Given
 GivenAt due Given = Unit {0}

@@ -1,4 +1,4 @@
--- What a taker answers to an event, by the events that it took before.
+-- What a taker returns for an event, by the events that it took before.
 use Rattle.std.specs.Prelude.{◌≡◌, ℕ, ◌+◌, ◌<◌, ◌≤◌, true, false, List, Option, Some, None, Result, Ok, Err}
 use Rattle.hunk_words.specs.SiteRules.{all_apart}
 use Rattle.hunk_words.specs.SiteContext.{SiteContext, context_after, initial_context}
@@ -8,15 +8,15 @@ use Rattle.hunk_words.specs.declared.event.Event.TheVariants.{Site, RefSite}
 use Rattle.hunk_words.specs.declared.sites.SiteRefusal.{SiteRefusal}
 use Rattle.hunk_words.specs.declared.sites.SiteRefusal.TheVariants.{Outside, Overlap, OutOfMemory}
 
--- the limit and the sites of the hunk that events told, and the header's sizes
+-- the limit and the sites of the current hunk by the events, and the sizes in the header
 abbrev pub context_of : FileKind → List Event → SiteContext
 context_of file told = context_after file initial_context told
 
 abbrev pub sizes_told : FileKind → List Event → List ℕ
 sizes_told file told = (context_of file told).position.sizes
 
--- A site is taken where it lies inside the limit and apart from those seen, and refused by the first of these rules that
--- it breaks, want of memory aside.
+-- A site is taken if it lies inside the limit and apart from those seen, and is otherwise refused
+-- by the first of these rules that it breaks, unless memory runs out.
 abbrev pub JudgesSite : (limit : ℕ) (seen : List ℕ) (offset : ℕ) → Result (Unit {0}) SiteRefusal → Type 0
 JudgesSite limit seen offset (Ok done) = (offset + 4 ≤ limit) × (all_apart offset seen ≡ true)
 JudgesSite limit seen offset (Err Outside) = limit < offset + 4
@@ -30,13 +30,13 @@ JudgesNone (Err Outside) = ⊥
 JudgesNone (Err Overlap) = ⊥
 JudgesNone (Err OutOfMemory) = Unit {0}
 
--- The sites of an event are judged exactly, and there is no refusal of a site at another event.
+-- The sites of an event are judged exactly, and no other event is refused as a site.
 abbrev pub Judges : SiteContext → Event → Result (Unit {0}) SiteRefusal → Type 0
 Judges watch (Site offset target) answer = JudgesSite watch.position.limit watch.seen offset answer
 Judges watch (RefSite offset) answer = JudgesSite watch.position.limit watch.seen offset answer
 Judges watch event answer = JudgesNone answer
 
--- the answer to what a number tells, if anything
+-- the result for the event of a number, if it has one
 abbrev pub JudgesEvent : SiteContext → Option Event → Result (Unit {0}) SiteRefusal → Type 0
 JudgesEvent watch None answer = JudgesNone answer
 JudgesEvent watch (Some event) answer = Judges watch event answer

@@ -1,8 +1,9 @@
--- The tree of a file: everything in it that is not determined by the rest, also what is ignored, so that a file's
--- longwords and its tree say the same. Counts are the lengths of lists.
+-- The tree of a file: everything in it that is not determined by the rest, including what is
+-- ignored, so that a file's longwords and its tree determine each other. Counts are the lengths of
+-- lists.
 use Rattle.std.specs.Prelude.{ℕ, List, Option}
 
--- a group of a relocation block: a target and one offset or more
+-- a group of a relocation block: a target and at least one offset
 pub record Group : Type 0 where
   pub target : ℕ
   pub first : ℕ
@@ -18,7 +19,8 @@ pub record SymbolTree : Type 0 where
   pub others : List ℕ
   pub amount : ℕ
 
--- A block behind the content, with the ignored bits of its type longword. Where the words of a short block are even in number, its pad isn't spelled.
+-- A block after the content, with the ignored bits of its type longword. If the number of words of
+-- a short block is even, its pad isn't spelled.
 pub data BlockTree : Type 0 where
   reloc_tree : (type_bits : ℕ) → List Group → BlockTree
   short_tree : (type_bits : ℕ) → List Group → (pad : ℕ) → BlockTree

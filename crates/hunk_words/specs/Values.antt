@@ -1,4 +1,4 @@
--- What a file says: the value of a tree.
+-- The meaning of a file: the value of a tree.
 use Rattle.std.specs.Prelude.{ℕ, suc, ◌+◌, List, [], ◌∷◌, ◌++◌, length, map, Option, Some, None}
 use Rattle.hunk_words.specs.Kinds.{Within, content_bits}
 use Rattle.hunk_words.specs.Kinds.Within.{in_unit, in_load}
@@ -19,7 +19,8 @@ pub data Definition : Type 0 where
   offset_at : ℕ → Definition
   absolute_at : ℕ → Definition
 
--- What the blocks behind a hunk's content tell, each list in file order. Names are longwords here.
+-- What the blocks after a hunk's content contain, each list in file order. Names are longwords
+-- here.
 pub record HunkTables : Type 0 where
   pub sites : List (ℕ × Adds)
   pub references : List (List ℕ)
@@ -78,7 +79,7 @@ abbrev pub tables_of_groups : List Group → HunkTables
 tables_of_groups [] = no_tables
 tables_of_groups (g ∷ gs) = merged (tables_of_sites (g.first ∷ g.others) (to_hunk g.target)) (tables_of_groups gs)
 
--- r is the number of references before. An ext_ref32 without offsets is dropped (own).
+-- r is the number of earlier references. An ext_ref32 without offsets is dropped (own).
 abbrev pub tables_of_entries : ℕ → List ExtTree → HunkTables
 tables_of_entries r [] = no_tables
 tables_of_entries r (ext_def n o ∷ es) = merged (one_definition n (offset_at o)) (tables_of_entries r es)
@@ -90,7 +91,7 @@ abbrev pub tables_of_symbols : List SymbolTree → HunkTables
 tables_of_symbols [] = no_tables
 tables_of_symbols (x ∷ xs) = merged (one_symbol (x.first ∷ x.others) x.amount) (tables_of_symbols xs)
 
--- what a block tells, r being the number of references before it in its hunk
+-- what a block contains, with r earlier references in its hunk
 abbrev pub tables_of_block : ℕ → BlockTree → HunkTables
 tables_of_block r (reloc_tree b gs) = tables_of_groups gs
 tables_of_block r (short_tree b gs pad) = tables_of_groups gs
@@ -120,10 +121,10 @@ unit_value u = record { name = u.name; hunks = map (λ t. hunk_value in_unit t) 
 abbrev pub object_value : ObjectTree → List Part
 object_value t = map (λ u. unit_value u) (t.first ∷ t.others)
 
--- the memory bits and sizes of the header
+-- the memory bits and sizes in the header
 abbrev pub load_sizes : LoadTree → List (ℕ × ℕ)
 load_sizes t = map (λ hunk. (hunk.memory_bits, hunk.size)) (t.first ∷ t.others)
 
--- the hunks of a load file, last being the number of the last one
+-- the hunks of a load file, with the number of the last one
 abbrev pub load_hunk_values : ℕ → List LoadHunkTree → List Hunk
 load_hunk_values last hs = map (λ hunk. hunk_value (in_load last hunk.size) hunk.hunk) hs

@@ -1,4 +1,4 @@
--- What a watched reader or writer shows: the one that it watches, and what it saw.
+-- What a watched reader or writer shows: the one inside, and what it saw.
 use Rattle.std.specs.Prelude.{Bool}
 use Rattle.hunk_words.specs.declared.watched.Watched.{Watched}
 

@@ -1,4 +1,4 @@
-//! The steps of names, content and the blocks behind it.
+//! The steps of names, of content and of the blocks after it.
 
 ghost use Rattle.std.specs.Prelude.{◌≡◌, ℕ, List, Ok, slice_index};
 ghost use Rattle.hunk_words.specs.Machine.{times};
@@ -11,7 +11,7 @@ use crate::fault::Reason;
 use crate::kinds::{EntryType, HunkKind, entry, entry_length, entry_type, low};
 use crate::state::{AfterWords, Expected, State, Step};
 
-// What is due where this many words follow.
+// What is expected when this many words follow.
 fn words(count: u32, then: AfterWords) -> Expected
     ensures due { (a : Around) → expected_view result a ≡ times count word (after_words_view then a) }
     ensures file { (file : FileKind) → IsAfterWordsIn then file → IsExpectedIn result file }
@@ -177,7 +177,7 @@ pub fn ref_offset(state: State, more: u32, number: u32) -> Step
     state.then(due, Some(Event::RefSite(number)))
 }
 
-/// The size of content. In a load file `size` is that of the hunk in the header.
+/// The size of content, in longwords. In a load file, `size` is that of the hunk in the header.
 pub fn content_size(
     state: State,
     content: HunkKind,

@@ -1,4 +1,4 @@
-//! Bytes of a file, in any pieces.
+//! Decodes the bytes of a file, in pieces of any size.
 
 ghost use Rattle.std.specs.Prelude.{◌≡◌, ℕ, ◌+◌, ◌<◌, ◌^◌, List, [], ◌∷◌, ◌++◌, length, Some, None, IfOk, OnOk};
 ghost use Rattle.hunk_words.specs.Decoder.{StandsFor, Finished, refusal_of, taker_of};
@@ -13,8 +13,8 @@ use crate::splitter::Splitter;
 use crate::streams::Feed;
 use crate::taker::Taker;
 
-/// The decoder of a file's bytes, in any pieces. It judges each longword with its last byte, and
-/// tells its events to the taker.
+/// A decoder of the bytes of a file, in pieces of any size. It judges each longword with its last
+/// byte, and sends its events to the taker.
 #[derive(Drop)]
 pub struct Decoder<T> {
     splitter: Splitter,
@@ -22,7 +22,7 @@ pub struct Decoder<T> {
 }
 
 impl<T: Taker> Decoder<T> {
-    /// A decoder before the first byte. The taker has taken no event.
+    /// A decoder before the first byte. The taker must not have taken any event.
     pub fn new(taker: T) -> Self
         requires { T.stands_for taker [] }
         ensures stands { StandsFor T.KIND T.stands_for result [] }
@@ -64,7 +64,7 @@ impl<T: Taker> Decoder<T> {
         Ok(())
     }
 
-    // Takes bytes, longword by longword where none is begun.
+    // Takes bytes: whole longwords if none is unfinished, then the bytes left over.
     fn push_longwords(&mut self, piece: &[u8]) -> Result<(), Refusal>
         requires { refusal_of self.old ≡ None }
         ensures stands { (bytes : List ℕ) → StandsFor T.KIND T.stands_for self.old bytes → StandsFor T.KIND T.stands_for self.new (bytes ++ piece.now) }
@@ -81,12 +81,16 @@ impl<T: Taker> Decoder<T> {
         }
     }
 
-    /// Takes the next bytes of a file.
+    /// Takes the next bytes of a file. An empty piece changes nothing.
     ///
-    /// A fault comes with the piece that has the last byte of the longword that offends first, at
-    /// its place and for the reason of the table of faults or of the rules of sites; `OutOfMemory`
-    /// only where a growth was refused. A refusal is answered again to every later call. An empty
-    /// piece changes nothing.
+    /// # Errors
+    ///
+    /// - [`Refusal::Fault`] with the first offence, from the call that brings the last byte of the
+    ///   offending longword: its place (a longword, from 0), and its reason by the table of faults
+    ///   or the rules for sites.
+    /// - [`Refusal::OutOfMemory`] only if an allocation failed.
+    ///
+    /// After an error, every later call returns the same error.
     pub fn feed(&mut self, piece: &[u8]) -> Result<(), Refusal>
         ensures stands { (bytes : List ℕ) → StandsFor T.KIND T.stands_for self.old bytes → StandsFor T.KIND T.stands_for self.new (bytes ++ piece.now) }
         ensures kept { Keeps (refusal_of self.new) result }
@@ -103,7 +107,7 @@ impl<T: Taker> Decoder<T> {
         if piece.is_empty() {
             return Ok(());
         }
-        // to the end of a longword that is begun
+        // to the end of an unfinished longword
         let begun = usize::from(self.splitter.rest());
         let lead = piece.len().min((4 - begun) % 4);
         match self.push_all(&piece[..lead]) {
@@ -112,10 +116,12 @@ impl<T: Taker> Decoder<T> {
         }
     }
 
-    /// The taker of a whole file.
+    /// The taker, once the file is whole.
     ///
-    /// `PartialLongword` comes where bytes of a longword are left, `UnexpectedEnd` where the file is
-    /// not complete. A refusal that was kept is answered again.
+    /// # Errors
+    ///
+    /// [`Refusal::Fault`] with `PartialLongword` if bytes of a longword are left over, or with
+    /// `UnexpectedEnd` if the file is not complete. The error of an earlier call is returned again.
     pub fn finish(self) -> Result<T, Refusal>
         ensures answer { (bytes : List ℕ) → StandsFor T.KIND T.stands_for self bytes → Finished T.KIND T.stands_for bytes result }
         ensures again { (refusal : Refusal) → refusal_of self ≡ Some refusal → result ≡ Err refusal }

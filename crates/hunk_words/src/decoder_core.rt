@@ -1,4 +1,4 @@
-//! Longwords of a file, judged and told to a taker.
+//! Decodes the longwords of a file: judges them, and sends their events to a taker.
 
 ghost use Rattle.std.specs.Prelude.{◌≡◌, ℕ, ◌≤◌, List, [], ◌∷◌, ◌++◌, length, Option, Some, None, IsTrue, IsFalse, IfOk, OnOk};
 ghost use Rattle.hunk_words.specs.DecoderCore.{Behind, StandsBy, StandsFor, SomeTaken, TakesSome, EndAnswered, Keeps, kept, taker_of};
@@ -16,10 +16,10 @@ use crate::state::{AfterWords, Expected, State};
 use crate::taker::Taker;
 use byteorder::{BigEndian, ByteOrder};
 
-// The longwords that a file may have.
+// The most longwords that a file may have.
 const MOST_LONGWORDS: u64 = 0x1000_0000;
 
-/// What a core keeps beside its taker: what is due, the place, and a refusal.
+/// What a core keeps apart from its taker: what is expected, the place, and an error.
 #[derive(Clone, Copy, Debug)]
 pub struct CoreState {
     state: State,
@@ -27,15 +27,15 @@ pub struct CoreState {
     refusal: Option<Refusal>,
 }
 
-/// The decoder of longwords. It judges each longword by the table of faults and the rules of
-/// sites, and tells its events to the taker.
+/// A decoder of longwords. It judges each longword by the table of faults and the rules for sites,
+/// and sends its events to the taker.
 #[derive(Drop)]
 pub struct Core<T> {
     taker: T,
     state: CoreState,
 }
 
-// What is due at the start of a file.
+// What is expected at the start of a file.
 fn initial_state(file: FileKind) -> State
     ensures file { result.file ≡ file }
     ensures due { view result [] ≡ start_of file ∷ [] }
@@ -54,7 +54,7 @@ fn initial_state(file: FileKind) -> State
     }
 }
 
-// The state behind one more longword, where no refusal is kept.
+// The state after one more longword, if no error is kept.
 fn advance<T: Taker>(taker: &mut T, core: CoreState, word: u32) -> CoreState
     ensures stands { (ws : List ℕ) → Behind T.KIND (T.stands_for taker.old) core ws → StandsBy T.KIND (T.stands_for taker.new) result (ws ++ word ∷ []) }
     ensures given { T.given taker.new ≡ T.given taker.old }
@@ -84,7 +84,7 @@ fn fault(place: u64, reason: Reason) -> Refusal
     Refusal::Fault(Fault { place, reason })
 }
 
-// It keeps this fault of the longword at its place.
+// Keeps this fault of the longword at its place.
 fn refused(core: CoreState, reason: Reason) -> CoreState
     ensures { result ≡ record core { refusal = Some (Refusal.Fault (record { place = core.place; reason = reason })) } }
 {
@@ -103,7 +103,7 @@ fn is_complete(due: Expected) -> bool
 }
 
 impl<T: Taker> Core<T> {
-    /// A core before the first longword. The taker has taken no event.
+    /// A core before the first longword. The taker must not have taken any event.
     pub fn new(taker: T) -> Self
         requires { T.stands_for taker [] }
         ensures stands { StandsFor T.KIND T.stands_for result [] }
@@ -122,9 +122,14 @@ impl<T: Taker> Core<T> {
 
     /// Takes the next longword.
     ///
-    /// A fault comes with the longword that offends first, at its place and for the reason of the
-    /// table of faults or of the rules of sites, and for the longword at place 2^28; `OutOfMemory`
-    /// only where a growth was refused. A refusal is answered again to every later call.
+    /// # Errors
+    ///
+    /// - [`Refusal::Fault`] with the first offence: its place, counted in longwords from 0, and its
+    ///   reason by the table of faults or the rules for sites. The longword at place 2^28 is always
+    ///   a fault.
+    /// - [`Refusal::OutOfMemory`] only if an allocation failed.
+    ///
+    /// After an error, every later call returns the same error.
     pub fn word(&mut self, word: u32) -> Result<(), Refusal>
         ensures stands { (ws : List ℕ) → StandsFor T.KIND T.stands_for self.old ws → StandsFor T.KIND T.stands_for self.new (ws ++ word ∷ []) }
         ensures kept { Keeps (kept self.new) result }
@@ -143,7 +148,7 @@ impl<T: Taker> Core<T> {
         }
     }
 
-    // Takes the first longword of these bytes, and gives the number of those taken.
+    // Takes the first longword of these bytes, and returns the number taken.
     fn take_one(&mut self, bytes: &[u8]) -> Result<usize, Refusal>
         requires some { 4 ≤ length bytes.now }
         ensures stands { (ws : List ℕ) → StandsFor T.KIND T.stands_for self.old ws → SomeTaken T.KIND T.stands_for self.new ws bytes.now result }
@@ -157,7 +162,7 @@ impl<T: Taker> Core<T> {
         }
     }
 
-    // Takes longwords of these bytes where a run of words is due, without a look at what is due for
+    // Takes longwords of these bytes in a run of words, without looking up what is expected for
     // each of them.
     fn take_run(&mut self, more: u32, then: AfterWords, bytes: &[u8]) -> Result<usize, Refusal>
         requires some { 4 ≤ length bytes.now }
@@ -198,7 +203,7 @@ impl<T: Taker> Core<T> {
         }
     }
 
-    // Takes one longword of these bytes or more.
+    // Takes at least one longword of these bytes.
     fn take_some(&mut self, bytes: &[u8]) -> Result<usize, Refusal>
         requires some { 4 ≤ length bytes.now }
         requires none { kept self.old ≡ None }
@@ -213,8 +218,8 @@ impl<T: Taker> Core<T> {
         }
     }
 
-    /// Takes all longwords of these bytes, and leaves out up to three bytes behind them. Where a run of
-    /// words is due, it takes them without a look at what is due for each of them.
+    /// Takes all longwords of these bytes, and ignores up to three bytes after them. In a run of
+    /// words, it does not look up what is expected for each of them.
     pub(crate) fn words(&mut self, bytes: &[u8]) -> Result<(), Refusal>
         requires { kept self.old ≡ None }
         ensures stands { (ws : List ℕ) → StandsFor T.KIND T.stands_for self.old ws → StandsFor T.KIND T.stands_for self.new (ws ++ longwords bytes.now) }
@@ -232,7 +237,7 @@ impl<T: Taker> Core<T> {
         Ok(())
     }
 
-    /// The refusal that it keeps.
+    /// The error that it keeps, if any.
     pub fn refusal(&self) -> Option<Refusal>
         ensures { result ≡ kept self.now }
     {
@@ -246,10 +251,13 @@ impl<T: Taker> Core<T> {
         self.state.place
     }
 
-    /// The taker of a whole file, where the input ends `rest` bytes behind the longwords taken.
+    /// The taker, once the file is whole, if the input ends `rest` bytes after the longwords taken.
     ///
-    /// `UnexpectedEnd` comes where the file is not complete, `PartialLongword` where bytes of a
-    /// further longword follow. A refusal that was kept is answered again.
+    /// # Errors
+    ///
+    /// [`Refusal::Fault`] with `UnexpectedEnd` if the file is not complete, or with
+    /// `PartialLongword` if bytes of a further longword follow. The error of an earlier call is
+    /// returned again.
     pub fn end(self, rest: u8) -> Result<T, Refusal>
         ensures answer { (ws : List ℕ) → StandsFor T.KIND T.stands_for self ws → EndAnswered T.KIND T.stands_for ws rest result }
         ensures again { (refusal : Refusal) → kept self ≡ Some refusal → result ≡ Err refusal }

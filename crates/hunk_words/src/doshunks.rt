@@ -26,13 +26,13 @@ pub const HUNK_DEBUG: u32 = 1009;
 pub const HUNK_END: u32 = 1010;
 /// Begins a load file.
 pub const HUNK_HEADER: u32 = 1011;
-/// An overlay table, the first of the types from 1013 to 1019, of which none is supported.
+/// An overlay table: the first of the types 1013 to 1019, none of which is supported.
 pub const HUNK_OVERLAY: u32 = 1013;
-/// The index of a library, the last of them.
+/// The index of a library: the last of these types.
 pub const HUNK_INDEX: u32 = 1019;
 /// A list of 32-bit relocations in 16-bit words.
 pub const HUNK_RELOC32SHORT: u32 = 1020;
-/// A list of relocations relative to their own place.
+/// A list of relocations relative to their own position.
 pub const HUNK_RELRELOC32: u32 = 1021;
 /// A list of 16-bit absolute relocations.
 pub const HUNK_ABSRELOC16: u32 = 1022;
@@ -41,5 +41,5 @@ pub const HUNK_ABSRELOC16: u32 = 1022;
 pub const EXT_DEF: u8 = 1;
 /// A number has a name.
 pub const EXT_ABS: u8 = 2;
-/// Longwords of the hunk add the value of a name.
+/// The value of a name is added to longwords of the hunk.
 pub const EXT_REF32: u8 = 129;

@@ -1,12 +1,12 @@
-//! The kinds of blocks, of hunks, of memory, of external symbols and of half longwords, and the parts
-//! of a longword that tell them.
+//! The kinds of blocks, of hunks, of memory, of external symbols and of half longwords, and the
+//! parts of a longword that determine them.
 
 ghost use Rattle.std.specs.Prelude.{◌≡◌, ◌<◌};
 ghost use Rattle.hunk_words.specs.Kinds as kinds;
 
 use crate::doshunks::*;
 
-/// What a block's type longword says: the low 30 bits, by the block types of `doshunks.h`.
+/// The meaning of a block's type longword: its low 30 bits, by the block types of `doshunks.h`.
 #[derive(Clone, Copy, Debug, PartialEq, Eq)]
 pub enum BlockType {
     /// 999, which begins a program unit.
@@ -29,13 +29,13 @@ pub enum BlockType {
     Header,
     /// 1020, a list of relocations in 16-bit words.
     Short,
-    /// A block type that is left out on purpose: 1005, 1006, 1013 to 1019, 1021 or 1022.
+    /// A block type that is deliberately left out: 1005, 1006, 1013 to 1019, 1021 or 1022.
     Unsupported,
     /// Any other number.
     Unknown,
 }
 
-/// What a hunk holds (The AmigaDOS Manual, 3rd edition, "Amiga binary file structure").
+/// The kind of a hunk (The AmigaDOS Manual, 3rd edition, "Amiga binary file structure").
 #[derive(Clone, Copy, Debug, PartialEq, Eq)]
 pub enum HunkKind {
     /// Code, block type 1001.
@@ -46,34 +46,35 @@ pub enum HunkKind {
     Bss,
 }
 
-/// Which memory a hunk asks for (The AmigaDOS Manual, 3rd edition, "Amiga binary file structure").
+/// The memory that a hunk asks for (The AmigaDOS Manual, 3rd edition, "Amiga binary file
+/// structure").
 #[derive(Clone, Copy, Debug, PartialEq, Eq)]
 pub enum Memory {
     /// Any memory.
     Any,
     /// Memory that the custom chips can reach: bit 30 of a longword.
     Chip,
-    /// Memory that the processor alone can reach: bit 31 of a longword.
+    /// Memory that only the processor can reach: bit 31 of a longword.
     Fast,
 }
 
-/// What an entry of an EXT block is, by the upper 8 bits of its first longword.
+/// The kind of an entry of an EXT block, by the upper 8 bits of its first longword.
 #[derive(Clone, Copy, Debug, PartialEq, Eq)]
 pub enum EntryType {
     /// 1, ext_def: an offset in the hunk has a name.
     Definition,
     /// 2, ext_abs: a number has a name.
     Absolute,
-    /// 129, ext_ref32: longwords of the hunk add the value of a name.
+    /// 129, ext_ref32: the value of a name is added to longwords of the hunk.
     Reference,
-    /// Any other type, which is left out on purpose.
+    /// Any other type, which is deliberately left out.
     Other,
 }
 
-/// Which 16 bits of a longword.
+/// One of the two 16-bit halves of a longword.
 #[derive(Clone, Copy, Debug, PartialEq, Eq)]
 pub enum Half {
-    /// Bits 16 to 31, which stand first in the file.
+    /// Bits 16 to 31, which come first in the file.
     Upper,
     /// Bits 0 to 15.
     Lower,
@@ -107,7 +108,7 @@ pub(crate) fn entry_type(number: u32) -> u8
     (number / 0x100_0000) as u8
 }
 
-/// The block type of this number.
+/// The block type with this number.
 #[tactic(auto, unfolding(crate::specs::Kinds::type_of))]
 pub(crate) fn block_type(number: u32) -> BlockType
     ensures { result ≡ kinds.type_of number }
@@ -136,7 +137,7 @@ pub(crate) fn block_type(number: u32) -> BlockType
 }
 
 impl HunkKind {
-    /// What a hunk holds whose content block has this type, 1001 to 1003.
+    /// The kind of a hunk with a content block of this type, 1001 to 1003.
     pub fn of_block_type(number: u32) -> HunkKind
         ensures { result ≡ kinds.hunk_kind_of number }
     {
@@ -160,7 +161,7 @@ impl HunkKind {
 }
 
 impl Memory {
-    /// What the two memory bits ask for: bit 0 for chip, bit 1 for fast. Both together are refused
+    /// What the two memory bits ask for: bit 0 for chip, bit 1 for fast. Both together are rejected
     /// in every file.
     pub fn of_bits(bits: u8) -> Memory
         ensures { result ≡ kinds.memory_of bits }
@@ -173,7 +174,7 @@ impl Memory {
     }
 }
 
-/// What the first longword of an external symbol says that it is.
+/// The kind of an external symbol, by its first longword.
 #[tactic(auto, unfolding(crate::specs::Kinds::entry_of))]
 pub(crate) fn entry(number: u32) -> EntryType
     ensures { result ≡ kinds.entry_of number }
@@ -186,7 +187,7 @@ pub(crate) fn entry(number: u32) -> EntryType
     }
 }
 
-/// Whether a block type is left out on purpose.
+/// Whether a block type is deliberately left out.
 pub(crate) fn is_unsupported(number: u32) -> bool
     ensures { result ≡ kinds.is_unsupported number }
 {

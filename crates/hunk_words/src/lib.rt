@@ -1,20 +1,22 @@
 //! The words of the Amiga hunk format: what object files and load files are made of.
 //!
-//! - `fault`: what is wrong with a file, and where; what a read or a write is refused with.
+//! - `fault`: what is wrong with a file, and where; errors of reading and writing.
 //! - `doshunks`: the numbers of block types and of external symbols.
 //! - `kinds`: the kinds of blocks, hunks, memory, external symbols and half longwords.
-//! - `event`: what the longwords of a file tell, one after another.
-//! - `laws`: what holds of the definitions of the format.
-//! - `splitter`: bytes to longwords.
-//! - `streams`: readers and writers that tell their bytes, their failure and their end.
-//! - `watched`: readers and writers of std that are watched.
-//! - `pieces`, `room`: a reader and a writer over memory, which fail where they are told to.
-//! - `name`: names, as longwords hold them, whole or one longword after another.
-//! - `sites`: the sites of a hunk, which do not share a byte.
+//! - `event`: the events of a file's longwords, in order.
+//! - `laws`: laws about the definitions of the format.
+//! - `splitter`: bytes to longwords; `longwords`: longwords to bytes.
+//! - `streams`: readers and writers that report their bytes, their failure and their end.
+//! - `watched`: readers and writers of std, watched.
+//! - `pieces`, `room`: a reader and a writer over memory, which fail where they should.
+//! - `name`: names in longwords, all at once or one longword at a time.
+//! - `sites`: the sites of a hunk, no two of which share a byte.
+//! - `partial_hunk`: the current hunk of a reader: its sites, and its content so far.
 //! - `taker`: what takes the events of a file.
-//! - `decoder_core`, `decoder`: longwords and bytes of a file, judged and told to a taker. What is due
-//!   is a small value, `state`; `step` judges a number by the function of its kind, in `type_steps`,
-//!   `header_steps`, `block_steps` and `short_steps`; `numbers` tells it to the taker.
+//! - `decoder_core`, `decoder`: decode the longwords and the bytes of a file, and send its events
+//!   to a taker. What is expected is a small value, `state`; `step` judges a number by the function
+//!   for its kind, in `type_steps`, `header_steps`, `block_steps` and `short_steps`; `numbers`
+//!   sends its event to the taker.
 #![tactic(auto)]
 
 mod block_steps;
@@ -26,8 +28,10 @@ pub mod fault;
 mod header_steps;
 pub mod kinds;
 pub mod laws;
+mod longwords;
 pub mod name;
 mod numbers;
+pub mod partial_hunk;
 pub mod pieces;
 pub mod room;
 mod short_steps;
@@ -47,6 +51,7 @@ pub use fault::{DeviceFault, Fault, ReadFault, Reason, Refusal, WriteFault};
 pub use kinds::{BlockType, EntryType, Half, HunkKind, Memory};
 pub use name::Name;
 pub use name::open_name::OpenName;
+pub use partial_hunk::PartialHunk;
 pub use pieces::Pieces;
 pub use room::Room;
 pub use sites::{SiteRefusal, Sites, Walk};

@@ -7,9 +7,10 @@ ghost use Rattle.std.specs.Cmp.Lexicographic.{pointwise, slice_cmp, nat_list_eq_
 ghost use Rattle.std.specs.Cmp.{partial_equiv_from_equiv};
 ghost use Rattle.std.specs.Cmp.Rules.{hashing};
 ghost use Rattle.std.proofs.Common.{rules};
-ghost use Rattle.byteorder.specs.Endian.{big_bytes, big_number};
+ghost use Rattle.byteorder.specs.Endian.{big_number};
 ghost use Rattle.hunk_words.specs.Name.{IsNameByte, Names, Writes, name_of, name_words};
 
+use crate::longwords::big_endian;
 use byteorder::{BigEndian, ByteOrder};
 use std::alloc::{AllocError, Allocator, Global};
 use std::cmp::Ordering;
@@ -20,8 +21,8 @@ pub mod open_name;
 
 /// A name: bytes, none of which is zero. It may be empty.
 ///
-/// In a file a name stands in longwords (The AmigaDOS Manual, 3rd edition, "Amiga binary file
-/// structure"). That what follows its first zero byte is ignored is a rule of our own.
+/// In a file, a name is in longwords (The AmigaDOS Manual, 3rd edition, "Amiga binary file
+/// structure"). That what follows its first zero byte is ignored is our own rule.
 #[derive(Debug, Drop)]
 pub struct Name<A: Allocator + Copy = Global> {
     bytes: Vec<u8, A>,
@@ -41,9 +42,13 @@ impl<A: Allocator + Copy> Model for Name<A> {
 
 impl<A: Allocator + Copy> Name<A> {
     /// The name that the longwords hold: their bytes, the most significant byte of each first, up
-    /// to the first zero byte, or all of them where there is none.
+    /// to the first zero byte, or all of them if there is none.
     ///
-    /// It takes memory for the name alone. `AllocError` comes only where that was refused.
+    /// It allocates only the name.
+    ///
+    /// # Errors
+    ///
+    /// [`AllocError`] only if that allocation failed.
     pub fn from_words(alloc: A, words: &[u32]) -> Result<Self, AllocError>
         ensures names { IfOk result (λ n. Names n words.now) }
         ensures only { IfOk result (λ n. (other : List ℕ) → Names other words.now → other ≡ n) }
@@ -53,10 +58,12 @@ impl<A: Allocator + Copy> Name<A> {
         })
     }
 
-    /// The fewest longwords that hold the name, the last one filled up with zero bytes. The empty
-    /// name is one zero longword.
+    /// The fewest longwords that hold the name, the last one padded with zero bytes. The empty name
+    /// is one zero longword.
     ///
-    /// `AllocError` comes only where memory was refused.
+    /// # Errors
+    ///
+    /// [`AllocError`] only if an allocation failed.
     pub fn words(&self, alloc: A) -> Result<Vec<u32, A>, AllocError>
         ensures value { IfOk result (λ ws. ws.items ≡ name_words self.now) }
         ensures fewest { IfOk result (λ ws. Writes self.now ws.items) }
@@ -77,7 +84,11 @@ impl<A: Allocator + Copy> Name<A> {
         &self.bytes
     }
 
-    /// An equal name. `AllocError` comes only where memory was refused.
+    /// An equal name.
+    ///
+    /// # Errors
+    ///
+    /// [`AllocError`] only if an allocation failed.
     pub fn copy(&self, alloc: A) -> Result<Self, AllocError>
         ensures { IfOk result (λ n. n ≡ self.now) }
     {
@@ -135,7 +146,7 @@ impl<A: Allocator + Copy> Hash for Name<A> {
     }
 }
 
-/// The bytes of the longwords before their first zero byte. It takes memory for these alone.
+/// The bytes of the longwords before their first zero byte. It allocates only these.
 fn cut<A: Allocator>(alloc: A, words: &[u32]) -> Result<Vec<u8, A>, AllocError>
     ensures { IfOk result (λ bytes. bytes.items ≡ name_of words.now) }
 {
@@ -151,16 +162,7 @@ fn cut<A: Allocator>(alloc: A, words: &[u32]) -> Result<Vec<u8, A>, AllocError>
     Ok(bytes)
 }
 
-/// The four bytes of a longword, the most significant one first.
-fn big_endian(word: u32) -> [u8; 4]
-    ensures { result ≡ big_bytes 4 word }
-{
-    let mut bytes = [0; 4];
-    BigEndian::write_u32(&mut bytes, word);
-    bytes
-}
-
-/// The bytes before the first zero byte, or all of them where there is none.
+/// The bytes before the first zero byte, or all of them if there is none.
 fn until_zero(bytes: &[u8]) -> &[u8]
     ensures { result.now ≡ before_first (λ b. b == 0) bytes.now }
 {
@@ -177,7 +179,7 @@ fn zero_place(bytes: &[u8]) -> Option<usize>
     bytes.iter().position(|byte| *byte == 0)
 }
 
-/// The longword of the first four bytes, where a missing byte is a zero.
+/// The longword of the first four bytes; a missing byte counts as zero.
 fn longword(bytes: &[u8]) -> u32
     ensures { result ≡ big_number 4 bytes.now }
 {

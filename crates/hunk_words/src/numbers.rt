@@ -1,4 +1,4 @@
-//! The numbers of a file, and what they tell a taker.
+//! The numbers of a file, and the events that they send to a taker.
 
 ghost use Rattle.std.specs.Prelude.{◌≡◌, ℕ, ◌+◌, ◌<◌, ◌^◌, List, [], ◌++◌, length, IfErr, OnOk};
 ghost use Rattle.hunk_words.specs.Kinds.{Field, is_half, width};
@@ -21,16 +21,16 @@ use crate::step::step;
 use crate::taker::Taker;
 use byteorder::{BigEndian, ByteOrder};
 
-/// Why a number was not taken.
+/// Why a number was refused.
 #[derive(Clone, Copy, Debug)]
 pub enum NumberRefusal {
     /// It is not allowed.
     Refused(Reason),
-    /// A growth of memory was refused.
+    /// An allocation failed.
     OutOfMemory,
 }
 
-// The size of this hunk in the header, where the size of its content is due.
+// The size of this hunk in the header, if the size of its content is expected.
 fn size_asked<T: Taker>(taker: &T, state: State) -> u32
     ensures { (told : List Event) → T.stands_for taker.now told → state.file ≡ T.KIND → IsState state (sizes_told T.KIND told) →
         SizeIsGiven state (sizes_told T.KIND told) result }
@@ -44,7 +44,7 @@ fn size_asked<T: Taker>(taker: &T, state: State) -> u32
     }
 }
 
-// Tells the taker what a number told, if anything.
+// Sends the taker the event of a number, if it has one.
 fn tell<T: Taker>(taker: &mut T, event: Option<Event>) -> Result<(), SiteRefusal>
     ensures takes { (told : List Event) → T.stands_for taker.old told → length told < 2 ^ 29 → OnOk result (T.stands_for taker.new (told ++ with_event event [])) }
     ensures judges { (told : List Event) → T.stands_for taker.old told → length told < 2 ^ 29 → JudgesEvent (context_of T.KIND told) event result }
@@ -56,7 +56,7 @@ fn tell<T: Taker>(taker: &mut T, event: Option<Event>) -> Result<(), SiteRefusal
     }
 }
 
-/// Takes a number: judged by the table of faults, and then, where it is a site, by the taker.
+/// Takes a number: judges it by the table of faults, and then, if it is a site, by the taker.
 pub fn take_number<T: Taker>(
     taker: &mut T,
     state: State,
@@ -78,7 +78,7 @@ pub fn take_number<T: Taker>(
     }
 }
 
-// Two halves are due: 16-bit words of a list of relocations.
+// Whether two halves are expected: 16-bit words of a list of relocations.
 fn is_halved(due: Expected) -> bool
     ensures { (a : Around) → result ≡ is_half (width (first_due (expected_view due a))) }
 {
@@ -107,7 +107,7 @@ pub fn take_word<T: Taker>(taker: &mut T, state: State, word: u32) -> Result<Sta
     }
 }
 
-/// Takes longwords of a run of words.
+/// Takes the longwords of a run of words.
 pub fn take_words<T: Taker>(taker: &mut T, bytes: &[u8]) -> Result<(), NumberRefusal>
     ensures takes { (told : List Event) → T.stands_for taker.old told → length told + length (longwords bytes.now) < 2 ^ 29 →
         OnOk result (T.stands_for taker.new (told ++ word_events (longwords bytes.now))) }

@@ -8,7 +8,7 @@ use crate::fault::DeviceFault;
 use crate::streams::Source;
 use std::alloc::{Allocator, Global};
 
-/// A reader over memory that gives its bytes in pieces, and of which one read may fail.
+/// A reader over memory that returns its bytes in pieces. One of its reads may fail.
 #[derive(Drop)]
 pub struct Pieces<A: Allocator = Global> {
     bytes: Vec<u8, A>,
@@ -26,8 +26,8 @@ impl<A: Allocator> Pieces<A> {
     ghost use Rattle.std.specs.Prelude.{◌≤◌};
     ghost use Rattle.hunk_words.specs.Pieces.{IsFresh};
 
-    /// A reader of `bytes`, at most `most` a read. The read of number `fails_at`, from 0, fails;
-    /// the number of the reads stays at 2^64 - 1 once it is there.
+    /// A reader of `bytes`, at most `most` bytes per read, which is at least 1. Read number
+    /// `fails_at`, from 0, fails; once the number of reads is 2^64 - 1, it stays there.
     pub fn new(bytes: Vec<u8, A>, most: usize, fails_at: Option<u64>) -> Pieces<A>
         requires { 1 ≤ most }
         ensures { IsFresh result bytes.items most fails_at }
@@ -88,7 +88,7 @@ impl<A: Allocator> Source for Pieces<A> {
     }
 }
 
-// Copies as many of the first bytes as there are, as there is room for, and at most `most`.
+// Copies the first bytes: as many as there are, as there is room for, and at most `most`.
 fn copy_front(buffer: &mut [u8], bytes: &[u8], most: usize) -> usize
     ensures count { result ≡ min (min (length buffer.old) (length bytes.now)) most }
     ensures front { take result buffer.new ≡ take result bytes.now }

@@ -6,9 +6,9 @@ use crate::fault::DeviceFault;
 use crate::streams::Sink;
 use std::alloc::{AllocError, Allocator, Global};
 
-/// A writer over memory that takes so many bytes a write and so many in all.
+/// A writer over memory that takes a limited number of bytes per write, and in total.
 ///
-/// It took its whole buffer when it was made, so its writes take no memory.
+/// It allocates its whole buffer when it is made, so its writes do not allocate.
 #[derive(Drop)]
 pub struct Room<A: Allocator = Global> {
     bytes: Vec<u8, A>,
@@ -25,8 +25,13 @@ impl<A: Allocator> Room<A> {
     ghost use Rattle.std.specs.Prelude.{◌≡◌, ◌≤◌, IfOk};
     ghost use Rattle.hunk_words.specs.Room.{IsEmpty, bytes_taken};
 
-    /// A writer that takes at most `most` bytes a write and `room` in all. Then a write of one byte
-    /// or more answers an `Err`, or `Ok(0)` with `zero`.
+    /// A writer that takes at most `most` bytes per write, which is at least 1, and `room` bytes in
+    /// total. After that, a write of one byte or more returns an `Err`, or `Ok(0)` if `zero` is
+    /// set.
+    ///
+    /// # Errors
+    ///
+    /// [`AllocError`] only if an allocation failed.
     pub fn new(alloc: A, most: usize, room: usize, zero: bool) -> Result<Room<A>, AllocError>
         requires { 1 ≤ most }
         ensures { IfOk result (λ writer. IsEmpty writer most room zero) }

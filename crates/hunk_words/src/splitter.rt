@@ -11,7 +11,7 @@ enum Held {
     Three(u8, u8, u8),
 }
 
-/// Makes longwords of bytes that come one at a time, most significant byte first.
+/// Makes longwords from bytes that come one at a time, the most significant byte first.
 #[derive(Clone, Copy, Debug)]
 pub struct Splitter {
     held: Held,
@@ -31,7 +31,7 @@ impl Splitter {
         }
     }
 
-    /// Takes one byte, and gives the longword that it is the last byte of, if it is one's.
+    /// Takes one byte. If it is the last byte of a longword, returns that longword.
     pub fn push(&mut self, byte: u8) -> Option<u32>
         ensures stands { (bytes : List ℕ) → StandsFor self.old bytes → StandsFor self.new (bytes ++ byte ∷ []) }
         ensures word { (bytes : List ℕ) → StandsFor self.old bytes →
@@ -57,7 +57,7 @@ impl Splitter {
         }
     }
 
-    /// How many bytes of an unfinished longword it holds, 0 to 3.
+    /// The number of bytes of an unfinished longword that it holds, 0 to 3.
     pub fn rest(&self) -> u8
         ensures rest { (bytes : List ℕ) → StandsFor self.now bytes → result ≡ length (unfinished bytes) }
         ensures few { result ≤ 3 }

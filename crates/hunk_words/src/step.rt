@@ -1,4 +1,4 @@
-//! One number of a file: judged, and what is due behind it.
+//! One number of a file: whether it is accepted, and what is expected after it.
 
 ghost use Rattle.std.specs.Prelude.{◌≡◌, ℕ, List, IsTrue, ◌↔◌};
 ghost use Rattle.hunk_words.specs.State.{IsState, SizeIs, SizeIsGiven, Stepped};
@@ -9,8 +9,8 @@ use crate::{
     block_steps as blocks, header_steps as header, short_steps as short, type_steps as types,
 };
 
-/// Judges a number, and gives what is due behind it and what it tells. Where the size of content is
-/// due in a load file, `size` is the header's size of this hunk, in longwords.
+/// Judges a number, and returns what is expected after it and its event. If the size of content is
+/// expected in a load file, `size` is the size of this hunk in the header, in longwords.
 pub fn step(state: State, size: u32, number: u32) -> Result<Step, Reason>
     ensures { (sizes : List ℕ) → IsState state sizes → SizeIsGiven state sizes size → Stepped state sizes number result }
 {

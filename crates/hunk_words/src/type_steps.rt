@@ -1,4 +1,4 @@
-//! The steps at type longwords, names and the sizes of content.
+//! The steps of type longwords, names and sizes of content.
 
 ghost use Rattle.std.specs.Prelude.{◌≡◌, ℕ, List, Ok};
 ghost use Rattle.hunk_words.specs.FaultTable.{refused_type};
@@ -10,8 +10,8 @@ use crate::fault::Reason;
 use crate::kinds::{BlockType, Half, block_type, is_unsupported, low, memory_bits};
 use crate::state::{AfterWords, Expected, State, Step};
 
-// Why a block type is refused where it may not stand. 1020 is known in a load file behind the
-// header alone.
+// Why a block type is rejected where it is not allowed. 1020 is known only in a load file after the
+// header.
 fn refused(known: bool, block: BlockType, number: u32) -> Reason
     ensures { result ≡ refused_type known block number }
 {
@@ -96,7 +96,7 @@ pub fn content_type(state: State, number: u32) -> Result<Step, Reason>
     }
 }
 
-// What is due behind a hunk.
+// What is expected after a hunk.
 fn hunk_end(state: State) -> Step
     ensures { EndsHunk state (Ok result) }
 {

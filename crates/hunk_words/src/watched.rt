@@ -1,4 +1,4 @@
-//! Readers and writers of std that are watched.
+//! Readers and writers of std, watched.
 
 ghost use Rattle.std.specs.Prelude.{◌≡◌, ◌<◌, ◌≤◌, ◌||◌, ℕ, List, length, take, Bool, Option, is_err, IfOk, OnOk, OnErr};
 ghost use Rattle.std.specs.Io.KnownBytes.{Consumes, IsAtEnd, Keeps};
@@ -8,9 +8,10 @@ use crate::fault::DeviceFault;
 use crate::streams::{Sink, Source};
 use std::io::{Read, Write};
 
-/// A reader or a writer of std, and whether it failed and came to its end so far.
+/// A reader or a writer of std that remembers whether it has failed and whether it has reached its
+/// end.
 ///
-/// It hands on the answers of the one that it watches, and tells the bytes that that one tells.
+/// It passes std's result through, and has the same bytes as the reader or writer inside.
 #[derive(Drop)]
 pub struct Watched<T> {
     inner: T,
@@ -22,7 +23,7 @@ impl<T> Watched<T> {
     ghost use Rattle.std.specs.Prelude.{◌≡◌, false};
     ghost use Rattle.hunk_words.specs.Watched.{inner_of, saw_failure, saw_end};
 
-    /// Watches `inner`, which has not failed and not ended yet.
+    /// Watches `inner`. It has not failed and not ended yet.
     pub fn new(inner: T) -> Watched<T>
         ensures inner { inner_of result ≡ inner }
         ensures failed { saw_failure result ≡ false }
@@ -35,7 +36,7 @@ impl<T> Watched<T> {
         }
     }
 
-    /// Gives back the one that was watched.
+    /// Returns the reader or writer inside.
     pub fn into_inner(self) -> T
         ensures { result ≡ inner_of self }
     {
@@ -57,8 +58,8 @@ impl<T: Read> Source for Watched<T> {
 
     ghost ended = { saw_end };
 
-    /// Reads from the reader that is watched. Its end is reported only where that reader is at its
-    /// end, and a failed read takes no byte.
+    /// Reads from the reader inside. Reports its end only if that reader is at its end; a failed
+    /// read takes no byte.
     fn read(&mut self, buffer: &mut [u8]) -> Result<usize, DeviceFault>
         ensures count { IfOk result (λ n. n ≤ length buffer.old) }
         ensures bytes { IfOk result (λ n. Consumes (T.remaining (inner_of self.old)) (T.remaining (inner_of self.new)) (take n buffer.new)) }

@@ -1,4 +1,5 @@
-use super::{Failure, ToolFault, told, write_failure};
+use super::{Failure, ToolFault, report_failure};
+use hunk_words::{Room, Watched};
 use std::test::Fail;
 
 #[test]
@@ -20,12 +21,18 @@ fn tells_each_failure_in_a_line(rt: HostRuntime) -> Result<(), Fail> {
         ),
         (Failure::out_of_memory(), "amihunk: out of memory\n", 4),
     ] {
-        let text = write_failure(Vec::new(alloc), &files, &failure);
-        assert!(rt;
-            text.is_ok_and(|bytes| bytes.as_slice() == line.as_bytes()),
-            "{line}"
-        );
-        assert_eq!(rt; report_failure(Vec::new(alloc), &files, &failure), status);
+        let mut errors = Watched::new(Vec::new(alloc));
+        assert_eq!(rt; report_failure(&mut errors, &files, &failure), status);
+        assert_eq!(rt; errors.into_inner().as_slice(), line.as_bytes());
     }
+    Ok(())
+}
+
+#[test]
+fn ends_with_the_status_where_no_line_was_written(rt: HostRuntime) -> Result<(), Fail> {
+    let mut errors = Room::new(rt.alloc(), 8, 10, false)?;
+    let failure = Failure::out_of_memory();
+    assert_eq!(rt; report_failure(&mut errors, &[], &failure), 4);
+    assert_eq!(rt; errors.bytes(), b"amihunk: o".as_slice());
     Ok(())
 }

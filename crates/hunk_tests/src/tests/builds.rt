@@ -1,4 +1,4 @@
-//! Hunks that make a load file, and hunks that make none.
+//! Hunks that make a load file, and hunks that don't.
 
 use hunk_loadfile::{BuildFault, HunkKind, LoadFile, LoadHunk, Memory};
 use hunk_words::{Name, Sites};
@@ -6,7 +6,8 @@ use std::alloc::{AllocError, Global};
 use std::process::Abort;
 use std::test::Fail;
 
-// A hunk that is to be built: its size, so many zero bytes, and the target of its site at 0.
+// A hunk to build: its size, the number of its zero bytes of content, and the target of its site at
+// 0.
 #[derive(Clone, Copy, Debug)]
 struct Plan {
     kind: HunkKind,
@@ -30,7 +31,7 @@ const ZEROS: Plan = Plan {
     ..GOOD
 };
 
-// As large as all hunks of a file may be.
+// As large as all hunks of a file may be together.
 const LARGE: Plan = Plan {
     size: 0x0100_0000,
     content: 0,
@@ -38,7 +39,7 @@ const LARGE: Plan = Plan {
     ..GOOD
 };
 
-// Content that is no whole number of longwords, is too long, or is a BSS hunk's.
+// Content that is not a whole number of longwords, is too long, or belongs to a BSS hunk.
 const UNEVEN: Plan = Plan { content: 7, ..GOOD };
 
 const LONG: Plan = Plan {
@@ -52,7 +53,7 @@ const STORED: Plan = Plan {
     ..GOOD
 };
 
-// Sites that are to lie in fewer or in more bytes than the hunk has.
+// Sites with a limit lower or higher than the bytes of the hunk.
 const TIGHT: Plan = Plan { limit: 4, ..GOOD };
 
 const WIDE: Plan = Plan { limit: 12, ..GOOD };
@@ -92,8 +93,8 @@ fn are_planned(rt: &impl Abort, hunks: &[LoadHunk], plans: &[Plan]) {
     }
 }
 
-// The hunks of these plans make a load file where there is no fault, and are handed back where
-// there is one.
+// The hunks of these plans make a load file if there is no fault, and are handed back if there is
+// one.
 fn is_built(
     rt: &impl Abort,
     alloc: Global,
@@ -177,7 +178,7 @@ fn counts_hunks(rt: HostRuntime) -> Result<(), Fail> {
     Ok(())
 }
 
-// A hunk with a symbol whose name has this many bytes.
+// A hunk with a symbol whose name is `words` longwords of letters and then `last`.
 fn named(rt: &impl Abort, alloc: Global, words: usize, last: u32) -> Result<LoadHunk, Fail> {
     let mut longwords = vec![in alloc; 0x4141_4141; words]?;
     longwords.push(last)?;

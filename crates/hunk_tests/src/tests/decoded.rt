@@ -1,4 +1,4 @@
-//! Load files as values: what is read of them.
+//! Load files as values, as they are read.
 
 use super::files::{CHUNKS, FILE, bytes_of};
 use super::load_words::{THREE_HUNKS, TWO_HUNKS, ZEROS};
@@ -31,7 +31,7 @@ fn is_decoded(
     Ok(())
 }
 
-// A file and the file that is written of it have the same hunks.
+// A file and its written form have the same hunks.
 #[test]
 fn reads_a_file_that_is_not_in_written_form(rt: HostRuntime) -> Result<(), Fail> {
     is_decoded(&rt, rt.alloc(), &SCATTERED, &SCATTERED_HUNKS)?;

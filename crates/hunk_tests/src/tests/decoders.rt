@@ -1,4 +1,4 @@
-//! What judges the bytes of a file: where it is refused, why, and when.
+//! What checks the bytes of a file: where it rejects them, why, and when.
 
 use super::files::{BASE, CHUNKS, ROOM};
 use crate::{LoadJudge, ObjectJudge};
@@ -11,19 +11,19 @@ use std::alloc::{Allocator, Global};
 use std::process::Abort;
 use std::test::Fail;
 
-/// Where a file is refused, and why; nothing for a file.
+/// The place and the reason of a file's fault; `None` for a file without one.
 pub(crate) type Answer = Option<(u64, Reason)>;
 
-/// What judges the bytes of a file, in any pieces.
+/// What checks the bytes of a file, in any pieces.
 pub(crate) trait Judge: Drop {
-    /// The answer to the next bytes.
+    /// The result for the next bytes.
     fn judge(&mut self, piece: &[u8]) -> Result<(), LoadRefusal>;
 
-    /// The answer at the end of the bytes.
+    /// The result at the end of the bytes.
     fn close(self) -> Result<(), LoadRefusal>;
 }
 
-// A refusal of bytes, as one of loading.
+// A refusal of bytes, as a refusal to load them.
 fn refusal_of(refusal: Refusal) -> LoadRefusal {
     match refusal {
         Refusal::Fault(fault) => LoadRefusal::File(fault),
@@ -84,8 +84,8 @@ pub(crate) fn fault_of(answer: Answer) -> Option<Fault> {
     }
 }
 
-// Each piece is taken, up to the one with the last byte of the longword that offends. From there on
-// the same refusal is answered. An empty piece changes nothing. Behind a whole file comes `placed`.
+// Each piece is taken, up to the one with the last byte of the offending longword. From there on
+// the same error is returned. An empty piece changes nothing. After a whole file comes `placed`.
 fn answers_in_time<J: Judge>(
     rt: &impl Abort,
     begun: J,
@@ -117,8 +117,8 @@ fn answers_in_time<J: Judge>(
     assert_eq!(rt; judge.close(), refused, "{bytes:?} by {chunk}");
 }
 
-// What comes behind a whole load file for hunks at these addresses: whether there is one for each
-// of its hunks, of which the tests have fewer than 256.
+// What comes after a whole load file for hunks at these addresses: whether there is one for each of
+// its hunks, of which the tests have fewer than 256.
 fn placed_at(bytes: &[u8], bases: &[u32]) -> Result<(), LoadRefusal> {
     match bytes.get(11) {
         Some(count) if usize::from(*count) == bases.len() => Ok(()),
@@ -126,7 +126,7 @@ fn placed_at(bytes: &[u8], bases: &[u32]) -> Result<(), LoadRefusal> {
     }
 }
 
-// A reader of these bytes is answered so.
+// A reader of these bytes has this result.
 fn is_read_so(
     rt: &impl Abort,
     alloc: Global,
@@ -145,7 +145,7 @@ fn is_read_so(
     Ok(())
 }
 
-// A run over a reader of these bytes is answered so. It writes nothing where they are refused.
+// A run over a reader of these bytes has this result. It writes nothing if they are rejected.
 fn is_run_so(
     rt: &impl Abort,
     alloc: Global,
@@ -173,7 +173,7 @@ fn is_run_so(
     Ok(())
 }
 
-// These bytes are answered so by all that reads a load file.
+// Everything that reads a load file has this result for these bytes.
 fn is_load_judged(
     rt: &impl Abort,
     alloc: Global,
@@ -194,7 +194,7 @@ fn is_load_judged(
     is_run_so(rt, alloc, bytes, chunk, answer)
 }
 
-/// These bytes are answered so in any pieces, by all that reads a file of this kind.
+/// Everything that reads a file of this kind has this result for these bytes, in any pieces.
 pub(crate) fn is_judged(
     rt: &impl Abort,
     alloc: Global,
@@ -214,7 +214,7 @@ pub(crate) fn is_judged(
     Ok(())
 }
 
-/// A refusal is answered again to every later call.
+/// After an error, every later call returns the same error.
 pub(crate) fn answers_again<J: Judge>(rt: &impl Abort, begun: J, refusal: LoadRefusal) {
     let mut judge = begun;
     let pieces: [&[u8]; 4] = [&[], &[0], &[0, 0, 3, 0xF2], &[0, 0, 3, 0xE7, 0, 0, 0, 0]];

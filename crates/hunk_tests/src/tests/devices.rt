@@ -9,7 +9,7 @@ use std::io;
 use std::io::{ErrorKind, Read};
 use std::test::Fail;
 
-// Each read of a run fails in turn, the one that would tell the end too.
+// Each read of a run fails in turn, including the one that would report the end.
 #[test]
 fn tells_a_read_that_failed(rt: HostRuntime) -> Result<(), Fail> {
     let bytes = bytes_of(rt.alloc(), &FILE, &[])?;
@@ -55,7 +55,7 @@ fn tells_a_read_of_a_file_that_failed(rt: HostRuntime) -> Result<(), Fail> {
     Ok(())
 }
 
-// A writer that has room for each front of the report.
+// A writer with room for each prefix of the report.
 #[test]
 fn tells_what_a_writer_took(rt: HostRuntime) -> Result<(), Fail> {
     let bytes = bytes_of(rt.alloc(), &FILE, &[])?;

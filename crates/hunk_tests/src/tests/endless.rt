@@ -5,7 +5,7 @@ use hunk_tool::{ToolFault, load_run};
 use hunk_words::{DeviceFault, Fault, Reason, Room, Source};
 use std::test::Fail;
 
-// These bytes, and zeros without end.
+// These bytes, followed by endless zeros.
 #[derive(Drop)]
 struct Endless<'a> {
     front: &'a [u8],
@@ -37,7 +37,7 @@ impl Source for Endless<'_> {
     }
 }
 
-// A hunk's name of 2^32 - 1 longwords. The first longword that no file may have is refused.
+// A hunk's name of 2^32 - 1 longwords. The first longword that no file may have is rejected.
 #[test]
 fn stops_at_the_longest_file(rt: HostRuntime) -> Result<(), Fail> {
     let mut words = FILE[..6].to_vec(rt.alloc())?;

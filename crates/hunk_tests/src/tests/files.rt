@@ -20,19 +20,20 @@ pub(crate) const FILE: [u32; 10] = [
     0x0000_03F2,
 ];
 
-/// Where it is loaded.
+/// The address at which it is loaded.
 pub(crate) const BASE: u32 = 0x0001_0000;
 
 /// The report of its memory there, 44 bytes.
 pub(crate) const REPORT: &str = "hunk 0 at 00010000 size 4\n00010000 4e754e71\n";
 
-/// Bytes a read: whole, or in pieces. No file of the tests has more bytes, and no report of them.
+/// Bytes per read: all at once, or in pieces. No file of the tests has more bytes, and no report of
+/// them.
 pub(crate) const CHUNKS: [usize; 4] = [ROOM, 1, 3, 5];
 
 /// More bytes than a file of the tests has, or its report.
 pub(crate) const ROOM: usize = 512;
 
-/// The bytes of these longwords, and of what follows the last one.
+/// The bytes of these longwords, followed by `rest`.
 pub(crate) fn bytes_of(alloc: Global, words: &[u32], rest: &[u8]) -> Result<Vec<u8>, AllocError> {
     let mut bytes = Vec::new(alloc);
     for word in words {
@@ -51,7 +52,7 @@ pub(crate) fn with_word(alloc: Global, place: usize, word: u32) -> Result<Vec<u8
     bytes_of(alloc, &words, &[])
 }
 
-/// Loads these bytes in every chunking, and compares the answer and the text that was written.
+/// Loads these bytes in pieces of each size, and compares the result and the text that was written.
 pub(crate) fn loads_to(
     rt: &impl Abort,
     alloc: Global,

@@ -1,4 +1,4 @@
-//! Growths of the calls on load files that are refused, each in turn.
+//! Calls on load files with each of their allocations failing in turn.
 
 use super::files::{ROOM, bytes_of};
 use super::loaded::has_bytes;
@@ -14,7 +14,7 @@ use std::alloc::Global;
 use std::process::Abort;
 use std::test::Fail;
 
-// More growths than a call of the tests asks for.
+// More allocations than a call of the tests makes.
 const MOST_GROWTHS: u64 = 64;
 
 // Where the hunks are loaded.
@@ -33,14 +33,14 @@ enum Call {
     Run,
 }
 
-/// The growths of reading the file.
+/// The number of allocations to read the file.
 pub(crate) fn growths_of_reading(alloc: Global, bytes: &[u8]) -> Result<u64, Fail> {
     let heap = Refusing::new(alloc, u64::MAX);
     let _file = file_of(&heap, bytes.to_vec(alloc)?)?;
     Ok(heap.asked())
 }
 
-// Whether the file was read with this growth refused. It was, or memory was refused; and so for the
+// Whether the file was read with this allocation failing. If not, memory ran out; likewise for the
 // other calls.
 fn is_read(rt: &impl Abort, alloc: Global, bytes: &[u8], refused: u64) -> Result<bool, Fail> {
     let heap = Refusing::new(alloc, refused);
@@ -111,8 +111,8 @@ fn is_run(rt: &impl Abort, alloc: Global, bytes: &[u8], refused: u64) -> Result<
     Ok(true)
 }
 
-// The growths of the call that has them all: each one before was refused, and answered so. Those of
-// reading the file that is loaded or written come before.
+// The number of allocations of the call: it runs out of memory with each of them failing, and
+// succeeds once none fails. The allocations to read the file that is loaded or written come before.
 fn growths_of(rt: &impl Abort, alloc: Global, call: Call, bytes: &[u8]) -> Result<u64, Fail> {
     let before = match call {
         Call::Read | Call::Run => 0,

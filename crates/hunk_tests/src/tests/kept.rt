@@ -1,4 +1,4 @@
-//! What a judge of bytes keeps: refusals that are answered again, and growths that are refused.
+//! What decoders and loaders keep: errors that are returned again, and allocations that fail.
 
 use super::decoders::{Judge, answers_again};
 use super::files::{BASE, FILE, bytes_of};
@@ -11,7 +11,7 @@ use std::alloc::Global;
 use std::process::Abort;
 use std::test::Fail;
 
-// More growths than a file of the tests asks for.
+// More allocations than a file of the tests needs.
 const MOST_GROWTHS: u64 = 128;
 
 #[test]
@@ -39,7 +39,7 @@ fn answers_a_refusal_again(rt: HostRuntime) -> Result<(), Fail> {
     Ok(())
 }
 
-// Whether a file was taken with a growth refused, which is answered again.
+// Whether a file was taken with an allocation failing. If not, the error is returned again.
 fn is_taken<J: Judge>(rt: &impl Abort, begun: J, bytes: &[u8]) -> bool {
     let mut judge = begun;
     for piece in bytes.chunks(5) {
@@ -56,7 +56,7 @@ fn is_taken<J: Judge>(rt: &impl Abort, begun: J, bytes: &[u8]) -> bool {
     true
 }
 
-// The same for a loader, which may be refused its bases.
+// The same for a loader, which may already fail to allocate its bases.
 fn is_loaded(rt: &impl Abort, heap: &Refusing<Global>, bases: &[u32], bytes: &[u8]) -> bool {
     match ImageLoader::new(heap, bases) {
         Ok(loader) => is_taken(rt, loader, bytes),
@@ -64,8 +64,8 @@ fn is_loaded(rt: &impl Abort, heap: &Refusing<Global>, bases: &[u32], bytes: &[u
     }
 }
 
-// The bytes of a file that begins so, with one hunk of this many longwords. Each of them is a
-// site.
+// The bytes of a file that begins with `begin`, with one hunk of `count` longwords, each of which
+// is a site.
 fn sites_of(alloc: Global, begin: &[u32], count: u32) -> Result<Vec<u8>, Fail> {
     let mut words = begin.to_vec(alloc)?;
     words.extend_from_slice(&[0x0000_03E9, count])?;
@@ -100,7 +100,7 @@ fn refuses_each_growth(rt: HostRuntime) -> Result<(), Fail> {
     Ok(())
 }
 
-// A file is judged with each of its growths refused, and with none.
+// A file is judged with each of its allocations failing, and with none.
 fn is_judged_with_each_growth_refused(
     rt: &impl Abort,
     alloc: Global,
@@ -137,7 +137,7 @@ fn refuses_each_growth_of_a_load_file(rt: HostRuntime) -> Result<(), Fail> {
     Ok(())
 }
 
-// What is `Copy` can be used twice.
+// A `Copy` value can be used twice.
 fn twice<T: Copy>(value: T) -> (T, T) {
     (value, value)
 }

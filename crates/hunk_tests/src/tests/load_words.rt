@@ -23,7 +23,7 @@ pub(crate) const TWO_HUNKS: [u32; 40] = [
     0x3EA, 1, 0x68756E6B, 0x3F1, 0, 0x3F2,
 ];
 
-/// One hunk whose two sites are told in an even number of 16-bit words: one site.
+/// One hunk whose relocations take an even number of 16-bit words: one site.
 pub(crate) const EVEN_WORDS: [u32; 14] = [
     0x3F3, 0, 1, 0, 0, 2, 0x3E9, 2, 4, 0, 0x3FC, 0x00010000, 0x00040000, 0x3F2,
 ];

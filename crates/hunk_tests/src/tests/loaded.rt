@@ -1,5 +1,4 @@
-//! Load files in memory: by the loader that streams, by decoding whole and then loading, and as a
-//! report.
+//! Load files in memory: by `ImageLoader`, by decoding whole and then loading, and as a report.
 
 use super::files::{BASE, CHUNKS, FILE, REPORT, bytes_of, loads_to, with_word};
 use super::load_words::{EVEN_WORDS, NO_WORDS, THREE_HUNKS, TWO_HUNKS, ZEROS};
@@ -34,7 +33,7 @@ pub(crate) fn has_bytes<A: Allocator + Copy>(
     }
 }
 
-// The image by the loader that streams.
+// The image by `ImageLoader`.
 fn streamed(
     rt: &impl Abort,
     alloc: Global,
@@ -50,7 +49,7 @@ fn streamed(
     Ok(loader.finish()?)
 }
 
-// The image of the file that a decoder gave.
+// The image of the file that a decoder returned.
 fn decoded(
     rt: &impl Abort,
     alloc: Global,
@@ -67,7 +66,7 @@ fn decoded(
     Ok(load(alloc, &file, bases)?)
 }
 
-// The image of the file that a reader gave.
+// The image of the file that was read from a reader.
 fn read(
     rt: &impl Abort,
     alloc: Global,
@@ -81,7 +80,8 @@ fn read(
     Ok(load(alloc, &file, bases)?)
 }
 
-// In each way and in any pieces these bytes are loaded so, and the report is this text.
+// In each way and in any pieces, these bytes are loaded to these hunks, and the report is this
+// text.
 fn is_loaded(
     rt: &impl Abort,
     alloc: Global,
@@ -103,7 +103,7 @@ fn is_loaded(
     loads_to(rt, alloc, bytes, bases, Ok(()), text)
 }
 
-// These files are loaded so.
+// These files are loaded to these hunks.
 fn are_loaded(rt: &impl Abort, alloc: Global, rows: &[Row<'_>]) -> Result<(), Fail> {
     for (words, bases, wanted, text) in rows {
         let bytes = bytes_of(alloc, words, &[])?;
@@ -216,7 +216,7 @@ fn loads_some_hunks(rt: HostRuntime) -> Result<(), Fail> {
     are_loaded(&rt, rt.alloc(), &rows)
 }
 
-// The example of the repository with two hunks.
+// The repository's example with two hunks.
 #[test]
 fn loads_the_example_of_two_hunks(rt: HostRuntime) -> Result<(), Fail> {
     let code: &[u8] = &[

@@ -1,4 +1,4 @@
-//! Growths that are refused, each in turn.
+//! Allocations that fail, each in turn.
 
 use super::files::{BASE, FILE, REPORT, bytes_of};
 use crate::Refusing;
@@ -8,10 +8,10 @@ use std::alloc::Global;
 use std::process::Abort;
 use std::test::Fail;
 
-// More growths than a call of the tests asks for.
+// More allocations than a call of the tests makes.
 const MOST_GROWTHS: u64 = 64;
 
-// Runs a file with each growth refused in turn, until a run meets no refusal.
+// Runs a file with each allocation failing in turn, until a run makes fewer.
 fn runs_with_each_growth_refused(
     rt: &impl Abort,
     alloc: Global,

@@ -1,4 +1,4 @@
-//! Addresses that are refused, behind what is wrong with the file.
+//! Addresses that are rejected, after what is wrong with the file.
 
 use super::files::{BASE, FILE, bytes_of, loads_to};
 use hunk_loader::PlaceFault;

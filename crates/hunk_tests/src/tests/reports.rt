@@ -3,7 +3,7 @@
 use super::files::{BASE, REPORT, bytes_of, loads_to, with_word};
 use std::test::Fail;
 
-// A longword of the file that is not judged, or not judged in full, changes no more than its own bytes.
+// A longword of the file that is not checked, or not in full, changes no more than its own bytes.
 #[test]
 fn loads_the_file_and_its_like(rt: HostRuntime) -> Result<(), Fail> {
     let rows = [

@@ -1,9 +1,10 @@
-//! What the loader that streams asks for, and which of two refusals it answers.
+//! What `ImageLoader` allocates, and which of two errors it returns.
 
 use super::decoders::Judge;
-use super::files::{BASE, FILE, REPORT, ROOM, bytes_of};
+use super::files::{BASE, CHUNKS, FILE, REPORT, ROOM, bytes_of};
 use crate::Refusing;
-use hunk_loader::{ImageLoader, LoadRefusal, PlaceFault};
+use hunk_loader::{ImageLoader, LoadRefusal, PlaceFault, load};
+use hunk_loadfile::LoadDecoder;
 use hunk_tool::load_run;
 use hunk_words::{Fault, Pieces, Reason, Room};
 use std::alloc::Global;
@@ -13,7 +14,7 @@ use std::test::Fail;
 // The longwords of a long debug block.
 const DEBUG_LONGWORDS: u32 = 100_000;
 
-// The growths that the bytes ask for at these addresses, which answer so.
+// The number of allocations to load the bytes at these addresses, with this result.
 fn growths(
     rt: &impl Abort,
     alloc: Global,
@@ -28,7 +29,7 @@ fn growths(
     Ok(heap.asked())
 }
 
-// The growths of a whole run with the report.
+// The number of allocations of a whole run with the report.
 fn growths_of_run(rt: &impl Abort, alloc: Global, bytes: &[u8]) -> Result<u64, Fail> {
     let heap = Refusing::new(alloc, u64::MAX);
     let mut reader = Pieces::new(bytes.to_vec(alloc)?, 4096, None);
@@ -83,5 +84,31 @@ fn keeps_no_debug_block(rt: HostRuntime) -> Result<(), Fail> {
         growths_of_run(&rt, rt.alloc(), &bytes)?,
         growths_of_run(&rt, rt.alloc(), &longer)?
     );
+    Ok(())
+}
+
+// Decoding the whole file and then loading it rejects the same addresses for the same reason.
+#[test]
+fn refuses_addresses_in_both_ways(rt: HostRuntime) -> Result<(), Fail> {
+    let bytes = bytes_of(rt.alloc(), &FILE, &[])?;
+    let rows: [(&[u32], PlaceFault); 2] = [
+        (&[], PlaceFault::WrongCount),
+        (&[0xFFFF_FFFE], PlaceFault::PastEnd(0)),
+    ];
+    for (bases, fault) in rows {
+        let want = Some(LoadRefusal::Place(fault));
+        for chunk in CHUNKS {
+            assert!(rt; 1 <= chunk);
+            let mut loader = ImageLoader::new(rt.alloc(), bases)?;
+            let mut decoder = LoadDecoder::new(rt.alloc());
+            for piece in bytes.chunks(chunk) {
+                assert_eq!(rt; loader.feed(piece), Ok(()));
+                assert_eq!(rt; decoder.feed(piece), Ok(()));
+            }
+            assert_eq!(rt; loader.finish().err(), want, "{bases:?}");
+            let file = decoder.finish()?;
+            assert_eq!(rt; load(rt.alloc(), &file, bases).err(), want, "{bases:?}");
+        }
+    }
     Ok(())
 }

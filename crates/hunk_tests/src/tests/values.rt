@@ -1,4 +1,4 @@
-//! What the hunks of a load file are to be, as plain values.
+//! The expected hunks of a load file, as plain values.
 
 use hunk_loadfile::{HunkKind, LoadFile, LoadHunk, Memory};
 use std::alloc::Allocator;
@@ -11,13 +11,13 @@ pub(crate) struct Hunk<'a> {
     pub(crate) memory: Memory,
     pub(crate) size: u32,
     pub(crate) content: &'a [u8],
-    /// Each offset and the hunk that is named there, by rising offset.
+    /// Each offset and the hunk that is named there, in ascending order of offset.
     pub(crate) sites: &'a [(u32, u32)],
     pub(crate) symbols: &'a [(&'a [u8], u32)],
     pub(crate) debugs: &'a [&'a [u32]],
 }
 
-/// Code of no longword, with nothing more.
+/// Code of no longwords, and nothing else.
 pub(crate) const EMPTY: Hunk<'static> = Hunk {
     kind: HunkKind::Code,
     memory: Memory::Any,
@@ -50,7 +50,7 @@ pub(crate) const SCATTERED_HUNKS: [Hunk<'static>; 2] = [
     },
 ];
 
-// The lists of a hunk that a debugger reads are these.
+// The lists of a hunk for a debugger are these.
 fn carries<A: Allocator + Copy>(rt: &impl Abort, hunk: &LoadHunk<A>, wanted: &Hunk<'_>) {
     assert_eq!(rt; hunk.symbols.len(), wanted.symbols.len(), "{wanted:?}");
     for ((name, value), (bytes, number)) in hunk.symbols.iter().zip(wanted.symbols) {
@@ -81,7 +81,7 @@ fn is_hunk<A: Allocator + Copy>(rt: &impl Abort, hunk: &LoadHunk<A>, wanted: &Hu
     carries(rt, hunk, wanted);
 }
 
-/// These hunks are the wanted ones.
+/// These hunks are the expected ones.
 pub(crate) fn are_hunks<A: Allocator + Copy>(
     rt: &impl Abort,
     hunks: &[LoadHunk<A>],
@@ -93,7 +93,7 @@ pub(crate) fn are_hunks<A: Allocator + Copy>(
     }
 }
 
-/// The hunks of a load file are the wanted ones.
+/// The hunks of a load file are the expected ones.
 pub(crate) fn has_hunks<A: Allocator + Copy>(
     rt: &impl Abort,
     file: &LoadFile<A>,

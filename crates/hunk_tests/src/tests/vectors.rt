@@ -1,4 +1,4 @@
-//! Files of both kinds through all that reads them: where they are refused, why, and when.
+//! Files of both kinds through everything that reads them: where they are rejected, why, and when.
 
 use super::decoders::{Answer, is_judged};
 use super::files::{FILE, bytes_of};
@@ -18,7 +18,7 @@ use std::test::Fail;
 // A longword of ones.
 const ONES: u32 = 0xFFFF_FFFF;
 
-// Ones where a block type is due.
+// All ones where a block type is expected.
 const UNKNOWN: Reason = UnknownType(0x3FFF_FFFF);
 
 #[test]
@@ -171,7 +171,7 @@ fn judges_other_longwords(rt: HostRuntime) -> Result<(), Fail> {
         (Object, &IN_BSS, 5, ONES, Some((7, SiteOutside(0)))),
         (Object, &MEETS, 7, 1, Some((15, SiteOverlap(4)))),
         (Object, &MEETS, 14, ONES, Some((15, SiteOverlap(4)))),
-        // targets, which an object file's linker judges
+        // targets, which the linker checks for an object file
         (Object, &ADDRESS, 7, 2, None),
         (Load, &LINKED, 13, 2, Some((13, NoSuchHunk(2)))),
         // relocations in 16-bit words
@@ -213,7 +213,7 @@ fn judges_files_and_what_follows_them(rt: HostRuntime) -> Result<(), Fail> {
         (Object, &TWO_NAMES, &[], None),
         (Load, &SHORT, &[], None),
         (Object, &[0x0000_03E7, 0], &[], None),
-        // behind the last END
+        // after the last END
         (Load, &FILE, &[0], Some((10, PartialLongword))),
         (Load, &FILE, &[0, 0], Some((10, PartialLongword))),
         (Load, &FILE, &[0, 0, 0], Some((10, PartialLongword))),
@@ -225,7 +225,7 @@ fn judges_files_and_what_follows_them(rt: HostRuntime) -> Result<(), Fail> {
             Some((10, UnsupportedBlock(1013))),
         ),
         (Load, &FILE, &[0, 0, 3, 0xFC], Some((10, TrailingData))),
-        // in place of the last END: relocations that name a hunk behind the last one
+        // in place of the last END: relocations that name a hunk after the last one
         (
             Load,
             &FILE[..9],

@@ -1,4 +1,4 @@
-//! The longwords of object files and load files, and of what begins one.
+//! The longwords of object files and load files, and of their prefixes.
 
 /// An object file whose hunk refers to `foo`.
 pub(crate) const REFERS: [u32; 13] = [
@@ -33,7 +33,7 @@ pub(crate) const DEFINES: [u32; 12] = [
     0x0000_03F2,
 ];
 
-/// The same with a longword behind the name.
+/// The same with a longword after the name.
 pub(crate) const DEFINES_LONGER: [u32; 13] = [
     0x0000_03E7,
     0,
@@ -114,7 +114,7 @@ pub(crate) const MEETS: [u32; 16] = [
     4,
 ];
 
-/// A relocation whose last byte is the first one behind the content.
+/// A relocation whose last byte is the first one after the content.
 pub(crate) const PAST_CONTENT: [u32; 10] = [
     0x0000_03E7,
     0,
@@ -131,7 +131,7 @@ pub(crate) const PAST_CONTENT: [u32; 10] = [
 /// A relocation of memory that has no content.
 pub(crate) const IN_BSS: [u32; 8] = [0x0000_03E7, 0, 0x0000_03EB, 4, 0x0000_03EC, 1, 0, 0];
 
-/// A load file with a site behind its content, in its hunk.
+/// A load file with a site after its content, but inside its hunk.
 pub(crate) const BEHIND_CONTENT: [u32; 15] = [
     0x0000_03F3,
     0,

@@ -11,7 +11,7 @@ use std::alloc::{Allocator, Global};
 use std::process::Abort;
 use std::test::Fail;
 
-// More growths than a file of the tests asks for when it is written.
+// More allocations than writing a file of the tests makes.
 const MOST_GROWTHS: u64 = 64;
 
 /// The load file of these bytes.
@@ -71,7 +71,7 @@ fn writes_files(rt: HostRuntime) -> Result<(), Fail> {
     Ok(())
 }
 
-// A writer that has room for each front of the file.
+// A writer with room for each prefix of the file.
 #[test]
 fn tells_what_a_writer_took_of_a_file(rt: HostRuntime) -> Result<(), Fail> {
     let text = bytes_of(rt.alloc(), &LINKED, &[])?;
@@ -91,9 +91,9 @@ fn tells_what_a_writer_took_of_a_file(rt: HostRuntime) -> Result<(), Fail> {
     Ok(())
 }
 
-// A file in written form is written with each growth refused in turn: exactly the bytes up to the
-// relocation block of the first hunk that has sites, and then with none, after `least` growths.
-// The growths of reading the file come before those of writing it.
+// A file in written form is written with each allocation failing in turn: exactly the bytes up to
+// the relocation block of the first hunk that has sites, and then, after at least `least`
+// allocations, with none failing. The allocations to read the file come before those to write it.
 fn is_written_up_to(
     rt: &impl Abort,
     alloc: Global,
@@ -129,14 +129,14 @@ fn is_written_up_to(
     Ok(())
 }
 
-// The header, the first hunk, which has no site, and the content of the second one take no memory.
-// They are written whatever is refused.
+// The header, the first hunk, which has no site, and the content of the second one need no
+// allocation. They are written whichever allocation fails.
 #[test]
 fn writes_hunk_by_hunk(rt: HostRuntime) -> Result<(), Fail> {
     is_written_up_to(&rt, rt.alloc(), &THREE_HUNKS, 64, 1)
 }
 
-// A hundred sites that name four hunks in turn. They take memory, and so does sorting them.
+// A hundred sites that name four hunks in turn. They need memory, and so does sorting them.
 #[test]
 fn sorts_before_it_writes_relocations(rt: HostRuntime) -> Result<(), Fail> {
     let mut words = [0x3F3, 0, 4, 0, 3, 100, 0, 0, 0, 0x3E9, 100].to_vec(rt.alloc())?;

@@ -3,10 +3,11 @@ ghost use Rattle.std.specs.Prelude.{◌≡◌, ℕ, List, [], ◌∷◌, ◌++�
 ghost use Rattle.std.specs.List.{All};
 ghost use Rattle.hunk_words.specs.Name.{IsNameByte, name_of};
 
-use super::{Name, big_endian, until_zero};
+use super::{Name, until_zero};
+use crate::longwords::big_endian;
 use std::alloc::{AllocError, Allocator, Global};
 
-/// A name whose longwords come one after another. Behind its first zero byte it takes no memory.
+/// A name whose longwords come one after another. After its first zero byte it does not allocate.
 #[derive(Debug, Drop)]
 pub struct OpenName<A: Allocator + Copy = Global> {
     bytes: Vec<u8, A>,
@@ -27,8 +28,11 @@ impl<A: Allocator + Copy> OpenName<A> {
         }
     }
 
-    /// Takes the next longword. `AllocError` comes only where memory was refused, and then the name
-    /// is as it was.
+    /// Takes the next longword.
+    ///
+    /// # Errors
+    ///
+    /// [`AllocError`] only if an allocation failed; then the name is as it was.
     pub fn push(&mut self, word: u32) -> Result<(), AllocError>
         ensures takes { (words : List ℕ) → Opens self.old words → OnOk result (Opens self.new (words ++ word ∷ [])) }
         ensures refuses { (words : List ℕ) → Opens self.old words → OnErr result (Opens self.new words) }

@@ -5,7 +5,7 @@ use Rattle.amihunk.proofs.CommandLineValueLemmas.{first_value-load}
 use Rattle.amihunk.proofs.command_line.load_of.Goals as goal
 use Rattle.amihunk.proofs.command_line.load_of.Goals.{in_default-via-in-Some+in_default, in_default-via-in_default}
 
--- a value that is missing was given
+-- a value that is missing was in fact given
 pub unreachable-requires : goal.unreachable-requires
 unreachable-requires c =
     let given = first_value-load (found_of c.args.values.now) c.requires.list c.requires.file c.requires.load in

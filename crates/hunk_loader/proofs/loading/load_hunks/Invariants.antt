@@ -1,4 +1,4 @@
--- The hunks that are made, and behind them those that are left, are all hunks.
+-- The hunks that are made, followed by the remaining ones, are all hunks.
 use Rattle.std.proofs.Common.{◌≡◌, ◌≤◌, ◌++◌, drop, length, vec_len, vec_capacity}
 use Rattle.hunk_loader.specs.Image.{hunks_of}
 use Rattle.hunk_loader.specs.Loading.{loaded}

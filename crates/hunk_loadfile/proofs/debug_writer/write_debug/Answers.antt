@@ -2,8 +2,7 @@
 use Rattle.std.proofs.Common.{◌∷◌, [], length, refl, arith}
 use Rattle.std.proofs.lemmas.Result.{err_from_is_err_and}
 use Rattle.hunk_loadfile.specs.WrittenForm.{debug_words}
-use Rattle.hunk_loadfile.proofs.LongwordWriterLemmas.{words-stop, words-then}
-use Rattle.hunk_loadfile.proofs.WritingLemmas.{length-bytes_of}
+use Rattle.hunk_loadfile.proofs.LongwordWriterLemmas.{length-bytes_of, words-stop, words-then}
 use Rattle.hunk_loadfile.proofs.debug_writer.write_debug.Goals as goal
 
 pub returns-in_err-written : goal.returns-in_err-written

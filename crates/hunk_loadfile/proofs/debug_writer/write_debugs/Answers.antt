@@ -1,4 +1,4 @@
--- One debug block more.
+-- One more debug block.
 use Rattle.std.proofs.Common.{◌<◌, ap, length, take, Vec, ℕ, arith}
 use Rattle.std.proofs.lemmas.List.{length-map}
 use Rattle.std.proofs.lemmas.List.Sums.{sum_by_more_le}
@@ -8,8 +8,7 @@ use Rattle.hunk_loadfile.specs.LoadHunk.{lists_of}
 use Rattle.hunk_loadfile.specs.Rules.{debug_longwords}
 use Rattle.hunk_loadfile.specs.WrittenForm.{debug_words}
 use Rattle.hunk_loadfile.proofs.WrittenFormLengthLemmas.{length-debugs}
-use Rattle.hunk_loadfile.proofs.LongwordWriterLemmas.{lists_of-at, parts-more, parts-stop}
-use Rattle.hunk_loadfile.proofs.WritingLemmas.{length-bytes_of}
+use Rattle.hunk_loadfile.proofs.LongwordWriterLemmas.{length-bytes_of, lists_of-at, parts-more, parts-stop}
 use Rattle.hunk_loadfile.proofs.debug_writer.write_debugs.Goals as goal
 
 pub write_debug-requires-clause-length : goal.write_debug-requires-clause-length

@@ -1,4 +1,4 @@
--- One symbol more.
+-- One more symbol.
 use Rattle.std.proofs.Common.{◌≤◌, ℕ, List, ap, length, take, sym, subst, arith}
 use Rattle.std.proofs.lemmas.List.Sums.{sum_by_more_le}
 use Rattle.std.proofs.lemmas.Result.{err_from_is_err_and}
@@ -6,8 +6,7 @@ use Rattle.std.specs.List.{flat_map}
 use Rattle.hunk_loadfile.specs.Rules.{most_name, symbol_longwords}
 use Rattle.hunk_loadfile.specs.WrittenForm.{symbol_words}
 use Rattle.hunk_loadfile.proofs.WrittenFormLengthLemmas.{length-symbols}
-use Rattle.hunk_loadfile.proofs.LongwordWriterLemmas.{parts-stop}
-use Rattle.hunk_loadfile.proofs.WritingLemmas.{length-bytes_of}
+use Rattle.hunk_loadfile.proofs.LongwordWriterLemmas.{length-bytes_of, parts-stop}
 use Rattle.hunk_loadfile.proofs.debug_writer.write_each_symbol.Goals as goal
 
 pub write_symbol-requires-clause-name : goal.write_symbol-requires-clause-name

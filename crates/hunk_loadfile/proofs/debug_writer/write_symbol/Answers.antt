@@ -4,8 +4,7 @@ use Rattle.std.proofs.lemmas.Result.{err_from_is_err_and}
 use Rattle.hunk_words.specs.Name.{longword_count, name_words}
 use Rattle.hunk_words.proofs.NameLemmas.{length-name_words}
 use Rattle.hunk_loadfile.specs.WrittenForm.{symbol_words}
-use Rattle.hunk_loadfile.proofs.LongwordWriterLemmas.{symbol_words-is, words-stop, words-then}
-use Rattle.hunk_loadfile.proofs.WritingLemmas.{length-bytes_of}
+use Rattle.hunk_loadfile.proofs.LongwordWriterLemmas.{length-bytes_of, symbol_words-is, words-stop, words-then}
 use Rattle.hunk_loadfile.proofs.debug_writer.write_symbol.Goals as goal
 
 pub returns-in_err-written : goal.returns-in_err-written

@@ -4,8 +4,7 @@ use Rattle.std.proofs.lemmas.Result.{err_from_is_err_and}
 use Rattle.std.specs.List.{flat_map}
 use Rattle.hunk_loadfile.specs.WrittenForm.{symbol_words, symbols_words}
 use Rattle.hunk_loadfile.proofs.WrittenFormLengthLemmas.{length-symbols}
-use Rattle.hunk_loadfile.proofs.LongwordWriterLemmas.{symbols_words-some, words-stop, words-then}
-use Rattle.hunk_loadfile.proofs.WritingLemmas.{length-bytes_of}
+use Rattle.hunk_loadfile.proofs.LongwordWriterLemmas.{length-bytes_of, symbols_words-some, words-stop, words-then}
 use Rattle.hunk_loadfile.proofs.debug_writer.write_symbols.Goals as goal
 
 pub returns-in_err-written : goal.returns-in_err-written

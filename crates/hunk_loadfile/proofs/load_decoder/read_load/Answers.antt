@@ -1,18 +1,17 @@
-use Rattle.std.proofs.Common.{[], sym, subst}
-use Rattle.hunk_loadfile.specs.LoadDecoder.{StandsFor}
-use Rattle.hunk_loadfile.proofs.LoadDecoderLemmas.{read-weaker, read-stopped, read-refused}
+use Rattle.std.proofs.lemmas.Result.{err_from_is_err_and}
+use Rattle.hunk_words.proofs.StreamsLemmas.{HasRead-weaker}
+use Rattle.hunk_loadfile.proofs.LoadDecoderLemmas.{read-refused, read-stopped}
 use Rattle.hunk_loadfile.proofs.load_decoder.read_load.Goals as goal
 
-pub read_all-requires : goal.read_all-requires
-read_all-requires g c = subst (λ d. StandsFor d []) (sym c.decoder.view_is) c.new-decoder.ensures.stands
+pub returns-in_err-read_all-clause-refused : goal.returns-in_err-read_all-clause-refused
+returns-in_err-read_all-clause-refused g c =
+    let p = err_from_is_err_and c.from_residual.result c.from_residual.ensures.1 in
+    rw (p.1, p.2) (read-stopped c.read_all.new.decoder _ _ (g.R.Source.ended c.read_all.new.reader) (g.R.Source.failed c.read_all.new.reader) _ c.in_err-read_all.ensures.stopped)
 
-pub returns-in-Ok-finish-clause-file : goal.returns-in-Ok-finish-clause-file
-returns-in-Ok-finish-clause-file g c = read-weaker _ _ _ _ c.in-Ok-finish.ensures.file c.in-Ok.ensures.whole
+pub returns-in_err-finish-clause-refused : goal.returns-in_err-finish-clause-refused
+returns-in_err-finish-clause-refused g c =
+    let p = err_from_is_err_and c.from_residual-in_err-finish.result c.from_residual-in_err-finish.ensures.1 in
+    rw (p.1, p.2) (read-refused _ _ _ _ (g.R.Source.failed c.read_all.new.reader) _ c.in_ok-read_all.ensures.ended c.in_ok-read_all.ensures.whole c.in_err-finish.ensures.refused)
 
-pub returns-in-Err-finish-clause-refused : goal.returns-in-Err-finish-clause-refused
-returns-in-Err-finish-clause-refused g c =
-    read-refused _ _ _ _ (g.R.Source.failed c.read_all.new.reader) c.in-Err-finish.refusal c.in-Ok.ensures.ended c.in-Ok.ensures.whole c.in-Err-finish.ensures.refused
-
-pub returns-in-Err-clause-refused : goal.returns-in-Err-clause-refused
-returns-in-Err-clause-refused g c =
-    read-stopped c.read_all.new.decoder _ _ (g.R.Source.ended c.read_all.new.reader) (g.R.Source.failed c.read_all.new.reader) c.in-Err.fault c.in-Err.ensures.stopped
+pub returns-clause-file : goal.returns-clause-file
+returns-clause-file g c = HasRead-weaker _ _ _ _ c.in_ok-finish.ensures.file c.in_ok-read_all.ensures.whole

@@ -1,4 +1,4 @@
--- The sizes so far stand at the front.
+-- The sizes so far are at the start.
 use Rattle.std.proofs.Common.{◌≡◌, length, map, take}
 use Rattle.hunk_loadfile.specs.WrittenForm.{size_word}
 use Rattle.hunk_loadfile.proofs.load_writer.fill_sizes.Given as goal

@@ -2,11 +2,11 @@
 use Rattle.std.proofs.Common.{◌≡◌, ◌∙◌, ap, refl, arith}
 use Rattle.hunk_words.specs.Longwords.{longwords}
 use Rattle.hunk_words.specs.Name.{bytes_of}
+use Rattle.hunk_words.proofs.StreamsWritingLemmas.{Wrote-then}
 use Rattle.hunk_loadfile.specs.LoadHunk.{FileHunk}
 use Rattle.hunk_loadfile.specs.Rules.{most_hunks}
 use Rattle.hunk_loadfile.specs.WrittenForm.{content_words}
 use Rattle.hunk_loadfile.proofs.LoadWriterLemmas.{content-short, content-text}
-use Rattle.hunk_loadfile.proofs.LongwordWriterLemmas.{text-then}
 use Rattle.hunk_loadfile.proofs.load_writer.write_content.Goals as goal
 
 pub write_longwords-requires : goal.write_longwords-requires
@@ -14,11 +14,11 @@ write_longwords-requires g c =
     let h = c.args.hunk.now in
     record { room = omega (arith, content-short most_hunks h c.content_head.result h.content c.requires.valid c.content_head.ensures refl) }
 
-pub write_bytes-requires : goal.write_bytes-requires
-write_bytes-requires g c =
+pub write_all-requires : goal.write_all-requires
+write_all-requires g c =
     let h = c.args.hunk.now in
     let same : c.deref.result.now ≡ h.content = c.deref.ensures.value ∙ ap (λ (k : FileHunk). k.content) c.hunk.view_is in
-    record { room = omega (arith, content-short most_hunks h c.content_head.result c.deref.result.now c.requires.valid c.content_head.ensures same, c.in_ok-written.ensures.wrote.0) }
+    omega (arith, content-short most_hunks h c.content_head.result c.deref.result.now c.requires.valid c.content_head.ensures same, c.in_ok-written.ensures.wrote.0)
 
 pub returns : goal.returns
 returns g c =
@@ -27,5 +27,5 @@ returns g c =
     let bytes = c.deref.result.now in
     let same : bytes ≡ h.content = c.deref.ensures.value ∙ ap (λ (k : FileHunk). k.content) c.hunk.view_is in
     record {
-      wrote = text-then g.W.Sink.taken g.W.Sink.failed c.args.writer.now c.write_longwords.new.writer c.write_bytes.new.writer (bytes_of (content_words h.kind h.size (longwords h.content))) (bytes_of head) bytes c.args.written c.in_ok-written.written c.write_bytes.result (content-text most_hunks h head bytes c.requires.valid c.content_head.ensures same) c.in_ok-written.ensures.wrote c.write_bytes.ensures.wrote;
+      wrote = Wrote-then g.W.Sink.taken g.W.Sink.failed c.args.writer.now c.write_longwords.new.writer c.write_all.new.writer (bytes_of (content_words h.kind h.size (longwords h.content))) (bytes_of head) bytes c.args.written c.in_ok-written.written c.write_all.result (content-text most_hunks h head bytes c.requires.valid c.content_head.ensures same) c.in_ok-written.ensures.wrote c.write_all.ensures.wrote;
     }

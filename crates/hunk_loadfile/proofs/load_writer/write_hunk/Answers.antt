@@ -1,4 +1,4 @@
--- The parts of a hunk, one behind the other.
+-- The parts of a hunk, one after another.
 use Rattle.std.proofs.Common.{◌≡◌, ◌<◌, ◌∙◌, ◌++◌, ◌∷◌, [], ℕ, List, Err, ap, refl, subst, sym, arith}
 use Rattle.std.proofs.lemmas.Result.{err_from_is_err_and}
 use Rattle.std.specs.List.{All, flat_map}

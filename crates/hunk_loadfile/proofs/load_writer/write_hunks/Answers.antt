@@ -1,4 +1,4 @@
--- One hunk more.
+-- One more hunk.
 use Rattle.std.proofs.Common.{length, sym, subst, arith}
 use Rattle.std.proofs.lemmas.Result.{err_from_is_err_and}
 use Rattle.hunk_loadfile.specs.Rules.{IsLoadHunk}

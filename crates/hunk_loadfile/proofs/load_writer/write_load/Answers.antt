@@ -4,32 +4,35 @@ use Rattle.std.proofs.lemmas.Result.{err_from_is_err_and}
 use Rattle.std.specs.List.{flat_map}
 use Rattle.hunk_loadfile.specs.WrittenForm.{header_words, hunk_words, written_form}
 use Rattle.hunk_loadfile.proofs.LoadWriterLemmas.{length-header_words}
-use Rattle.hunk_loadfile.proofs.LongwordWriterLemmas.{words-stop, words-then}
-use Rattle.hunk_loadfile.proofs.WritingLemmas.{length-bytes_of}
+use Rattle.hunk_loadfile.proofs.LongwordWriterLemmas.{length-bytes_of, words-stop, words-then}
 use Rattle.hunk_loadfile.proofs.load_writer.write_load.Goals as goal
 
-pub returns-in_err-written-clause-stopped : goal.returns-in_err-written-clause-stopped
-returns-in_err-written-clause-stopped g c =
+pub returns-in_err-written : goal.returns-in_err-written
+returns-in_err-written g c =
     let p = err_from_is_err_and c.from_residual.result c.from_residual.ensures.1 in
     let hunks = c.hunks-hunks.result.now in
     let file = c.args.file.now in
-    rw (p.1, p.2) (words-stop g.W.Sink.taken g.W.Sink.failed c.args.writer.now c.write_header.new.writer (written_form file) (header_words hunks) (flat_map (hunk_words (length hunks)) hunks) 0 _ (ap written_form (sym c.hunks-hunks.ensures.value)) c.in_err-written.ensures.wrote)
+    record {
+      wrote = rw (p.1, p.2) (words-stop g.W.Sink.taken g.W.Sink.failed c.args.writer.now c.write_header.new.writer (written_form file) (header_words hunks) (flat_map (hunk_words (length hunks)) hunks) 0 _ (ap written_form (sym c.hunks-hunks.ensures.value)) c.in_err-written.ensures.wrote);
+    }
 
 pub write_hunks-requires-clause-room : goal.write_hunks-requires-clause-room
 write_hunks-requires-clause-room g c =
     let hunks = c.hunks-hunks.result.now in
     omega (arith, ap length c.hunks-hunks.ensures.value, c.hunks-hunks.ensures.valid.few, length-header_words hunks, length-bytes_of (header_words hunks), c.in_ok-written.ensures.wrote.0)
 
-pub returns-in_err-_whole-clause-stopped : goal.returns-in_err-_whole-clause-stopped
-returns-in_err-_whole-clause-stopped g c =
+pub returns-in_err-_whole : goal.returns-in_err-_whole
+returns-in_err-_whole g c =
     let p = err_from_is_err_and c.from_residual-in_err-_whole.result c.from_residual-in_err-_whole.ensures.1 in
     let hunks = c.hunks-hunks.result.now in
     let file = c.args.file.now in
-    rw (p.1, p.2) (words-then g.W.Sink.taken g.W.Sink.failed c.args.writer.now c.write_header.new.writer c.write_hunks.new.writer (written_form file) (header_words hunks) (flat_map (hunk_words (length hunks)) hunks) 0 c.in_ok-written.written (Err c.in_err-_whole.field-0.0) (ap written_form (sym c.hunks-hunks.ensures.value)) c.in_ok-written.ensures.wrote c.in_err-_whole.ensures.wrote)
+    record {
+      wrote = rw (p.1, p.2) (words-then g.W.Sink.taken g.W.Sink.failed c.args.writer.now c.write_header.new.writer c.write_hunks.new.writer (written_form file) (header_words hunks) (flat_map (hunk_words (length hunks)) hunks) 0 c.in_ok-written.written (Err c.in_err-_whole.field-0.0) (ap written_form (sym c.hunks-hunks.ensures.value)) c.in_ok-written.ensures.wrote c.in_err-_whole.ensures.wrote);
+    }
 
-pub returns-clause-ok : goal.returns-clause-ok
-returns-clause-ok g c =
+pub returns : goal.returns
+returns g c =
     let hunks = c.hunks-hunks.result.now in
     let file = c.args.file.now in
     let wrote = words-then g.W.Sink.taken g.W.Sink.failed c.args.writer.now c.write_header.new.writer c.write_hunks.new.writer (written_form file) (header_words hunks) (flat_map (hunk_words (length hunks)) hunks) 0 c.in_ok-written.written (Ok c.in_ok-_whole._whole) (ap written_form (sym c.hunks-hunks.ensures.value)) c.in_ok-written.ensures.wrote c.in_ok-_whole.ensures.wrote in
-    wrote.1
+    record { wrote = (wrote.1, wrote.2) }

@@ -1,10 +1,10 @@
--- The sizes so far were written, and no write failed. Those of the hunks that are left are the rest.
+-- The sizes so far were written, and no write failed. Those of the remaining hunks are the rest.
 use Rattle.std.proofs.Common.{◌≡◌, ◌≤◌, List, ◌++◌, ℕ, Ok, map}
 use Rattle.std.specs.List.{All}
 use Rattle.std.specs.Slice.Iter.{chunks_rest, chunks_size}
 use Rattle.hunk_words.specs.Name.{bytes_of}
 use Rattle.hunk_loadfile.specs.Rules.{most_size}
-use Rattle.hunk_loadfile.specs.Writing.{Wrote}
+use Rattle.hunk_words.specs.Streams.{Wrote}
 use Rattle.hunk_loadfile.specs.WrittenForm.{size_word}
 use Rattle.hunk_loadfile.proofs.load_writer.write_sizes.Given as goal
 
@@ -16,5 +16,5 @@ invariant-loop-chunk g l = record {
   small : All (λ h. h.size ≤ most_size) (chunks_rest l.chunk-iterator);
   words : List ℕ;
   whole : words ++ map size_word (chunks_rest l.chunk-iterator) ≡ map size_word l.hunks;
-  wrote : Wrote (g.W.Sink.taken l.fn.writer) (g.W.Sink.taken l.writer) (g.W.Sink.failed l.fn.writer) (g.W.Sink.failed l.writer) (bytes_of words) l.fn.written (Ok l.written);
+  wrote : Wrote g.W.Sink.taken g.W.Sink.failed l.fn.writer l.writer (bytes_of words) l.fn.written (Ok l.written);
 }

@@ -1,4 +1,5 @@
--- The sites that are left, put on the bytes as they are, give what all sites give on the bytes as they were.
+-- The remaining sites, patched into the bytes as they are, yield what all sites yield on the bytes
+-- as they were.
 use Rattle.std.proofs.Common.{◌≡◌, ◌<◌, length, slice_index}
 use Rattle.std.specs.List.{All}
 use Rattle.hunk_words.specs.Sites.{StandFrom}

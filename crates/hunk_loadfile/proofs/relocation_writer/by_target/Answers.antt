@@ -1,4 +1,4 @@
--- The sort is stable, and the walk came by rising offset.
+-- The sort is stable, and the walk is in ascending order of offset.
 use Rattle.std.proofs.Common.{◌≡◌, ◌<◌, ◌^◌, ◌∙◌, ◌++◌, ℕ, List, [], sym, ap, subst, append-nil, arith, rules}
 use Rattle.std.proofs.lemmas.Grind.{common_steps}
 use Rattle.std.proofs.lemmas.List.Elements.{All-push}
@@ -10,7 +10,7 @@ use Rattle.hunk_loadfile.specs.WrittenForm.{offsets_to}
 use Rattle.hunk_loadfile.proofs.RelocationWriterLemmas.{StandFrom-few, offsets_to-stable}
 use Rattle.hunk_loadfile.proofs.relocation_writer.by_target.Goals as goal
 
--- where none is left
+-- if none is left
 all-taken : (xs left all : List (ℕ × ℕ)) → xs ++ left ≡ all → left ≡ [] → xs ≡ all
 all-taken xs left all is none = sym (append-nil xs) ∙ ap (λ (rest : List (ℕ × ℕ)). xs ++ rest) (sym none) ∙ is
 

@@ -1,4 +1,4 @@
--- The pairs so far and the sites that are left are all sites. Their offsets have 32 bits.
+-- The pairs so far and the remaining sites are all sites. Their offsets have 32 bits.
 use Rattle.std.proofs.Common.{◌≡◌, ◌<◌, ◌^◌, ◌++◌, ℕ}
 use Rattle.std.specs.List.{All}
 use Rattle.hunk_loadfile.proofs.relocation_writer.by_target.Given as goal

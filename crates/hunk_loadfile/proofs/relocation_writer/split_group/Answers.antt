@@ -1,4 +1,4 @@
--- The sites rise, so those behind the first ones of a target are above it.
+-- The sites ascend, so those after the first ones of a target are above it.
 use Rattle.hunk_loadfile.proofs.RelocationWriterLemmas.{IsGroup-split}
 use Rattle.hunk_loadfile.proofs.relocation_writer.split_group.Goals as goal
 

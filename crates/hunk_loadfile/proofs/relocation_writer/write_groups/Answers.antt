@@ -3,24 +3,23 @@ use Rattle.std.proofs.Common.{◌≡◌, ◌<◌, ◌∙◌, ◌++◌, ℕ, List
 use Rattle.std.proofs.lemmas.List.{nil_from_length}
 use Rattle.std.proofs.lemmas.Result.{err_from_is_err_and}
 use Rattle.hunk_words.specs.Name.{bytes_of}
-use Rattle.hunk_loadfile.specs.Writing.{Wrote}
+use Rattle.hunk_words.specs.Streams.{Wrote}
 use Rattle.hunk_loadfile.specs.WrittenForm.{groups_words}
-use Rattle.hunk_loadfile.proofs.RelocationWriterLemmas.{All-behind, Wrote-group_stop, Wrote-words, group-length, groups-around, groups_words-nil, length-group, words_of}
+use Rattle.hunk_loadfile.proofs.LongwordWriterLemmas.{words-inside, words-then}
+use Rattle.hunk_loadfile.proofs.RelocationWriterLemmas.{All-behind, group-length, groups-around, groups_words-nil, length-group, words_of}
 use Rattle.hunk_loadfile.proofs.relocation_writer.write_groups.Goals as goal
 
 pub returns-in_err-written-clause-wrote : goal.returns-in_err-written-clause-wrote
 returns-in_err-written-clause-wrote g c = λ count all.
     let p = err_from_is_err_and c.from_residual.result c.from_residual.ensures.1 in
-    let taken = g.W.Sink.taken in
-    let failed = g.W.Sink.failed in
     let inv = c.groups.invariant in
+    let is = c.split_group.ensures in
+    let whole = groups-around _ _ _ _ c.args.pairs.now is inv.words count (inv.below count all) (inv.whole count all) in
     rw (p.1, p.2)
-    (Wrote-group_stop _ _ _ _ c.args.pairs.now c.split_group.ensures (taken c.args.writer.now) (taken c.groups.writer) (taken c.write_group.new.writer) (failed c.args.writer.now) (failed c.groups.writer) (failed c.write_group.new.writer) inv.words count c.args.written c.groups.written _ (inv.below count all) (inv.whole count all) inv.wrote c.in_err-written.ensures.wrote)
+    (words-inside g.W.Sink.taken g.W.Sink.failed c.args.writer.now c.groups.writer c.write_group.new.writer (groups_words count c.args.pairs.now) inv.words (words_of is) (groups_words count c.split_group.result.1.now) c.args.written c.groups.written _ (sym whole) inv.wrote c.in_err-written.ensures.wrote)
 
 pub groups-preserved : goal.groups-preserved
 groups-preserved g c =
-    let taken = g.W.Sink.taken in
-    let failed = g.W.Sink.failed in
     let inv = c.groups.invariant in
     let is = c.split_group.ensures in
     let behind = c.split_group.result.1.now in
@@ -32,16 +31,14 @@ groups-preserved g c =
       below = λ count all. All-behind _ _ _ _ is (λ (pair : ℕ × ℕ). pair.1 < count) (inv.below count all);
       words = inv.words ++ next;
       whole = λ count all. append_assoc inv.words next (groups_words count behind) ∙ groups-around _ _ _ _ c.args.pairs.now is inv.words count (inv.below count all) (inv.whole count all);
-      wrote = Wrote-words (taken c.args.writer.now) (taken c.groups.writer) (taken c.write_group.new.writer) (failed c.args.writer.now) (failed c.groups.writer) (failed c.write_group.new.writer) inv.words next (inv.words ++ next) c.args.written c.groups.written (Ok c.in_ok-written.written) refl inv.wrote c.in_ok-written.ensures.wrote;
+      wrote = words-then g.W.Sink.taken g.W.Sink.failed c.args.writer.now c.groups.writer c.write_group.new.writer (inv.words ++ next) inv.words next c.args.written c.groups.written (Ok c.in_ok-written.written) refl inv.wrote c.in_ok-written.ensures.wrote;
     }
 
 pub returns-clause-wrote : goal.returns-clause-wrote
 returns-clause-wrote g c = λ count all.
-    let taken = g.W.Sink.taken in
-    let failed = g.W.Sink.failed in
     let inv = c.groups.invariant in
     let rest = c.groups.rest.now in
     let count_left : length rest ≡ 0 = first_of (omega arith, search (rules, tests)) in
     let none : rest ≡ [] = nil_from_length rest count_left in
     let whole : inv.words ≡ groups_words count c.args.pairs.now = sym (append-nil inv.words) ∙ ap (λ (ws : List ℕ). inv.words ++ ws) (sym (ap (groups_words count) none ∙ groups_words-nil count)) ∙ inv.whole count all in
-    subst (λ (ws : List ℕ). Wrote (taken c.args.writer.now) (taken c.groups.writer) (failed c.args.writer.now) (failed c.groups.writer) (bytes_of ws) c.args.written (Ok c.groups.written)) whole inv.wrote
+    subst (λ (ws : List ℕ). Wrote g.W.Sink.taken g.W.Sink.failed c.args.writer.now c.groups.writer (bytes_of ws) c.args.written (Ok c.groups.written)) whole inv.wrote

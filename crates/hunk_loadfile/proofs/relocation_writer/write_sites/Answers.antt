@@ -5,10 +5,11 @@ use Rattle.std.proofs.lemmas.List.{nil_from_length}
 use Rattle.std.proofs.lemmas.List.Sorted.{length_permutation}
 use Rattle.std.proofs.lemmas.Result.{err_from_is_err_and}
 use Rattle.hunk_words.specs.Name.{bytes_of}
-use Rattle.hunk_loadfile.specs.Writing.{Wrote}
+use Rattle.hunk_words.specs.Streams.{Wrote}
+use Rattle.hunk_words.proofs.StreamsWritingLemmas.{Wrote-nothing}
 use Rattle.hunk_loadfile.specs.WrittenForm.{groups_words, site_words}
-use Rattle.hunk_loadfile.proofs.RelocationWriterLemmas.{All-sorted, Wrote-words, Wrote-words_front, Wrote-words_stop, block-around, site_words-some}
-use Rattle.hunk_loadfile.proofs.WritingLemmas.{Wrote-nothing}
+use Rattle.hunk_loadfile.proofs.LongwordWriterLemmas.{words-inside, words-stop, words-then}
+use Rattle.hunk_loadfile.proofs.RelocationWriterLemmas.{All-sorted, block-around, site_words-some}
 use Rattle.hunk_loadfile.proofs.relocation_writer.write_sites.Goals as goal
 
 none-from_test : (n : ℕ) (empty : Bool) → empty ≡ (n == 0) → empty ≡ true → n ≡ 0
@@ -24,13 +25,12 @@ pub returns-then-is_empty : goal.returns-then-is_empty
 returns-then-is_empty g c =
     let entries = c.args.sites.now.entries in
     let pairs = c.in-Ok.pairs in
-    let old = g.W.Sink.taken c.args.writer.now in
-    let before = g.W.Sink.failed c.args.writer.now in
+    let writer = c.args.writer.now in
     let count_none = none-from_test _ c.is_empty.result c.is_empty.ensures c.if-is_empty.true in
     let no_entry : length entries ≡ 0 = omega (arith, count_none, pairs.ok.0, length_permutation entries pairs.items c.in-Ok.ensures.order.same) in
     let none : entries ≡ [] = nil_from_length entries no_entry in
     record {
-      wrote = λ count all. subst (λ (es : List (ℕ × ℕ)). Wrote old old before before (bytes_of (site_words count es)) c.args.written (Ok c.args.written)) (sym none) (Wrote-nothing old before c.args.written);
+      wrote = λ count all. subst (λ (es : List (ℕ × ℕ)). Wrote g.W.Sink.taken g.W.Sink.failed writer writer (bytes_of (site_words count es)) c.args.written (Ok c.args.written)) (sym none) (Wrote-nothing g.W.Sink.taken g.W.Sink.failed writer c.args.written);
     }
 
 pub returns-in_err-begun : goal.returns-in_err-begun
@@ -45,7 +45,7 @@ returns-in_err-begun g c =
     record {
       wrote = λ count all.
           rw (p.1, p.2)
-          (Wrote-words_front (taken c.args.writer.now) (taken c.write_longwords.new.writer) (failed c.args.writer.now) (failed c.write_longwords.new.writer) (1004 ∷ []) (groups_words count entries ++ 0 ∷ []) (site_words count entries) c.args.written _ (site_words-some count entries some) c.in_err-begun.ensures.wrote);
+          (words-stop taken failed c.args.writer.now c.write_longwords.new.writer (site_words count entries) (1004 ∷ []) (groups_words count entries ++ 0 ∷ []) c.args.written _ (site_words-some count entries some) c.in_err-begun.ensures.wrote);
     }
 
 pub write_groups-requires-clause-room : goal.write_groups-requires-clause-room
@@ -67,7 +67,7 @@ returns-in_err-grouped g c =
     record {
       wrote = λ count all.
           rw (p.1, p.2)
-          (Wrote-words_stop (taken c.args.writer.now) (taken c.write_longwords.new.writer) (taken c.write_groups.new.writer) (failed c.args.writer.now) (failed c.write_longwords.new.writer) (failed c.write_groups.new.writer) (1004 ∷ []) (groups_words count slice) (0 ∷ []) (site_words count entries) c.args.written c.in_ok-begun.begun _ (block-around entries pairs.items slice order c.deref.ensures.value count some) c.in_ok-begun.ensures.wrote (c.in_err-grouped.ensures.wrote count (All-sorted entries pairs.items slice order c.deref.ensures.value (λ (site : ℕ × ℕ). site.1 < count) all)));
+          (words-inside taken failed c.args.writer.now c.write_longwords.new.writer c.write_groups.new.writer (site_words count entries) (1004 ∷ []) (groups_words count slice) (0 ∷ []) c.args.written c.in_ok-begun.begun _ (block-around entries pairs.items slice order c.deref.ensures.value count some) c.in_ok-begun.ensures.wrote (c.in_err-grouped.ensures.wrote count (All-sorted entries pairs.items slice order c.deref.ensures.value (λ (site : ℕ × ℕ). site.1 < count) all)));
     }
 
 pub write_longwords-requires-2 : goal.write_longwords-requires-2
@@ -88,7 +88,7 @@ returns g c =
     record {
       wrote = λ count all.
           let groups = groups_words count slice in
-          Wrote-words (taken c.args.writer.now) (taken c.write_groups.new.writer) (taken c.write_longwords-2.new.writer) (failed c.args.writer.now) (failed c.write_groups.new.writer) (failed c.write_longwords-2.new.writer) (1004 ∷ groups) (0 ∷ []) (site_words count entries) c.args.written c.in_ok-grouped.grouped c.write_longwords-2.result (block-around entries pairs.items slice order c.deref.ensures.value count some)
-          (Wrote-words (taken c.args.writer.now) (taken c.write_longwords.new.writer) (taken c.write_groups.new.writer) (failed c.args.writer.now) (failed c.write_longwords.new.writer) (failed c.write_groups.new.writer) (1004 ∷ []) groups (1004 ∷ groups) c.args.written c.in_ok-begun.begun (Ok c.in_ok-grouped.grouped) refl c.in_ok-begun.ensures.wrote (c.in_ok-grouped.ensures.wrote count (All-sorted entries pairs.items slice order c.deref.ensures.value (λ (site : ℕ × ℕ). site.1 < count) all)))
+          words-then taken failed c.args.writer.now c.write_groups.new.writer c.write_longwords-2.new.writer (site_words count entries) (1004 ∷ groups) (0 ∷ []) c.args.written c.in_ok-grouped.grouped c.write_longwords-2.result (block-around entries pairs.items slice order c.deref.ensures.value count some)
+          (words-then taken failed c.args.writer.now c.write_longwords.new.writer c.write_groups.new.writer (1004 ∷ groups) (1004 ∷ []) groups c.args.written c.in_ok-begun.begun (Ok c.in_ok-grouped.grouped) refl c.in_ok-begun.ensures.wrote (c.in_ok-grouped.ensures.wrote count (All-sorted entries pairs.items slice order c.deref.ensures.value (λ (site : ℕ × ℕ). site.1 < count) all)))
           c.write_longwords-2.ensures.wrote;
     }

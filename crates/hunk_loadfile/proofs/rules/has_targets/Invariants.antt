@@ -1,4 +1,4 @@
--- The sites so far name hunks, so those that are left decide.
+-- The sites so far name hunks, so the remaining ones decide.
 use Rattle.std.proofs.Common.{◌≡◌, nat_lt}
 use Rattle.std.specs.List.{list_all}
 use Rattle.hunk_loadfile.specs.Rules.{has_targets}

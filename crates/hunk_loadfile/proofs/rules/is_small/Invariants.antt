@@ -1,4 +1,4 @@
--- The sizes so far, and the room that is left of the symbols and debug blocks.
+-- The sizes so far, and the room left for the symbols and debug blocks.
 use Rattle.std.proofs.Common.{◌≡◌, ◌≤◌, ◌+◌, ◌*◌, ◌^◌, take}
 use Rattle.std.specs.List.{All}
 use Rattle.hunk_loadfile.specs.Rules.{IsTyped, size_of, carried_longwords, most_carried}

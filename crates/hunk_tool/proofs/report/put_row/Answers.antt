@@ -1,4 +1,4 @@
--- The parts of a line stand one behind the other.
+-- The parts of a line come one after another.
 use Rattle.std.proofs.Common.{◌≡◌, ◌+◌, ◌-◌, ℕ, List, [], ◌∷◌, ◌++◌, length, drop, get_or, slice_set, length-drop, sym, ap, ◌∙◌, append_assoc, arith}
 use Rattle.std.proofs.lemmas.List.{drop_all, drop_at, drop_more, length-append, set_at, take_at}
 use borrow.Rule.Slice.PartMut.{put_mid}

@@ -1,4 +1,5 @@
--- The lines of the rows so far stand at the front, and there is room for as many longest lines.
+-- The lines of the rows so far are at the start, and there is room for as many of the longest
+-- lines.
 use Rattle.std.proofs.Common.{◌≡◌, ◌≤◌, ◌*◌, take}
 use Rattle.hunk_tool.specs.Report.{first_row_lines}
 use Rattle.hunk_tool.proofs.report.put_rows.Given as goal

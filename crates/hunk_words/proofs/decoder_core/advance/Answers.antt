@@ -1,4 +1,4 @@
--- One longword further: it is taken, or refused at its place.
+-- One more longword: it is taken, or rejected at its place.
 use Rattle.std.proofs.Common.{arith}
 use Rattle.hunk_words.specs.DecoderCore.{fields_read}
 use Rattle.hunk_words.proofs.DecoderCoreLemmas.{StandsBy-taken, StandsBy-refused, StandsBy-too_large, few-events}

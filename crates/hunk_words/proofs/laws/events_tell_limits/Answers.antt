@@ -1,4 +1,5 @@
--- Events tell limits and sites: from the start of a file on, what is due bears the limit that they told.
+-- Events determine limits and sites: from the start of a file on, what is expected has the limit
+-- that they determine.
 use Rattle.std.proofs.Common.{[], ◌∷◌, refl}
 use Rattle.hunk_words.specs.Kinds.Kind.{object_start, load_start}
 use Rattle.hunk_words.specs.Event.{events}

@@ -1,4 +1,4 @@
--- What is still due can be taken to where a file may end.
+-- What is still expected can be taken up to where a file may end.
 use Rattle.hunk_words.specs.declared.event.FileKind.TheVariants.{Object, Load}
 use Rattle.hunk_words.proofs.FilesPrefixLemmas.{front}
 use Rattle.hunk_words.proofs.laws.read_is_prefix.Goals as goal

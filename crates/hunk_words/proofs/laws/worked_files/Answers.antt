@@ -1,4 +1,4 @@
--- Each worked file is computed by the machine, which tells what the definitions say.
+-- Each worked file is computed by the machine, which finds what the definitions say.
 use Rattle.std.proofs.Common.{refl, [], ◌∷◌}
 use Rattle.hunk_words.specs.Kinds.{type_of, entry_of}
 use Rattle.hunk_words.specs.declared.event.FileKind.TheVariants.{Object, Load}

@@ -1,4 +1,4 @@
--- The table lets the number pass, and the taker judges what it tells.
+-- The table lets the number pass, and the taker judges its event.
 use Rattle.std.proofs.Common.{Ok, Err}
 use Rattle.hunk_words.specs.Event.{events}
 use Rattle.hunk_words.specs.Taker.{sizes_told}

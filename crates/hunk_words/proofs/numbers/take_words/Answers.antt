@@ -1,4 +1,4 @@
--- One word further.
+-- One more word.
 use Rattle.std.proofs.Common.{◌≡◌, ◌<◌, ◌≤◌, ◌+◌, ◌-◌, ◌*◌, ◌^◌, ℕ, List, [], ◌∷◌, ◌++◌, take, drop, length, sym, ap, subst, ◌∙◌, append_assoc, length-append, arith}
 use Rattle.std.proofs.lemmas.List.{length-take-le}
 use Rattle.byteorder.specs.Endian.{big_number}
@@ -12,7 +12,7 @@ use Rattle.hunk_words.proofs.DecoderCoreRunLemmas.{word_events-append, length-wo
 use Rattle.hunk_words.proofs.LongwordsLemmas.{longwords-next, longwords-front, length-longwords, length-unfinished, length-whole}
 use Rattle.hunk_words.proofs.numbers.take_words.Goals as goal
 
--- one word's event behind others
+-- one word's event after others
 next-told : (told : List Event) (bytes : List ℕ) (i word : ℕ) → 4 * i + 4 ≤ length bytes → word ≡ big_number 4 (take 4 (drop (4 * i) bytes))
     → (told ++ word_events (longwords (take (4 * i) bytes))) ++ Word word ∷ [] ≡ told ++ word_events (longwords (take (4 * (i + 1)) bytes))
 next-told told bytes i word within is =

@@ -1,4 +1,4 @@
--- What was written so far is the text's front, and no write failed.
+-- What was written so far is the beginning of the text, and no write failed.
 use Rattle.std.proofs.Common.{◌≡◌, ◌≤◌, ◌-◌, length, take}
 use Rattle.std.specs.Io.KnownBytes.{Appends}
 use Rattle.hunk_words.proofs.streams.write_all.Given as goal

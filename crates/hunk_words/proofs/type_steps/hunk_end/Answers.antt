@@ -1,4 +1,4 @@
--- The next hunk is due.
+-- The next hunk is expected.
 use Rattle.std.proofs.Common.{sym, subst, Ok}
 use Rattle.hunk_words.specs.State.{EndsHunk}
 use Rattle.hunk_words.proofs.StateLemmas.{EndsHunk-next}

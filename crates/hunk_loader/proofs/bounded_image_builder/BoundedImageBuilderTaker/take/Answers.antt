@@ -1,4 +1,4 @@
--- It keeps little of the events and this one, or of the events where it refused this one.
+-- It stays bounded by the events and this one, or by the events if it returned an error.
 use Rattle.std.proofs.Common.{sym}
 use Rattle.hunk_loader.proofs.BoundedImageBuilderLemmas.{KeepsLittle-takes}
 use Rattle.hunk_loader.proofs.ImageBuilderLemmas.{StandsFor-takes}

@@ -1,4 +1,4 @@
--- The hunks that are left have the same byte as all hunks.
+-- The remaining hunks have the same byte as all hunks.
 use Rattle.std.proofs.Common.{◌≡◌, drop}
 use Rattle.hunk_loader.specs.Image.{hunks_of, memory_map}
 use Rattle.hunk_loader.proofs.image.Image.byte.Given as goal

@@ -1,4 +1,4 @@
--- Nothing was told of the hunk that begins.
+-- Nothing is known yet of the hunk that begins.
 use Rattle.std.proofs.Common.{sym, refl, subst, length, arith}
 use Rattle.std.proofs.lemmas.List.{get_or_read_under}
 use Rattle.hunk_loader.specs.Image.{hunks_of}

@@ -1,4 +1,4 @@
--- The hunk is kept where the hunks are placed.
+-- The hunk is kept if the hunks are placed.
 use Rattle.std.proofs.Common.{◌≡◌, ap, sym, subst, ◌+◌, None, Some, refl}
 use Rattle.hunk_loader.specs.ImageBuilder.{BuilderState}
 use Rattle.hunk_loader.specs.declared.placing.Placing.TheVariants.{Placed}

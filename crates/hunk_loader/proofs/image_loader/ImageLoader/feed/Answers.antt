@@ -1,7 +1,7 @@
--- Where no refusal is kept, the builder stands for the events of the bytes.
+-- If no error is kept, the builder stands for the events of the bytes.
 use Rattle.hunk_loader.specs.ImageLoader.{events_told}
 use Rattle.hunk_loader.proofs.BoundedImageBuilderLemmas.{frugal}
 use Rattle.hunk_loader.proofs.image_loader.ImageLoader.feed.Goals as goal
 
-pub returns-in-Ok-clause-bounded : goal.returns-in-Ok-clause-bounded
-returns-in-Ok-clause-bounded g c = λ bytes stands. frugal _ (events_told bytes) (stands.core.good c.in-Ok.ensures.kept).reached.stands
+pub returns-clause-bounded : goal.returns-clause-bounded
+returns-clause-bounded g c = λ bytes stands. frugal _ (events_told bytes) (stands.core.good c.in_ok-feed.ensures.kept).reached.stands

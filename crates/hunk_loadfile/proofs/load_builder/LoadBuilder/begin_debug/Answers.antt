@@ -1,4 +1,5 @@
 use Rattle.hunk_words.specs.EventValue.Receiver.{to_debug}
+use Rattle.hunk_words.specs.PartialHunk.{goes_to_content}
 use Rattle.hunk_words.specs.Values.{with_tables, one_debug}
 use Rattle.hunk_loadfile.specs.declared.load_builder.Receiver.TheVariants as Receiving
 use Rattle.hunk_loadfile.proofs.LoadBuilderLemmas.{Holds-hunk}
@@ -7,10 +8,11 @@ use Rattle.hunk_loadfile.proofs.load_builder.LoadBuilder.begin_debug.Goals as go
 
 pub returns-in-Ok : goal.returns-in-Ok
 returns-in-Ok g c = λ size told watch h.
-    Holds-hunk c.args.self.now c.add_debug.new.self Receiving.Debug told (with_tables told.hunk (one_debug [])) to_debug watch watch.position.limit watch.seen h
-    (c.in-Ok.ensures.takes watch.position.limit watch.seen told.hunk h.hunk) tt
+    let hunk = with_tables told.hunk (one_debug []) in
+    Holds-hunk c.args.self.now c.end_content.new.self Receiving.Debug told hunk to_debug watch watch.position.limit watch.seen h
+    (c.end_content.ensures watch.position.limit watch.seen (goes_to_content told.receiver) hunk (c.in-Ok.ensures.takes watch.position.limit watch.seen (goes_to_content told.receiver) told.hunk h.hunk)) tt
 
 pub returns-in-Err : goal.returns-in-Err
 returns-in-Err g c = λ size told watch h.
     Holds-hunk c.args.self.now c.add_debug.new.self c.args.self.now.receiver told told.hunk told.receiver watch watch.position.limit watch.seen h
-    (c.in-Err.ensures.refuses watch.position.limit watch.seen told.hunk h.hunk) h.receiver
+    (c.in-Err.ensures.refuses watch.position.limit watch.seen (goes_to_content told.receiver) told.hunk h.hunk) h.receiver

@@ -2,7 +2,8 @@ use Rattle.std.proofs.Common.{◌≡◌, refl, sym, subst, true, false, Ok}
 use Rattle.hunk_words.specs.Taker.{Judges, context_of}
 use Rattle.hunk_words.specs.declared.event.FileKind.TheVariants.{Load}
 use Rattle.std.specs.declared.alloc.AllocError.{AllocError}
-use Rattle.hunk_loadfile.proofs.LoadBuilderLemmas.{steps-event, takes-next, refuses-next, judges-other}
+use Rattle.hunk_words.proofs.TakerLemmas.{judges-other}
+use Rattle.hunk_loadfile.proofs.LoadBuilderLemmas.{steps-event, takes-next, refuses-next}
 use Rattle.hunk_loadfile.proofs.load_builder.LoadBuilderTaker.take.Goals as goal
 
 pub returns-in-Site-clause-takes : goal.returns-in-Site-clause-takes
@@ -17,7 +18,7 @@ returns-in-Site-clause-refuses g c = λ told stands few.
 
 pub returns-in-Site-clause-judges : goal.returns-in-Site-clause-judges
 returns-in-Site-clause-judges g c = λ told stands few.
-    subst (λ e. Judges (context_of Load told) e c.add_site.result) (sym c.in-Site.is) (c.add_site.ensures.judges _ _ _ stands.hunk)
+    subst (λ e. Judges (context_of Load told) e c.add_site.result) (sym c.in-Site.is) (c.add_site.ensures.judges _ _ _ _ stands.hunk)
 
 pub returns-in-Ok : goal.returns-in-Ok
 returns-in-Ok g c = record {

@@ -1,4 +1,4 @@
--- Its limit is judged here, and the map takes any offset that is apart from its own.
+-- Its limit is checked here, and the map takes any offset that is apart from its own.
 use Rattle.std.proofs.Common.{arith}
 use Rattle.hunk_tests.proofs.JudgesLemmas.{judges-site}
 use Rattle.hunk_tests.proofs.judges.HunkSites.add.Goals as goal

@@ -1,28 +1,30 @@
--- One event further.
-use Rattle.std.proofs.Common.{◌∙◌, [], ◌∷◌, ◌++◌, length, sym, ap, subst, arith, refl}
+-- One more event.
+use Rattle.std.proofs.Common.{◌≡◌, ◌*◌, ◌∙◌, slice_index, [], ◌∷◌, ◌++◌, length, sym, ap, subst, arith, refl}
 use Rattle.std.proofs.lemmas.Result.{on_ok_weaker}
+use Rattle.hunk_words.specs.PartialHunk.{HoldsSites}
 use Rattle.hunk_words.specs.Taker.{context_of}
 use Rattle.hunk_words.specs.declared.event.Event.TheVariants as event_is
 use Rattle.hunk_words.specs.declared.event.FileKind.TheVariants.{Load}
-use Rattle.hunk_tests.specs.Judges.{LoadHolds, HoldsSites}
-use Rattle.hunk_tests.proofs.JudgesLemmas.{stands-one, limit-told, ended-one, quiet-other, quiet-judged, quiet-watch}
+use Rattle.hunk_words.proofs.TakerLemmas.{judges-other}
+use Rattle.hunk_tests.specs.Judges.{LoadHolds}
+use Rattle.hunk_tests.proofs.JudgesLemmas.{stands-one, limit-told, ended-one, quiet-other, quiet-watch}
 use Rattle.hunk_tests.proofs.judges.LoadJudgeTaker.take.Goals as goal
 
 pub returns-in-Site-clause-takes : goal.returns-in-Site-clause-takes
 returns-in-Site-clause-takes g c = λ told stands few. rw c.in-Site.is
-    (on_ok_weaker c.add.result (λ adds. stands-one told (event_is.Site c.in-Site.offset c.in-Site.target) _
-    (record { same_sizes = stands.holds.same_sizes; same_ended = stands.holds.same_ended; holds_hunk = adds _ _ stands.holds.holds_hunk }) (omega arith)) c.add.ensures.adds)
+    (on_ok_weaker c.add_site.result (λ holds. stands-one told (event_is.Site c.in-Site.offset c.in-Site.target) _
+    (record { same_sizes = stands.holds.same_sizes; same_ended = stands.holds.same_ended; holds_hunk = holds }) (omega arith)) (c.add_site.ensures.holds _ _ stands.holds.holds_hunk))
 
 pub returns-in-Site-clause-judges : goal.returns-in-Site-clause-judges
-returns-in-Site-clause-judges g c = λ told stands few. rw c.in-Site.is (c.add.ensures.judges _ _ stands.holds.holds_hunk)
+returns-in-Site-clause-judges g c = λ told stands few. rw c.in-Site.is (c.add_site.ensures.judges _ _ stands.holds.holds_hunk)
 
 pub returns-in-RefSite-clause-takes : goal.returns-in-RefSite-clause-takes
 returns-in-RefSite-clause-takes g c = λ told stands few. rw c.in-RefSite.is
-    (on_ok_weaker c.add-in-RefSite.result (λ adds. stands-one told (event_is.RefSite c.in-RefSite.offset) _
-    (record { same_sizes = stands.holds.same_sizes; same_ended = stands.holds.same_ended; holds_hunk = adds _ _ stands.holds.holds_hunk }) (omega arith)) c.add-in-RefSite.ensures.adds)
+    (on_ok_weaker c.add_site-in-RefSite.result (λ holds. stands-one told (event_is.RefSite c.in-RefSite.offset) _
+    (record { same_sizes = stands.holds.same_sizes; same_ended = stands.holds.same_ended; holds_hunk = holds }) (omega arith)) (c.add_site-in-RefSite.ensures.holds _ _ stands.holds.holds_hunk))
 
 pub returns-in-RefSite-clause-judges : goal.returns-in-RefSite-clause-judges
-returns-in-RefSite-clause-judges g c = λ told stands few. rw c.in-RefSite.is (c.add-in-RefSite.ensures.judges _ _ stands.holds.holds_hunk)
+returns-in-RefSite-clause-judges g c = λ told stands few. rw c.in-RefSite.is (c.add_site-in-RefSite.ensures.judges _ _ stands.holds.holds_hunk)
 
 pub returns-in-Ok-clause-takes : goal.returns-in-Ok-clause-takes
 returns-in-Ok-clause-takes g c = λ told stands few. rw c.in-HunkSize.is
@@ -30,12 +32,12 @@ returns-in-Ok-clause-takes g c = λ told stands few. rw c.in-HunkSize.is
 
 pub returns-in-Content-clause-takes : goal.returns-in-Content-clause-takes
 returns-in-Content-clause-takes g c = λ told stands few. rw c.in-Content.is
-    (stands-one told (event_is.Content c.in-Content.kind c.in-Content.bits c.in-Content.size) _ (record {
+    (on_ok_weaker c.begin.result (λ holds. stands-one told (event_is.Content c.in-Content.kind c.in-Content.bits c.in-Content.size) _ (record {
       same_sizes = stands.holds.same_sizes;
       same_ended = stands.holds.same_ended;
       holds_hunk =
-          subst (λ limit. HoldsSites limit (context_of Load told).seen c.begin.new.self) (limit-told (context_of Load told) c.args.self.now c.size-size.result stands.holds c.size-size.ensures) (c.begin.ensures _ _ stands.holds.holds_hunk);
-    }) (omega arith))
+          subst (λ limit. HoldsSites limit (context_of Load told).seen c.begin.new.hunk) (limit-told (context_of Load told) c.args.self.now c.from-limit.result stands.holds (c.from-limit.ensures ∙ c.size.ensures)) holds;
+    }) (omega arith)) (c.begin.ensures.holds _ _ stands.holds.holds_hunk))
 
 pub returns-in-HunkEnd-clause-takes : goal.returns-in-HunkEnd-clause-takes
 returns-in-HunkEnd-clause-takes g c = λ told stands few.
@@ -50,6 +52,6 @@ returns-in_default g c =
       takes = λ told stands few. stands-one told c.args.event _
           (subst (λ w. LoadHolds w c.args.self.now) (sym (quiet-watch Load (context_of Load told) c.args.event quiet c.in_default.not-HunkSize)) stands.holds) (omega arith);
       refuses = λ told stands few. tt;
-      judges = λ told stands few. quiet-judged (context_of Load told) c.args.event quiet;
+      judges = λ told stands few. judges-other (context_of Load told) c.args.event tt c.in_default.not-Site c.in_default.not-RefSite;
       given = refl;
     }

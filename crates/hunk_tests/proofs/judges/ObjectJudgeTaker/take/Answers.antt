@@ -1,44 +1,45 @@
--- One event further.
+-- One more event.
 use Rattle.std.proofs.Common.{◌∙◌, subst, slice_index, refl}
 use Rattle.std.proofs.lemmas.Result.{on_ok_weaker}
+use Rattle.hunk_words.specs.PartialHunk.{HoldsContext, HoldsSites}
 use Rattle.hunk_words.specs.Taker.{context_of}
 use Rattle.hunk_words.specs.Kinds.{hunk_kind_of}
 use Rattle.hunk_words.specs.declared.event.Event.TheVariants as event_is
 use Rattle.hunk_words.specs.declared.event.FileKind.TheVariants.{Object}
-use Rattle.hunk_tests.specs.Judges.{Holds, HoldsSites}
-use Rattle.hunk_tests.proofs.JudgesLemmas.{content_limit-any, holds-one, quiet-other, quiet-seen, quiet-judged}
+use Rattle.hunk_words.proofs.TakerLemmas.{judges-other}
+use Rattle.hunk_tests.proofs.JudgesLemmas.{content_limit-any, holds-one, quiet-other, quiet-seen}
 use Rattle.hunk_tests.proofs.judges.ObjectJudgeTaker.take.Goals as goal
 
 pub returns-in-Site-clause-takes : goal.returns-in-Site-clause-takes
 returns-in-Site-clause-takes g c = λ told stands few. rw c.in-Site.is
-    (on_ok_weaker c.add.result (λ adds. holds-one (λ w. Holds w c.add.new.self) Object told (event_is.Site c.in-Site.offset c.in-Site.target) (adds _ _ stands)) c.add.ensures.adds)
+    (on_ok_weaker c.add_site.result (λ holds. holds-one (λ w. HoldsContext w c.add_site.new.self) Object told (event_is.Site c.in-Site.offset c.in-Site.target) holds) (c.add_site.ensures.holds _ _ stands))
 
 pub returns-in-Site-clause-judges : goal.returns-in-Site-clause-judges
-returns-in-Site-clause-judges g c = λ told stands few. rw c.in-Site.is (c.add.ensures.judges _ _ stands)
+returns-in-Site-clause-judges g c = λ told stands few. rw c.in-Site.is (c.add_site.ensures.judges _ _ stands)
 
 pub returns-in-RefSite-clause-takes : goal.returns-in-RefSite-clause-takes
 returns-in-RefSite-clause-takes g c = λ told stands few. rw c.in-RefSite.is
-    (on_ok_weaker c.add-in-RefSite.result (λ adds. holds-one (λ w. Holds w c.add-in-RefSite.new.self) Object told (event_is.RefSite c.in-RefSite.offset) (adds _ _ stands)) c.add-in-RefSite.ensures.adds)
+    (on_ok_weaker c.add_site-in-RefSite.result (λ holds. holds-one (λ w. HoldsContext w c.add_site-in-RefSite.new.self) Object told (event_is.RefSite c.in-RefSite.offset) holds) (c.add_site-in-RefSite.ensures.holds _ _ stands))
 
 pub returns-in-RefSite-clause-judges : goal.returns-in-RefSite-clause-judges
-returns-in-RefSite-clause-judges g c = λ told stands few. rw c.in-RefSite.is (c.add-in-RefSite.ensures.judges _ _ stands)
+returns-in-RefSite-clause-judges g c = λ told stands few. rw c.in-RefSite.is (c.add_site-in-RefSite.ensures.judges _ _ stands)
 
 pub returns-in-Content-clause-takes : goal.returns-in-Content-clause-takes
 returns-in-Content-clause-takes g c = λ told stands few. rw c.in-Content.is
-    (holds-one (λ w. Holds w c.begin.new.self) Object told (event_is.Content c.in-Content.kind c.in-Content.bits c.in-Content.size)
-    (subst (λ limit. HoldsSites limit (context_of Object told).seen c.begin.new.self) (c.content_bytes.ensures ∙ content_limit-any (slice_index (context_of Object told).position.sizes (context_of Object told).position.ended) (hunk_kind_of c.in-Content.kind) c.in-Content.size) (c.begin.ensures _ _ stands)))
+    (on_ok_weaker c.begin.result (λ holds. holds-one (λ w. HoldsContext w c.begin.new.hunk) Object told (event_is.Content c.in-Content.kind c.in-Content.bits c.in-Content.size)
+    (subst (λ limit. HoldsSites limit (context_of Object told).seen c.begin.new.hunk) (c.content_bytes.ensures ∙ content_limit-any (slice_index (context_of Object told).position.sizes (context_of Object told).position.ended) (hunk_kind_of c.in-Content.kind) c.in-Content.size) holds)) (c.begin.ensures.holds _ _ stands))
 
 pub returns-in-HunkEnd-clause-takes : goal.returns-in-HunkEnd-clause-takes
 returns-in-HunkEnd-clause-takes g c = λ told stands few. rw c.in-HunkEnd.is
-    (holds-one (λ w. Holds w c.end.new.self) Object told event_is.HunkEnd (c.end.ensures _ _ stands))
+    (holds-one (λ w. HoldsContext w c.end.new.hunk) Object told event_is.HunkEnd (c.end.ensures _ _ stands))
 
 pub returns-in_default : goal.returns-in_default
 returns-in_default g c =
     let quiet = quiet-other c.args.event c.in_default.not-Content c.in_default.not-Site c.in_default.not-RefSite c.in_default.not-HunkEnd in
     record {
-      takes = λ told stands few. holds-one (λ w. Holds w c.args.self.now.hunk) Object told c.args.event
+      takes = λ told stands few. holds-one (λ w. HoldsContext w c.args.self.now.hunk) Object told c.args.event
           (quiet-seen Object (context_of Object told) c.args.event quiet (λ limit seen. HoldsSites limit seen c.args.self.now.hunk) stands);
       refuses = λ told stands few. tt;
-      judges = λ told stands few. quiet-judged (context_of Object told) c.args.event quiet;
+      judges = λ told stands few. judges-other (context_of Object told) c.args.event tt c.in_default.not-Site c.in_default.not-RefSite;
       given = refl;
     }

@@ -1,4 +1,5 @@
--- It answers `Err` where this growth is to be refused, and else what the inner allocator answers. Assumes `Logic`.
+-- It returns `Err` if this allocation is to fail, and otherwise what the inner allocator returns.
+-- Assumes `Logic`.
 use Rattle.std.proofs.Common.{◌≡◌, ℕ, ◌+◌, ◌^◌, ◌<◌, Bool, true, false, List, [], ◌∷◌, Ok, Err, refl, w64, Bor}
 use seplogic.Ra.Ura.{Ura}
 use mir.Syntax.{Ty, Args, Fn, a_type, dnil, dcons}
@@ -88,7 +89,7 @@ module _ (Z : Al) {M : Type 1} {𝓤 : Ura M} (𝓛 : Logic 𝓤) (at_mem : Memo
     abbrev second : Item 𝓤
     second = ‵ (flft κ₂ q₂) ⊛ ‵ ftrue
 
-    -- the ways out: an answer with what comes with it, and the tokens
+    -- the ways out: a result with what comes with it, and the tokens
     gives_block : (b o : ℕ) → ent 𝓤 (sep 𝓤 (sem 𝓛 (got (token Z handle) τ true b o)) (sep 𝓤 (A.lft κ₁ q₁) (mean 𝓛 second))) (Post (answer_val true b o))
     gives_block b o =
         qed 𝓛 (‵ (got (token Z handle) τ true b o) ∷ ‵ (flft κ₁ q₁) ∷ second ∷ []) ∵
@@ -116,7 +117,7 @@ module _ (Z : Al) {M : Type 1} {𝓤 : Ura M} (𝓛 : Logic 𝓤) (at_mem : Memo
         move ! (1 ∷ []) $ split ! $ heard ! (κ₂ ⊑ Z.row.lives) (λ lives. heard ! Sized (λ sized.
         split ! $ split ! $ move ! (2 ∷ []) $ fsplit ! $ fsplit ! $ move ! (1 ∷ []) $ unhide ! $ fsplit ! $ fsplit ! $
         use1 𝓛 (‵ (seen Z κ₁ place handle)) (id⊢ 𝓤 _) $ move ! (1 ∷ []) $ fsplit ! $ keep ! (0 ∷ 6 ∷ 2 ∷ 7 ∷ []) $
-        -- [the growths; the first token; the handle; the other tokens]
+        -- [the counts; the first token; the handle; the other tokens]
         enter ! 𝓣.C 𝓣.Λ (here Z) given_values _ $
         alloc_all ! (λ l. pass_all ! refl ((tt, tt), ((tt, record { fits = n_fits }), ((tt, record { fits = a_fits }), tt))) $
         let E : Env 𝓤 H = env (here Z).locals l in

@@ -2,7 +2,7 @@ use Rattle.std.proofs.Common.{◌+◌, ◌≡◌, ◌≤◌, ◌<◌, ◌++◌, 
 use Rattle.std.specs.Fmt.{decimal}
 use Rattle.hunk_tool.proofs.digits.Digits.decimal.Given as goal
 
--- what is left is written before the digits that stand in the array
+-- what is left is written before the digits that are already in the array
 abbrev pub invariant-loop-left : goal.invariant-loop-left
 invariant-loop-left l = record {
   room : l.start < 20;

@@ -1,4 +1,4 @@
--- To the end of a longword that is begun, and then longword by longword.
+-- To the end of an unfinished longword, and then longword by longword.
 use Rattle.std.proofs.Common.{sym, subst, arith, rules}
 use Rattle.hunk_words.specs.Decoder.{StandsFor}
 use Rattle.hunk_words.proofs.DecoderLemmas.{StandsFor-append, StandsFor-rest, StandsFor-front, StandsFor-bounded, OnOk-kept, append-tail}

@@ -1,4 +1,4 @@
--- One byte further; a refusal stands for the rest of the piece.
+-- One more byte; an error stands for the rest of the piece.
 use Rattle.std.proofs.Common.{◌+◌, ◌++◌, take, drop, subst, ◌∙◌, arith}
 use Rattle.hunk_words.specs.Decoder.{StandsFor}
 use Rattle.hunk_words.proofs.DecoderLemmas.{StandsFor-append, append-next, append-rest}

@@ -1,4 +1,4 @@
--- The bytes so far were taken, and no refusal is kept.
+-- The bytes so far were taken, and no error is kept.
 use Rattle.std.proofs.Common.{◌≡◌, ℕ, List, ◌++◌, take, None}
 use Rattle.hunk_words.specs.Decoder.{StandsFor}
 use Rattle.hunk_words.specs.DecoderCore.{kept}

@@ -1,4 +1,4 @@
--- Whole longwords, and then the bytes behind them.
+-- Whole longwords, and then the bytes after them.
 use Rattle.std.proofs.Common.{◌≡◌, ◌≤◌, ◌*◌, ◌/◌, take, length, subst, ◌∙◌, arith}
 use Rattle.std.proofs.lemmas.List.{length-take-le}
 use Rattle.hunk_words.specs.Longwords.{longwords}

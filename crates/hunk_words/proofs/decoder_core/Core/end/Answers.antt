@@ -1,4 +1,4 @@
--- The longwords are a file where it may end, and else end too early.
+-- The longwords are a file if it may end here, and otherwise end too early.
 use Rattle.std.proofs.Common.{sym, subst, arith}
 use Rattle.hunk_words.specs.Machine.{IsComplete}
 use Rattle.hunk_words.specs.Event.{events}

@@ -1,4 +1,4 @@
--- The first longword is taken, and a refusal stands for those behind it.
+-- The first longword is taken, and an error stands for those after it.
 use Rattle.std.proofs.Common.{◌++◌, take, subst, arith}
 use Rattle.hunk_words.specs.Longwords.{longwords}
 use Rattle.hunk_words.specs.DecoderCore.{StandsFor}

@@ -1,4 +1,4 @@
--- The run was taken whole.
+-- The whole run was taken.
 use Rattle.std.proofs.Common.{◌<◌, ◌≤◌, ◌+◌, ◌*◌, take, length, arith}
 use Rattle.std.proofs.lemmas.List.{length-take-le}
 use Rattle.hunk_words.specs.Files.{most_longwords}

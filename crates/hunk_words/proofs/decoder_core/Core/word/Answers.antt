@@ -1,4 +1,4 @@
--- A refusal is kept.
+-- An error is kept.
 use Rattle.hunk_words.proofs.DecoderCoreLemmas.{StandsBy-append, StandsBy-front}
 use Rattle.hunk_words.proofs.decoder_core.Core.word.Goals as goal
 

@@ -1,4 +1,4 @@
--- Some longwords further.
+-- Some more longwords.
 use Rattle.std.proofs.Common.{◌≡◌, ◌≤◌, ◌-◌, ◌*◌, ◌++◌, take, drop, length, ap, ◌∙◌, subst, length-drop, arith}
 use Rattle.std.proofs.lemmas.List.{take_all}
 use Rattle.hunk_words.specs.Longwords.{longwords}

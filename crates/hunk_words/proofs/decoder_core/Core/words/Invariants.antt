@@ -1,4 +1,4 @@
--- The longwords so far were taken, and no refusal is kept.
+-- The longwords so far were taken, and no error is kept.
 use Rattle.std.proofs.Common.{◌≡◌, ℕ, ◌*◌, ◌-◌, ◌≤◌, List, ◌++◌, take, length, None}
 use Rattle.hunk_words.specs.Longwords.{longwords}
 use Rattle.hunk_words.specs.DecoderCore.{StandsFor, kept}

@@ -1,4 +1,4 @@
--- A byte goes behind the bytes held: those of the unfinished longword.
+-- A byte comes after the bytes held: those of the unfinished longword.
 use Rattle.std.proofs.Common.{◌≡◌, ℕ, List, [], ◌∷◌, ◌++◌, sym, ap, ◌∙◌}
 use Rattle.hunk_words.specs.Longwords.{longwords, unfinished}
 use Rattle.hunk_words.specs.Splitter.{StandsFor, held_bytes}

@@ -1,0 +1,15 @@
+//! Longwords as bytes.
+ghost use Rattle.std.specs.Prelude.{◌≡◌};
+ghost use Rattle.byteorder.specs.Endian.{big_bytes};
+
+use byteorder::{BigEndian, ByteOrder};
+
+/// The four bytes of a longword, the most significant one first.
+#[inline(always)]
+pub(crate) fn big_endian(word: u32) -> [u8; 4]
+    ensures { result ≡ big_bytes 4 word }
+{
+    let mut bytes = [0; 4];
+    BigEndian::write_u32(&mut bytes, word);
+    bytes
+}

@@ -1,0 +1,203 @@
+//! The current hunk of a reader: its sites, and its content so far.
+ghost use Rattle.std.specs.Prelude.{◌≡◌, ℕ, ◌≤◌, ◌↔◌, List, [], ◌∷◌, length, false, IfOk, OnOk, OnErr, IsTrue, IsFalse};
+ghost use Rattle.hunk_words.specs.PartialHunk.{HoldsSites, begun_hunk, filled_hunk, hunk_with_site, hunk_with_word, initial_hunk};
+ghost use Rattle.hunk_words.specs.Sites.{AreApart};
+ghost use Rattle.hunk_words.specs.Taker.{JudgesSite};
+
+use crate::longwords::big_endian;
+use crate::sites::{SiteRefusal, Sites};
+use std::alloc::{AllocError, Allocator, Global};
+use std::marker::Model;
+
+/// The current hunk of a reader: its sites, its content so far, and whether the next word is
+/// content.
+///
+/// Every builder that takes the events of a file holds one. The sites lie below a limit in bytes,
+/// and the content is no longer than this limit.
+#[derive(Debug, Drop)]
+pub struct PartialHunk<T, A: Allocator + Copy = Global> {
+    content: Vec<u8, A>,
+    sites: Sites<T, A>,
+    in_content: bool,
+}
+
+impl<T, A: Allocator + Copy> Model for PartialHunk<T, A> {
+    ghost use Rattle.std.specs.Prelude.{◌≤◌, length};
+    ghost use Rattle.hunk_words.specs.PartialHunk.{HunkSoFar};
+
+    ghost Value = { HunkSoFar T };
+
+    ghost view = { λ h. record { content = h.content.items; sites = h.sites; in_content = h.in_content } };
+
+    ghost invariant = { λ h. length h.content.items ≤ h.sites.limit };
+}
+
+impl<T: Copy, A: Allocator + Copy> PartialHunk<T, A> {
+    /// A hunk without content and sites, with this limit in bytes. The next word is not content.
+    /// Does not allocate.
+    pub fn new(alloc: A, limit: u64) -> Self
+        ensures { result ≡ initial_hunk limit }
+    {
+        PartialHunk {
+            content: Vec::new(alloc),
+            sites: Sites::new(alloc, limit),
+            in_content: false,
+        }
+    }
+
+    /// A hunk whose content begins, with this limit in bytes, and with memory for `capacity` bytes
+    /// of content.
+    ///
+    /// # Errors
+    ///
+    /// [`AllocError`] only if the allocation failed.
+    pub fn with_capacity(alloc: A, limit: u64, capacity: usize) -> Result<Self, AllocError>
+        ensures { IfOk result (λ hunk. hunk ≡ begun_hunk limit) }
+    {
+        let content = Vec::with_capacity(alloc, capacity)?;
+        Ok(PartialHunk {
+            content,
+            sites: Sites::new(alloc, limit),
+            in_content: true,
+        })
+    }
+
+    /// Begins the content, and sets the limit in bytes. Does not allocate: the content grows as its
+    /// longwords come.
+    ///
+    /// Returns `false`, and changes nothing, if there already is content or a site. In a file
+    /// neither comes before the content begins.
+    pub fn begin_content(&mut self, alloc: A, limit: u64) -> bool
+        ensures begins { IsTrue result → self.new ≡ begun_hunk limit }
+        ensures refused { IsFalse result → self.new ≡ self.old }
+        ensures first { IsTrue result ↔ ((self.old.content ≡ []) × (self.old.sites.entries ≡ [])) }
+    {
+        if !self.content.is_empty() || self.sites.walk().next().is_some() {
+            return false;
+        }
+        self.sites = Sites::new(alloc, limit);
+        self.in_content = true;
+        true
+    }
+
+    /// Takes a word, and keeps its four bytes if it is content.
+    ///
+    /// # Errors
+    ///
+    /// [`AllocError`] if an allocation failed, or if the content would pass the limit, which the
+    /// content of a file never does. An error changes nothing.
+    // Content is most of a file, so a run of words should not make a call for each word.
+    #[inline(always)]
+    pub fn add_word(&mut self, word: u32) -> Result<(), AllocError>
+        ensures adds { OnOk result (self.new ≡ hunk_with_word self.old word) }
+        ensures fits { length self.new.content ≤ self.new.sites.limit }
+        ensures drops { IsFalse self.old.in_content → result ≡ Ok tt }
+        ensures refused { OnErr result (self.new ≡ self.old) }
+    {
+        if !self.in_content {
+            return Ok(());
+        }
+        if self.content.len() as u64 + 4 > self.sites.limit() {
+            return Err(AllocError);
+        }
+        self.content.extend_from_slice(&big_endian(word))
+    }
+
+    /// Ends the content: the next word is not content.
+    pub fn end_content(&mut self)
+        ensures { self.new ≡ record self.old { in_content = false } }
+    {
+        self.in_content = false;
+    }
+
+    /// Adds the site of the four bytes from an offset.
+    ///
+    /// # Errors
+    ///
+    /// The errors of [`Sites::try_add`]: [`SiteRefusal::Outside`] if the site passes the limit, else
+    /// [`SiteRefusal::Overlap`] if it shares a byte with another one, else
+    /// [`SiteRefusal::OutOfMemory`] only if an allocation failed. An error changes nothing.
+    pub fn add_site(&mut self, offset: u32, target: T) -> Result<(), SiteRefusal>
+        ensures adds { OnOk result (self.new ≡ hunk_with_site self.old offset target) }
+        ensures holds { (limit : ℕ) (seen : List ℕ) → HoldsSites limit seen self.old → OnOk result (HoldsSites limit (offset ∷ seen) self.new) }
+        ensures judges { (limit : ℕ) (seen : List ℕ) → HoldsSites limit seen self.old → JudgesSite limit seen offset result }
+        ensures apart { AreApart self.old.sites → AreApart self.new.sites }
+        ensures refused { OnErr result (self.new ≡ self.old) }
+    {
+        self.sites.try_add(offset, target)
+    }
+
+    /// The limit for the sites and for the content, in bytes.
+    pub fn limit(&self) -> u64
+        ensures { result ≡ self.now.sites.limit }
+    {
+        self.sites.limit()
+    }
+
+    /// Pads the content with zeros up to the limit, as the hunk is in memory.
+    ///
+    /// # Errors
+    ///
+    /// [`AllocError`] only if an allocation failed. An error changes nothing.
+    pub fn fill(&mut self) -> Result<(), AllocError>
+        ensures fills { OnOk result (self.new ≡ filled_hunk self.old) }
+        ensures apart { AreApart self.old.sites }
+        ensures fits { length self.old.content ≤ self.old.sites.limit }
+        ensures refused { OnErr result (self.new ≡ self.old) }
+    {
+        self.content.resize(self.sites.limit() as usize, 0)
+    }
+
+    /// The content and the sites.
+    pub fn into_parts(self) -> (Vec<u8, A>, Sites<T, A>)
+        ensures content { result.0.items ≡ self.content }
+        ensures sites { result.1 ≡ self.sites }
+    {
+        (self.content, self.sites)
+    }
+}
+
+#[cfg(test)]
+mod tests {
+    use super::*;
+    use std::test::Fail;
+
+    #[test]
+    fn keeps_content_alone(rt: HostRuntime) -> Result<(), Fail> {
+        let mut hunk = PartialHunk::<u32>::new(rt.alloc(), 0);
+        hunk.add_word(0x0102_0304)?;
+        assert!(rt; hunk.begin_content(rt.alloc(), 8));
+        hunk.add_word(0x4E71_4E75)?;
+        hunk.end_content();
+        hunk.add_word(0x0506_0708)?;
+        assert_eq!(rt; hunk.add_site(0, 1), Ok(()));
+        let (content, sites) = hunk.into_parts();
+        assert_eq!(rt; content.as_slice(), [0x4E, 0x71, 0x4E, 0x75].as_slice());
+        assert_eq!(rt; sites.get(0).copied(), Some(1));
+        Ok(())
+    }
+
+    #[test]
+    fn begins_once(rt: HostRuntime) -> Result<(), Fail> {
+        let mut hunk = PartialHunk::new(rt.alloc(), 4);
+        assert_eq!(rt; hunk.add_site(0, 'a'), Ok(()));
+        assert!(rt; !hunk.begin_content(rt.alloc(), 8));
+        assert_eq!(rt; hunk.limit(), 4);
+        let mut hunk = PartialHunk::<char>::with_capacity(rt.alloc(), 4, 4)?;
+        hunk.add_word(1)?;
+        assert!(rt; !hunk.begin_content(rt.alloc(), 8));
+        assert_eq!(rt; hunk.add_site(1, 'b'), Err(SiteRefusal::Outside));
+        Ok(())
+    }
+
+    #[test]
+    fn content_stays_below_the_limit(rt: HostRuntime) -> Result<(), Fail> {
+        let mut hunk = PartialHunk::<u32>::with_capacity(rt.alloc(), 6, 0)?;
+        hunk.add_word(0x0102_0304)?;
+        assert!(rt; hunk.add_word(0x0506_0708).is_err());
+        hunk.fill()?;
+        let (content, _) = hunk.into_parts();
+        assert_eq!(rt; content.as_slice(), [1, 2, 3, 4, 0, 0].as_slice());
+        Ok(())
+    }
+}
