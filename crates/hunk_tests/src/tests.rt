@@ -13,6 +13,7 @@
 //! - `memory`: allocations that fail.
 //! - `refusals`: addresses that are rejected.
 //! - `reports`: files that are loaded.
+//! - `sites`: sites that are added while allocations fail.
 //! - `streaming`: what `ImageLoader` allocates.
 //! - `values`: the expected hunks of a load file.
 //! - `vectors`: files of both kinds through everything that reads them.
@@ -32,6 +33,7 @@ mod loaded;
 mod memory;
 mod refusals;
 mod reports;
+mod sites;
 mod streaming;
 mod values;
 mod vectors;

@@ -4,6 +4,8 @@ pub mod StreamsLemmas
 pub mod StreamsWritingLemmas
 pub mod NameLemmas
 pub mod SitesLemmas
+pub mod PageLemmas
+pub mod PagesLemmas
 pub mod StateLemmas
 pub mod SpellingBitLemmas
 pub mod KindsTypeLemmas

@@ -11,7 +11,7 @@ use Rattle.std.specs.BTreeMap.{insert_entry, is_at}
 use Rattle.hunk_words.specs.Sites.{SiteMap, AreApart, Meets, StandFrom, site_shown, target_at}
 
 -- a look-up in the rest finds something in the whole too
-target_at-more : {T : Type 0} (e : ℕ × T) (es : List (ℕ × T)) (other : ℕ) → IsSome (target_at es other) → IsSome (target_at (e ∷ es) other)
+pub target_at-more : {T : Type 0} (e : ℕ × T) (es : List (ℕ × T)) (other : ℕ) → IsSome (target_at es other) → IsSome (target_at (e ∷ es) other)
 target_at-more e es other h = go (is_at (nat_cmp other) e.0)
   where
     go : (b : Bool) → IsSome (cond b (Some e.1) (target_at es other))
@@ -19,7 +19,7 @@ target_at-more e es other h = go (is_at (nat_cmp other) e.0)
     go false = h
 
 -- the first entry is found
-target_at-first : {T : Type 0} (e : ℕ × T) (es : List (ℕ × T)) → IsSome (target_at (e ∷ es) e.0)
+pub target_at-first : {T : Type 0} (e : ℕ × T) (es : List (ℕ × T)) → IsSome (target_at (e ∷ es) e.0)
 target_at-first e es =
     let same : nat_cmp e.0 e.0 ≡ Equal = sym (nat_cmp_is e.0 e.0 Equal refl) in
     rw same refl
@@ -29,7 +29,7 @@ Meets-more : {T : Type 0} (e : ℕ × T) (es : List (ℕ × T)) (offset : ℕ) �
 Meets-more e es offset m = (m.0, target_at-more e es m.0 m.1, m.2)
 
 -- an entry at another offset is not looked at
-is_at-apart : (a b : ℕ) → (a ≡ b → ⊥) → is_at (nat_cmp a) b ≡ false
+pub is_at-apart : (a b : ℕ) → (a ≡ b → ⊥) → is_at (nat_cmp a) b ≡ false
 is_at-apart a b apart = elim (cases_lt a b) [
   | inl below ↦ let less : nat_cmp a b ≡ Less = sym (nat_cmp_is a b Less below) in rw less refl
   | inr above ↦ let greater : nat_cmp a b ≡ Greater = sym (nat_cmp_is a b Greater (omega arith)) in rw greater refl

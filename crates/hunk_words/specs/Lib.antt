@@ -30,4 +30,6 @@ pub mod Watched
 pub mod Name
 pub mod OpenName
 pub mod Sites
+pub mod Page
+pub mod Pages
 pub mod PartialHunk

@@ -10,7 +10,7 @@
 //! - `watched`: readers and writers of std, watched.
 //! - `pieces`, `room`: a reader and a writer over memory, which fail where they should.
 //! - `name`: names in longwords, all at once or one longword at a time.
-//! - `sites`: the sites of a hunk, no two of which share a byte.
+//! - `sites`: the sites of a hunk, no two of which share a byte; they are kept in `pages`, each a `page`.
 //! - `partial_hunk`: the current hunk of a reader: its sites, and its content so far.
 //! - `taker`: what takes the events of a file.
 //! - `decoder_core`, `decoder`: decode the longwords and the bytes of a file, and send its events
@@ -31,6 +31,8 @@ pub mod laws;
 mod longwords;
 pub mod name;
 mod numbers;
+mod page;
+mod pages;
 pub mod partial_hunk;
 pub mod pieces;
 pub mod room;

@@ -6,7 +6,7 @@ use super::values::{SCATTERED_HUNKS, has_hunks};
 use super::words::{SCATTERED, WRITTEN};
 use super::written::file_of;
 use crate::Refusing;
-use hunk_loader::{LoadRefusal, load};
+use hunk_loader::{ImageFault, LoadRefusal, load, read_image};
 use hunk_loadfile::{read_load, write_load};
 use hunk_tool::{ToolFault, load_run};
 use hunk_words::{Pieces, ReadFault, Refusal, Room, WriteFault};
@@ -24,10 +24,14 @@ const BASES: [u32; 2] = [0x0000_1000, 0x0000_2000];
 const TEXT: &str = "hunk 0 at 00001000 size 12\n00001000 000020000000100000002004\n\
                     hunk 1 at 00002000 size 4\n00002000 00000000\n";
 
+// Their bytes there.
+const MEMORY: [&[u8]; 2] = [&[0, 0, 0x20, 0, 0, 0, 0x10, 0, 0, 0, 0x20, 4], &[0; 4]];
+
 // What is called.
 #[derive(Clone, Copy, Debug)]
 enum Call {
     Read,
+    Image,
     Load,
     Write,
     Run,
@@ -57,14 +61,26 @@ fn is_read(rt: &impl Abort, alloc: Global, bytes: &[u8], refused: u64) -> Result
     Ok(true)
 }
 
+fn is_image(rt: &impl Abort, alloc: Global, bytes: &[u8], refused: u64) -> Result<bool, Fail> {
+    let heap = Refusing::new(alloc, refused);
+    let mut reader = Pieces::new(bytes.to_vec(alloc)?, ROOM, None);
+    match read_image(&heap, &mut reader, &BASES) {
+        Ok(image) => has_bytes(rt, &image, &BASES, &MEMORY),
+        Err(fault) => {
+            assert_eq!(rt; fault, ImageFault::Refused(LoadRefusal::OutOfMemory));
+            assert!(rt; refused < heap.asked(), "growth {refused}");
+            return Ok(false);
+        }
+    }
+    assert!(rt; heap.asked() <= refused, "growth {refused}");
+    Ok(true)
+}
+
 fn is_loaded(rt: &impl Abort, alloc: Global, bytes: &[u8], refused: u64) -> Result<bool, Fail> {
     let heap = Refusing::new(alloc, refused);
     let file = file_of(&heap, bytes.to_vec(alloc)?)?;
     match load(&heap, &file, &BASES) {
-        Ok(image) => {
-            let wanted: [&[u8]; 2] = [&[0, 0, 0x20, 0, 0, 0, 0x10, 0, 0, 0, 0x20, 4], &[0; 4]];
-            has_bytes(rt, &image, &BASES, &wanted);
-        }
+        Ok(image) => has_bytes(rt, &image, &BASES, &MEMORY),
         Err(refusal) => {
             assert_eq!(rt; refusal, LoadRefusal::OutOfMemory);
             assert!(rt; refused < heap.asked(), "growth {refused}");
@@ -115,13 +131,14 @@ fn is_run(rt: &impl Abort, alloc: Global, bytes: &[u8], refused: u64) -> Result<
 // succeeds once none fails. The allocations to read the file that is loaded or written come before.
 fn growths_of(rt: &impl Abort, alloc: Global, call: Call, bytes: &[u8]) -> Result<u64, Fail> {
     let before = match call {
-        Call::Read | Call::Run => 0,
+        Call::Read | Call::Image | Call::Run => 0,
         Call::Load | Call::Write => growths_of_reading(alloc, bytes)?,
     };
     for number in 0..MOST_GROWTHS {
         let refused = before.saturating_add(number);
         let done = match call {
             Call::Read => is_read(rt, alloc, bytes, refused)?,
+            Call::Image => is_image(rt, alloc, bytes, refused)?,
             Call::Load => is_loaded(rt, alloc, bytes, refused)?,
             Call::Write => is_written(rt, alloc, bytes, refused)?,
             Call::Run => is_run(rt, alloc, bytes, refused)?,
@@ -140,6 +157,8 @@ fn refuses_each_growth_of_a_call(rt: HostRuntime) -> Result<(), Fail> {
     let rows = [
         // sizes, hunks, content, sites, symbols, a name, debug blocks, and one of them
         (Call::Read, 8),
+        // the bases, the sizes, the hunks and the bytes of each
+        (Call::Image, 5),
         // the hunks and the bytes of each
         (Call::Load, 3),
         // the sites of the first hunk

@@ -1,4 +1,5 @@
 use Rattle.std.proofs.Common.{◌≡◌, ℕ, ◌<◌, length, slice_index, sym, ap, subst, ◌∙◌, arith}
+use Rattle.std.proofs.lemmas.List.Elements.{All-head}
 use Rattle.std.specs.List.{All}
 use Rattle.hunk_words.specs.Sites.{StandFrom}
 use Rattle.hunk_loadfile.specs.Patching.{patched_bytes}
@@ -40,3 +41,8 @@ returns g c =
     let bases = c.args.bases.now in
     let kept = c.loop-offset.invariant in
     all-patched bases bytes c.loop-offset.bytes c.loop-offset.offset-iterator (patched_bytes (length bytes) bytes c.args.sites.now.entries (slice_index bases)) c.loop-offset.auto.bytes c.in-None.ensures.steps.0 kept.rest
+
+pub bounds-bases-target : goal.bounds-bases-target
+bounds-bases-target g c =
+    let based : ℕ × ℕ → Type 0 = λ site. site.1 < length c.args.bases.now in
+    All-head based (c.in-Some.offset, c.in-Some.target.now) c.next.new.self (subst (All based) c.in-Some.ensures.steps c.loop-offset.invariant.based)

@@ -1,0 +1,104 @@
+//! The sites of one page of a hunk.
+ghost use Rattle.std.specs.Prelude.{◌≡◌, ℕ, ◌+◌, ◌<◌, ◌≤◌, [], length, insert, is_ok, if◌then◌else◌, MatchOption};
+ghost use Rattle.std.specs.List.Sorted.{IsPartitionPoint};
+ghost use Rattle.std.specs.Option.{option_copied};
+ghost use Rattle.std.specs.Slice.Iter.{iter_rest};
+ghost use Rattle.hunk_words.specs.Page.{IsFreePlace};
+ghost use Rattle.hunk_words.specs.Sites.{Meets, target_at};
+
+use std::alloc::{AllocError, Allocator};
+use std::marker::Model;
+use std::slice;
+
+/// How many bytes a site has.
+pub const SITE_BYTES: u32 = 4;
+
+// How many sites the first allocation of a page has room for. Later ones double it, so that a page
+// never takes the memory of more than three times its sites.
+const FIRST_SITES: usize = 3;
+
+/// The sites of a page with their targets, by rising offset. No two share a byte.
+#[derive(Debug, Drop)]
+pub struct Page<T, A: Allocator + Copy> {
+    sites: Vec<(u32, T), A>,
+}
+
+impl<T, A: Allocator + Copy> Model for Page<T, A> {
+    ghost use Rattle.std.specs.Prelude.{ℕ, List};
+    ghost use Rattle.hunk_words.specs.Page.{AreSpaced};
+
+    ghost Value = { List (ℕ × T) };
+
+    ghost view = { λ p. p.sites.items };
+
+    ghost invariant = { λ p. AreSpaced p.sites.items };
+}
+
+impl<T, A: Allocator + Copy> Page<T, A> {
+    /// A page without sites. It does not allocate.
+    pub fn new(alloc: A) -> Self
+        ensures { result ≡ [] }
+    {
+        Page {
+            sites: Vec::new(alloc),
+        }
+    }
+
+    /// The offsets and targets, by rising offset.
+    pub fn iter(&self) -> slice::Iter<'_, (u32, T)>
+        ensures { iter_rest result ≡ self.now }
+    {
+        self.sites.iter()
+    }
+}
+
+impl<T: Copy, A: Allocator + Copy> Page<T, A> {
+    // The number of sites that begin before the offset. In most files sites come by rising offset,
+    // so the last one is looked at first.
+    fn count_before(&self, offset: u32) -> usize
+        ensures within { result ≤ length self.now }
+        ensures parts { IsPartitionPoint (λ (site : ℕ × T). site.0 < offset) (λ (site : ℕ × T). offset ≤ site.0) self.now result }
+    {
+        match self.sites.last() {
+            Some((last, _)) if *last < offset => self.sites.len(),
+            _ => self.sites.partition_point(|site| site.0 < offset),
+        }
+    }
+
+    /// The place for a site at the offset, or `None` where it would share a byte with a site of the
+    /// page.
+    pub fn free_place(&self, offset: u32) -> Option<usize>
+        ensures { MatchOption result (Meets self.now offset) (IsFreePlace self.now offset) }
+    {
+        let place = self.count_before(offset);
+        if 0 < place && offset - self.sites[place - 1].0 < SITE_BYTES {
+            return None;
+        }
+        if place < self.sites.len() && self.sites[place].0 - offset < SITE_BYTES {
+            return None;
+        }
+        Some(place)
+    }
+
+    /// Inserts a site at its place. If the allocation fails, the page stays as it was.
+    pub fn insert(&mut self, place: usize, offset: u32, target: T) -> Result<(), AllocError>
+        requires { IsFreePlace self.old offset place }
+        ensures { self.new ≡ (if is_ok result then insert self.old place (offset, target) else self.old) }
+    {
+        if self.sites.capacity() == 0 {
+            self.sites.reserve_exact(FIRST_SITES)?;
+        }
+        self.sites.insert(place, (offset, target))?;
+        Ok(())
+    }
+
+    /// The target of the site at an offset.
+    pub fn get(&self, offset: u32) -> Option<&T>
+        ensures { option_copied result ≡ target_at self.now offset }
+    {
+        match self.sites.get(self.count_before(offset)) {
+            Some((start, target)) if *start == offset => Some(target),
+            _ => None,
+        }
+    }
+}
