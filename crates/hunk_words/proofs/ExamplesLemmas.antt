@@ -1,7 +1,6 @@
 -- What the machine computes for a worked file is what the definitions say about it.
-use Rattle.std.proofs.Common.{◌≡◌, ℕ, ◌+◌, ◌^◌, ◌<◌, ◌≤◌, List, [], ◌∷◌, length, Bool, true, false, ◌&&◌, nat_lt, nat_le, Result, Ok, Err, refl, ap, sym, ◌∙◌, arith}
+use Rattle.std.proofs.Common.{◌≡◌, ℕ, ◌^◌, ◌<◌, ◌≤◌, List, [], ◌∷◌, length, Bool, true, false, ◌&&◌, nat_lt, nat_le, Ok, Err, refl, ap, sym, ◌∙◌, arith}
 use Rattle.std.proofs.lemmas.Bool.Decides.{nat_tests}
-use Rattle.hunk_words.specs.Kinds.{Kind}
 use Rattle.hunk_words.specs.Kinds.Kind.{object_start, load_start}
 use Rattle.hunk_words.specs.Event.{events}
 use Rattle.hunk_words.specs.EventValue.{value_of_events, initial_object, initial_load}

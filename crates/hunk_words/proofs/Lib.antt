@@ -18,6 +18,7 @@ pub mod EventValueLemmas
 pub mod EventValueTreeLemmas
 pub mod NumbersLemmas
 pub mod NumbersWordLemmas
+pub mod NumbersOffsetLemmas
 pub mod MachineStackLemmas
 pub mod MachineFinishLemmas
 pub mod ReadingSplitLemmas
@@ -37,6 +38,7 @@ pub mod LongwordsByteLemmas
 pub mod DecoderCoreLemmas
 pub mod DecoderLemmas
 pub mod DecoderCoreRunLemmas
+pub mod DecoderCoreOffsetsLemmas
 pub mod OpenNameLemmas
 pub mod TakerLemmas
 pub mod PartialHunkLemmas

@@ -1,12 +1,12 @@
 -- What the current hunk holds of the events: before its content, when that begins, and after one more site or word.
-use Rattle.std.proofs.Common.{◌≡◌, ◌⊎◌, ◌↔◌, inl, inr, ℕ, ◌+◌, ◌-◌, ◌<◌, ◌≤◌, List, [], ◌∷◌, ◌++◌, length, Bool, true, false, Some, Result, Ok, Err, OnOk, OnErr, take, replicate, ◌==◌, if◌then◌else◌, refl, sym, ap, subst, ◌∙◌, append-nil, arith}
+use Rattle.std.proofs.Common.{◌≡◌, ◌⊎◌, ◌↔◌, inl, inr, ℕ, ◌+◌, ◌<◌, ◌≤◌, List, [], ◌∷◌, ◌++◌, true, false, Result, Ok, Err, OnOk, OnErr, if◌then◌else◌, refl, sym, ap, subst, ◌∙◌, append-nil, arith}
 use Rattle.std.proofs.lemmas.Bool.{cases_lt}
 use Rattle.std.proofs.lemmas.Grind.{flat_map-append}
 use Rattle.std.specs.BTreeMap.{insert_entry}
 use Rattle.std.specs.Ordering.{nat_cmp}
 use Rattle.byteorder.specs.Endian.{big_bytes}
 use Rattle.hunk_words.specs.Name.{bytes_of}
-use Rattle.hunk_words.specs.EventValue.{EventValue, Receiver, word_to}
+use Rattle.hunk_words.specs.EventValue.{Receiver}
 use Rattle.hunk_words.specs.EventValue.Receiver.{nothing_more, to_unit_name, to_name, to_content, to_debug, to_symbol, to_entry}
 use Rattle.hunk_words.specs.PartialHunk.{HunkSoFar, HoldsSites, initial_hunk, begun_hunk, hunk_with_word, hunk_with_site, goes_to_content}
 use Rattle.hunk_words.specs.SiteContext.{SameSites}

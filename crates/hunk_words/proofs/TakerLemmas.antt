@@ -1,6 +1,6 @@
 -- What a taker of events that keeps its sites in a map returns, and the lists of events that it has
 -- taken, after one more event.
-use Rattle.std.proofs.Common.{◌≡◌, ℕ, ◌+◌, ◌<◌, ◌≤◌, ◌⊎◌, inl, inr, List, [], ◌∷◌, ◌++◌, Bool, true, false, Option, Some, None, IsSome, Result, Ok, Err, ◌==◌, if◌then◌else◌, cond, nat_le, ◌&&◌, ◌↔◌, refl, sym, ap, subst, ◌∙◌, arith, eq-eqb}
+use Rattle.std.proofs.Common.{◌≡◌, ℕ, ◌+◌, ◌<◌, ◌≤◌, ◌⊎◌, inl, inr, List, [], ◌∷◌, ◌++◌, Bool, true, false, Some, IsSome, Result, Ok, Err, ◌==◌, if◌then◌else◌, cond, ◌&&◌, ◌↔◌, refl, sym, subst, arith, eq-eqb}
 use Rattle.std.proofs.lemmas.Bool.{cases_lt, eqb-true}
 use Rattle.std.proofs.lemmas.Bool.Decides.{leb_tells}
 use Rattle.hunk_words.specs.SiteRules.{apart, all_apart}

@@ -1,12 +1,12 @@
 -- What a decoder core stands for: the longwords that it was given.
-use Rattle.std.specs.Prelude.{◌≡◌, ℕ, ◌*◌, ◌<◌, ◌≤◌, List, [], ◌∷◌, ◌++◌, length, take, Option, Some, None, Result, Ok, Err}
+use Rattle.std.specs.Prelude.{◌≡◌, ℕ, ◌+◌, ◌-◌, ◌*◌, ◌<◌, ◌≤◌, List, [], ◌∷◌, ◌++◌, length, take, Option, Some, None, Result, Ok, Err}
 use Rattle.hunk_words.specs.Kinds.{Field}
 use Rattle.hunk_words.specs.Reading.{Progress, start_of, initial_progress, read_words, labels}
 use Rattle.hunk_words.specs.Files.{AllLong, Tree, spelling, most_longwords, IsFileOf}
 use Rattle.hunk_words.specs.FirstOffence.{OffendsAt, FirstOffence}
 use Rattle.hunk_words.specs.Longwords.{longwords}
 use Rattle.hunk_words.specs.Event.{events}
-use Rattle.hunk_words.specs.Numbers.{Reached}
+use Rattle.hunk_words.specs.Numbers.{Reached, at_offset}
 use Rattle.hunk_words.specs.declared.event.FileKind.{FileKind}
 use Rattle.hunk_words.specs.declared.event.Event.{Event}
 use Rattle.hunk_words.specs.declared.fault.Fault.{Fault}
@@ -14,6 +14,9 @@ use Rattle.hunk_words.specs.declared.fault.Refusal.{Refusal}
 use Rattle.hunk_words.specs.declared.fault.Refusal.TheVariants as refusal_is
 use Rattle.hunk_words.specs.declared.decoder_core.Core.{Core}
 use Rattle.hunk_words.specs.declared.decoder_core.CoreState.{CoreState}
+use Rattle.hunk_words.specs.declared.numbers.NumberRefusal.{NumberRefusal}
+use Rattle.hunk_words.specs.declared.numbers.NumberRefusal.TheVariants.{Refused, OutOfMemory}
+use Rattle.hunk_words.specs.declared.state.State.{State}
 
 -- the fields of longwords, as the machine reads them
 abbrev pub fields_read : FileKind → List ℕ → List Field
@@ -66,6 +69,20 @@ EndAnswered kind stands_for ws rest (Err refusal_is.OutOfMemory) = Unit {0}
 abbrev pub SomeTaken : {T : Type 0} → FileKind → (T → List Event → Type 0) → Core T → (ws bytes : List ℕ) → Result ℕ Refusal → Type 0
 SomeTaken kind stands_for core ws bytes (Ok count) = StandsFor kind stands_for core (ws ++ longwords (take (4 * count) bytes))
 SomeTaken kind stands_for core ws bytes (Err refusal) = StandsFor kind stands_for core (ws ++ longwords bytes)
+
+-- the error for a longword at this place that is refused
+abbrev pub refused_at : ℕ → NumberRefusal → Refusal
+refused_at place (Refused reason) = refusal_is.Fault (record { place = place; reason = reason })
+refused_at place OutOfMemory = refusal_is.OutOfMemory
+
+-- a core without an error, in a list of offsets to one hunk
+abbrev pub in_offsets : State → (more target place : ℕ) → CoreState
+in_offsets state more target place = record { state = at_offset state more target; place = place; refusal = None }
+
+-- All of these offsets to one hunk were taken; or the error stands for them.
+abbrev pub OffsetsTaken : FileKind → (List Event → Type 0) → State → (more target place : ℕ) → (ws us : List ℕ) → Result (Unit {0}) Refusal → Type 0
+OffsetsTaken kind Stands state more target place ws us (Ok done) = Behind kind Stands (in_offsets state (more - length us) target (place + length us)) (ws ++ us)
+OffsetsTaken kind Stands state more target place ws us (Err refusal) = (core : CoreState) → core.refusal ≡ Some refusal → StandsBy kind Stands core (ws ++ us)
 
 -- at least one of the longwords of these bytes
 abbrev pub TakesSome : List ℕ → Result ℕ Refusal → Type 0

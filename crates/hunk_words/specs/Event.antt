@@ -2,8 +2,6 @@
 use Rattle.std.specs.Prelude.{ℕ, zero, suc, List, [], ◌∷◌, Option, Some, None}
 use Rattle.hunk_words.specs.Kinds.{Kind, Field, low, bits, entry_type, hunk_kind_number, type_of}
 use Rattle.hunk_words.specs.Kinds.Kind.{block_type, unit_length, name_length, word, value, content_size, offset, debug_length, ext_entry, ref_count, ref_offset, symbol_entry, table_size, header_size, short_offset}
-use Rattle.hunk_words.specs.declared.kinds.HunkKind.{HunkKind}
-use Rattle.hunk_words.specs.declared.kinds.HunkKind.TheVariants.{Code, Data, Bss}
 use Rattle.hunk_words.specs.declared.kinds.BlockType.{BlockType}
 use Rattle.hunk_words.specs.declared.kinds.BlockType.TheVariants.{End as end}
 use Rattle.hunk_words.specs.declared.event.Event.{Event}

@@ -9,6 +9,11 @@ use Rattle.hunk_words.specs.Taker.{sizes_told}
 use Rattle.hunk_words.specs.State.{view, IsState}
 use Rattle.hunk_words.specs.declared.event.FileKind.{FileKind}
 use Rattle.hunk_words.specs.declared.event.Event.{Event}
+use Rattle.hunk_words.specs.declared.fault.Reason.TheVariants.{SiteOutside, SiteOverlap}
+use Rattle.hunk_words.specs.declared.sites.SiteRefusal.{SiteRefusal}
+use Rattle.hunk_words.specs.declared.sites.SiteRefusal.TheVariants.{Outside, Overlap}
+use Rattle.hunk_words.specs.declared.sites.SiteRefusal.TheVariants as site_refusal_is
+use Rattle.hunk_words.specs.declared.state.Expected.TheVariants.{Offset}
 use Rattle.hunk_words.specs.declared.state.State.{State}
 use Rattle.hunk_words.specs.declared.numbers.NumberRefusal.{NumberRefusal}
 use Rattle.hunk_words.specs.declared.numbers.NumberRefusal.TheVariants.{Refused, OutOfMemory}
@@ -28,6 +33,21 @@ abbrev pub NumberAnswered : FileKind → (List Event → Type 0) → List Field 
 NumberAnswered kind Stands fs at n (Ok state) = (field_judged at n ≡ None) × Reached kind Stands state (fs ++ field (due at.stack) n ∷ []) (field_next at n)
 NumberAnswered kind Stands fs at n (Err (Refused reason)) = field_judged at n ≡ Some reason
 NumberAnswered kind Stands fs at n (Err OutOfMemory) = Unit {0}
+
+-- why a number is refused whose site a taker refuses
+abbrev pub site_refused : ℕ → SiteRefusal → NumberRefusal
+site_refused n Outside = Refused (SiteOutside n)
+site_refused n Overlap = Refused (SiteOverlap n)
+site_refused n site_refusal_is.OutOfMemory = OutOfMemory
+
+-- the state in a list of offsets to one hunk, with how many follow the next one
+abbrev pub at_offset : State → ℕ → ℕ → State
+at_offset state more target = record state { due = Offset more target }
+
+-- a result that has this state where it is good
+abbrev pub with_state : State → Result (Unit {0}) NumberRefusal → Result State NumberRefusal
+with_state state (Ok done) = Ok state
+with_state state (Err stop) = Err stop
 
 -- a number that may come: it is not too wide, and there is room for its event
 pub record MayCome (fs : List Field) (at : Progress) (n : ℕ) : Type 0 where

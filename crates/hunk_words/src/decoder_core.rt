@@ -1,8 +1,8 @@
 //! Decodes the longwords of a file: judges them, and sends their events to a taker.
 
-ghost use Rattle.std.specs.Prelude.{◌≡◌, ℕ, ◌≤◌, List, [], ◌∷◌, ◌++◌, length, Option, Some, None, IsTrue, IsFalse, IfOk, OnOk};
-ghost use Rattle.hunk_words.specs.DecoderCore.{Behind, StandsBy, StandsFor, SomeTaken, TakesSome, EndAnswered, Keeps, kept, taker_of};
-ghost use Rattle.hunk_words.specs.Files.{IsValidPrefix};
+ghost use Rattle.std.specs.Prelude.{◌≡◌, ℕ, ◌+◌, ◌*◌, ◌<◌, ◌≤◌, List, [], ◌∷◌, ◌++◌, length, Option, Some, None, IsTrue, IsFalse, IfOk, OnOk};
+ghost use Rattle.hunk_words.specs.DecoderCore.{Behind, StandsBy, StandsFor, SomeTaken, OffsetsTaken, TakesSome, EndAnswered, Keeps, in_offsets, kept, refused_at, taker_of};
+ghost use Rattle.hunk_words.specs.Files.{IsValidPrefix, most_longwords};
 ghost use Rattle.hunk_words.specs.Longwords.{longwords};
 ghost use Rattle.hunk_words.specs.Machine.{IsComplete};
 ghost use Rattle.hunk_words.specs.Reading.{start_of};
@@ -11,7 +11,7 @@ ghost use Rattle.hunk_words.specs.declared.fault.Refusal.{Refusal};
 
 use crate::event::FileKind;
 use crate::fault::{Fault, Reason, Refusal};
-use crate::numbers::{NumberRefusal, take_word, take_words};
+use crate::numbers::{NumberRefusal, take_offset, take_word, take_words};
 use crate::state::{AfterWords, Expected, State};
 use crate::taker::Taker;
 use byteorder::{BigEndian, ByteOrder};
@@ -69,13 +69,66 @@ fn advance<T: Taker>(taker: &mut T, core: CoreState, word: u32) -> CoreState
             place: place + 1,
             refusal: None,
         },
-        Err(NumberRefusal::Refused(reason)) => refused(core, reason),
-        Err(NumberRefusal::OutOfMemory) => CoreState {
-            state,
-            place,
-            refusal: Some(Refusal::OutOfMemory),
+        Err(stop) => CoreState {
+            refusal: Some(refusal_at(place, stop)),
+            ..core
         },
     }
+}
+
+// The error for a longword that is refused at its place.
+fn refusal_at(place: u64, stop: NumberRefusal) -> Refusal
+    ensures { result ≡ refused_at place stop }
+{
+    match stop {
+        NumberRefusal::Refused(reason) => fault(place, reason),
+        NumberRefusal::OutOfMemory => Refusal::OutOfMemory,
+    }
+}
+
+// How many of these longwords can be taken at once, in a run of which so many more follow the next.
+fn run_length(place: u64, more: u32, bytes: &[u8]) -> usize
+    ensures few { result ≤ more }
+    ensures within { 4 * result ≤ length bytes.now }
+    ensures room { 0 < result → place + result ≤ most_longwords }
+{
+    let room = MOST_LONGWORDS.saturating_sub(place).min(u64::from(more));
+    (room as usize).min(bytes.len() / 4)
+}
+
+// The state after a run of this many longwords.
+fn after_run(state: State, due: Expected, place: u64, count: usize) -> CoreState
+    requires room { place + count ≤ most_longwords }
+    ensures { result ≡ record { state = record state { due = due }; place = place + count; refusal = None } }
+{
+    CoreState {
+        state: State { due, ..state },
+        place: place + count as u64,
+        refusal: None,
+    }
+}
+
+// Takes offsets to one hunk. Another offset follows the last, so only the taker judges them.
+fn take_offsets<T: Taker>(
+    taker: &mut T,
+    place: u64,
+    target: u32,
+    bytes: &[u8],
+) -> Result<(), Refusal>
+    requires room { place + length (longwords bytes.now) ≤ most_longwords }
+    ensures taken { (state : State) (more : ℕ) (ws : List ℕ) → length (longwords bytes.now) ≤ more → Behind T.KIND (T.stands_for taker.old) (in_offsets state more target place) ws →
+        OffsetsTaken T.KIND (T.stands_for taker.new) state more target place ws (longwords bytes.now) result }
+    ensures given { T.given taker.new ≡ T.given taker.old }
+{
+    for index in 0..bytes.len() / 4 {
+        let at = 4 * index;
+        let offset = BigEndian::read_u32(&bytes[at..at + 4]);
+        match take_offset(taker, target, offset) {
+            Ok(()) => {}
+            Err(stop) => return Err(refusal_at(place + index as u64, stop)),
+        }
+    }
+    Ok(())
 }
 
 fn fault(place: u64, reason: Reason) -> Refusal
@@ -174,22 +227,14 @@ impl<T: Taker> Core<T> {
         ensures given { T.given (taker_of self.new) ≡ T.given (taker_of self.old) }
     {
         let CoreState { state, place, .. } = self.state;
-        let room = MOST_LONGWORDS.saturating_sub(place).min(u64::from(more));
-        let count = (room as usize).min(bytes.len() / 4);
+        let count = run_length(place, more, bytes);
         if count == 0 {
             return self.take_one(bytes);
         }
         match take_words(&mut self.taker, &bytes[..4 * count]) {
             Ok(()) => {
-                let due = Expected::Word {
-                    more: more - count as u32,
-                    then,
-                };
-                self.state = CoreState {
-                    state: State { due, ..state },
-                    place: place + count as u64,
-                    refusal: None,
-                };
+                let more = more - count as u32;
+                self.state = after_run(state, Expected::Word { more, then }, place, count);
                 Ok(count)
             }
             Err(_) => {
@@ -199,6 +244,39 @@ impl<T: Taker> Core<T> {
                     refusal: Some(Refusal::OutOfMemory),
                 };
                 Err(Refusal::OutOfMemory)
+            }
+        }
+    }
+
+    // Takes longwords of these bytes in a run of offsets to one hunk, without looking up what is
+    // expected for each of them.
+    fn take_sites(&mut self, more: u32, target: u32, bytes: &[u8]) -> Result<usize, Refusal>
+        requires some { 4 ≤ length bytes.now }
+        requires due { self.old.state.state.due ≡ Expected.Offset more target }
+        requires none { kept self.old ≡ None }
+        ensures stands { (ws : List ℕ) → StandsFor T.KIND T.stands_for self.old ws → SomeTaken T.KIND T.stands_for self.new ws bytes.now result }
+        ensures count { TakesSome bytes.now result }
+        ensures kept { Keeps (kept self.new) result }
+        ensures given { T.given (taker_of self.new) ≡ T.given (taker_of self.old) }
+    {
+        let CoreState { state, place, .. } = self.state;
+        let count = run_length(place, more, bytes);
+        if count == 0 {
+            return self.take_one(bytes);
+        }
+        match take_offsets(&mut self.taker, place, target, &bytes[..4 * count]) {
+            Ok(()) => {
+                let more = more - count as u32;
+                self.state = after_run(state, Expected::Offset { more, target }, place, count);
+                Ok(count)
+            }
+            Err(refusal) => {
+                self.state = CoreState {
+                    state,
+                    place,
+                    refusal: Some(refusal),
+                };
+                Err(refusal)
             }
         }
     }
@@ -214,12 +292,13 @@ impl<T: Taker> Core<T> {
     {
         match self.state.state.due {
             Expected::Word { more, then } => self.take_run(more, then, bytes),
+            Expected::Offset { more, target } => self.take_sites(more, target, bytes),
             _ => self.take_one(bytes),
         }
     }
 
     /// Takes all longwords of these bytes, and ignores up to three bytes after them. In a run of
-    /// words, it does not look up what is expected for each of them.
+    /// words or of offsets, it does not look up what is expected for each of them.
     pub(crate) fn words(&mut self, bytes: &[u8]) -> Result<(), Refusal>
         requires { kept self.old ≡ None }
         ensures stands { (ws : List ℕ) → StandsFor T.KIND T.stands_for self.old ws → StandsFor T.KIND T.stands_for self.new (ws ++ longwords bytes.now) }

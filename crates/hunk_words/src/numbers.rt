@@ -1,13 +1,13 @@
 //! The numbers of a file, and the events that they send to a taker.
 
-ghost use Rattle.std.specs.Prelude.{◌≡◌, ℕ, ◌+◌, ◌<◌, ◌^◌, List, [], ◌++◌, length, IfErr, OnOk};
+ghost use Rattle.std.specs.Prelude.{◌≡◌, ℕ, suc, ◌+◌, ◌<◌, ◌^◌, List, [], ◌++◌, length, IfErr, OnOk};
 ghost use Rattle.hunk_words.specs.Kinds.{Field, is_half, width};
 ghost use Rattle.hunk_words.specs.Event.{events, with_event, word_events};
 ghost use Rattle.hunk_words.specs.Files.{AllLong};
 ghost use Rattle.hunk_words.specs.Longwords.{longwords};
 ghost use Rattle.hunk_words.specs.Machine.{due as first_due};
 ghost use Rattle.hunk_words.specs.Reading.{Progress};
-ghost use Rattle.hunk_words.specs.Numbers.{Reached, MayCome, NumberAnswered, WordAnswered};
+ghost use Rattle.hunk_words.specs.Numbers.{Reached, MayCome, NumberAnswered, WordAnswered, at_offset, site_refused, with_state};
 ghost use Rattle.hunk_words.specs.Taker.{JudgesEvent, context_of, sizes_told};
 ghost use Rattle.hunk_words.specs.State.{Around, IsState, SizeIsGiven, expected_view};
 ghost use Rattle.hunk_words.specs.declared.event.Event.{Event};
@@ -44,6 +44,17 @@ fn size_asked<T: Taker>(taker: &T, state: State) -> u32
     }
 }
 
+// Why a number is refused whose site a taker refuses.
+fn refused_site(number: u32, refusal: SiteRefusal) -> NumberRefusal
+    ensures { result ≡ site_refused number refusal }
+{
+    match refusal {
+        SiteRefusal::Outside => NumberRefusal::Refused(Reason::SiteOutside(number)),
+        SiteRefusal::Overlap => NumberRefusal::Refused(Reason::SiteOverlap(number)),
+        SiteRefusal::OutOfMemory => NumberRefusal::OutOfMemory,
+    }
+}
+
 // Sends the taker the event of a number, if it has one.
 fn tell<T: Taker>(taker: &mut T, event: Option<Event>) -> Result<(), SiteRefusal>
     ensures takes { (told : List Event) → T.stands_for taker.old told → length told < 2 ^ 29 → OnOk result (T.stands_for taker.new (told ++ with_event event [])) }
@@ -70,11 +81,21 @@ pub fn take_number<T: Taker>(
     match step(state, size, number) {
         Ok(next) => match tell(taker, next.event) {
             Ok(()) => Ok(next.state),
-            Err(SiteRefusal::Outside) => Err(NumberRefusal::Refused(Reason::SiteOutside(number))),
-            Err(SiteRefusal::Overlap) => Err(NumberRefusal::Refused(Reason::SiteOverlap(number))),
-            Err(SiteRefusal::OutOfMemory) => Err(NumberRefusal::OutOfMemory),
+            Err(refusal) => Err(refused_site(number, refusal)),
         },
         Err(reason) => Err(NumberRefusal::Refused(reason)),
+    }
+}
+
+/// Takes an offset of a list of 32-bit relocations that another offset to the same hunk follows.
+pub fn take_offset<T: Taker>(taker: &mut T, target: u32, offset: u32) -> Result<(), NumberRefusal>
+    ensures answer { (state : State) (more : ℕ) (fs : List Field) (at : Progress) → Reached T.KIND (T.stands_for taker.old) (at_offset state (suc more) target) fs at → length (events fs) + 1 < 2 ^ 29 →
+        WordAnswered T.KIND (T.stands_for taker.new) fs at offset (with_state (at_offset state more target) result) }
+    ensures given { T.given taker.new ≡ T.given taker.old }
+{
+    match taker.take(Event::Site { offset, target }) {
+        Ok(()) => Ok(()),
+        Err(refusal) => Err(refused_site(offset, refusal)),
     }
 }
 

@@ -10,12 +10,12 @@ use Rattle.hunk_words.proofs.decoder_core.Core.take_run.Goals as goal
 pub returns-in-Ok-clause-stands : goal.returns-in-Ok-clause-stands
 returns-in-Ok-clause-stands g c = λ ws stands.
     let s = c.args.self.now.state in
-    let n = c.min-count.result in
+    let n = c.run_length-count.result in
     let front = take (4 * n) c.args.bytes.now in
-    let within : 4 * n ≤ length c.args.bytes.now = omega arith in
+    let within : 4 * n ≤ length c.args.bytes.now = c.run_length-count.ensures.within in
     let some : 0 < n = omega arith in
-    let few : n ≤ c.args.more = omega arith in
-    let room : s.place + n ≤ most_longwords = omega arith in
-    StandsBy-run g.T.Taker.KIND _ _ s.state c.args.more n c.args.then s.place ws (longwords front)
+    let few : n ≤ c.args.more = c.run_length-count.ensures.few in
+    let room : s.place + n ≤ most_longwords = c.run_length-count.ensures.room some in
+    rw c.after_run-self.ensures (StandsBy-run g.T.Taker.KIND _ _ s.state c.args.more n c.args.then s.place ws (longwords front)
     (StandsBy-due g.T.Taker.KIND _ s c.args.more c.args.then ws c.requires.due c.requires.none stands)
-    some few room (length-whole front n (length-take-le (4 * n) c.args.bytes.now within)) c.in-Ok.ensures.long c.in-Ok.ensures.takes
+    some few room (length-whole front n (length-take-le (4 * n) c.args.bytes.now within)) c.in-Ok.ensures.long c.in-Ok.ensures.takes)
