@@ -1,9 +1,16 @@
 //! What the scripts in bench/ measure. The first argument says what:
 //!
-//! - `decode`: the decoder compared with a plain sum of the same longwords (`words`).
+//! - `decode`: the decoder compared with a plain sum of the same longwords.
 //! - `read-file FILE`, `decode-file FILE`, `load-file FILE`: a file read to its end by nothing
-//!   else, by the decoder of load files, by `ImageLoader` (`files`).
-//! - `descending`: the most hunks that a load file may have, at descending bases (`descending`).
+//!   else, by the decoder of load files, by `ImageLoader`.
+//! - `descending`: the most hunks that a load file may have, at descending bases.
+//!
+//! The modules:
+//!
+//! - `words`: what `decode` measures.
+//! - `count`: a taker that counts and sums words.
+//! - `files`: what is measured of a file.
+//! - `descending`: what `descending` measures.
 //!
 //! It prints times, so bench/ runs it and the gate does not: without an argument it prints nothing.
 #![tactic(auto)]

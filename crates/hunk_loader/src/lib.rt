@@ -4,6 +4,10 @@
 //! - `laws`: laws about the definitions of loading.
 //! - `image_loader`: loading a load file while its bytes come.
 //! - `image_reader`: the image of a load file that a reader has.
+//! - `image_builder`: a builder of images from the events of load files.
+//! - `bounded_image_builder`: that builder, with a bound on what it keeps.
+//! - `open_image`: the current hunk of an image.
+//! - `placing`: whether hunks can be placed, as far as their sizes are known.
 //! - `loading`: loading a load file at addresses.
 //! - `places`: whether hunks can be placed at given addresses, and if not, why.
 //! - `sizes`: the sizes of hunks, as numbers or from the hunks themselves.

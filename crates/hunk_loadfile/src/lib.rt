@@ -4,6 +4,7 @@
 //! - `rules`: the rules for the hunks of a load file.
 //! - `load_file`: a load file, made of hunks.
 //! - `load_builder`: a builder of load files from the events of their longwords.
+//! - `open_hunk`: the current hunk of a load file.
 //! - `load_decoder`: load files from bytes.
 //! - `load_writer`: load files as bytes.
 //! - `relocation_writer`: writes the relocation block of a hunk.

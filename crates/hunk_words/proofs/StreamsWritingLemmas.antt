@@ -31,15 +31,6 @@ TookFront-after old between new first text start middle written moved counted to
       taken = subst (Appends old new) (sym (take-append-add first text took.front)) (Appends-trans old between new first (take took.front text) moved took.taken);
     }
 
-TookFront-none : (old : Option (List ℕ)) (text : List ℕ) (start : ℕ) → TookFront old old text start start
-TookFront-none old text start =
-    record {
-      front = 0;
-      within = omega arith;
-      counted = sym (add-zero start);
-      taken = Appends-nil old;
-    }
-
 -- ---- texts of parts
 
 -- the parts of a list, around one of them
@@ -67,10 +58,6 @@ module _ {W : Type 0} (taken : W → Option (List ℕ)) (failed : W → Bool) wh
   -- nothing is written
   pub Wrote-nothing : (old : W) (start : ℕ) → Wrote taken failed old old [] start (Ok start)
   Wrote-nothing old start = (sym (add-zero start), Appends-nil (taken old), refl)
-
-  -- an allocation failed before anything was written
-  pub Wrote-no_memory : (old : W) (text : List ℕ) (start : ℕ) → Wrote taken failed old old text start (Err (OutOfMemory start))
-  Wrote-no_memory old text start = (TookFront-none (taken old) text start, refl)
 
   append : (old between new : W) (first rest : List ℕ) (start middle : ℕ) (r : Result ℕ WriteFault)
       → Wrote taken failed old between first start (Ok middle) → Wrote taken failed between new rest middle r

@@ -14,9 +14,12 @@
 //! - `partial_hunk`: the current hunk of a reader: its sites, and its content so far.
 //! - `taker`: what takes the events of a file.
 //! - `decoder_core`, `decoder`: decode the longwords and the bytes of a file, and send its events
-//!   to a taker. What is expected is a small value, `state`; `step` judges a number by the function
-//!   for its kind, in `type_steps`, `header_steps`, `block_steps` and `short_steps`; `numbers`
-//!   sends its event to the taker.
+//!   to a taker.
+//! - `state`: what is expected next in a file.
+//! - `step`: judges a number by the function for what is expected, which is in one of the next four.
+//! - `type_steps`, `header_steps`, `block_steps`, `short_steps`: numbers of type longwords, headers,
+//!   blocks and lists of 16-bit relocations.
+//! - `numbers`: judges the numbers of a longword, and sends their events to the taker.
 #![tactic(auto)]
 
 mod block_steps;
