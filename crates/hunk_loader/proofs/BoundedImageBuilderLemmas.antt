@@ -1,6 +1,8 @@
 -- How much a builder of an image keeps.
-use Rattle.std.proofs.Common.{◌≡◌, ◌≢◌, ℕ, ◌+◌, ◌*◌, ◌≤◌, List, [], ◌∷◌, ◌++◌, length, map, Option, Some, None, Result, Ok, Err, slice_index, sum_by, refl, ap, subst, ◌∙◌, arith}
+use Rattle.std.proofs.Common.{◌≡◌, ◌≢◌, ℕ, ◌+◌, ◌*◌, ◌≤◌, List, [], ◌∷◌, ◌++◌, length, map, Option, Some, None, Result, Ok, Err, slice_index, sum_by, refl, sym, ap, subst, ◌∙◌, arith}
 use Rattle.std.proofs.lemmas.List.Sums.{sum_by-cons}
+use Rattle.std.specs.declared.alloc.AllocError.{AllocError}
+use Rattle.hunk_words.specs.Event.{word_events}
 use Rattle.hunk_words.specs.EventValue.{EventValue, value_of_events, initial_load}
 use Rattle.hunk_words.specs.Taker.{context_of}
 use Rattle.hunk_words.specs.Values.{Hunk}
@@ -14,7 +16,7 @@ use Rattle.hunk_loadfile.proofs.PatchingLemmas.{length-patched_bytes}
 use Rattle.hunk_loadfile.specs.LoadFile.{file_hunk, with_sites}
 use Rattle.hunk_loadfile.specs.Partial.{file_hunks}
 use Rattle.hunk_loader.specs.BoundedImageBuilder.{IsBoundedBy, IsBounded, SitesInside, bytes_kept, current_bytes}
-use Rattle.hunk_loader.specs.ImageBuilder.{BuilderState, Loads, Shows, StandsFor, TakesEvent, initial_builder}
+use Rattle.hunk_loader.specs.ImageBuilder.{BuilderState, Loads, Shows, StandsFor, TakesEvent, TakesRun, initial_builder}
 use Rattle.hunk_loader.specs.Loading.{loaded_bytes}
 use Rattle.hunk_loader.specs.OpenImage.{CountedHunk}
 use Rattle.hunk_loader.specs.Places.{Placed as ArePlaced}
@@ -142,3 +144,8 @@ KeepsLittle-begun bases = keeps-little (initial_builder bases) [] (StandsFor-beg
 pub KeepsLittle-takes : (m n : BuilderState) (answer : Result (Unit {0}) SiteRefusal) (e : Event) → TakesEvent m n answer e → IsBounded m → IsBounded n
 KeepsLittle-takes m n (Ok d) e t k = keeps-little n (k.told ++ (e ∷ [])) (StandsFor-takes m n (Ok d) e t k.told k.stands)
 KeepsLittle-takes m n (Err r) e t k = keeps-little n k.told (t.refuses (value_of_events initial_load k.told) (context_of Load k.told) k.stands)
+
+-- whether it took the words of a run or returned an error
+pub KeepsLittle-run : (m n : BuilderState) (answer : Result (Unit {0}) AllocError) (us : List ℕ) → TakesRun m n answer us → IsBounded m → IsBounded n
+KeepsLittle-run m n (Ok d) us t k = keeps-little n (k.told ++ word_events us) (t.takes k.told k.stands)
+KeepsLittle-run m n (Err e) us t k = subst IsBounded (sym t.refused) k

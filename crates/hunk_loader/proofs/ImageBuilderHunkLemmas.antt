@@ -1,5 +1,5 @@
 -- A builder of an image when a hunk begins, takes a site, or ends.
-use Rattle.std.proofs.Common.{◌≡◌, ◌≢◌, ℕ, suc, ◌+◌, ◌*◌, ◌<◌, true, List, [], ◌∷◌, ◌++◌, length, map, Some, None, Result, Ok, Err, OnOk, OnErr, slice_index, refl, sym, ap, subst, ◌∙◌, arith}
+use Rattle.std.proofs.Common.{◌≡◌, ◌≢◌, ℕ, suc, ◌+◌, ◌*◌, ◌<◌, List, [], ◌∷◌, ◌++◌, length, map, Some, None, Result, Ok, Err, OnOk, OnErr, slice_index, refl, sym, ap, subst, ◌∙◌, arith}
 use Rattle.std.proofs.lemmas.List.{length-append, length-map}
 use Rattle.std.specs.BTreeMap.{insert_entry}
 use Rattle.std.specs.Ordering.{nat_cmp}
@@ -10,8 +10,7 @@ use Rattle.hunk_words.specs.SiteContext.{SameSites}
 use Rattle.hunk_words.specs.PartialHunk.{HoldsSites, begun_hunk, hunk_with_site}
 use Rattle.hunk_words.specs.Sites.{AreApart}
 use Rattle.hunk_words.specs.Taker.{JudgesSite}
-use Rattle.hunk_words.specs.Values.{Adds, Hunk, Part}
-use Rattle.hunk_words.specs.Values.Adds.{to_hunk}
+use Rattle.hunk_words.specs.Values.{Hunk, Part}
 use Rattle.hunk_words.specs.SiteContext.{SiteContext}
 use Rattle.hunk_words.specs.declared.event.Event.TheVariants as event
 use Rattle.hunk_words.specs.declared.sites.SiteRefusal.{SiteRefusal}

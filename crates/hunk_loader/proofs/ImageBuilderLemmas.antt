@@ -1,11 +1,16 @@
 -- A builder of an image, after one more event.
-use Rattle.std.proofs.Common.{◌≡◌, ◌≢◌, ℕ, zero, suc, ◌≤◌, Bool, true, false, List, [], ◌∷◌, ◌++◌, length, map, Option, Some, None, Result, Ok, Err, OnOk, refl, sym, ap, subst, ◌∙◌, append-nil, arith}
+use Rattle.std.proofs.Common.{◌≡◌, ◌≢◌, ℕ, zero, suc, ◌<◌, ◌≤◌, Bool, true, false, List, [], ◌∷◌, ◌++◌, length, map, Option, Some, None, Result, Ok, Err, OnOk, OnErr, refl, sym, ap, subst, ◌∙◌, append-nil, append_assoc, if◌then◌else◌, arith}
 use Rattle.std.proofs.lemmas.List.{length-append, map-append}
+use Rattle.std.specs.List.{All}
+use Rattle.std.specs.declared.alloc.AllocError.{AllocError}
 use Rattle.byteorder.specs.Endian.{big_bytes}
+use Rattle.hunk_words.specs.Longwords.{IsWhole, longwords}
+use Rattle.hunk_words.proofs.LongwordsByteLemmas.{bytes_of-longwords}
 use Rattle.hunk_words.specs.EventValue.{EventValue, Receiver, value_of_events, step, word_to, value_to, count_to, initial_load}
 use Rattle.hunk_words.specs.EventValue.Receiver.{nothing_more, to_unit_name, to_name, to_content, to_debug, to_symbol, to_entry}
 use Rattle.hunk_words.specs.Name.{bytes_of}
-use Rattle.hunk_words.specs.PartialHunk.{goes_to_content, hunk_with_word}
+use Rattle.hunk_words.specs.Event.{word_events}
+use Rattle.hunk_words.specs.PartialHunk.{goes_to_content, hunk_with_bytes, hunk_with_word}
 use Rattle.hunk_words.specs.Taker.{Judges, context_of}
 use Rattle.hunk_words.specs.Values.{Hunk, Part}
 use Rattle.hunk_words.specs.SiteContext.{SiteContext, initial_context}
@@ -14,11 +19,11 @@ use Rattle.hunk_words.specs.declared.event.Event.TheVariants as event
 use Rattle.hunk_words.specs.declared.event.FileKind.TheVariants.{Load}
 use Rattle.hunk_words.specs.declared.sites.SiteRefusal.{SiteRefusal}
 use Rattle.hunk_words.specs.declared.sites.SiteRefusal.TheVariants.{OutOfMemory}
-use Rattle.hunk_words.proofs.PartialHunkLemmas.{bytes_of-append, hunk_with_word-dropped, hunk_with_word-kept, receiver-content}
+use Rattle.hunk_words.proofs.PartialHunkLemmas.{bytes_of-append, hunk_with_bytes-more, hunk_with_bytes-none, hunk_with_word-dropped, hunk_with_word-kept, receiver-content}
 use Rattle.hunk_words.proofs.TakerLemmas.{value_of_events-append, context_after-append, judges-memory}
 use Rattle.hunk_loadfile.specs.LoadFile.{with_sites}
 use Rattle.hunk_words.specs.SiteContext.{context_with}
-use Rattle.hunk_loader.specs.ImageBuilder.{BuilderState, Holds, Loads, Shows, ShowsNone, ShowsOpen, StandsFor, TakesEvent, passed}
+use Rattle.hunk_loader.specs.ImageBuilder.{BuilderState, Holds, Loads, Shows, ShowsNone, ShowsOpen, StandsFor, TakesEvent, TakesRun, passed}
 use Rattle.hunk_loader.specs.OpenImage.{CountedHunk}
 use Rattle.hunk_loader.specs.declared.placing.Placing.{Placing}
 use Rattle.hunk_loader.specs.declared.placing.Placing.TheVariants.{Unknown, Placed, Refused}
@@ -332,6 +337,66 @@ TakesEvent-word m k o n true words placed current adds fits =
 TakesEvent-word m k o n false words placed current adds fits =
     let same : n ≡ o = adds ∙ ap (λ p. record o { partial = p }) (hunk_with_word-dropped o.partial k words) in
     TakesEvent-word-past m (record m { current = Some n }) k (subst PassesWords (sym current) words) (with-current m (Some n) (current ∙ ap (λ q. Some q) (sym same)))
+
+-- ---- a run of words
+
+-- words that change nothing
+StandsFor-words : (us : List ℕ) (m : BuilderState) (told : List Event) → ((u : ℕ) → TakesEvent m m (Ok tt) (event.Word u)) → StandsFor m told → StandsFor m (told ++ word_events us)
+StandsFor-words [] m told passes h = subst (StandsFor m) (sym (append-nil told)) h
+StandsFor-words (u ∷ us) m told passes h =
+    subst (StandsFor m) (append_assoc told (event.Word u ∷ []) (word_events us))
+    (StandsFor-words us m (told ++ event.Word u ∷ []) passes (StandsFor-takes m m (Ok tt) (event.Word u) (passes u) told h))
+
+-- the current hunk with the bytes of words
+abbrev with_bytes : CountedHunk → List ℕ → CountedHunk
+with_bytes o bytes = record o { partial = hunk_with_bytes o.partial bytes }
+
+word-fits : (o : CountedHunk) (u : ℕ) (more : List ℕ) → length (with_bytes o (big_bytes 4 u ++ more)).partial.content ≤ o.partial.sites.limit → length (with_bytes o (big_bytes 4 u)).partial.content ≤ o.partial.sites.limit
+word-fits o u more fits = go o.partial.in_content fits
+  where
+    go : (kept : Bool) → length (if kept then o.partial.content ++ (big_bytes 4 u ++ more) else o.partial.content) ≤ o.partial.sites.limit → length (if kept then o.partial.content ++ big_bytes 4 u else o.partial.content) ≤ o.partial.sites.limit
+    go true within = omega (arith, within, length-append o.partial.content (big_bytes 4 u ++ more), length-append o.partial.content (big_bytes 4 u), length-append (big_bytes 4 u) more)
+    go false within = within
+
+-- The current hunk takes words, and keeps their bytes if they are content.
+StandsFor-bytes : (us : List ℕ) (m : BuilderState) (o : CountedHunk) (told : List Event) → m.placing ≡ Placed → m.current ≡ Some o → length (with_bytes o (bytes_of us)).partial.content ≤ o.partial.sites.limit → StandsFor m told
+    → StandsFor (record m { current = Some (with_bytes o (bytes_of us)) }) (told ++ word_events us)
+StandsFor-bytes [] m o told placed current fits h =
+    subst (λ p. StandsFor (record m { current = Some (record o { partial = p }) }) (told ++ [])) (sym (hunk_with_bytes-none o.partial))
+    (subst (λ q. StandsFor q (told ++ [])) (sym (with-current m (Some o) current)) (subst (StandsFor m) (sym (append-nil told)) h))
+StandsFor-bytes (u ∷ us) m o told placed current fits h =
+    let n = with_bytes o (big_bytes 4 u) in
+    let next = record m { current = Some n } in
+    let taken = StandsFor-takes m next (Ok tt) (event.Word u) (TakesEvent-word m u o n o.partial.in_content refl placed current refl (word-fits o u (bytes_of us) fits)) told h in
+    let same : with_bytes n (bytes_of us) ≡ with_bytes o (bytes_of (u ∷ us)) = ap (λ p. record o { partial = p }) (hunk_with_bytes-more o.partial u (bytes_of us)) in
+    subst (λ q. StandsFor (record m { current = Some q }) (told ++ word_events (u ∷ us))) same
+    (subst (StandsFor (record m { current = Some (with_bytes n (bytes_of us)) })) (append_assoc told (event.Word u ∷ []) (word_events us))
+    (StandsFor-bytes us next n (told ++ event.Word u ∷ []) placed refl (subst (λ (q : CountedHunk). length q.partial.content ≤ o.partial.sites.limit) (sym same) fits) taken))
+
+pub TakesRun-same : (m n : BuilderState) (us : List ℕ) → ((u : ℕ) → TakesEvent m m (Ok tt) (event.Word u)) → n ≡ m → TakesRun m n (Ok tt) us
+TakesRun-same m n us passes is = record {
+  takes = λ told h. subst (λ q. StandsFor q (told ++ word_events us)) (sym is) (StandsFor-words us m told passes h);
+  refused = tt;
+  bases = ap (λ q. q.bases) is;
+}
+
+-- The current hunk takes the bytes of a run, or is left as it was.
+pub TakesRun-bytes : (m : BuilderState) (o n : CountedHunk) (bytes : List ℕ) (answer : Result (Unit {0}) AllocError) → All (λ b. b < 256) bytes → IsWhole bytes → m.placing ≡ Placed → m.current ≡ Some o
+    → OnOk answer (n ≡ with_bytes o bytes) → length n.partial.content ≤ n.partial.sites.limit → OnErr answer (n ≡ o) → TakesRun m (record m { current = Some n }) answer (longwords bytes)
+TakesRun-bytes m o n bytes (Ok d) typed whole placed current adds fits refused =
+    let same : bytes_of (longwords bytes) ≡ bytes = bytes_of-longwords bytes typed whole in
+    let is : n ≡ with_bytes o (bytes_of (longwords bytes)) = adds ∙ ap (λ bs. with_bytes o bs) (sym same) in
+    record {
+      takes = λ told h. subst (λ q. StandsFor (record m { current = Some q }) (told ++ word_events (longwords bytes))) (sym is)
+          (StandsFor-bytes (longwords bytes) m o told placed current (subst (λ (q : CountedHunk). length q.partial.content ≤ q.partial.sites.limit) is fits) h);
+      refused = tt;
+      bases = refl;
+    }
+TakesRun-bytes m o n bytes (Err e) typed whole placed current adds fits refused = record {
+  takes = λ told h. tt;
+  refused = with-current m (Some n) (current ∙ ap (λ q. Some q) (sym refused));
+  bases = refl;
+}
 
 -- ---- sizes
 

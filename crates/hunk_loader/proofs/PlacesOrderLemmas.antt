@@ -1,5 +1,5 @@
 -- Hunks in order, as far as a loop has come; and hunks in order share no address.
-use Rattle.std.proofs.Common.{◌≡◌, ◌⊎◌, ℕ, ◌+◌, ◌-◌, ◌<◌, ◌≤◌, List, length, subst, arith, slice_index}
+use Rattle.std.proofs.Common.{◌≡◌, ◌⊎◌, ℕ, ◌-◌, ◌<◌, ◌≤◌, List, length, subst, arith, slice_index}
 use Rattle.hunk_loader.specs.Places.{AllApart, IsInOrder, ShareAddress, Takes, end_of}
 use Rattle.hunk_loader.specs.declared.places.Direction.{Direction}
 use Rattle.hunk_loader.specs.declared.places.Direction.TheVariants.{Forward, Backward}

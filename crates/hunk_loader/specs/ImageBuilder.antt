@@ -1,6 +1,8 @@
 -- What a builder of an image holds after events: the partial load file of these events, loaded at the bases.
+use Rattle.std.specs.declared.alloc.AllocError.{AllocError}
 use Rattle.std.specs.Prelude.{◌≡◌, ◌≢◌, ℕ, ◌*◌, ◌<◌, ◌≤◌, false, List, [], ◌∷◌, ◌++◌, length, map, Option, Some, None, Result, Ok, Err, OnOk, OnErr, slice_index}
 use Rattle.hunk_words.specs.EventValue.{EventValue, value_of_events, step, initial_load}
+use Rattle.hunk_words.specs.Event.{word_events}
 use Rattle.hunk_words.specs.Name.{bytes_of}
 use Rattle.hunk_words.specs.PartialHunk.{HoldsContext, goes_to_content}
 use Rattle.hunk_words.specs.Sites.{AreApart}
@@ -121,3 +123,9 @@ pub record TakesEvent (old new : BuilderState) (answer : Result (Unit {0}) SiteR
 
 abbrev pub StandsFor : BuilderState → List Event → Type 0
 StandsFor state told = Holds state (value_of_events initial_load told) (context_of Load told)
+
+-- It takes the words of a run, or is left as it was.
+pub record TakesRun (old new : BuilderState) (answer : Result (Unit {0}) AllocError) (words : List ℕ) : Type 0 where
+  pub takes : (told : List Event) → StandsFor old told → OnOk answer (StandsFor new (told ++ word_events words))
+  pub refused : OnErr answer (new ≡ old)
+  pub bases : new.bases ≡ old.bases

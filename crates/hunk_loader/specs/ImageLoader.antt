@@ -1,13 +1,14 @@
 -- What a loader of an image stands for: the bytes that it was fed, in any pieces.
 use Rattle.std.specs.Prelude.{◌≡◌, ℕ, List, length, Option, Result, Ok, Err}
-use Rattle.hunk_words.specs.Decoder.{StandsFor as DecoderStandsFor}
-use Rattle.hunk_words.specs.DecoderCore.{fields_read, kept}
+use Rattle.hunk_words.specs.Decoder.{StandsFor as DecoderStandsFor, refusal_of as decoder_refusal, taker_of}
+use Rattle.hunk_words.specs.DecoderCore.{fields_read}
 use Rattle.hunk_words.specs.Event.{events}
 use Rattle.hunk_words.specs.Files.{IsValidPrefix}
 use Rattle.hunk_words.specs.FirstOffence.{FirstOffence, OffendsAt}
 use Rattle.hunk_words.specs.Longwords.{longwords, unfinished}
 use Rattle.hunk_words.specs.declared.event.Event.{Event}
 use Rattle.hunk_words.specs.declared.event.FileKind.TheVariants.{Load}
+use Rattle.hunk_words.specs.declared.fault.Refusal.{Refusal}
 use Rattle.hunk_loadfile.specs.LoadFile.{IsLoadOf}
 use Rattle.hunk_loadfile.specs.LoadHunk.{FileHunk}
 use Rattle.hunk_loader.specs.ImageBuilder.{BuilderState, StandsFor as BuilderStandsFor}
@@ -22,7 +23,7 @@ use Rattle.hunk_loader.specs.declared.places.PlaceFault.{PlaceFault}
 
 -- what it holds of the hunks
 abbrev pub holds_of : {A : Type 0} → ImageLoader A → BuilderState
-holds_of loader = loader.decoder.core.taker
+holds_of loader = taker_of loader.decoder
 
 -- the events of bytes
 abbrev pub events_told : List ℕ → List Event
@@ -35,9 +36,13 @@ bases_of loader = (holds_of loader).bases
 abbrev pub StandsFor : {A : Type 0} → ImageLoader A → List ℕ → Type 0
 StandsFor loader bytes = DecoderStandsFor Load BuilderStandsFor loader.decoder bytes
 
--- the refusal that it keeps
+-- the refusal of the file that it keeps
+abbrev pub file_refusal_of : {A : Type 0} → ImageLoader A → Option Refusal
+file_refusal_of loader = decoder_refusal loader.decoder
+
+-- the same as its calls return it
 abbrev pub refusal_of : {A : Type 0} → ImageLoader A → Option LoadRefusal
-refusal_of loader = load_refusals (kept loader.decoder.core)
+refusal_of loader = load_refusals (file_refusal_of loader)
 
 -- The result of a piece after which the bytes are these: they are a valid prefix, or their
 -- longwords offend here.

@@ -8,7 +8,7 @@ use crate::image::Image;
 use crate::image_builder::ImageBuilder;
 use crate::loading::LoadRefusal;
 use hunk_words::{Event, FileKind, SiteRefusal, Taker};
-use std::alloc::Allocator;
+use std::alloc::{AllocError, Allocator};
 use std::marker::Model;
 
 /// A builder of an image with a bound on its memory: at all times, after an error too, it has taken
@@ -60,10 +60,16 @@ impl<A: Allocator + Copy> Taker for BoundedImageBuilder<A> {
 
     const KIND: FileKind = FileKind::Load;
 
-    // Inlined as `ImageBuilder::take` is, so that a run of words makes no call per word.
+    // Inlined as `ImageBuilder::take` is.
     #[inline(always)]
     fn take(&mut self, event: Event) -> Result<(), SiteRefusal> {
         self.builder.take(event)
+    }
+
+    // Content is most of a file, so the bytes of a run of it are copied at once.
+    fn take_words(&mut self, bytes: &[u8]) -> Result<bool, AllocError> {
+        self.builder.add_bytes(bytes)?;
+        Ok(true)
     }
 
     fn size_of(&self, hunk: u32) -> u32 {

@@ -1,8 +1,9 @@
 //! The image of a load file, made from its events.
 
 ghost use Rattle.std.specs.Prelude.{◌≡◌, OnOk, OnErr, slice_index};
+ghost use Rattle.hunk_words.specs.Longwords.{IsWhole, longwords};
 ghost use Rattle.hunk_words.specs.declared.event.Event.{Event};
-ghost use Rattle.hunk_loader.specs.ImageBuilder.{IsImage, KeepsHunk, TakesEvent, initial_builder, passed};
+ghost use Rattle.hunk_loader.specs.ImageBuilder.{IsImage, KeepsHunk, TakesEvent, TakesRun, initial_builder, passed};
 ghost use Rattle.hunk_loader.specs.Placing.{Settled};
 
 use crate::image::Image;
@@ -115,7 +116,6 @@ impl<A: Allocator + Copy> ImageBuilder<A> {
     }
 
     /// Takes a word. Content is kept if the hunks are placed.
-    #[inline(always)]
     fn add_word(&mut self, word: u32) -> Result<(), SiteRefusal>
         ensures { TakesEvent self.old self.new result (Event.Word word) }
     {
@@ -128,6 +128,21 @@ impl<A: Allocator + Copy> ImageBuilder<A> {
                 Ok(()) => Ok(()),
                 Err(_) => Err(SiteRefusal::OutOfMemory),
             },
+            None => Ok(()),
+        }
+    }
+
+    /// Takes the bytes of a run of words. Content is kept if the hunks are placed.
+    pub(crate) fn add_bytes(&mut self, bytes: &[u8]) -> Result<(), AllocError>
+        requires { IsWhole bytes.now }
+        ensures { TakesRun self.old self.new result (longwords bytes.now) }
+    {
+        match self.placing {
+            Placing::Unknown | Placing::Refused(_) => return Ok(()),
+            Placing::Placed => {}
+        }
+        match &mut self.current {
+            Some(current) => current.add_bytes(bytes),
             None => Ok(()),
         }
     }
@@ -198,7 +213,7 @@ impl<A: Allocator + Copy> ImageBuilder<A> {
     }
 
     /// Takes the next event.
-    // Content is most of a file, so a run of words should make no call per word.
+    // Each relocation is an event, so a run of them should make no call for its event.
     #[inline(always)]
     pub(crate) fn take(&mut self, event: Event) -> Result<(), SiteRefusal>
         ensures { TakesEvent self.old self.new result event }

@@ -1,7 +1,6 @@
 //! Loading a load file at given addresses while its bytes come, in pieces of any size.
 
 ghost use Rattle.std.specs.Prelude.{◌≡◌, ℕ, ◌++◌, List, [], Some, None, IfOk, OnOk};
-ghost use Rattle.hunk_words.specs.DecoderCore.{kept};
 ghost use Rattle.hunk_words.specs.declared.fault.Refusal.{Refusal};
 ghost use Rattle.hunk_loader.specs.declared.loading.LoadRefusal.{LoadRefusal};
 
@@ -90,11 +89,11 @@ impl<A: Allocator + Copy> ImageLoader<A> {
 }
 
 impl<A: Allocator + Copy> Feed for ImageLoader<A> {
-    ghost use Rattle.hunk_loader.specs.ImageLoader.{StandsFor, bases_of};
+    ghost use Rattle.hunk_loader.specs.ImageLoader.{StandsFor, bases_of, file_refusal_of};
 
     ghost stands_for = { StandsFor };
 
-    ghost refused = { λ loader refusal. kept loader.decoder.core ≡ Some refusal };
+    ghost refused = { λ loader refusal. file_refusal_of loader ≡ Some refusal };
 
     ghost given = { bases_of };
 

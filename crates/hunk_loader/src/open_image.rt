@@ -1,7 +1,7 @@
 //! The current hunk of an image: its bytes so far, and its sites.
 
 ghost use Rattle.std.specs.Prelude.{◌≡◌, ℕ, ◌*◌, ◌≤◌, List, ◌∷◌, false, length, slice_index, IfOk, OnOk, OnErr};
-ghost use Rattle.hunk_words.specs.PartialHunk.{HoldsSites, begun_hunk, hunk_with_site, hunk_with_word};
+ghost use Rattle.hunk_words.specs.PartialHunk.{HoldsSites, begun_hunk, hunk_with_bytes, hunk_with_site, hunk_with_word};
 ghost use Rattle.hunk_words.specs.Sites.{AreApart};
 ghost use Rattle.hunk_words.specs.Taker.{JudgesSite};
 ghost use Rattle.hunk_loadfile.specs.Patching.{patched_bytes};
@@ -52,13 +52,21 @@ impl<A: Allocator + Copy> OpenImage<A> {
 
     /// Takes a word, which is kept if it is content. Fails if an allocation failed, or if the hunk
     /// is full, in which case the decoder has already rejected the file.
-    #[inline(always)]
     pub(crate) fn add_word(&mut self, word: u32) -> Result<(), AllocError>
         ensures adds { OnOk result (self.new ≡ record self.old { partial = hunk_with_word self.old.partial word }) }
         ensures fits { length self.new.partial.content ≤ self.new.partial.sites.limit }
         ensures refused { OnErr result (self.new ≡ self.old) }
     {
         self.partial.add_word(word)
+    }
+
+    /// Takes the bytes of a run of words, as [`OpenImage::add_word`] takes a word.
+    pub(crate) fn add_bytes(&mut self, bytes: &[u8]) -> Result<(), AllocError>
+        ensures adds { OnOk result (self.new ≡ record self.old { partial = hunk_with_bytes self.old.partial bytes.now }) }
+        ensures fits { length self.new.partial.content ≤ self.new.partial.sites.limit }
+        ensures refused { OnErr result (self.new ≡ self.old) }
+    {
+        self.partial.add_bytes(bytes)
     }
 
     /// Takes a site. Returns `OutOfMemory` too if the file has no hunk `target`, in which case the

@@ -9,11 +9,9 @@ pub mod LoadWriterLemmas
 pub mod OpenHunkLemmas
 pub mod LoadBuilderLemmas
 pub mod PartialLemmas
-pub mod LoadDecoderLemmas
 pub mod WrittenFormInsertLemmas
 pub mod WrittenFormSiteLemmas
 pub mod WrittenFormTree
-pub mod WrittenFormContentLemmas
 pub mod WrittenFormPartLemmas
 pub mod WrittenFormSpellingLemmas
 pub mod WrittenFormValueLemmas

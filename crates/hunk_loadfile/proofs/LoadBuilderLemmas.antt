@@ -1,5 +1,5 @@
 -- What a builder of load files holds, after one more event.
-use Rattle.std.proofs.Common.{◌≡◌, ℕ, suc, Bool, true, false, ◌+◌, ◌*◌, ◌<◌, ◌≤◌, List, [], ◌∷◌, ◌++◌, length, length-append, map, Vec, get_or, slice_index, slice_index_or, Result, Ok, Err, MatchResult, OnOk, OnErr, refl, sym, ap, subst, ◌∙◌, arith}
+use Rattle.std.proofs.Common.{◌≡◌, ℕ, suc, Bool, true, false, ◌+◌, ◌*◌, ◌<◌, ◌≤◌, List, [], ◌∷◌, ◌++◌, length, length-append, map, Vec, get_or, slice_index, slice_index_or, Result, Ok, Err, MatchResult, OnOk, OnErr, refl, sym, ap, subst, ◌∙◌, append-nil, append_assoc, arith}
 use Rattle.std.proofs.lemmas.List.{map_push}
 use Rattle.hunk_words.specs.Values.{Hunk, empty, with_tables, one_site, one_symbol}
 use Rattle.hunk_words.specs.Values.Adds.{to_hunk}
@@ -10,14 +10,19 @@ use Rattle.hunk_words.specs.OpenName.{Opens}
 use Rattle.hunk_words.specs.Taker.{context_of}
 use Rattle.hunk_words.specs.SiteContext.{SiteContext, initial_context}
 use Rattle.hunk_words.specs.declared.event.Event.{Event}
-use Rattle.hunk_words.specs.declared.event.Event.TheVariants.{HunkSize, Content, Site, Value, HunkEnd}
+use Rattle.hunk_words.specs.declared.event.Event.TheVariants.{HunkSize, Content, Word, Site, Value, HunkEnd}
 use Rattle.hunk_words.specs.declared.event.FileKind.TheVariants.{Load}
 use Rattle.hunk_words.specs.declared.name.open_name.OpenName.{OpenName}
+use Rattle.std.specs.declared.alloc.AllocError.{AllocError}
 use Rattle.hunk_words.specs.declared.sites.SiteRefusal.{SiteRefusal}
 use Rattle.hunk_words.proofs.TakerLemmas.{value_of_events-append, context_after-append}
 use Rattle.hunk_loadfile.specs.LoadHunk.{FileHunk}
 use Rattle.hunk_loadfile.specs.LoadFile.{file_hunk}
-use Rattle.hunk_words.specs.PartialHunk.{goes_to_content}
+use Rattle.hunk_words.specs.Event.{word_events}
+use Rattle.hunk_words.specs.Name.{bytes_of}
+use Rattle.hunk_words.specs.PartialHunk.{goes_to_content, hunk_with_bytes, hunk_with_word}
+use Rattle.hunk_words.proofs.PartialHunkLemmas.{hunk_with_bytes-more, hunk_with_bytes-none}
+use Rattle.hunk_loadfile.proofs.OpenHunkLemmas.{takes-word}
 use Rattle.hunk_words.specs.declared.kinds.HunkKind.{HunkKind}
 use Rattle.hunk_loadfile.specs.OpenHunk.{Shows, Takes, TakesSite, told_with_word}
 use Rattle.hunk_loadfile.specs.Partial.{file_hunks}
@@ -228,6 +233,23 @@ takes-next old new (Err r) e told steps h = tt
 pub refuses-next : {A E : Type 0} (old new : LoadBuilder A) (answer : Result (Unit {0}) E) (e : Event) (told : List Event) → Steps old new answer e → StandsFor old told → OnErr answer (StandsFor new told)
 refuses-next old new (Ok d) e told steps h = tt
 refuses-next old new (Err r) e told steps h = steps _ _ h
+
+-- ---- a run of words
+
+-- The hunk takes words that nothing else takes, and keeps their bytes if they are content.
+pub StandsFor-bytes : {A : Type 0} (us : List ℕ) (b : LoadBuilder A) (told : List Event) → b.receiver ≡ Receiving.Hunk → StandsFor b told
+    → StandsFor (record b { hunk = record b.hunk { partial = hunk_with_bytes b.hunk.partial (bytes_of us) } }) (told ++ word_events us)
+StandsFor-bytes [] b told is h =
+    subst (λ p. StandsFor (record b { hunk = record b.hunk { partial = p } }) (told ++ [])) (sym (hunk_with_bytes-none b.hunk.partial))
+    (subst (λ es. StandsFor b es) (sym (append-nil told)) h)
+StandsFor-bytes (u ∷ us) b told is h =
+    let hunk = record b.hunk { partial = hunk_with_word b.hunk.partial u } in
+    let next = record b { hunk = hunk } in
+    let steps : Steps {E = AllocError} b next (Ok tt) (Word u) = λ built context held.
+    Holds-word {E = AllocError} b hunk (Ok tt) u built.receiver built context refl (subst (λ r. Receives r built.receiver) is held.receiver) (takes-word b.hunk (hunk_with_word b.hunk.partial u) (Ok tt) u refl tt) held in
+    let rest = StandsFor-bytes us next (told ++ Word u ∷ []) is (takes-next {E = AllocError} b next (Ok tt) (Word u) told steps h) in
+    subst (λ p. StandsFor (record b { hunk = record b.hunk { partial = p } }) (told ++ word_events (u ∷ us))) (hunk_with_bytes-more b.hunk.partial u (bytes_of us))
+    (subst (λ es. StandsFor (record b { hunk = record b.hunk { partial = hunk_with_bytes (hunk_with_word b.hunk.partial u) (bytes_of us) } }) es) (append_assoc told (Word u ∷ []) (word_events us)) rest)
 
 -- a site is an event that the hunk takes
 pub steps-site : {A : Type 0} (b : LoadBuilder A) (k : OpenHunk A) (answer : Result (Unit {0}) SiteRefusal) (o t : ℕ) → TakesSite b.hunk k answer o t → Steps b (record b { hunk = k }) answer (Site o t)

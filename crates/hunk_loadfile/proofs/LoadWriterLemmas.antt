@@ -11,7 +11,9 @@ use Rattle.hunk_loadfile.specs.LoadHunk.{FileHunk}
 use Rattle.hunk_loadfile.specs.Rules.{IsLoadFile, IsLoadHunk, carried_by, debug_longwords, most_size, symbol_longwords}
 use Rattle.hunk_loadfile.specs.WrittenForm.{content_words, debug_words, header_words, hunk_words, site_words, size_word, symbols_words}
 use Rattle.hunk_loadfile.proofs.WrittenFormLengthLemmas.{length-content_words-le, length-debugs, length-hunks-le, length-site_words-le, length-symbols_words-le}
-use Rattle.hunk_loadfile.proofs.LongwordWriterLemmas.{bytes_of-append, bytes_of-longwords, length-bytes_of}
+use Rattle.hunk_loadfile.proofs.LongwordWriterLemmas.{bytes_of-append, length-bytes_of}
+use Rattle.hunk_words.proofs.LongwordsByteLemmas.{bytes_of-longwords}
+use Rattle.hunk_words.proofs.LongwordsLemmas.{IsWhole-length}
 
 -- ---- sizes
 
@@ -36,7 +38,7 @@ pub content-text : (count : ℕ) (h : FileHunk) (head bytes : List ℕ) → IsLo
     → bytes_of (content_words h.kind h.size (longwords h.content)) ≡ bytes_of head ++ bytes
 content-text count h head bytes valid is same =
     ap bytes_of (sym is) ∙ bytes_of-append head (longwords h.content)
-    ∙ ap (λ (t : List ℕ). bytes_of head ++ t) (bytes_of-longwords h.content valid.typed.bytes valid.whole ∙ sym same)
+    ∙ ap (λ (t : List ℕ). bytes_of head ++ t) (bytes_of-longwords h.content valid.typed.bytes (IsWhole-length h.content valid.whole) ∙ sym same)
 
 pub content-short : (count : ℕ) (h : FileHunk) (head bytes : List ℕ) → IsLoadHunk count h → head ++ longwords h.content ≡ content_words h.kind h.size (longwords h.content) → bytes ≡ h.content
     → length (bytes_of head) + length bytes ≤ 4 * (2 + h.size)

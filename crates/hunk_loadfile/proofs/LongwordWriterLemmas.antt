@@ -1,19 +1,18 @@
 -- Longwords that are written one after another, and what the parts of a load file amount to.
-use Rattle.std.proofs.Common.{◌≡◌, ◌==◌, ◌<◌, ◌≤◌, ◌+◌, ◌*◌, ◌/◌, ◌%◌, ◌-◌, ◌∙◌, ℕ, zero, suc, List, [], ◌∷◌, ◌++◌, length, map, take, get_or, replicate, Bool, false, Option, Result, Ok, Err, Vec, sym, ap, refl, subst, append_assoc, arith}
+use Rattle.std.proofs.Common.{◌≡◌, ◌==◌, ◌<◌, ◌≤◌, ◌+◌, ◌*◌, ◌-◌, ◌∙◌, ℕ, zero, suc, List, [], ◌∷◌, ◌++◌, length, map, take, get_or, replicate, Bool, false, Option, Result, Ok, Err, Vec, sym, ap, refl, subst, append_assoc, arith}
 use Rattle.byteorder.specs.Endian.{big_bytes}
 use Rattle.std.proofs.lemmas.Grind.{flat_map-append}
 use Rattle.std.proofs.lemmas.List.{get_or-map, length-append, length-map, length-replicate, map-append}
-use Rattle.std.proofs.lemmas.List.Elements.{recursion_from_All}
-use Rattle.std.specs.List.{All, AllByRecursion, flat_map}
-use Rattle.hunk_words.specs.Longwords.{longwords, unfinished}
+use Rattle.std.specs.List.{All, flat_map}
+use Rattle.hunk_words.specs.Longwords.{longwords}
 use Rattle.hunk_words.specs.Name.{IsNameByte, bytes_of, longword_count, name_words}
 use Rattle.hunk_words.specs.Streams.{Wrote}
 use Rattle.hunk_words.specs.declared.fault.WriteFault.{WriteFault}
-use Rattle.hunk_words.proofs.LongwordsLemmas.{length-whole, unfinished-none}
-use Rattle.hunk_words.proofs.NameLemmas.{big_bytes-of_four, length-name_words, name_words-writes}
+use Rattle.hunk_words.proofs.LongwordsLemmas.{length-whole}
+use Rattle.hunk_words.proofs.NameLemmas.{length-name_words, name_words-writes}
 use Rattle.hunk_words.proofs.StreamsWritingLemmas.{Wrote-more, Wrote-part, Wrote-stop, Wrote-then}
 use Rattle.hunk_words.specs.declared.kinds.HunkKind.TheVariants.{Code, Data, Bss}
-use Rattle.hunk_loadfile.specs.LoadHunk.{lists_of}
+use Rattle.hunk_words.specs.DebugInfo.{lists_of}
 use Rattle.hunk_loadfile.specs.WrittenForm.{content_words, symbol_words, symbols_words}
 
 -- ---- bytes of longwords
@@ -154,20 +153,6 @@ lists_of-at {A = A} vs index v ws within is items =
     items ∙ ap (λ (u : Vec ℕ A). u.items) is ∙ sym (get_or-map (λ (u : Vec ℕ A). u.items) vs index v ws within)
 
 -- ---- content
-
-whole-bytes : (bytes : List ℕ) → AllByRecursion (λ b. b < 256) bytes → unfinished bytes ≡ [] → bytes_of (longwords bytes) ≡ bytes
-whole-bytes [] h whole = refl
-whole-bytes (a ∷ []) h whole = cc
-whole-bytes (a ∷ b ∷ []) h whole = cc
-whole-bytes (a ∷ b ∷ c ∷ []) h whole = cc
-whole-bytes (a ∷ b ∷ c ∷ d ∷ bytes) h whole =
-    ap (λ (t : List ℕ). t ++ bytes_of (longwords bytes)) (big_bytes-of_four a b c d [] h.0 h.1.0 h.1.1.0 h.1.1.1.0)
-    ∙ ap (λ (t : List ℕ). a ∷ b ∷ c ∷ d ∷ t) (whole-bytes bytes h.1.1.1.1 whole)
-
--- whole longwords of bytes, as bytes
-pub bytes_of-longwords : (bytes : List ℕ) → All (λ b. b < 256) bytes → length bytes % 4 ≡ 0 → bytes_of (longwords bytes) ≡ bytes
-bytes_of-longwords bytes h whole =
-    whole-bytes bytes (recursion_from_All (λ b. b < 256) bytes h) (unfinished-none bytes (length bytes / 4) (omega arith))
 
 pub content_words-code : (size stored : ℕ) (bytes : List ℕ) → 4 * stored ≡ length bytes → 1001 ∷ stored ∷ longwords bytes ≡ content_words Code size (longwords bytes)
 content_words-code size stored bytes count = ap (λ (n : ℕ). 1001 ∷ n ∷ longwords bytes) (sym (length-whole bytes stored (sym count)))

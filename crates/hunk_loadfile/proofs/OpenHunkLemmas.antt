@@ -1,9 +1,8 @@
 -- What the current hunk shows, after one more event.
-use Rattle.std.proofs.Common.{◌≡◌, ℕ, zero, suc, ◌+◌, ◌<◌, ◌≤◌, List, [], ◌∷◌, ◌++◌, length, map, Bool, true, false, Result, Ok, Err, OnOk, OnErr, Vec, if◌then◌else◌, get_or, slice_set, refl, sym, ap, subst, ◌∙◌, append-nil, arith}
+use Rattle.std.proofs.Common.{◌≡◌, ℕ, List, [], ◌∷◌, ◌++◌, map, Bool, true, false, Result, Ok, Err, OnOk, OnErr, if◌then◌else◌, refl, sym, ap, subst, ◌∙◌, append-nil}
 use Rattle.std.specs.BTreeMap.{insert_entry}
 use Rattle.std.specs.Ordering.{nat_cmp}
 use Rattle.byteorder.specs.Endian.{big_bytes}
-use Rattle.hunk_words.specs.EventValue.{on_last}
 use Rattle.hunk_words.specs.Name.{bytes_of, name_of}
 use Rattle.hunk_words.specs.PartialHunk.{HunkSoFar, HoldsSites, begun_hunk, hunk_with_site, hunk_with_word}
 use Rattle.hunk_words.specs.Values.{Hunk, Adds, with_tables, one_site}
@@ -11,7 +10,6 @@ use Rattle.hunk_words.specs.Values.Adds.{to_hunk}
 use Rattle.hunk_words.specs.declared.kinds.HunkKind.{HunkKind}
 use Rattle.hunk_words.specs.declared.sites.SiteRefusal.{SiteRefusal}
 use Rattle.hunk_words.proofs.PartialHunkLemmas.{AddsSite, HoldsSites-begun, bytes_of-append, hunk_with_word-kept, hunk_with_word-dropped}
-use Rattle.hunk_loadfile.specs.LoadHunk.{lists_of}
 use Rattle.hunk_loadfile.specs.LoadFile.{with_site, with_sites}
 use Rattle.hunk_loadfile.specs.OpenHunk.{Shows, Takes, TakesSite, told_with_word}
 use Rattle.hunk_loadfile.specs.declared.open_hunk.OpenHunk.{OpenHunk}
@@ -90,19 +88,3 @@ Shows-begun h partial kind limit before seen in_content told bits size is no_con
   symbols = shows.symbols;
   debugs = shows.debugs;
 }
-
--- ---- the last debug block
-
-pub lists_of-last : {A : Type 0} (vecs : List (Vec ℕ A)) (i w : ℕ) (old new : Vec ℕ A) → length vecs ≡ suc i → old ≡ get_or vecs i old → new.items ≡ old.items ++ (w ∷ [])
-    → lists_of (slice_set vecs i new) ≡ on_last (λ ws. ws ++ (w ∷ [])) (lists_of vecs)
-lists_of-last [] i w old new count is grows = absurd (omega arith)
-lists_of-last (v ∷ []) zero w old new count is grows = ap (λ ws. ws ∷ []) (grows ∙ ap (λ u. u.items ++ (w ∷ [])) is)
-lists_of-last (v ∷ []) (suc i) w old new count is grows = absurd (omega arith)
-lists_of-last (v ∷ u ∷ vecs) zero w old new count is grows = absurd (omega arith)
-lists_of-last (v ∷ u ∷ vecs) (suc i) w old new count is grows = ap (λ ws. v.items ∷ ws) (lists_of-last (u ∷ vecs) i w old new (omega arith) is grows)
-
-pub lists_of-same : {A : Type 0} (vecs : List (Vec ℕ A)) (i : ℕ) (old new : Vec ℕ A) → i < length vecs → old ≡ get_or vecs i old → new.items ≡ old.items
-    → lists_of (slice_set vecs i new) ≡ lists_of vecs
-lists_of-same [] i old new within is same = absurd (omega arith)
-lists_of-same (v ∷ vecs) zero old new within is same = ap (λ ws. ws ∷ lists_of vecs) (same ∙ ap (λ u. u.items) is)
-lists_of-same (v ∷ vecs) (suc i) old new within is same = ap (λ ws. v.items ∷ ws) (lists_of-same vecs i old new (omega arith) is same)

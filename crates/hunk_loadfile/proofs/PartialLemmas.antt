@@ -1,9 +1,9 @@
 -- The partial load file after the events of a whole file is that file.
-use Rattle.std.proofs.Common.{◌≡◌, ℕ, List, [], ◌∷◌, length, map, refl, sym, ap, ◌∙◌}
-use Rattle.hunk_words.specs.Trees.{LoadHunkTree, LoadTree}
+use Rattle.std.proofs.Common.{◌≡◌, ℕ, List, sym, ap, ◌∙◌}
+use Rattle.hunk_words.specs.Trees.{LoadTree}
 use Rattle.hunk_words.specs.Spelling.{load_spelling, LoadFits}
 use Rattle.hunk_words.specs.Event.{events}
-use Rattle.hunk_words.specs.Values.{load_sizes, load_hunk_values}
+use Rattle.hunk_words.specs.Values.{load_sizes}
 use Rattle.hunk_words.specs.EventValue.{value_of_events, initial_load}
 use Rattle.hunk_words.specs.DecoderCore.{TellsFile}
 use Rattle.hunk_words.specs.declared.event.Event.{Event}

@@ -29,7 +29,8 @@ use Rattle.hunk_words.proofs.SitesLemmas.{StandFrom-insert_entry, target_at-inse
 use Rattle.hunk_words.proofs.TakerLemmas.{SameSites-more, SameSites-none}
 use Rattle.hunk_loadfile.specs.LoadFile.{IsLoad, file_hunk, load_hunk_value, load_value, with_sites}
 use Rattle.hunk_loadfile.specs.LoadHunk.{FileHunk}
-use Rattle.hunk_loadfile.specs.Rules.{IsLoadFile, IsLoadHunk, IsLongword, IsTypedSymbol, carried_longwords, carried_by, most_content, most_name, size_of, symbol_longwords}
+use Rattle.hunk_loadfile.specs.Rules.{IsLoadFile, IsLoadHunk, IsLongword, IsTypedSymbol, carried_longwords, carried_by, most_content, size_of, symbol_longwords}
+use Rattle.hunk_objects.specs.UnitHunk.{most_name}
 use Rattle.hunk_loadfile.proofs.LongwordWriterLemmas.{length-bytes_of}
 use Rattle.hunk_loadfile.proofs.LoadFileSpellingLemmas.{ContentFits, HunkFits, SitesFit, SymbolFits, hunks-fit, long_count, long_count-le, sizes-fit, symbol_count, told_count, value_of}
 

@@ -25,7 +25,8 @@ use Rattle.hunk_words.specs.FieldLongwords.{longwords_of}
 use Rattle.hunk_words.proofs.NameLemmas.{length-name_words, name_words-lt}
 use Rattle.hunk_words.proofs.SpellingBitLemmas.{type_longword-low, type_longword-type}
 use Rattle.hunk_words.proofs.KindsTypeLemmas.{type-reloc, type-symbol, type-debug, type-end}
-use Rattle.hunk_loadfile.specs.Rules.{IsLongword, IsTypedSymbol, debug_longwords, most_name}
+use Rattle.hunk_loadfile.specs.Rules.{IsLongword, IsTypedSymbol, debug_longwords}
+use Rattle.hunk_objects.specs.UnitHunk.{most_name}
 use Rattle.hunk_loadfile.specs.WrittenForm.{debug_words, group_words, groups_words, offsets_to, site_words, symbol_words, symbols_words}
 use Rattle.hunk_loadfile.proofs.WrittenFormTree.{debug_trees, group_tree, group_trees, site_trees, symbol_of, symbol_trees}
 use Rattle.hunk_loadfile.proofs.WrittenFormSiteLemmas.{AreFree, IsClear, clear-behind, clear-start, free-offsets}

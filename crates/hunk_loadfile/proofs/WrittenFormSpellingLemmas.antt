@@ -25,11 +25,12 @@ use Rattle.hunk_words.specs.declared.kinds.HunkKind.TheVariants.{Code, Data, Bss
 use Rattle.hunk_words.specs.declared.kinds.Memory.{Memory}
 use Rattle.hunk_words.specs.declared.kinds.Memory.TheVariants.{Any, Chip, Fast}
 use Rattle.hunk_loadfile.specs.LoadHunk.{FileHunk}
-use Rattle.hunk_loadfile.specs.Rules.{IsLoadFile, IsLoadHunk, IsLongword, IsTypedSymbol, carried_longwords, carried_by, most_name, size_of}
+use Rattle.hunk_loadfile.specs.Rules.{IsLoadFile, IsLoadHunk, IsLongword, IsTypedSymbol, carried_longwords, carried_by, size_of}
+use Rattle.hunk_objects.specs.UnitHunk.{most_name}
 use Rattle.hunk_loadfile.specs.WrittenForm.{content_words, debug_words, hunk_words, memory_bits, site_words, size_word, symbols_words, written_form}
 use Rattle.hunk_loadfile.proofs.LoadHunkLemmas.{most_content-le}
 use Rattle.hunk_loadfile.proofs.WrittenFormTree.{body_tree, content_tree, debug_trees, file_tree, hunk_tree, site_trees, symbol_trees}
-use Rattle.hunk_loadfile.proofs.WrittenFormContentLemmas.{longwords-lt}
+use Rattle.hunk_words.proofs.LongwordsByteLemmas.{longwords-long}
 use Rattle.hunk_loadfile.proofs.WrittenFormPartLemmas.{Spells, reject_unless-holds, spells-begin, spells-debugs, spells-next, spells-sites, spells-size, spells-symbols, spells-words, type_longword-is, type_longword-plain}
 
 -- ---- hunks
@@ -61,7 +62,7 @@ spells-hunk count last h fs ws within few small carries valid rest =
     subst (λ us. Spells [] (hunk_at (hunk_type last h.size) (in_load last h.size) None (body_tree count h) fs) us)
     (sym (regroup (content_words h.kind h.size (longwords h.content)) (site_words count h.sites.entries) (symbols_words h.symbols) (flat_map debug_words h.debugs) (1010 ∷ []) ws))
     (spells-content h.kind last h.size (longwords h.content) (site_trees count h.sites.entries ++ (symbol_trees h.symbols ++ debugs)) fs _ stored small
-    (longwords-lt h.content (recursion_from_All (λ b. b < 256) h.content valid.typed.bytes))
+    (longwords-long h.content valid.typed.bytes)
     (spells-sites last h.size (4 * h.size) count h.sites.entries (symbol_trees h.symbols ++ debugs) fs _ within few (omega arith) entries stand (λ seen.
     spells-symbols last h.size (4 * h.size) h.symbols debugs seen fs _ (recursion_from_All IsTypedSymbol h.symbols valid.typed.symbols)
     (recursion_from_All (λ s. length s.0 ≤ most_name) h.symbols valid.names)

@@ -1,17 +1,17 @@
 -- The value of the tree of a written load file is that file.
-use Rattle.std.proofs.Common.{◌≡◌, ◌∙◌, ℕ, zero, suc, ◌+◌, ◌*◌, ◌%◌, ◌<◌, ◌≤◌, List, [], ◌∷◌, ◌++◌, length, map, refl, ap, sym, subst, arith}
+use Rattle.std.proofs.Common.{◌≡◌, ◌∙◌, ℕ, zero, suc, ◌+◌, ◌*◌, ◌<◌, ◌≤◌, List, [], ◌∷◌, ◌++◌, length, map, refl, ap, sym, subst, arith}
 use Rattle.std.specs.List.{All, AllByRecursion}
 use Rattle.std.proofs.lemmas.List.{append-nil}
 use Rattle.std.proofs.lemmas.List.Elements.{All-head, All-tail, recursion_from_All}
 use Rattle.hunk_words.specs.Kinds.{Within}
 use Rattle.hunk_words.specs.Kinds.Within.{in_load}
-use Rattle.hunk_words.specs.Longwords.{longwords}
+use Rattle.hunk_words.specs.Longwords.{longwords, IsWhole}
 use Rattle.hunk_words.specs.Name.{bytes_of, name_of, name_words}
 use Rattle.hunk_words.specs.Sites.{StandFrom}
 use Rattle.hunk_words.specs.Trees.{Group}
 use Rattle.hunk_words.specs.Values.{Adds, HunkTables, merged, tables_of_blocks, content_value, tables_of_groups, hunk_value, one_debug, one_site, one_symbol, tables_of_sites, tables_of_symbols}
 use Rattle.hunk_words.specs.Values.Adds.{to_hunk}
-use Rattle.hunk_words.proofs.LongwordsLemmas.{list-none}
+use Rattle.hunk_words.proofs.LongwordsLemmas.{list-none, IsWhole-length}
 use Rattle.hunk_words.proofs.NameLemmas.{length-name_words, name_of-name_words}
 use Rattle.hunk_words.specs.declared.kinds.HunkKind.{HunkKind}
 use Rattle.hunk_words.specs.declared.kinds.HunkKind.TheVariants.{Code, Data, Bss}
@@ -23,7 +23,7 @@ use Rattle.hunk_words.specs.Kinds.{memory_of}
 use Rattle.hunk_loadfile.specs.Rules.{IsLoadFile, IsLoadHunk, IsTypedSymbol, most_content}
 use Rattle.hunk_loadfile.specs.WrittenForm.{memory_bits, offsets_to}
 use Rattle.hunk_loadfile.proofs.WrittenFormInsertLemmas.{put_in-all, sites_from, sites_to}
-use Rattle.hunk_loadfile.proofs.WrittenFormContentLemmas.{bytes_of-longwords}
+use Rattle.hunk_words.proofs.LongwordsByteLemmas.{bytes_of-longwords}
 use Rattle.hunk_loadfile.proofs.WrittenFormTree.{body_tree, content_tree, debug_trees, file_tree, group_tree, group_trees, hunk_tree, site_trees, symbol_of, symbol_trees}
 
 -- ---- what the blocks mean
@@ -121,7 +121,7 @@ read-told Code w told size ws = refl
 read-told Data w told size ws = refl
 read-told Bss w told size ws = refl
 
-read-content : (kind : HunkKind) (w : Within) (told : HunkTables) (size : ℕ) (content : List ℕ) → AllByRecursion (λ b. b < 256) content → length content % 4 ≡ 0 → length content ≤ most_content kind size
+read-content : (kind : HunkKind) (w : Within) (told : HunkTables) (size : ℕ) (content : List ℕ) → All (λ b. b < 256) content → IsWhole content → length content ≤ most_content kind size
     → bytes_of (content_value w [] told (content_tree kind size (longwords content))).content ≡ content
 read-content Code w told size content bytes whole fits = bytes_of-longwords content bytes whole
 read-content Data w told size content bytes whole fits = bytes_of-longwords content bytes whole
@@ -148,7 +148,7 @@ read-hunk last count h valid =
     let told = read-told h.kind w (tables_of_blocks 0 (body_tree count h).blocks) h.size (longwords h.content) ∙ told-blocks 0 count h.sites.entries h.symbols h.debugs in
     let stand = subst (λ limit. StandFrom 0 limit h.sites.entries) valid.limit valid.typed.apart in
     let sites = read-sites count (4 * h.size) h.sites.entries stand (recursion_from_All (λ e. e.1 < count) h.sites.entries valid.targets) in
-    let content = read-content h.kind w (tables_of_blocks 0 (body_tree count h).blocks) h.size h.content (recursion_from_All (λ b. b < 256) h.content valid.typed.bytes) valid.whole valid.content in
+    let content = read-content h.kind w (tables_of_blocks 0 (body_tree count h).blocks) h.size h.content valid.typed.bytes (IsWhole-length h.content valid.whole) valid.content in
     ap (λ k. hunk_of k (memory_of (memory_bits h.memory)) h.size (bytes_of value.content) (4 * h.size) (with_sites [] value.tables.sites) (named value.tables) value.tables.debugs)
     (read-kind h.kind w (tables_of_blocks 0 (body_tree count h).blocks) h.size (longwords h.content))
     ∙ ap (λ m. hunk_of h.kind m h.size (bytes_of value.content) (4 * h.size) (with_sites [] value.tables.sites) (named value.tables) value.tables.debugs) (read-memory h.memory)

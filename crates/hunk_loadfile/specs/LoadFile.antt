@@ -1,6 +1,6 @@
 -- The meaning of a load file: the value of its tree, as a list of hunks; and which longwords are
 -- the file of which hunks.
-use Rattle.std.specs.Prelude.{◌≡◌, ℕ, zero, suc, ◌*◌, List, [], ◌∷◌, length, map}
+use Rattle.std.specs.Prelude.{◌≡◌, ℕ, ◌*◌, List, [], ◌∷◌, length, map}
 use Rattle.std.specs.BTreeMap.{insert_entry}
 use Rattle.std.specs.Ordering.{nat_cmp}
 use Rattle.hunk_words.specs.Kinds.{memory_of}

@@ -1,6 +1,6 @@
 -- The hunks of a load file, as contracts see them: records of their fields, with every Vec as a
 -- list.
-use Rattle.std.specs.Prelude.{ℕ, List, Vec, map}
+use Rattle.std.specs.Prelude.{ℕ, List}
 use Rattle.hunk_words.specs.Sites.{SiteMap}
 use Rattle.hunk_words.specs.declared.kinds.HunkKind.{HunkKind}
 use Rattle.hunk_words.specs.declared.kinds.Memory.{Memory}
@@ -16,7 +16,3 @@ pub record FileHunk : Type 0 where
   pub sites : SiteMap ℕ
   pub symbols : List (List ℕ × ℕ)
   pub debugs : List (List ℕ)
-
--- the elements of Vecs
-abbrev pub lists_of : {A T : Type 0} → List (Vec T A) → List (List T)
-lists_of vecs = map (λ v. v.items) vecs

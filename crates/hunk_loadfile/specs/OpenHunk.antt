@@ -6,7 +6,6 @@ use Rattle.hunk_words.specs.PartialHunk.{HoldsSites}
 use Rattle.hunk_words.specs.Taker.{JudgesSite}
 use Rattle.hunk_words.specs.declared.sites.SiteRefusal.{SiteRefusal}
 use Rattle.hunk_words.specs.Name.{bytes_of, name_of}
-use Rattle.hunk_loadfile.specs.LoadHunk.{lists_of}
 use Rattle.hunk_loadfile.specs.LoadFile.{with_sites}
 use Rattle.hunk_loadfile.specs.declared.open_hunk.OpenHunk.{OpenHunk}
 
@@ -18,8 +17,8 @@ pub record Shows {A : Type 0} (hunk : OpenHunk A) (limit : ℕ) (seen : List ℕ
   pub sites : hunk.partial.sites.entries ≡ with_sites [] told.tables.sites
   pub holds : HoldsSites limit seen hunk.partial
   pub words : hunk.partial.in_content ≡ in_content
-  pub symbols : hunk.symbols.items ≡ map (λ s. (name_of s.0, s.1)) told.tables.symbols
-  pub debugs : lists_of hunk.debugs.items ≡ told.tables.debugs
+  pub symbols : hunk.debug_info.symbols ≡ map (λ s. (name_of s.0, s.1)) told.tables.symbols
+  pub debugs : hunk.debug_info.debugs ≡ told.tables.debugs
 
 -- It takes a part of the hunk, or is left as it was.
 pub record Takes {A E : Type 0} (old new : OpenHunk A) (answer : Result (Unit {0}) E) (more : Bool → Hunk → Hunk) : Type 0 where

@@ -102,7 +102,6 @@ impl<A: Allocator + Copy> LoadBuilder<A> {
         Ok(())
     }
 
-    #[inline(always)]
     fn add_word(&mut self, word: u32) -> Result<(), AllocError>
         ensures { Steps self.old self.new result (Event.Word word) }
     {
@@ -180,7 +179,6 @@ impl<A: Allocator + Copy> LoadBuilder<A> {
     }
 
     // Takes an event that is not a site.
-    #[inline(always)]
     fn build(&mut self, event: Event) -> Result<(), AllocError>
         ensures steps { Steps self.old self.new result event }
         ensures no_reference { (offset : ℕ) → event ≡ Event.RefSite offset → IsErr result }
@@ -221,7 +219,7 @@ impl<A: Allocator + Copy> Taker for LoadBuilder<A> {
 
     const KIND: FileKind = FileKind::Load;
 
-    // Content is most of a file, so a run of words should make no call per word.
+    // Each relocation is an event, so a run of them should make no call for its event.
     #[inline(always)]
     fn take(&mut self, event: Event) -> Result<(), SiteRefusal> {
         match event {
@@ -231,6 +229,16 @@ impl<A: Allocator + Copy> Taker for LoadBuilder<A> {
                 Err(_) => Err(SiteRefusal::OutOfMemory),
             },
         }
+    }
+
+    // Content is most of a file, so the bytes of a run of it are copied at once.
+    fn take_words(&mut self, bytes: &[u8]) -> Result<bool, AllocError> {
+        match &self.receiver {
+            Receiver::Hunk => {}
+            _ => return Ok(false),
+        }
+        self.hunk.add_bytes(bytes)?;
+        Ok(true)
     }
 
     fn size_of(&self, hunk: u32) -> u32 {

@@ -1,8 +1,8 @@
 //! Load files from bytes.
 ghost use Rattle.std.specs.Prelude.{◌≡◌, ℕ, ◌+◌, ◌<◌, ◌^◌, List, [], ◌++◌, length, Some, None, Err, IfOk, IfErr, OnOk, IsTrue};
+ghost use Rattle.hunk_words.specs.Decoder.{RefusesBytes, RefusesInput, RefusesRead, refusal_of};
 ghost use Rattle.hunk_words.specs.DecoderCore.{Keeps};
 ghost use Rattle.hunk_words.specs.Files.{IsValidPrefix};
-ghost use Rattle.hunk_loadfile.specs.LoadDecoder.{RefusesRead};
 ghost use Rattle.hunk_loadfile.specs.LoadFile.{IsLoadOf};
 ghost use Rattle.hunk_words.specs.Longwords.{longwords};
 ghost use Rattle.hunk_words.specs.Streams.{HasRead};
@@ -36,7 +36,7 @@ impl<A: Allocator + Copy> Model for LoadDecoder<A> {
 }
 
 impl<A: Allocator + Copy> LoadDecoder<A> {
-    ghost use Rattle.hunk_loadfile.specs.LoadDecoder.{StandsFor, RefusesBytes, RefusesInput, refusal_of};
+    ghost use Rattle.hunk_loadfile.specs.LoadDecoder.{StandsFor};
 
     /// A decoder before the first byte. Does not allocate.
     pub fn new(alloc: A) -> Self
@@ -63,7 +63,7 @@ impl<A: Allocator + Copy> LoadDecoder<A> {
         ensures kept { Keeps (refusal_of self.new) result }
         ensures again { (refusal : Refusal) → refusal_of self.old ≡ Some refusal → result ≡ Err refusal }
         ensures front { OnOk result ((bytes : List ℕ) → StandsFor self.new bytes → IsValidPrefix Load (longwords bytes)) }
-        ensures refused { IfErr result (λ refusal. (bytes : List ℕ) → StandsFor self.new bytes → RefusesBytes bytes refusal) }
+        ensures refused { IfErr result (λ refusal. (bytes : List ℕ) → StandsFor self.new bytes → RefusesBytes Load bytes refusal) }
         ensures bounded { OnOk result ((bytes : List ℕ) → StandsFor self.new bytes → length bytes < 2 ^ 30 + 4) }
         ensures empty { piece.now ≡ [] → self.new ≡ self.old }
     {
@@ -79,7 +79,7 @@ impl<A: Allocator + Copy> LoadDecoder<A> {
     /// and `OutOfMemory` is returned in no other case.
     pub fn finish(self) -> Result<LoadFile<A>, Refusal>
         ensures file { IfOk result (λ file. (bytes : List ℕ) → StandsFor self bytes → IsLoadOf file bytes) }
-        ensures refused { IfErr result (λ refusal. (bytes : List ℕ) → StandsFor self bytes → RefusesInput bytes refusal) }
+        ensures refused { IfErr result (λ refusal. (bytes : List ℕ) → StandsFor self bytes → RefusesInput Load bytes refusal) }
         ensures again { (refusal : Refusal) → refusal_of self ≡ Some refusal → result ≡ Err refusal }
         ensures memory { result ≡ Err Refusal.OutOfMemory → refusal_of self ≡ Some Refusal.OutOfMemory }
     {
@@ -91,7 +91,7 @@ impl<A: Allocator + Copy> LoadDecoder<A> {
 }
 
 impl<A: Allocator + Copy> Feed for LoadDecoder<A> {
-    ghost use Rattle.hunk_loadfile.specs.LoadDecoder.{StandsFor, refusal_of};
+    ghost use Rattle.hunk_loadfile.specs.LoadDecoder.{StandsFor};
 
     ghost stands_for = { StandsFor };
 
@@ -117,7 +117,7 @@ pub fn read_load<R: Source, A: Allocator + Copy>(
 ) -> Result<LoadFile<A>, ReadFault>
     ensures file { IfOk result (λ file. HasRead (R.left reader.old) (R.left reader.new) (IsLoadOf file)) }
     ensures ended { OnOk result (IsTrue (R.ended reader.new)) }
-    ensures refused { IfErr result (RefusesRead (R.left reader.old) (R.left reader.new) (R.ended reader.new) (R.failed reader.new)) }
+    ensures refused { IfErr result (RefusesRead Load (R.left reader.old) (R.left reader.new) (R.ended reader.new) (R.failed reader.new)) }
 {
     let mut decoder = LoadDecoder::new(alloc);
     read_all(reader, &mut decoder)?;
@@ -216,6 +216,7 @@ mod tests {
         ];
         for (count, place, reason) in rows {
             let want = Refusal::Fault(Fault { place, reason });
+            assert!(rt; count <= FILE.len());
             let mut decoder = LoadDecoder::new(rt.alloc());
             decoder.feed(&FILE[..count])?;
             assert_eq!(rt; decoder.finish().err(), Some(want));

@@ -29,7 +29,8 @@ pub struct LoadHunk<A: Allocator + Copy = Global> {
 }
 
 impl<A: Allocator + Copy> Model for LoadHunk<A> {
-    ghost use Rattle.hunk_loadfile.specs.LoadHunk.{FileHunk, lists_of};
+    ghost use Rattle.hunk_words.specs.DebugInfo.{lists_of};
+    ghost use Rattle.hunk_loadfile.specs.LoadHunk.{FileHunk};
 
     ghost Value = { FileHunk };
 

@@ -1,23 +1,22 @@
 //! The current hunk of a load file.
-ghost use Rattle.std.specs.Prelude.{◌≡◌, ℕ, ◌*◌, Bool, true, false, List, [], ◌∷◌, ◌++◌, IsTrue, IsFalse, OnErr};
+ghost use Rattle.std.specs.Prelude.{◌≡◌, ℕ, ◌*◌, Bool, true, false, List, [], ◌∷◌, ◌++◌, IsTrue, IsFalse, OnOk, OnErr};
 ghost use Rattle.hunk_words.specs.EventValue.{on_last};
 ghost use Rattle.hunk_words.specs.OpenName.{Opens};
+ghost use Rattle.hunk_words.specs.PartialHunk.{hunk_with_bytes};
 ghost use Rattle.hunk_words.specs.Values.{Hunk, empty, with_tables, one_debug, one_symbol};
 ghost use Rattle.hunk_loadfile.specs.LoadFile.{file_hunk};
 ghost use Rattle.hunk_words.specs.Kinds.{memory_of};
 
 use crate::load_hunk::LoadHunk;
-use hunk_words::{HunkKind, Memory, Name, OpenName, PartialHunk, SiteRefusal};
+use hunk_words::{DebugInfo, HunkKind, Memory, OpenName, PartialHunk, SiteRefusal};
 use std::alloc::{AllocError, Allocator};
-use std::mem;
 
 /// A hunk of a load file that has not ended. If an allocation fails, it is left as it was.
 #[derive(Debug, Drop)]
 pub(crate) struct OpenHunk<A: Allocator + Copy> {
     kind: HunkKind,
     partial: PartialHunk<u32, A>,
-    symbols: Vec<(Name<A>, u32), A>,
-    debugs: Vec<Vec<u32, A>, A>,
+    debug_info: DebugInfo<A>,
 }
 
 impl<A: Allocator + Copy> OpenHunk<A> {
@@ -30,8 +29,7 @@ impl<A: Allocator + Copy> OpenHunk<A> {
         OpenHunk {
             kind: HunkKind::Bss,
             partial: PartialHunk::new(alloc, limit),
-            symbols: Vec::new(alloc),
-            debugs: Vec::new(alloc),
+            debug_info: DebugInfo::new(alloc),
         }
     }
 
@@ -58,11 +56,18 @@ impl<A: Allocator + Copy> OpenHunk<A> {
     }
 
     /// Takes a word, which is kept if it is content.
-    #[inline(always)]
     pub(crate) fn add_word(&mut self, word: u32) -> Result<(), AllocError>
         ensures { Takes self.old self.new result (told_with_word word) }
     {
         self.partial.add_word(word)
+    }
+
+    /// Takes the bytes of a run of words, which are kept if they are content.
+    pub(crate) fn add_bytes(&mut self, bytes: &[u8]) -> Result<(), AllocError>
+        ensures takes { OnOk result (self.new ≡ record self.old { partial = hunk_with_bytes self.old.partial bytes.now }) }
+        ensures refuses { OnErr result (self.new ≡ self.old) }
+    {
+        self.partial.add_bytes(bytes)
     }
 
     /// The next word is not content.
@@ -89,33 +94,21 @@ impl<A: Allocator + Copy> OpenHunk<A> {
         ensures takes { (words : List ℕ) → Opens name.old words → Takes self.old self.new result (λ in_content told. with_tables told (one_symbol words value)) }
         ensures name { OnErr result (name.new ≡ name.old) }
     {
-        self.symbols.reserve(1)?;
-        let whole = mem::replace(name, OpenName::new(alloc));
-        self.symbols.push_reserved((whole.close(), value));
-        Ok(())
+        self.debug_info.add_symbol(alloc, name, value)
     }
 
     /// Begins a debug block.
     pub(crate) fn add_debug(&mut self, alloc: A) -> Result<(), AllocError>
         ensures { Takes self.old self.new result (λ in_content told. with_tables told (one_debug [])) }
     {
-        match self.debugs.push(Vec::new(alloc)) {
-            Ok(()) => Ok(()),
-            Err(_) => Err(AllocError),
-        }
+        self.debug_info.begin_debug(alloc)
     }
 
     /// Takes a longword of the last debug block, if there is one.
     pub(crate) fn add_debug_word(&mut self, word: u32) -> Result<(), AllocError>
         ensures { Takes self.old self.new result (λ in_content told. record told { tables = record told.tables { debugs = on_last (λ ws. ws ++ word ∷ []) told.tables.debugs } }) }
     {
-        match self.debugs.last_mut() {
-            Some(debug) => match debug.push(word) {
-                Ok(()) => Ok(()),
-                Err(_) => Err(AllocError),
-            },
-            None => Ok(()),
-        }
+        self.debug_info.add_debug_word(word)
     }
 
     /// The hunk, with the memory and the size that the header has for it.
@@ -123,14 +116,15 @@ impl<A: Allocator + Copy> OpenHunk<A> {
         ensures { (bits : ℕ) (seen : List ℕ) (in_content : Bool) (told : Hunk) → Shows self (4 * size) seen in_content told → memory ≡ memory_of bits → result ≡ file_hunk bits size told }
     {
         let (content, sites) = self.partial.into_parts();
+        let (symbols, debugs) = self.debug_info.into_lists();
         LoadHunk {
             kind: self.kind,
             memory,
             size,
             content,
             sites,
-            symbols: self.symbols,
-            debugs: self.debugs,
+            symbols,
+            debugs,
         }
     }
 }

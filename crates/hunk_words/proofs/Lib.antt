@@ -37,9 +37,11 @@ pub mod FirstOffenceLemmas
 pub mod LongwordsByteLemmas
 pub mod DecoderCoreLemmas
 pub mod DecoderLemmas
+pub mod DecoderRefusalLemmas
 pub mod DecoderCoreRunLemmas
 pub mod DecoderCoreOffsetsLemmas
 pub mod OpenNameLemmas
 pub mod TakerLemmas
 pub mod PartialHunkLemmas
+pub mod DebugInfoLemmas
 pub mod ExamplesLemmas

@@ -1,11 +1,13 @@
 -- Longwords, as bytes and back.
-use Rattle.std.proofs.Common.{◌≡◌, ℕ, zero, suc, ◌^◌, ◌<◌, List, [], ◌∷◌, refl, ap, ◌∙◌, slice_index, arith}
+use Rattle.std.proofs.Common.{◌≡◌, ℕ, zero, suc, ◌^◌, ◌<◌, List, [], ◌∷◌, ◌++◌, refl, ap, ◌∙◌, slice_index, get_or, Fits, w8, arith}
 use Rattle.std.specs.List.{All, AllByRecursion}
-use Rattle.std.proofs.lemmas.List.Elements.{recursion_from_All}
+use Rattle.std.proofs.Math.Facts.{Fits-lt-pow}
+use Rattle.std.proofs.lemmas.List.Elements.{recursion_from_All, All-from_get_or}
 use Rattle.byteorder.specs.Numbers.{big_from-lt, big_number-reads_back}
 use Rattle.hunk_words.specs.Files.{AllLong}
 use Rattle.hunk_words.specs.Longwords.{longwords, IsWhole}
 use Rattle.hunk_words.specs.Name.{bytes_of}
+use Rattle.hunk_words.proofs.NameLemmas.{big_bytes-of_four}
 
 go : (ws : List ℕ) → AllByRecursion (λ w. w < 2 ^ 32) ws → longwords (bytes_of ws) ≡ ws
 go [] h = refl
@@ -20,6 +22,23 @@ longwords-bytes_of ws h = go ws (recursion_from_All (λ w. w < 2 ^ 32) ws h)
 pub bytes_of-IsWhole : (ws : List ℕ) → IsWhole (bytes_of ws)
 bytes_of-IsWhole [] = refl
 bytes_of-IsWhole (w ∷ ws) = bytes_of-IsWhole ws
+
+whole-bytes : (bytes : List ℕ) → AllByRecursion (λ b. b < 256) bytes → IsWhole bytes → bytes_of (longwords bytes) ≡ bytes
+whole-bytes [] h whole = refl
+whole-bytes (a ∷ []) h whole = cc
+whole-bytes (a ∷ b ∷ []) h whole = cc
+whole-bytes (a ∷ b ∷ c ∷ []) h whole = cc
+whole-bytes (a ∷ b ∷ c ∷ d ∷ bytes) h whole =
+    ap (λ (t : List ℕ). t ++ bytes_of (longwords bytes)) (big_bytes-of_four a b c d [] h.0 h.1.0 h.1.1.0 h.1.1.1.0)
+    ∙ ap (λ (t : List ℕ). a ∷ b ∷ c ∷ d ∷ t) (whole-bytes bytes h.1.1.1.1 whole)
+
+-- whole bytes are those of their longwords
+pub bytes_of-longwords : (bytes : List ℕ) → All (λ b. b < 256) bytes → IsWhole bytes → bytes_of (longwords bytes) ≡ bytes
+bytes_of-longwords bytes typed whole = whole-bytes bytes (recursion_from_All (λ b. b < 256) bytes typed) whole
+
+-- the bytes of a slice
+pub are-bytes : (bytes : List ℕ) → ((i : ℕ) → Fits w8 (get_or bytes i 0)) → All (λ b. b < 256) bytes
+are-bytes bytes typed = All-from_get_or (λ b. b < 256) bytes 0 (λ i within. Fits-lt-pow (typed i))
 
 -- four bytes, one by one
 four-bytes : (a b c d : ℕ) → a < 256 → b < 256 → c < 256 → d < 256 → (k : ℕ) → slice_index (a ∷ b ∷ c ∷ d ∷ []) k < 256

@@ -1,9 +1,9 @@
 -- Longwords of bytes that come in pieces: lemmas that go four bytes at a time.
-use Rattle.std.proofs.Common.{◌≡◌, ℕ, ◌+◌, ◌*◌, ◌≤◌, List, [], ◌∷◌, ◌++◌, length, take, drop, refl, sym, ap, ◌∙◌, append_assoc, length-drop, arith}
+use Rattle.std.proofs.Common.{◌≡◌, ℕ, ◌+◌, ◌*◌, ◌/◌, ◌%◌, ◌≤◌, List, [], ◌∷◌, ◌++◌, length, take, drop, refl, sym, ap, ◌∙◌, append_assoc, length-drop, arith}
 use Rattle.std.proofs.Math.Seq.{take-add}
 use Rattle.std.proofs.lemmas.List.{append-nil, take-append-drop, length-take-le}
 use Rattle.byteorder.specs.Endian.{big_number}
-use Rattle.hunk_words.specs.Longwords.{longwords, unfinished}
+use Rattle.hunk_words.specs.Longwords.{longwords, unfinished, IsWhole}
 
 pub unfinished-append : (bytes more : List ℕ) → unfinished (bytes ++ more) ≡ unfinished (unfinished bytes ++ more)
 unfinished-append [] more = refl
@@ -55,6 +55,10 @@ list-none (b ∷ bytes) none = absurd (omega arith)
 
 pub unfinished-none : (bytes : List ℕ) (n : ℕ) → length bytes ≡ 4 * n → unfinished bytes ≡ []
 unfinished-none bytes n whole = list-none (unfinished bytes) (omega (arith, length-longwords bytes, length-unfinished bytes))
+
+-- a number of bytes that four divides is whole
+pub IsWhole-length : (bytes : List ℕ) → length bytes % 4 ≡ 0 → IsWhole bytes
+IsWhole-length bytes whole = unfinished-none bytes (length bytes / 4) (omega arith)
 
 longwords-four : (bytes : List ℕ) → length bytes ≡ 4 → longwords bytes ≡ big_number 4 bytes ∷ []
 longwords-four [] four = absurd (omega arith)

@@ -11,35 +11,35 @@ use Rattle.hunk_words.proofs.PageLemmas.{LieWithin-weaker, LieWithin-append, Lie
 
 -- the sites of a page lie there
 pub LieInPages-page_at : {T : Type 0} (first number : ℕ) (pages : List (List (ℕ × T)))
-    → LieInPages first pages → LieWithin (1024 * (first + number)) (1024 * (first + number) + 1027) (page_at pages number)
+    → LieInPages first pages → LieWithin (4096 * (first + number)) (4096 * (first + number) + 4099) (page_at pages number)
 LieInPages-page_at first number [] within = tt
-LieInPages-page_at first zero (page ∷ pages) within = LieWithin-weaker (1024 * first) (1024 * first + 1027) (1024 * (first + 0)) (1024 * (first + 0) + 1027) page (omega arith) (omega arith) within.0
+LieInPages-page_at first zero (page ∷ pages) within = LieWithin-weaker (4096 * first) (4096 * first + 4099) (4096 * (first + 0)) (4096 * (first + 0) + 4099) page (omega arith) (omega arith) within.0
 LieInPages-page_at first (suc number) (page ∷ pages) within =
-    LieWithin-weaker (1024 * (first + 1 + number)) (1024 * (first + 1 + number) + 1027) (1024 * (first + suc number)) (1024 * (first + suc number) + 1027) (page_at pages number)
+    LieWithin-weaker (4096 * (first + 1 + number)) (4096 * (first + 1 + number) + 4099) (4096 * (first + suc number)) (4096 * (first + suc number) + 4099) (page_at pages number)
     (omega arith) (omega arith) (LieInPages-page_at (first + 1) number pages within.1)
 
 -- and the sites of all pages between their ends
 pub LieInPages-all_sites : {T : Type 0} (first : ℕ) (pages : List (List (ℕ × T)))
-    → LieInPages first pages → LieWithin (1024 * first) (1024 * (first + length pages) + 3) (all_sites pages)
+    → LieInPages first pages → LieWithin (4096 * first) (4096 * (first + length pages) + 3) (all_sites pages)
 LieInPages-all_sites first [] within = tt
 LieInPages-all_sites first (page ∷ pages) within =
-    let low : ℕ = 1024 * first in
-    let high : ℕ = 1024 * (first + suc (length pages)) + 3 in
+    let low : ℕ = 4096 * first in
+    let high : ℕ = 4096 * (first + suc (length pages)) + 3 in
     LieWithin-append low high page (all_sites pages)
-    (LieWithin-weaker (1024 * first) (1024 * first + 1027) low high page (omega arith) (omega arith) within.0)
-    (LieWithin-weaker (1024 * (first + 1)) (1024 * (first + 1 + length pages) + 3) low high (all_sites pages) (omega arith) (omega arith) (LieInPages-all_sites (first + 1) pages within.1))
+    (LieWithin-weaker (4096 * first) (4096 * first + 4099) low high page (omega arith) (omega arith) within.0)
+    (LieWithin-weaker (4096 * (first + 1)) (4096 * (first + 1 + length pages) + 3) low high (all_sites pages) (omega arith) (omega arith) (LieInPages-all_sites (first + 1) pages within.1))
 
 -- a look-up looks at one page
 pub target_at-all_sites : {T : Type 0} (first number offset : ℕ) (pages : List (List (ℕ × T)))
-    → LieInPages first pages → 1024 * (first + number) ≤ offset → offset < 1024 * (first + number) + 1024
+    → LieInPages first pages → 4096 * (first + number) ≤ offset → offset < 4096 * (first + number) + 4096
     → target_at (all_sites pages) offset ≡ target_at (page_at pages number) offset
 target_at-all_sites first number offset [] within low high = refl
 target_at-all_sites first zero offset (page ∷ pages) within low high =
     target_at-append_left offset page (all_sites pages)
-    (target_at-outside (1024 * (first + 1)) (1024 * (first + 1 + length pages) + 3) offset (all_sites pages) (LieInPages-all_sites (first + 1) pages within.1) (inl (omega arith)))
+    (target_at-outside (4096 * (first + 1)) (4096 * (first + 1 + length pages) + 3) offset (all_sites pages) (LieInPages-all_sites (first + 1) pages within.1) (inl (omega arith)))
 target_at-all_sites first (suc number) offset (page ∷ pages) within low high =
     target_at-append_right offset page (all_sites pages)
-    (target_at-outside (1024 * first) (1024 * first + 1027) offset page within.0 (inr (omega arith)))
+    (target_at-outside (4096 * first) (4096 * first + 4099) offset page within.0 (inr (omega arith)))
     ∙ target_at-all_sites (first + 1) number offset pages within.1 (omega arith) (omega arith)
 
 -- what is found in a page is found
@@ -54,12 +54,12 @@ Meets-all_sites number offset pages meets = (meets.0, IsSome-all_sites number me
 -- a site meets none where it meets none of its page, of the page of the third byte before it, and of the page that its last
 -- byte lies in
 pub Meets-pages : {T : Type 0} (offset before number after : ℕ) (pages : List (List (ℕ × T))) → LieInPages 0 pages
-    → before ≡ (offset - 3) / 1024 → number ≡ offset / 1024 → after ≡ (offset + 3) / 1024
+    → before ≡ (offset - 3) / 4096 → number ≡ offset / 4096 → after ≡ (offset + 3) / 4096
     → (before < number → Meets (page_at pages before) offset → ⊥) → (number < after → Meets (page_at pages after) offset → ⊥)
     → (Meets (page_at pages number) offset → ⊥) → Meets (all_sites pages) offset → ⊥
 Meets-pages offset before number after pages within is_before is_number is_after free_before free_after free meets =
     let other : ℕ = meets.0 in
-    let its : ℕ = other / 1024 in
+    let its : ℕ = other / 4096 in
     let near : SharesByte offset other = meets.2 in
     let here : target_at (all_sites pages) other ≡ target_at (page_at pages its) other = target_at-all_sites 0 its other pages within (omega arith) (omega arith) in
     let found : IsSome (target_at (page_at pages its) other) = rw here at meets.1 in
@@ -87,7 +87,7 @@ Meets-place offset number (Some place) pages free some = IsFreePlace-free offset
 
 -- what a look at its own page says, where those beside it have no site that it meets
 pub Meets-own_place : {T : Type 0} (offset before number after : ℕ) (place : Option ℕ) (pages : List (List (ℕ × T))) → LieInPages 0 pages
-    → before ≡ (offset - 3) / 1024 → number ≡ offset / 1024 → after ≡ (offset + 3) / 1024
+    → before ≡ (offset - 3) / 4096 → number ≡ offset / 4096 → after ≡ (offset + 3) / 4096
     → (before < number → Meets (page_at pages before) offset → ⊥) → (number < after → Meets (page_at pages after) offset → ⊥)
     → MatchOption place (Meets (page_at pages number) offset) (IsFreePlace (page_at pages number) offset)
     → MatchOption place (Meets (all_sites pages) offset) (λ _. Meets (all_sites pages) offset → ⊥)
@@ -99,25 +99,25 @@ Meets-own_place offset before number after (Some place) pages within is_before i
 
 -- an insertion into its page is an insertion into all sites
 pub all_sites-set : {T : Type 0} (first number offset : ℕ) (target : T) (pages : List (List (ℕ × T)))
-    → LieInPages first pages → number < length pages → 1024 * (first + number) ≤ offset → offset < 1024 * (first + number) + 1024
+    → LieInPages first pages → number < length pages → 4096 * (first + number) ≤ offset → offset < 4096 * (first + number) + 4096
     → all_sites (set pages number (insert_entry nat_cmp (page_at pages number) offset target)) ≡ insert_entry nat_cmp (all_sites pages) offset target
 all_sites-set first number offset target [] within inside low high = absurd (omega arith)
 all_sites-set first zero offset target (page ∷ pages) within inside low high =
-    sym (insert_entry-append_left (1024 * (first + 1)) (1024 * (first + 1 + length pages) + 3) offset target page (all_sites pages) (LieInPages-all_sites (first + 1) pages within.1) (omega arith))
+    sym (insert_entry-append_left (4096 * (first + 1)) (4096 * (first + 1 + length pages) + 3) offset target page (all_sites pages) (LieInPages-all_sites (first + 1) pages within.1) (omega arith))
 all_sites-set first (suc number) offset target (page ∷ pages) within inside low high =
     ap (λ rest. page ++ rest) (all_sites-set (first + 1) number offset target pages within.1 (omega arith) (omega arith) (omega arith))
-    ∙ sym (insert_entry-append_right (1024 * first) (1024 * first + 1027) offset target page (all_sites pages) within.0 (omega arith))
+    ∙ sym (insert_entry-append_right (4096 * first) (4096 * first + 4099) offset target page (all_sites pages) within.0 (omega arith))
 
 -- a page that changed still has its own sites alone
 pub LieInPages-set : {T : Type 0} (first number : ℕ) (page : List (ℕ × T)) (pages : List (List (ℕ × T)))
-    → LieInPages first pages → LieWithin (1024 * (first + number)) (1024 * (first + number) + 1027) page → LieInPages first (set pages number page)
+    → LieInPages first pages → LieWithin (4096 * (first + number)) (4096 * (first + number) + 4099) page → LieInPages first (set pages number page)
 LieInPages-set first number page [] within new = tt
 LieInPages-set first zero page (old ∷ pages) within new =
-    (LieWithin-weaker (1024 * (first + 0)) (1024 * (first + 0) + 1027) (1024 * first) (1024 * first + 1027) page (omega arith) (omega arith) new, within.1)
+    (LieWithin-weaker (4096 * (first + 0)) (4096 * (first + 0) + 4099) (4096 * first) (4096 * first + 4099) page (omega arith) (omega arith) new, within.1)
 LieInPages-set first (suc number) page (old ∷ pages) within new = (
   within.0,
   LieInPages-set (first + 1) number page pages within.1
-      (LieWithin-weaker (1024 * (first + suc number)) (1024 * (first + suc number) + 1027) (1024 * (first + 1 + number)) (1024 * (first + 1 + number) + 1027) page (omega arith) (omega arith) new),
+      (LieWithin-weaker (4096 * (first + suc number)) (4096 * (first + suc number) + 4099) (4096 * (first + 1 + number)) (4096 * (first + 1 + number) + 4099) page (omega arith) (omega arith) new),
 )
 
 -- pages without sites change nothing
@@ -163,26 +163,26 @@ AppendsEmptyPages-push old new newer extends pushed =
 
 -- a site that is inserted at its place in its page
 pub insert-pages : {T : Type 0} (offset place number : ℕ) (target : T) (pages : List (List (ℕ × T)))
-    → LieInPages 0 pages → IsFreePlace (page_at pages number) offset place → number ≡ offset / 1024 → number < length pages
+    → LieInPages 0 pages → IsFreePlace (page_at pages number) offset place → number ≡ offset / 4096 → number < length pages
     → LieInPages 0 (set pages number (insert (page_at pages number) place (offset, target)))
     × (all_sites (set pages number (insert (page_at pages number) place (offset, target))) ≡ insert_entry nat_cmp (all_sites pages) offset target)
 insert-pages offset place number target pages within free is_number inside =
-    let low : 1024 * (0 + number) ≤ offset = omega arith in
-    let high : offset < 1024 * (0 + number) + 1024 = omega arith in (
+    let low : 4096 * (0 + number) ≤ offset = omega arith in
+    let high : offset < 4096 * (0 + number) + 4096 = omega arith in (
       LieInPages-set 0 number (insert (page_at pages number) place (offset, target)) pages within
-          (LieWithin-insert (1024 * (0 + number)) (1024 * (0 + number) + 1027) place offset target (page_at pages number) (LieInPages-page_at 0 number pages within) low (omega arith)),
+          (LieWithin-insert (4096 * (0 + number)) (4096 * (0 + number) + 4099) place offset target (page_at pages number) (LieInPages-page_at 0 number pages within) low (omega arith)),
       ap (λ page. all_sites (set pages number page)) (IsFreePlace-insert offset place target (page_at pages number) free)
           ∙ all_sites-set 0 number offset target pages within inside low high,
     )
 
 -- the same where there was room for it, and nothing where there was none, in pages to which empty ones were appended
 pub insert-extended : {T : Type 0} (ok : Bool) (offset place number : ℕ) (target : T) (page new : List (ℕ × T)) (old pages : List (List (ℕ × T)))
-    → LieInPages 0 old → AppendsEmptyPages old pages → IsFreePlace (page_at old (offset / 1024)) offset place → number ≡ offset / 1024 → number < length pages
+    → LieInPages 0 old → AppendsEmptyPages old pages → IsFreePlace (page_at old (offset / 4096)) offset place → number ≡ offset / 4096 → number < length pages
     → page ≡ get_or pages number page → new ≡ (if ok then insert page place (offset, target) else page)
     → LieInPages 0 (set pages number new) × (all_sites (set pages number new) ≡ (if ok then insert_entry nat_cmp (all_sites old) offset target else all_sites old))
 insert-extended true offset place number target page new old pages within extends free is_number inside read new_is =
     let page_is : page ≡ page_at pages number = get_or_read pages number page inside read [] in
-    let same : page_at pages number ≡ page_at old (offset / 1024) = AppendsEmptyPages-page_at number old pages extends ∙ ap (page_at old) is_number in
+    let same : page_at pages number ≡ page_at old (offset / 4096) = AppendsEmptyPages-page_at number old pages extends ∙ ap (page_at old) is_number in
     let free_here : IsFreePlace (page_at pages number) offset place = rw same free in
     let inserted : new ≡ insert (page_at pages number) place (offset, target) = new_is ∙ ap (λ sites. insert sites place (offset, target)) page_is in
     let done = insert-pages offset place number target pages (AppendsEmptyPages-LieInPages old pages extends within) free_here is_number inside in

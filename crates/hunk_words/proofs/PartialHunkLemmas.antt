@@ -1,5 +1,5 @@
 -- What the current hunk holds of the events: before its content, when that begins, and after one more site or word.
-use Rattle.std.proofs.Common.{◌≡◌, ◌⊎◌, ◌↔◌, inl, inr, ℕ, ◌+◌, ◌<◌, ◌≤◌, List, [], ◌∷◌, ◌++◌, true, false, Result, Ok, Err, OnOk, OnErr, if◌then◌else◌, refl, sym, ap, subst, ◌∙◌, append-nil, arith}
+use Rattle.std.proofs.Common.{◌≡◌, ◌⊎◌, ◌↔◌, inl, inr, ℕ, ◌+◌, ◌<◌, ◌≤◌, List, [], ◌∷◌, ◌++◌, Bool, true, false, Result, Ok, Err, OnOk, OnErr, if◌then◌else◌, refl, sym, ap, subst, ◌∙◌, append-nil, append_assoc, arith}
 use Rattle.std.proofs.lemmas.Bool.{cases_lt}
 use Rattle.std.proofs.lemmas.Grind.{flat_map-append}
 use Rattle.std.specs.BTreeMap.{insert_entry}
@@ -8,7 +8,7 @@ use Rattle.byteorder.specs.Endian.{big_bytes}
 use Rattle.hunk_words.specs.Name.{bytes_of}
 use Rattle.hunk_words.specs.EventValue.{Receiver}
 use Rattle.hunk_words.specs.EventValue.Receiver.{nothing_more, to_unit_name, to_name, to_content, to_debug, to_symbol, to_entry}
-use Rattle.hunk_words.specs.PartialHunk.{HunkSoFar, HoldsSites, initial_hunk, begun_hunk, hunk_with_word, hunk_with_site, goes_to_content}
+use Rattle.hunk_words.specs.PartialHunk.{HunkSoFar, HoldsSites, initial_hunk, begun_hunk, hunk_with_bytes, hunk_with_word, hunk_with_site, goes_to_content}
 use Rattle.hunk_words.specs.SiteContext.{SameSites}
 use Rattle.hunk_words.specs.Sites.{SiteMap, AreApart, Meets}
 use Rattle.hunk_words.specs.Taker.{JudgesSite}
@@ -67,6 +67,25 @@ hunk_with_word-kept hunk n is = ap (λ b. record hunk { content = if b then hunk
 
 pub hunk_with_word-dropped : {T : Type 0} (hunk : HunkSoFar T) (n : ℕ) → hunk.in_content ≡ false → hunk_with_word hunk n ≡ hunk
 hunk_with_word-dropped hunk n is = ap (λ b. record hunk { content = if b then hunk.content ++ big_bytes 4 n else hunk.content }) is
+
+-- ---- a run of words
+
+-- no bytes change nothing
+pub hunk_with_bytes-none : {T : Type 0} (hunk : HunkSoFar T) → hunk_with_bytes hunk [] ≡ hunk
+hunk_with_bytes-none hunk = ap (λ content. record hunk { content = content }) (go hunk.in_content)
+  where
+    go : (kept : Bool) → (if kept then hunk.content ++ [] else hunk.content) ≡ hunk.content
+    go true = append-nil hunk.content
+    go false = refl
+
+-- the bytes of a word, and more bytes
+pub hunk_with_bytes-more : {T : Type 0} (hunk : HunkSoFar T) (n : ℕ) (bytes : List ℕ) → hunk_with_bytes (hunk_with_word hunk n) bytes ≡ hunk_with_bytes hunk (big_bytes 4 n ++ bytes)
+hunk_with_bytes-more hunk n bytes = ap (λ content. record hunk { content = content }) (go hunk.in_content)
+  where
+    go : (kept : Bool) → (if kept then (if kept then hunk.content ++ big_bytes 4 n else hunk.content) ++ bytes else (if kept then hunk.content ++ big_bytes 4 n else hunk.content))
+        ≡ (if kept then hunk.content ++ (big_bytes 4 n ++ bytes) else hunk.content)
+    go true = append_assoc hunk.content (big_bytes 4 n) bytes
+    go false = refl
 
 pub receiver-content : (r : Receiver) → goes_to_content r ≡ true → r ≡ to_content
 receiver-content nothing_more is = let wrong : false ≡ true = is in cc

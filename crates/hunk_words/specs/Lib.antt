@@ -33,3 +33,4 @@ pub mod Sites
 pub mod Page
 pub mod Pages
 pub mod PartialHunk
+pub mod DebugInfo

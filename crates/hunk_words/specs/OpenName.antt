@@ -3,6 +3,10 @@ use Rattle.std.specs.Prelude.{◌≡◌, ℕ, ◌<◌, ◌≤◌, List, length, 
 use Rattle.hunk_words.specs.Name.{bytes_of, name_of}
 use Rattle.hunk_words.specs.declared.name.open_name.OpenName.{OpenName}
 
+-- the bytes of the name so far
+abbrev pub bytes_so_far : {A : Type 0} → OpenName A → List ℕ
+bytes_so_far n = n.bytes.items
+
 -- It holds their name, and has ended if a byte of them is zero.
 pub record Opens {A : Type 0} (n : OpenName A) (ws : List ℕ) : Type 0 where
   pub name : n.bytes.items ≡ name_of ws

@@ -22,9 +22,12 @@ initial_hunk limit = record { content = []; sites = record { limit = limit; entr
 abbrev pub begun_hunk : {T : Type 0} → ℕ → HunkSoFar T
 begun_hunk limit = record { content = []; sites = record { limit = limit; entries = [] }; in_content = true }
 
--- A word is kept if it is content.
+-- The bytes of words are kept if they are content.
+abbrev pub hunk_with_bytes : {T : Type 0} → HunkSoFar T → List ℕ → HunkSoFar T
+hunk_with_bytes hunk bytes = record hunk { content = if hunk.in_content then hunk.content ++ bytes else hunk.content }
+
 abbrev pub hunk_with_word : {T : Type 0} → HunkSoFar T → ℕ → HunkSoFar T
-hunk_with_word hunk word = record hunk { content = if hunk.in_content then hunk.content ++ big_bytes 4 word else hunk.content }
+hunk_with_word hunk word = hunk_with_bytes hunk (big_bytes 4 word)
 
 abbrev pub hunk_with_site : {T : Type 0} → HunkSoFar T → ℕ → T → HunkSoFar T
 hunk_with_site hunk offset target = record hunk { sites = record hunk.sites { entries = insert_entry nat_cmp hunk.sites.entries offset target } }

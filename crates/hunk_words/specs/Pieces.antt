@@ -7,14 +7,22 @@ use Rattle.hunk_words.specs.declared.pieces.Pieces.{Pieces}
 abbrev pub bytes_left : {A : Type 0} → Pieces A → List ℕ
 bytes_left pieces = drop pieces.position pieces.bytes.items
 
+-- whether a read failed
+abbrev pub has_failed : {A : Type 0} → Pieces A → Bool
+has_failed pieces = pieces.failed
+
+-- whether a read met the end
+abbrev pub has_ended : {A : Type 0} → Pieces A → Bool
+has_ended pieces = pieces.ended
+
 -- Before its first read it has all of these bytes, and these rules for its reads.
 pub record IsFresh {A : Type 0} (pieces : Pieces A) (bytes : List ℕ) (most : ℕ) (fails_at : Option ℕ) : Type 0 where
   pub all : bytes_left pieces ≡ bytes
   pub at_most : pieces.most ≡ most
   pub fails : pieces.fails_at ≡ fails_at
   pub no_reads : pieces.reads ≡ 0
-  pub not_failed : pieces.failed ≡ false
-  pub not_ended : pieces.ended ≡ false
+  pub not_failed : has_failed pieces ≡ false
+  pub not_ended : has_ended pieces ≡ false
 
 abbrev pub is_number : Option ℕ → ℕ → Bool
 is_number None reads = false

@@ -7,13 +7,17 @@ use Rattle.hunk_words.specs.declared.room.Room.{Room}
 abbrev pub bytes_taken : {A : Type 0} → Room A → List ℕ
 bytes_taken writer = writer.bytes.items
 
+-- whether a write failed, or took nothing of one byte or more
+abbrev pub has_failed : {A : Type 0} → Room A → Bool
+has_failed writer = writer.failed
+
 -- Before its first write it has taken nothing, and has these rules for its writes.
 pub record IsEmpty {A : Type 0} (writer : Room A) (most room : ℕ) (zero : Bool) : Type 0 where
   pub nothing : bytes_taken writer ≡ []
   pub at_most : writer.most ≡ most
   pub in_all : writer.room ≡ room
   pub answers_zero : writer.zero ≡ zero
-  pub not_failed : writer.failed ≡ false
+  pub not_failed : has_failed writer ≡ false
 
 abbrev pub room_left : {A : Type 0} → Room A → ℕ
 room_left writer = writer.room - length (bytes_taken writer)

@@ -1,5 +1,7 @@
 -- What a taker returns for an event, by the events that it took before.
-use Rattle.std.specs.Prelude.{◌≡◌, ℕ, ◌+◌, ◌<◌, ◌≤◌, true, false, List, Option, Some, None, Result, Ok, Err}
+use Rattle.std.specs.Prelude.{◌≡◌, ℕ, ◌+◌, ◌<◌, ◌≤◌, Bool, true, false, List, ◌++◌, Option, Some, None, Result, Ok, Err}
+use Rattle.std.specs.declared.alloc.AllocError.{AllocError}
+use Rattle.hunk_words.specs.Event.{word_events}
 use Rattle.hunk_words.specs.SiteRules.{all_apart}
 use Rattle.hunk_words.specs.SiteContext.{SiteContext, context_after, initial_context}
 use Rattle.hunk_words.specs.declared.event.FileKind.{FileKind}
@@ -40,3 +42,9 @@ Judges watch event answer = JudgesNone answer
 abbrev pub JudgesEvent : SiteContext → Option Event → Result (Unit {0}) SiteRefusal → Type 0
 JudgesEvent watch None answer = JudgesNone answer
 JudgesEvent watch (Some event) answer = Judges watch event answer
+
+-- The words of a run were all taken, or none of them.
+abbrev pub RunTaken : (List Event → Type 0) → List Event → List ℕ → Result Bool AllocError → Type 0
+RunTaken Stands told ws (Ok true) = Stands (told ++ word_events ws)
+RunTaken Stands told ws (Ok false) = Stands told
+RunTaken Stands told ws (Err error) = Stands told

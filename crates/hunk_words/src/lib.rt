@@ -12,6 +12,7 @@
 //! - `name`: names in longwords, all at once or one longword at a time.
 //! - `sites`: the sites of a hunk, no two of which share a byte; they are kept in `pages`, each a `page`.
 //! - `partial_hunk`: the current hunk of a reader: its sites, and its content so far.
+//! - `debug_info`: its symbols and debug blocks so far.
 //! - `taker`: what takes the events of a file.
 //! - `decoder_core`, `decoder`: decode the longwords and the bytes of a file, and send its events
 //!   to a taker.
@@ -23,6 +24,7 @@
 #![tactic(auto)]
 
 mod block_steps;
+pub mod debug_info;
 pub mod decoder;
 pub mod decoder_core;
 pub mod doshunks;
@@ -49,6 +51,7 @@ pub mod taker;
 mod type_steps;
 pub mod watched;
 
+pub use debug_info::DebugInfo;
 pub use decoder::Decoder;
 pub use decoder_core::{Core, CoreState};
 pub use event::{Event, FileKind};

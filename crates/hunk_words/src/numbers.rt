@@ -3,8 +3,7 @@
 ghost use Rattle.std.specs.Prelude.{◌≡◌, ℕ, suc, ◌+◌, ◌<◌, ◌^◌, List, [], ◌++◌, length, IfErr, OnOk};
 ghost use Rattle.hunk_words.specs.Kinds.{Field, is_half, width};
 ghost use Rattle.hunk_words.specs.Event.{events, with_event, word_events};
-ghost use Rattle.hunk_words.specs.Files.{AllLong};
-ghost use Rattle.hunk_words.specs.Longwords.{longwords};
+ghost use Rattle.hunk_words.specs.Longwords.{IsWhole, longwords};
 ghost use Rattle.hunk_words.specs.Machine.{due as first_due};
 ghost use Rattle.hunk_words.specs.Reading.{Progress};
 ghost use Rattle.hunk_words.specs.Numbers.{Reached, MayCome, NumberAnswered, WordAnswered, at_offset, site_refused, with_state};
@@ -128,11 +127,9 @@ pub fn take_word<T: Taker>(taker: &mut T, state: State, word: u32) -> Result<Sta
     }
 }
 
-/// Takes the longwords of a run of words.
-pub fn take_words<T: Taker>(taker: &mut T, bytes: &[u8]) -> Result<(), NumberRefusal>
-    ensures takes { (told : List Event) → T.stands_for taker.old told → length told + length (longwords bytes.now) < 2 ^ 29 →
-        OnOk result (T.stands_for taker.new (told ++ word_events (longwords bytes.now))) }
-    ensures long { OnOk result (AllLong (longwords bytes.now)) }
+// Takes the longwords of a run of words, one after the other.
+fn take_each_word<T: Taker>(taker: &mut T, bytes: &[u8]) -> Result<(), NumberRefusal>
+    ensures takes { (told : List Event) → T.stands_for taker.old told → length told + length (longwords bytes.now) < 2 ^ 29 → OnOk result (T.stands_for taker.new (told ++ word_events (longwords bytes.now))) }
     ensures memory { IfErr result (λ stop. stop ≡ NumberRefusal.OutOfMemory) }
     ensures given { T.given taker.new ≡ T.given taker.old }
 {
@@ -145,4 +142,18 @@ pub fn take_words<T: Taker>(taker: &mut T, bytes: &[u8]) -> Result<(), NumberRef
         }
     }
     Ok(())
+}
+
+/// Takes the longwords of a run of words: at once, if the taker has a way to do so.
+pub fn take_words<T: Taker>(taker: &mut T, bytes: &[u8]) -> Result<(), NumberRefusal>
+    requires { IsWhole bytes.now }
+    ensures takes { (told : List Event) → T.stands_for taker.old told → length told + length (longwords bytes.now) < 2 ^ 29 → OnOk result (T.stands_for taker.new (told ++ word_events (longwords bytes.now))) }
+    ensures memory { IfErr result (λ stop. stop ≡ NumberRefusal.OutOfMemory) }
+    ensures given { T.given taker.new ≡ T.given taker.old }
+{
+    match taker.take_words(bytes) {
+        Ok(true) => Ok(()),
+        Ok(false) => take_each_word(taker, bytes),
+        Err(_) => Err(NumberRefusal::OutOfMemory),
+    }
 }

@@ -1,5 +1,5 @@
 //! The sites of one page of a hunk.
-ghost use Rattle.std.specs.Prelude.{◌≡◌, ℕ, ◌+◌, ◌<◌, ◌≤◌, [], length, insert, is_ok, if◌then◌else◌, MatchOption};
+ghost use Rattle.std.specs.Prelude.{◌≡◌, ℕ, ◌+◌, ◌<◌, ◌≤◌, [], length, insert, is_ok, if◌then◌else◌, MatchOption, vec_len};
 ghost use Rattle.std.specs.List.Sorted.{IsPartitionPoint};
 ghost use Rattle.std.specs.Option.{option_copied};
 ghost use Rattle.std.specs.Slice.Iter.{iter_rest};
@@ -16,6 +16,23 @@ pub const SITE_BYTES: u32 = 4;
 // How many sites the first allocation of a page has room for. Later ones double it, so that a page
 // never takes the memory of more than three times its sites.
 const FIRST_SITES: usize = 3;
+
+// Inserts a site at its place. In most files sites come by rising offset, so most are the last one.
+fn put<T: Copy, A: Allocator + Copy>(
+    sites: &mut Vec<(u32, T), A>,
+    place: usize,
+    site: (u32, T),
+) -> Result<(), AllocError>
+    requires { place ≤ vec_len sites.old }
+    ensures { sites.new.items ≡ (if is_ok result then insert sites.old.items place site else sites.old.items) }
+{
+    if place == sites.len() {
+        sites.push(site)?;
+    } else {
+        sites.insert(place, site)?;
+    }
+    Ok(())
+}
 
 /// The sites of a page with their targets, by rising offset. No two share a byte.
 #[derive(Debug, Drop)]
@@ -88,8 +105,7 @@ impl<T: Copy, A: Allocator + Copy> Page<T, A> {
         if self.sites.capacity() == 0 {
             self.sites.reserve_exact(FIRST_SITES)?;
         }
-        self.sites.insert(place, (offset, target))?;
-        Ok(())
+        put(&mut self.sites, place, (offset, target))
     }
 
     /// The target of the site at an offset.

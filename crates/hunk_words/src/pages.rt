@@ -1,7 +1,7 @@
 //! The sites of a hunk, in pages.
 //!
-//! A page is 1,024 bytes of the hunk, and a site belongs to the page that it begins in. So a page has
-//! at most 256 sites, and only sites of the same page and of the two beside it can share a byte.
+//! A page is 4,096 bytes of the hunk, and a site belongs to the page that it begins in. So a page has
+//! at most 1,024 sites, and only sites of the same page and of the two beside it can share a byte.
 ghost use Rattle.std.specs.Prelude.{◌≡◌, ◌+◌, ◌*◌, ◌/◌, ◌^◌, ◌<◌, is_ok, if◌then◌else◌, IfSome, MatchOption, OnOk, vec_len};
 ghost use Rattle.std.specs.BTreeMap.{insert_entry};
 ghost use Rattle.std.specs.Option.{option_copied};
@@ -14,14 +14,14 @@ use crate::page::{Page, SITE_BYTES};
 use std::alloc::{AllocError, Allocator};
 
 // How many bytes of the hunk a page has.
-const PAGE_BYTES: u64 = 1024;
+const PAGE_BYTES: u64 = 4096;
 
 // How far the last byte of a site lies from its first one.
 const LAST_BYTE: u64 = SITE_BYTES as u64 - 1;
 
 // The number of the page that a byte of the hunk belongs to.
 fn page_number(byte: u64) -> usize
-    ensures { result ≡ byte / 1024 }
+    ensures { result ≡ byte / 4096 }
 {
     (byte / PAGE_BYTES) as usize
 }
@@ -46,7 +46,7 @@ fn place_in<T: Copy, A: Allocator + Copy>(
 pub fn free_place<T: Copy, A: Allocator + Copy>(pages: &[Page<T, A>], offset: u32) -> Option<usize>
     requires { LieInPages 0 pages.now }
     ensures none { MatchOption result (Meets (all_sites pages.now) offset) (λ _. Meets (all_sites pages.now) offset → ⊥) }
-    ensures place { IfSome result (IsFreePlace (page_at pages.now (offset / 1024)) offset) }
+    ensures place { IfSome result (IsFreePlace (page_at pages.now (offset / 4096)) offset) }
 {
     let number = page_number(u64::from(offset));
     let first = page_number(u64::from(offset).saturating_sub(LAST_BYTE));
@@ -89,7 +89,7 @@ pub fn insert<T: Copy, A: Allocator + Copy>(
     target: T,
 ) -> Result<(), AllocError>
     requires in_pages { LieInPages 0 pages.old.items }
-    requires free { IsFreePlace (page_at pages.old.items (offset / 1024)) offset place }
+    requires free { IsFreePlace (page_at pages.old.items (offset / 4096)) offset place }
     ensures in_pages { LieInPages 0 pages.new.items }
     ensures inserted { all_sites pages.new.items ≡ (if is_ok result then insert_entry nat_cmp (all_sites pages.old.items) offset target else all_sites pages.old.items) }
 {

@@ -1,6 +1,6 @@
 //! The current hunk of a reader: its sites, and its content so far.
-ghost use Rattle.std.specs.Prelude.{◌≡◌, ℕ, ◌≤◌, ◌↔◌, List, [], ◌∷◌, length, false, IfOk, OnOk, OnErr, IsTrue, IsFalse};
-ghost use Rattle.hunk_words.specs.PartialHunk.{HoldsSites, begun_hunk, filled_hunk, hunk_with_site, hunk_with_word, initial_hunk};
+ghost use Rattle.std.specs.Prelude.{◌≡◌, ℕ, ◌<◌, ◌≤◌, ◌↔◌, List, [], ◌∷◌, length, false, IfOk, OnOk, OnErr, IsTrue, IsFalse};
+ghost use Rattle.hunk_words.specs.PartialHunk.{HoldsSites, begun_hunk, filled_hunk, hunk_with_bytes, hunk_with_site, hunk_with_word, initial_hunk};
 ghost use Rattle.hunk_words.specs.Sites.{AreApart};
 ghost use Rattle.hunk_words.specs.Taker.{JudgesSite};
 
@@ -86,10 +86,23 @@ impl<T: Copy, A: Allocator + Copy> PartialHunk<T, A> {
     ///
     /// [`AllocError`] if an allocation failed, or if the content would pass the limit, which the
     /// content of a file never does. An error changes nothing.
-    // Content is most of a file, so a run of words should not make a call for each word.
-    #[inline(always)]
     pub fn add_word(&mut self, word: u32) -> Result<(), AllocError>
         ensures adds { OnOk result (self.new ≡ hunk_with_word self.old word) }
+        ensures fits { length self.new.content ≤ self.new.sites.limit }
+        ensures drops { IsFalse self.old.in_content → result ≡ Ok tt }
+        ensures refused { OnErr result (self.new ≡ self.old) }
+    {
+        self.add_bytes(&big_endian(word))
+    }
+
+    /// Takes the bytes of a run of words, and keeps them if they are content.
+    ///
+    /// # Errors
+    ///
+    /// [`AllocError`] if an allocation failed, or if the content would pass the limit, which the
+    /// content of a file never does. An error changes nothing.
+    pub fn add_bytes(&mut self, bytes: &[u8]) -> Result<(), AllocError>
+        ensures adds { OnOk result (self.new ≡ hunk_with_bytes self.old bytes.now) }
         ensures fits { length self.new.content ≤ self.new.sites.limit }
         ensures drops { IsFalse self.old.in_content → result ≡ Ok tt }
         ensures refused { OnErr result (self.new ≡ self.old) }
@@ -97,10 +110,11 @@ impl<T: Copy, A: Allocator + Copy> PartialHunk<T, A> {
         if !self.in_content {
             return Ok(());
         }
-        if self.content.len() as u64 + 4 > self.sites.limit() {
+        let room = self.sites.limit() - self.content.len() as u64;
+        if bytes.len() as u64 > room {
             return Err(AllocError);
         }
-        self.content.extend_from_slice(&big_endian(word))
+        self.content.extend_from_slice(bytes)
     }
 
     /// Ends the content: the next word is not content.
@@ -132,6 +146,15 @@ impl<T: Copy, A: Allocator + Copy> PartialHunk<T, A> {
         ensures { result ≡ self.now.sites.limit }
     {
         self.sites.limit()
+    }
+
+    /// Whether the content ends at the limit.
+    pub fn is_full(&self) -> bool
+        ensures full { IsTrue result → length self.now.content ≡ self.now.sites.limit }
+        ensures short { IsFalse result → length self.now.content < self.now.sites.limit }
+        ensures apart { AreApart self.now.sites }
+    {
+        self.content.len() as u64 == self.sites.limit()
     }
 
     /// Pads the content with zeros up to the limit, as the hunk is in memory.

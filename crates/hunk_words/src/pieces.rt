@@ -48,19 +48,19 @@ impl<A: Allocator> Source for Pieces<A> {
     ghost use Rattle.std.specs.Prelude.{◌≡◌, ◌≤◌, ◌||◌, length, take, drop, Some, is_err, IfOk};
     ghost use Rattle.std.specs.Io.KnownBytes.{Consumes};
     ghost use Rattle.hunk_words.specs.Streams.{ends};
-    ghost use Rattle.hunk_words.specs.Pieces.{bytes_left, answer_of, IsCounted};
+    ghost use Rattle.hunk_words.specs.Pieces.{bytes_left, answer_of, has_ended, has_failed, IsCounted};
 
     ghost left = { λ pieces. Some (bytes_left pieces) };
 
-    ghost failed = { λ pieces. pieces.failed };
+    ghost failed = { has_failed };
 
-    ghost ended = { λ pieces. pieces.ended };
+    ghost ended = { has_ended };
 
     fn read(&mut self, buffer: &mut [u8]) -> Result<usize, DeviceFault>
         ensures count { IfOk result (λ n. n ≤ length buffer.old) }
         ensures bytes { IfOk result (λ n. Consumes (Some (bytes_left self.old)) (Some (bytes_left self.new)) (take n buffer.new)) }
-        ensures failed { self.new.failed ≡ (is_err result || self.old.failed) }
-        ensures ended { self.new.ended ≡ (ends result (length buffer.old) || self.old.ended) }
+        ensures failed { has_failed self.new ≡ (is_err result || has_failed self.old) }
+        ensures ended { has_ended self.new ≡ (ends result (length buffer.old) || has_ended self.old) }
         ensures answer { result ≡ answer_of self.old (length buffer.old) }
         ensures counted { IsCounted self.old self.new }
     {

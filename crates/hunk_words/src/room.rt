@@ -58,17 +58,17 @@ impl<A: Allocator> Sink for Room<A> {
     ghost use Rattle.std.specs.Prelude.{◌≡◌, ◌≤◌, ◌||◌, length, take, Some, IfOk, OnErr};
     ghost use Rattle.std.specs.Io.KnownBytes.{Appends, Keeps};
     ghost use Rattle.hunk_words.specs.Streams.{refuses};
-    ghost use Rattle.hunk_words.specs.Room.{bytes_taken, answer_of, KeepsRules};
+    ghost use Rattle.hunk_words.specs.Room.{bytes_taken, answer_of, has_failed, KeepsRules};
 
     ghost taken = { λ writer. Some (bytes_taken writer) };
 
-    ghost failed = { λ writer. writer.failed };
+    ghost failed = { has_failed };
 
     fn write(&mut self, buffer: &[u8]) -> Result<usize, DeviceFault>
         ensures count { IfOk result (λ n. n ≤ length buffer.now) }
         ensures bytes { IfOk result (λ n. Appends (Some (bytes_taken self.old)) (Some (bytes_taken self.new)) (take n buffer.now)) }
         ensures nothing { OnErr result (Keeps (Some (bytes_taken self.old)) (Some (bytes_taken self.new))) }
-        ensures failed { self.new.failed ≡ (refuses result (length buffer.now) || self.old.failed) }
+        ensures failed { has_failed self.new ≡ (refuses result (length buffer.now) || has_failed self.old) }
         ensures answer { result ≡ answer_of self.old (length buffer.now) }
         ensures rules { KeepsRules self.old self.new }
     {

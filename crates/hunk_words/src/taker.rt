@@ -1,13 +1,15 @@
 //! What takes the events of a file.
 
-ghost use Rattle.std.specs.Prelude.{◌≡◌, ℕ, ◌<◌, ◌^◌, List, [], ◌∷◌, ◌++◌, length, slice_index, OnOk, OnErr};
+ghost use Rattle.std.specs.Prelude.{◌≡◌, ℕ, ◌+◌, ◌<◌, ◌^◌, List, [], ◌∷◌, ◌++◌, length, slice_index, OnOk, OnErr};
 ghost use Rattle.hunk_words.specs.declared.event.Event.{Event};
 ghost use Rattle.hunk_words.specs.declared.event.FileKind.{FileKind};
 ghost use Rattle.hunk_words.specs.declared.event.FileKind.TheVariants.{Load};
-ghost use Rattle.hunk_words.specs.Taker.{Judges, context_of, sizes_told};
+ghost use Rattle.hunk_words.specs.Longwords.{IsWhole, longwords};
+ghost use Rattle.hunk_words.specs.Taker.{Judges, RunTaken, context_of, sizes_told};
 
 use crate::event::{Event, FileKind};
 use crate::sites::SiteRefusal;
+use std::alloc::AllocError;
 
 /// What takes the events of a file's longwords, in order.
 ///
@@ -39,6 +41,24 @@ pub trait Taker: Drop {
         ensures refuses { (told : List Event) → stands_for self.old told → length told < 2 ^ 29 → OnErr result (stands_for self.new told) }
         ensures judges { (told : List Event) → stands_for self.old told → length told < 2 ^ 29 → Judges (context_of KIND told) event result }
         ensures given { given self.new ≡ given self.old };
+
+    /// Takes the events of a run of words at once: an [`Event::Word`] for each longword of these
+    /// bytes, in order. The bytes are whole longwords.
+    ///
+    /// Returns `false`, and takes none of them, if it has no better way than to take one after the
+    /// other; [`take`](Taker::take) then takes them. This is what it does unless an implementation
+    /// does better.
+    ///
+    /// # Errors
+    ///
+    /// [`AllocError`] only if an allocation failed. An error leaves what it stands for unchanged.
+    fn take_words(&mut self, bytes: &[u8]) -> Result<bool, AllocError>
+        requires { IsWhole bytes.now }
+        ensures takes { (told : List Event) → stands_for self.old told → length told + length (longwords bytes.now) < 2 ^ 29 → RunTaken (stands_for self.new) told (longwords bytes.now) result }
+        ensures given { given self.new ≡ given self.old }
+    {
+        Ok(false)
+    }
 
     /// The size of a hunk in the header, in longwords. It is called only for the kind `Load`, and
     /// only for a size that was taken.

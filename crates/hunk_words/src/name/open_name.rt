@@ -1,5 +1,5 @@
 //! A name whose longwords come one after another.
-ghost use Rattle.std.specs.Prelude.{◌≡◌, ℕ, List, [], ◌∷◌, ◌++◌, OnOk, OnErr};
+ghost use Rattle.std.specs.Prelude.{◌≡◌, ℕ, List, [], ◌∷◌, ◌++◌, length, OnOk, OnErr};
 ghost use Rattle.std.specs.List.{All};
 ghost use Rattle.hunk_words.specs.Name.{IsNameByte, name_of};
 
@@ -16,7 +16,7 @@ pub struct OpenName<A: Allocator + Copy = Global> {
 }
 
 impl<A: Allocator + Copy> OpenName<A> {
-    ghost use Rattle.hunk_words.specs.OpenName.{Opens};
+    ghost use Rattle.hunk_words.specs.OpenName.{Opens, bytes_so_far};
 
     /// A name before its first longword.
     pub fn new(alloc: A) -> Self
@@ -47,9 +47,17 @@ impl<A: Allocator + Copy> OpenName<A> {
         Ok(())
     }
 
+    /// The number of bytes of the name so far.
+    pub fn len(&self) -> usize
+        ensures { result ≡ length (bytes_so_far self.now) }
+    {
+        self.bytes.len()
+    }
+
     /// The name that the longwords hold.
     pub fn close(self) -> Name<A>
-        ensures { (words : List ℕ) → Opens self words → result ≡ name_of words }
+        ensures name { (words : List ℕ) → Opens self words → result ≡ name_of words }
+        ensures bytes { result ≡ bytes_so_far self }
     {
         Name { bytes: self.bytes }
     }

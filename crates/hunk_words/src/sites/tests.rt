@@ -47,9 +47,9 @@ fn judges_the_limit_before_an_overlap(rt: HostRuntime) -> Result<(), Fail> {
 
 #[test]
 fn finds_an_overlap_across_the_end_of_a_page(rt: HostRuntime) -> Result<(), Fail> {
-    for (low, high) in [(1021, 1024), (1022, 1024), (1023, 1026), (2047, 2048)] {
+    for (low, high) in [(4093, 4096), (4094, 4096), (4095, 4098), (8191, 8192)] {
         for (first, second) in [(low, high), (high, low)] {
-            let mut sites = Sites::new(rt.alloc(), 4096);
+            let mut sites = Sites::new(rt.alloc(), 16384);
             assert_eq!(rt; sites.try_add(first, 'a'), Ok(()));
             assert_eq!(rt; sites.try_add(second, 'b'), Err(SiteRefusal::Overlap));
             let mut walk = sites.walk();
@@ -62,9 +62,9 @@ fn finds_an_overlap_across_the_end_of_a_page(rt: HostRuntime) -> Result<(), Fail
 
 #[test]
 fn adds_sites_that_touch_across_the_end_of_a_page(rt: HostRuntime) -> Result<(), Fail> {
-    for (low, high) in [(1020, 1024), (1022, 1026), (1023, 1027)] {
+    for (low, high) in [(4092, 4096), (4094, 4098), (4095, 4099)] {
         for (first, second) in [(low, high), (high, low)] {
-            let mut sites = Sites::new(rt.alloc(), 4096);
+            let mut sites = Sites::new(rt.alloc(), 16384);
             assert_eq!(rt; sites.try_add(first, first), Ok(()));
             assert_eq!(rt; sites.try_add(second, second), Ok(()));
             let mut walk = sites.walk();

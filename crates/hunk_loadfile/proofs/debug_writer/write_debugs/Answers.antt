@@ -4,7 +4,7 @@ use Rattle.std.proofs.lemmas.List.{length-map}
 use Rattle.std.proofs.lemmas.List.Sums.{sum_by_more_le}
 use Rattle.std.proofs.lemmas.Result.{err_from_is_err_and}
 use Rattle.std.specs.List.{flat_map}
-use Rattle.hunk_loadfile.specs.LoadHunk.{lists_of}
+use Rattle.hunk_words.specs.DebugInfo.{lists_of}
 use Rattle.hunk_loadfile.specs.Rules.{debug_longwords}
 use Rattle.hunk_loadfile.specs.WrittenForm.{debug_words}
 use Rattle.hunk_loadfile.proofs.WrittenFormLengthLemmas.{length-debugs}

@@ -1,6 +1,7 @@
 use Rattle.std.proofs.Common.{List, ℕ, ◌∙◌, ap, subst, OnSome}
 use Rattle.std.specs.List.{All}
-use Rattle.hunk_loadfile.specs.LoadHunk.{FileHunk, lists_of}
+use Rattle.hunk_words.specs.DebugInfo.{lists_of}
+use Rattle.hunk_loadfile.specs.LoadHunk.{FileHunk}
 use Rattle.hunk_loadfile.specs.Rules.{IsLongword}
 use Rattle.hunk_loadfile.proofs.rules.room_behind.Goals as goal
 

@@ -1,5 +1,5 @@
 -- A word of content is kept, and others are ignored.
-use Rattle.std.proofs.Common.{◌≡◌, Some, sym, refl, ap, subst, ◌∙◌}
+use Rattle.std.proofs.Common.{Some, sym, refl, ap, subst, ◌∙◌}
 use Rattle.hunk_loader.specs.Image.{hunks_of}
 use Rattle.hunk_loader.specs.ImageBuilder.{BuilderState}
 use Rattle.hunk_loader.proofs.ImageBuilderLemmas.{PassesWords, TakesEvent-refused, TakesEvent-word-unplaced, TakesEvent-word-past, TakesEvent-word, with-current}

@@ -1,6 +1,8 @@
 use Rattle.std.proofs.Common.{◌++◌, sym, subst}
+use Rattle.hunk_words.specs.declared.event.FileKind.TheVariants.{Load}
+use Rattle.hunk_words.proofs.DecoderRefusalLemmas.{refuses-bytes}
+use Rattle.hunk_loadfile.specs.LoadBuilder.{StandsFor as BuilderStandsFor}
 use Rattle.hunk_loadfile.specs.LoadDecoder.{StandsFor}
-use Rattle.hunk_loadfile.proofs.LoadDecoderLemmas.{refuses-bytes}
 use Rattle.hunk_loadfile.proofs.load_decoder.LoadDecoder.feed.Goals as goal
 
 pub invariant_of-self : goal.invariant_of-self
@@ -10,4 +12,4 @@ pub returns-clause-stands : goal.returns-clause-stands
 returns-clause-stands g c = λ bytes stands. c.feed.ensures.stands bytes (subst (λ d. StandsFor d bytes) (sym c.self.view_is) stands)
 
 pub returns-clause-refused : goal.returns-clause-refused
-returns-clause-refused g c = refuses-bytes c.feed.new.self c.feed.result c.feed.ensures.kept
+returns-clause-refused g c = refuses-bytes Load BuilderStandsFor c.feed.new.self c.feed.result c.feed.ensures.kept

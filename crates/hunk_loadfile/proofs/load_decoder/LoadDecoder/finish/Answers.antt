@@ -1,10 +1,14 @@
 use Rattle.std.proofs.Common.{ap, sym, subst, ◌∙◌}
 use Rattle.hunk_words.specs.Longwords.{longwords}
+use Rattle.hunk_words.specs.declared.event.FileKind.TheVariants.{Load}
+use Rattle.hunk_words.proofs.DecoderRefusalLemmas.{refuses-input}
+use Rattle.hunk_loadfile.specs.LoadBuilder.{StandsFor as BuilderStandsFor}
 use Rattle.hunk_loadfile.specs.LoadFile.{IsLoad}
-use Rattle.hunk_loadfile.specs.LoadDecoder.{StandsFor, refusal_of}
+use Rattle.hunk_loadfile.specs.declared.load_builder.LoadBuilder.{LoadBuilder}
+use Rattle.hunk_loadfile.specs.LoadDecoder.{StandsFor}
+use Rattle.hunk_words.specs.Decoder.{refusal_of}
 use Rattle.hunk_loadfile.proofs.RulesReadLemmas.{IsLoadFile-load}
 use Rattle.hunk_loadfile.proofs.PartialLemmas.{with_tables-load}
-use Rattle.hunk_loadfile.proofs.LoadDecoderLemmas.{refuses-input}
 use Rattle.hunk_loadfile.proofs.load_decoder.LoadDecoder.finish.Goals as goal
 
 pub of_hunks-requires : goal.of_hunks-requires
@@ -23,7 +27,7 @@ pub returns-in-Ok-clause-again : goal.returns-in-Ok-clause-again
 returns-in-Ok-clause-again g c = λ refusal e. let wrong = c.in-Ok.ensures.again refusal (ap (λ d. refusal_of d) c.self.view_is ∙ e) in cc
 
 pub returns-in-Err-clause-refused : goal.returns-in-Err-clause-refused
-returns-in-Err-clause-refused g c = λ bytes stands. refuses-input g.row.A.Denot bytes c.in-Err.refusal (c.in-Err.ensures.answer bytes (subst (λ d. StandsFor d bytes) (sym c.self.view_is) stands))
+returns-in-Err-clause-refused g c = λ bytes stands. refuses-input {T = LoadBuilder g.row.A.Denot} Load BuilderStandsFor bytes c.in-Err.refusal (c.in-Err.ensures.answer bytes (subst (λ d. StandsFor d bytes) (sym c.self.view_is) stands))
 
 pub returns-in-Err-clause-again : goal.returns-in-Err-clause-again
 returns-in-Err-clause-again g c = λ refusal e. let same = c.in-Err.ensures.again refusal (ap (λ d. refusal_of d) c.self.view_is ∙ e) in cc

@@ -2,15 +2,13 @@
 use Rattle.std.proofs.Common.{◌≡◌, ◌<◌, ◌≤◌, ◌+◌, ◌-◌, ◌*◌, ◌^◌, ℕ, List, [], ◌∷◌, ◌++◌, take, drop, length, sym, ap, subst, ◌∙◌, append_assoc, length-append, arith}
 use Rattle.std.proofs.lemmas.List.{length-take-le}
 use Rattle.byteorder.specs.Endian.{big_number}
-use Rattle.hunk_words.specs.Files.{AllLong}
 use Rattle.hunk_words.specs.Event.{word_events}
 use Rattle.hunk_words.specs.Longwords.{longwords}
 use Rattle.hunk_words.specs.declared.event.Event.{Event}
 use Rattle.hunk_words.specs.declared.event.Event.TheVariants.{Word}
-use Rattle.hunk_words.proofs.DecoderCoreLemmas.{AllLong-append}
 use Rattle.hunk_words.proofs.DecoderCoreRunLemmas.{word_events-append, length-word_events}
 use Rattle.hunk_words.proofs.LongwordsLemmas.{longwords-next, longwords-front, length-longwords, length-unfinished, length-whole}
-use Rattle.hunk_words.proofs.numbers.take_words.Goals as goal
+use Rattle.hunk_words.proofs.numbers.take_each_word.Goals as goal
 
 -- one word's event after others
 next-told : (told : List Event) (bytes : List ℕ) (i word : ℕ) → 4 * i + 4 ≤ length bytes → word ≡ big_number 4 (take 4 (drop (4 * i) bytes))
@@ -33,7 +31,6 @@ loop-index-preserved g c =
     let is : c.read_u32-word.result ≡ big_number 4 (take 4 (drop (4 * i) bytes)) = rw four at c.read_u32-word.ensures in
     record {
       given = c.in-Ok.ensures.given ∙ c.loop-index.invariant.given;
-      long = subst AllLong (sym (longwords-next bytes i (omega arith))) (AllLong-append (longwords (take (4 * i) bytes)) _ c.loop-index.invariant.long (rw (← is) (omega arith, tt)));
       takes = λ told stands few. subst (λ es. g.T.Taker.stands_for c.take.new.self es) (next-told told bytes i c.read_u32-word.result (omega arith) is)
           (c.in-Ok.ensures.takes _ (c.loop-index.invariant.takes told stands few) (room told bytes i (omega arith) few));
     }
@@ -42,6 +39,3 @@ pub returns-clause-takes : goal.returns-clause-takes
 returns-clause-takes g c = λ told stands few.
     subst (λ ws. g.T.Taker.stands_for c.loop-index.taker (told ++ word_events ws)) (longwords-front c.args.bytes.now c.loop-index.index (omega arith) (omega arith))
     (c.loop-index.invariant.takes told stands few)
-
-pub returns-clause-long : goal.returns-clause-long
-returns-clause-long g c = subst AllLong (longwords-front c.args.bytes.now c.loop-index.index (omega arith) (omega arith)) c.loop-index.invariant.long
