@@ -1,0 +1,4 @@
+pub mod OpenHunkLemmas
+pub mod UnitHunkLemmas
+pub mod UnitBuilderLemmas
+pub mod PartialLemmas

@@ -1,4 +1,25 @@
-//! What the hunks of object files and of load files have in common.
+//! Object files: program units, as an assembler writes them.
+//!
+//! - `unit_hunk`: a hunk of a program unit.
+//! - `program_unit`: a program unit, made of hunks.
+//! - `open_hunk`: the current hunk of a unit.
+//! - `open_unit`: the current unit of an object file.
+//! - `unit_builder`: a builder of program units from the events of their longwords.
+//! - `object_decoder`: program units from bytes.
+//! - `laws`: laws about object files.
+//!
+//! The kinds of hunks and of memory, which load files have too, are those of `hunk_words`.
 #![tactic(auto)]
 
+pub mod laws;
+pub mod object_decoder;
+mod open_hunk;
+mod open_unit;
+pub mod program_unit;
+mod unit_builder;
+pub mod unit_hunk;
+
 pub use hunk_words::{HunkKind, Memory};
+pub use object_decoder::{ObjectDecoder, read_object};
+pub use program_unit::{ProgramUnit, hunk_total};
+pub use unit_hunk::{Adds, Definition, UnitHunk};
