@@ -1,2 +1,1 @@
 mod RefusingSteps
-mod JudgesLemmas

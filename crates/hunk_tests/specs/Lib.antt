@@ -1,2 +1,1 @@
-pub mod Judges
 pub mod Refusing

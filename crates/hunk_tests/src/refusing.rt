@@ -60,7 +60,9 @@ impl<B: Allocator> Drop for Refusing<B> {
 }
 
 unsafe impl<B: Allocator> Allocator for Refusing<B> {
-    ghost dealloc_token = { λ heap ty ptr. B.dealloc_token heap.inner ty ptr };
+    ghost use Rattle.hunk_tests.specs.Refusing.{inner_of};
+
+    ghost dealloc_token = { λ heap ty ptr. B.dealloc_token (inner_of heap) ty ptr };
 
     fn allocate(&self, size: usize, align: usize) -> Result<*mut u8, AllocError> {
         if self.growths.refuses_next() {

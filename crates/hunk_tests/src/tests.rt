@@ -15,6 +15,8 @@
 //! - `reports`: files that are loaded.
 //! - `sites`: sites that are added while allocations fail.
 //! - `streaming`: what `ImageLoader` allocates.
+//! - `units`: program units, as they are read.
+//! - `unit_values`: the expected units of an object file.
 //! - `values`: the expected hunks of a load file.
 //! - `vectors`: files of both kinds through everything that reads them.
 //! - `words`: their longwords.
@@ -35,6 +37,8 @@ mod refusals;
 mod reports;
 mod sites;
 mod streaming;
+mod unit_values;
+mod units;
 mod values;
 mod vectors;
 mod words;

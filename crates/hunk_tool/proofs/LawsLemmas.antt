@@ -1,8 +1,7 @@
 -- What was read has one outcome: it is a file or has a first offence, never both; and a file has
 -- one value.
-use Rattle.std.proofs.Common.{◌≡◌, ◌⊎◌, ℕ, ◌^◌, ◌<◌, List, ◌∷◌, ◌++◌, length, append_assoc, append-nil, ap, ap₂, subst, sym, refl, ◌∙◌, inl, inr, Bool, true, slice_index, EachIndex}
+use Rattle.std.proofs.Common.{◌≡◌, ℕ, ◌^◌, ◌<◌, List, ◌∷◌, ◌++◌, length, append_assoc, append-nil, ap, ap₂, subst, sym, refl, ◌∙◌, inl, inr, Bool, slice_index, EachIndex}
 use Rattle.std.proofs.lemmas.List.{nil_from_length}
-use Rattle.std.specs.List.{All}
 use Rattle.hunk_words.specs.Files.{IsFile}
 use Rattle.hunk_words.specs.FirstOffence.{FirstOffence, OffendsAt}
 use Rattle.hunk_words.specs.FirstOffence.FirstOffence.{longword_offends, end_offends}

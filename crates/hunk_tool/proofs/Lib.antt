@@ -6,3 +6,6 @@ pub mod LawsLemmas
 pub mod LoadLemmas
 pub mod ReportExampleLemmas
 pub mod ReportLemmas
+pub mod CountersLemmas
+pub mod CountingLemmas
+pub mod CheckLemmas

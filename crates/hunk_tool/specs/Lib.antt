@@ -7,3 +7,6 @@ pub mod Report
 pub mod ToolFault
 pub mod Digits
 pub mod Printing
+pub mod Counters
+pub mod Counting
+pub mod Check

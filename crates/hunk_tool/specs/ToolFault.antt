@@ -1,5 +1,8 @@
 -- What the faults of the parts of an engine are as its own, and the exit status of each.
 use Rattle.std.specs.Prelude.{ℕ}
+use Rattle.hunk_words.specs.declared.fault.ReadFault.{ReadFault}
+use Rattle.hunk_words.specs.declared.fault.ReadFault.TheVariants as read_fault
+use Rattle.hunk_words.specs.declared.fault.Refusal.TheVariants as refusal
 use Rattle.hunk_words.specs.declared.fault.WriteFault.{WriteFault}
 use Rattle.hunk_words.specs.declared.fault.WriteFault.TheVariants as write_fault
 use Rattle.hunk_loader.specs.declared.image_reader.ImageFault.{ImageFault}
@@ -14,6 +17,12 @@ tool_fault_of_image (image_fault.Refused (load_refusal.File fault)) = Input 0 fa
 tool_fault_of_image (image_fault.Refused (load_refusal.Place fault)) = Place fault
 tool_fault_of_image (image_fault.Refused load_refusal.OutOfMemory) = OutOfMemory 0
 tool_fault_of_image image_fault.Device = InputDevice 0
+
+-- The same for a fault of reading it.
+abbrev pub tool_fault_of_read : ReadFault → ToolFault
+tool_fault_of_read (read_fault.Refused (refusal.Fault fault)) = Input 0 fault
+tool_fault_of_read (read_fault.Refused refusal.OutOfMemory) = OutOfMemory 0
+tool_fault_of_read read_fault.Device = InputDevice 0
 
 abbrev pub tool_fault_of_write : WriteFault → ToolFault
 tool_fault_of_write (write_fault.Device written) = Output written

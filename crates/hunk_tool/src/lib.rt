@@ -2,6 +2,9 @@
 //!
 //! - `bases`: the list of addresses on the command line.
 //! - `laws`: laws about the outcomes of the operations.
+//! - `check`: checks a file of either kind and writes what it is.
+//! - `counters`: takers that check sites, and count what a file has.
+//! - `counting`: reads a file of either kind and counts what it has; `first_bytes` tell its kind.
 //! - `load`: loads a file and writes the report of its memory.
 //! - `report`: the report of an image.
 //! - `tool_fault`: why an operation failed.
@@ -11,8 +14,12 @@
 #![tactic(auto)]
 
 pub mod bases;
+pub mod check;
+pub mod counters;
+mod counting;
 mod digits;
 pub mod fault_line;
+mod first_bytes;
 pub mod laws;
 pub mod load;
 pub mod phrase;
@@ -21,6 +28,8 @@ mod report;
 pub mod tool_fault;
 
 pub use bases::{BasesFault, parse_bases};
+pub use check::check_run;
+pub use counters::{LoadCounter, ObjectCounter};
 pub use fault_line::{write_fault, write_line};
 pub use hunk_loader::PlaceFault;
 pub use load::load_run;

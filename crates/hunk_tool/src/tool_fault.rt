@@ -1,10 +1,10 @@
 //! Why an operation failed.
 
 ghost use Rattle.std.specs.Prelude.{◌≡◌};
-ghost use Rattle.hunk_tool.specs.ToolFault.{status, tool_fault_of_image, tool_fault_of_write};
+ghost use Rattle.hunk_tool.specs.ToolFault.{status, tool_fault_of_image, tool_fault_of_read, tool_fault_of_write};
 
 use hunk_loader::{ImageFault, LoadRefusal, PlaceFault};
-use hunk_words::{Fault, WriteFault};
+use hunk_words::{Fault, ReadFault, Refusal, WriteFault};
 
 /// Why an operation failed. `file` is the index of an input, from 0. Of the text that was to be
 /// written, the writer has taken exactly the first `written` bytes.
@@ -33,6 +33,19 @@ impl From<ImageFault> for ToolFault {
             ImageFault::Refused(LoadRefusal::Place(fault)) => ToolFault::Place(fault),
             ImageFault::Refused(LoadRefusal::OutOfMemory) => ToolFault::OutOfMemory { written: 0 },
             ImageFault::Device => ToolFault::InputDevice { file: 0 },
+        }
+    }
+}
+
+/// The only input has the number 0, and nothing is written yet.
+impl From<ReadFault> for ToolFault {
+    ghost from_gives = { λ fault tool. tool ≡ tool_fault_of_read fault };
+
+    fn from(fault: ReadFault) -> ToolFault {
+        match fault {
+            ReadFault::Refused(Refusal::Fault(fault)) => ToolFault::Input { file: 0, fault },
+            ReadFault::Refused(Refusal::OutOfMemory) => ToolFault::OutOfMemory { written: 0 },
+            ReadFault::Device => ToolFault::InputDevice { file: 0 },
         }
     }
 }

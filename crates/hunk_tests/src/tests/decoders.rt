@@ -1,10 +1,10 @@
 //! What checks the bytes of a file: where it rejects them, why, and when.
 
 use super::files::{BASE, CHUNKS, ROOM};
-use crate::{LoadJudge, ObjectJudge};
 use hunk_loader::{ImageLoader, LoadRefusal, PlaceFault};
 use hunk_loadfile::{LoadDecoder, read_load};
-use hunk_tool::{ToolFault, load_run};
+use hunk_objects::{ObjectDecoder, read_object};
+use hunk_tool::{LoadCounter, ObjectCounter, ToolFault, load_run};
 use hunk_words::FileKind::{Load, Object};
 use hunk_words::{Decoder, Fault, FileKind, Pieces, ReadFault, Reason, Refusal, Room, Taker};
 use std::alloc::{Allocator, Global};
@@ -32,6 +32,22 @@ fn refusal_of(refusal: Refusal) -> LoadRefusal {
 }
 
 impl<T: Taker> Judge for Decoder<T> {
+    fn judge(&mut self, piece: &[u8]) -> Result<(), LoadRefusal> {
+        match self.feed(piece) {
+            Ok(()) => Ok(()),
+            Err(refusal) => Err(refusal_of(refusal)),
+        }
+    }
+
+    fn close(self) -> Result<(), LoadRefusal> {
+        match self.finish() {
+            Ok(_) => Ok(()),
+            Err(refusal) => Err(refusal_of(refusal)),
+        }
+    }
+}
+
+impl<A: Allocator + Copy> Judge for ObjectDecoder<A> {
     fn judge(&mut self, piece: &[u8]) -> Result<(), LoadRefusal> {
         match self.feed(piece) {
             Ok(()) => Ok(()),
@@ -130,6 +146,7 @@ fn placed_at(bytes: &[u8], bases: &[u32]) -> Result<(), LoadRefusal> {
 fn is_read_so(
     rt: &impl Abort,
     alloc: Global,
+    kind: FileKind,
     bytes: &[u8],
     chunk: usize,
     answer: Answer,
@@ -140,7 +157,10 @@ fn is_read_so(
     };
     assert!(rt; 1 <= chunk);
     let mut reader = Pieces::new(bytes.to_vec(alloc)?, chunk, None);
-    let got = read_load(alloc, &mut reader).err();
+    let got = match kind {
+        Object => read_object(alloc, &mut reader).err(),
+        Load => read_load(alloc, &mut reader).err(),
+    };
     assert_eq!(rt; got, wanted, "{bytes:?} read by {chunk}");
     Ok(())
 }
@@ -173,6 +193,20 @@ fn is_run_so(
     Ok(())
 }
 
+// Everything that reads an object file has this result for these bytes.
+fn is_object_judged(
+    rt: &impl Abort,
+    alloc: Global,
+    bytes: &[u8],
+    chunk: usize,
+    answer: Answer,
+) -> Result<(), Fail> {
+    let judge = Decoder::new(ObjectCounter::new(alloc));
+    answers_in_time(rt, judge, bytes, chunk, answer, Ok(()));
+    answers_in_time(rt, ObjectDecoder::new(alloc), bytes, chunk, answer, Ok(()));
+    is_read_so(rt, alloc, Object, bytes, chunk, answer)
+}
+
 // Everything that reads a load file has this result for these bytes.
 fn is_load_judged(
     rt: &impl Abort,
@@ -181,7 +215,7 @@ fn is_load_judged(
     chunk: usize,
     answer: Answer,
 ) -> Result<(), Fail> {
-    let judge = Decoder::new(LoadJudge::new(alloc));
+    let judge = Decoder::new(LoadCounter::new(alloc));
     answers_in_time(rt, judge, bytes, chunk, answer, Ok(()));
     answers_in_time(rt, LoadDecoder::new(alloc), bytes, chunk, answer, Ok(()));
     let places: [&[u32]; 3] = [&[], &[BASE], &[BASE, 0x0002_0000]];
@@ -190,7 +224,7 @@ fn is_load_judged(
         let placed = placed_at(bytes, bases);
         answers_in_time(rt, loader, bytes, chunk, answer, placed);
     }
-    is_read_so(rt, alloc, bytes, chunk, answer)?;
+    is_read_so(rt, alloc, Load, bytes, chunk, answer)?;
     is_run_so(rt, alloc, bytes, chunk, answer)
 }
 
@@ -204,10 +238,7 @@ pub(crate) fn is_judged(
 ) -> Result<(), Fail> {
     for chunk in CHUNKS {
         match kind {
-            Object => {
-                let judge = Decoder::new(ObjectJudge::new(alloc));
-                answers_in_time(rt, judge, bytes, chunk, answer, Ok(()));
-            }
+            Object => is_object_judged(rt, alloc, bytes, chunk, answer)?,
             Load => is_load_judged(rt, alloc, bytes, chunk, answer)?,
         }
     }

@@ -3,9 +3,10 @@
 use super::decoders::{Judge, answers_again};
 use super::files::{BASE, FILE, bytes_of};
 use super::words::{PAST_CONTENT, SCATTERED};
-use crate::{LoadJudge, ObjectJudge, Refusing};
+use crate::Refusing;
 use hunk_loader::{ImageLoader, LoadRefusal};
 use hunk_loadfile::LoadDecoder;
+use hunk_tool::{LoadCounter, ObjectCounter};
 use hunk_words::{CoreState, Decoder, Fault, Reason, Splitter};
 use std::alloc::Global;
 use std::process::Abort;
@@ -21,7 +22,7 @@ fn answers_a_refusal_again(rt: HostRuntime) -> Result<(), Fail> {
         place: 9,
         reason: Reason::SiteOutside(5),
     });
-    let mut decoder = Decoder::new(ObjectJudge::new(rt.alloc()));
+    let mut decoder = Decoder::new(ObjectCounter::new(rt.alloc()));
     assert_eq!(rt; decoder.judge(&bytes), Err(refusal));
     answers_again(&rt, decoder, refusal);
 
@@ -87,11 +88,11 @@ fn refuses_each_growth(rt: HostRuntime) -> Result<(), Fail> {
     let mut ended = [false, false];
     for number in 0..MOST_GROWTHS {
         let heap = Refusing::new(rt.alloc(), number);
-        let taken = is_taken(&rt, Decoder::new(ObjectJudge::new(&heap)), &object);
+        let taken = is_taken(&rt, Decoder::new(ObjectCounter::new(&heap)), &object);
         assert_eq!(rt; taken, heap.asked() <= number, "growth {number}");
         assert!(rt; !taken || 1 <= number, "the sites grow");
         let heap = Refusing::new(rt.alloc(), number);
-        let also = is_taken(&rt, Decoder::new(LoadJudge::new(&heap)), &load);
+        let also = is_taken(&rt, Decoder::new(LoadCounter::new(&heap)), &load);
         assert_eq!(rt; also, heap.asked() <= number, "growth {number}");
         assert!(rt; !also || 2 <= number, "the sizes and the sites grow");
         ended = [taken, also];

@@ -1,12 +1,14 @@
-//! Takers that check nothing but sites, one for each kind of file.
+//! Takers that check sites, and count what a file has: one for each kind of file. They keep no
+//! content.
 
-ghost use Rattle.std.specs.Prelude.{◌≡◌, ℕ, List, [], slice_index, OnOk, OnErr};
+ghost use Rattle.std.specs.Prelude.{◌≡◌, ℕ, ◌<◌, ◌^◌, List, [], ◌∷◌, ◌++◌, length, slice_index, OnOk, OnErr};
 ghost use Rattle.hunk_words.specs.PartialHunk.{HoldsSites};
 ghost use Rattle.hunk_words.specs.SiteContext.{content_limit};
 ghost use Rattle.hunk_words.specs.Taker.{JudgesNone};
 ghost use Rattle.hunk_words.specs.Kinds.{hunk_kind_of};
+ghost use Rattle.hunk_words.specs.declared.event.Event.{Event};
 ghost use Rattle.hunk_words.specs.declared.event.FileKind.TheVariants.{Object, Load};
-ghost use Rattle.hunk_tests.specs.Judges.{ObjectStandsFor, LoadStandsFor};
+ghost use Rattle.hunk_tool.specs.Counters.{ObjectStandsFor, LoadStandsFor};
 
 use hunk_words::{Event, FileKind, HunkKind, PartialHunk, SiteRefusal, Taker};
 use std::alloc::{Allocator, Global};
@@ -35,22 +37,56 @@ fn end<A: Allocator + Copy>(hunk: &mut PartialHunk<u32, A>, alloc: A)
     *hunk = PartialHunk::new(alloc, hunk.limit());
 }
 
-/// Checks the sites of an object file.
+/// Checks the sites of an object file, and counts its units and their hunks.
+///
+/// It keeps the sites of the current hunk, and no content.
 #[derive(Drop)]
-pub struct ObjectJudge<A: Allocator + Copy = Global> {
+pub struct ObjectCounter<A: Allocator + Copy = Global> {
     alloc: A,
+    units: u64,
+    hunks: u64,
     hunk: PartialHunk<u32, A>,
 }
 
-impl<A: Allocator + Copy> ObjectJudge<A> {
+impl<A: Allocator + Copy> ObjectCounter<A> {
     /// It has taken no event.
     pub fn new(alloc: A) -> Self
         ensures { ObjectStandsFor result [] }
     {
-        ObjectJudge {
+        ObjectCounter {
             alloc,
+            units: 0,
+            hunks: 0,
             hunk: PartialHunk::new(alloc, 0),
         }
+    }
+
+    /// The number of units.
+    pub fn units(&self) -> u64
+        ensures { result ≡ self.now.units }
+    {
+        self.units
+    }
+
+    /// The number of hunks of all units.
+    pub fn hunks(&self) -> u64
+        ensures { result ≡ self.now.hunks }
+    {
+        self.hunks
+    }
+
+    // A hunk of the current unit ends. In a file a unit has begun.
+    fn end_hunk(&mut self) -> Result<(), SiteRefusal>
+        ensures takes { (told : List Event) → ObjectStandsFor self.old told → length told < 2 ^ 29 → OnOk result (ObjectStandsFor self.new (told ++ Event.HunkEnd ∷ [])) }
+        ensures refuses { OnErr result (self.new ≡ self.old) }
+        ensures judges { JudgesNone result }
+    {
+        if self.units == 0 {
+            return Err(SiteRefusal::OutOfMemory);
+        }
+        self.hunks = self.hunks.saturating_add(1);
+        end(&mut self.hunk, self.alloc);
+        Ok(())
     }
 }
 
@@ -64,8 +100,8 @@ fn content_bytes(kind: u32, size: u32) -> u64
     }
 }
 
-impl<A: Allocator + Copy> Taker for ObjectJudge<A> {
-    ghost stands_for = { λ judge told. ObjectStandsFor judge told };
+impl<A: Allocator + Copy> Taker for ObjectCounter<A> {
+    ghost stands_for = { λ counter told. ObjectStandsFor counter told };
 
     ghost KIND = { Object };
 
@@ -73,15 +109,16 @@ impl<A: Allocator + Copy> Taker for ObjectJudge<A> {
 
     fn take(&mut self, event: Event) -> Result<(), SiteRefusal> {
         match event {
+            Event::Unit => {
+                self.units = self.units.saturating_add(1);
+                Ok(())
+            }
             Event::Content { kind, size, .. } => {
                 begin(&mut self.hunk, self.alloc, content_bytes(kind, size))
             }
             Event::Site { offset, target } => self.hunk.add_site(offset, target),
             Event::RefSite(offset) => self.hunk.add_site(offset, 0),
-            Event::HunkEnd => {
-                end(&mut self.hunk, self.alloc);
-                Ok(())
-            }
+            Event::HunkEnd => self.end_hunk(),
             _ => Ok(()),
         }
     }
@@ -91,26 +128,35 @@ impl<A: Allocator + Copy> Taker for ObjectJudge<A> {
     }
 }
 
-/// Checks the sites of a load file, and keeps the sizes in its header.
+/// Checks the sites of a load file, and keeps the sizes in its header, one for each hunk.
+///
+/// It keeps the sites of the current hunk, and no content.
 #[derive(Drop)]
-pub struct LoadJudge<A: Allocator + Copy = Global> {
+pub struct LoadCounter<A: Allocator + Copy = Global> {
     alloc: A,
     sizes: Vec<u32, A>,
     ended: usize,
     hunk: PartialHunk<u32, A>,
 }
 
-impl<A: Allocator + Copy> LoadJudge<A> {
+impl<A: Allocator + Copy> LoadCounter<A> {
     /// It has taken no event.
     pub fn new(alloc: A) -> Self
         ensures { LoadStandsFor result [] }
     {
-        LoadJudge {
+        LoadCounter {
             alloc,
             sizes: Vec::new(alloc),
             ended: 0,
             hunk: PartialHunk::new(alloc, 0),
         }
+    }
+
+    /// The number of hunks in the header.
+    pub fn hunks(&self) -> u64
+        ensures { result ≡ length self.now.sizes.items }
+    {
+        self.sizes.len() as u64
     }
 
     // The size of this hunk in the header, in longwords.
@@ -124,8 +170,8 @@ impl<A: Allocator + Copy> LoadJudge<A> {
     }
 }
 
-impl<A: Allocator + Copy> Taker for LoadJudge<A> {
-    ghost stands_for = { λ judge told. LoadStandsFor judge told };
+impl<A: Allocator + Copy> Taker for LoadCounter<A> {
+    ghost stands_for = { λ counter told. LoadStandsFor counter told };
 
     ghost KIND = { Load };
 

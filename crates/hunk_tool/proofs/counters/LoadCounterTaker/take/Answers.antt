@@ -1,14 +1,14 @@
 -- One more event.
-use Rattle.std.proofs.Common.{◌≡◌, ◌*◌, ◌∙◌, slice_index, [], ◌∷◌, ◌++◌, length, sym, ap, subst, arith, refl}
+use Rattle.std.proofs.Common.{◌∙◌, [], ◌∷◌, ◌++◌, length, sym, ap, subst, arith, refl}
 use Rattle.std.proofs.lemmas.Result.{on_ok_weaker}
 use Rattle.hunk_words.specs.PartialHunk.{HoldsSites}
 use Rattle.hunk_words.specs.Taker.{context_of}
 use Rattle.hunk_words.specs.declared.event.Event.TheVariants as event_is
 use Rattle.hunk_words.specs.declared.event.FileKind.TheVariants.{Load}
 use Rattle.hunk_words.proofs.TakerLemmas.{judges-other}
-use Rattle.hunk_tests.specs.Judges.{LoadHolds}
-use Rattle.hunk_tests.proofs.JudgesLemmas.{stands-one, limit-told, ended-one, quiet-other, quiet-watch}
-use Rattle.hunk_tests.proofs.judges.LoadJudgeTaker.take.Goals as goal
+use Rattle.hunk_tool.specs.Counters.{LoadHolds}
+use Rattle.hunk_tool.proofs.CountersLemmas.{stands-one, limit-told, ended-one, quiet-other, quiet-watch}
+use Rattle.hunk_tool.proofs.counters.LoadCounterTaker.take.Goals as goal
 
 pub returns-in-Site-clause-takes : goal.returns-in-Site-clause-takes
 returns-in-Site-clause-takes g c = λ told stands few. rw c.in-Site.is

@@ -1,5 +1,5 @@
 use Rattle.hunk_words.proofs.PartialHunkLemmas.{HoldsSites-begun}
-use Rattle.hunk_tests.proofs.judges.begin.Goals as goal
+use Rattle.hunk_tool.proofs.counters.begin.Goals as goal
 
 pub returns-then-begin_content-clause-holds : goal.returns-then-begin_content-clause-holds
 returns-then-begin_content-clause-holds g c = λ before seen holds.

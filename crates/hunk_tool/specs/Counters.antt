@@ -1,0 +1,36 @@
+-- What a taker that checks sites and counts holds of the events that it has taken.
+use Rattle.std.specs.Prelude.{◌≡◌, ℕ, ◌+◌, ◌≤◌, List, length, sum_by}
+use Rattle.hunk_words.specs.EventValue.{EventValue, value_of_events, initial_object}
+use Rattle.hunk_words.specs.PartialHunk.{HoldsContext}
+use Rattle.hunk_words.specs.Values.{Part}
+use Rattle.hunk_words.specs.Taker.{context_of}
+use Rattle.hunk_words.specs.SiteContext.{SiteContext}
+use Rattle.hunk_words.specs.declared.event.Event.{Event}
+use Rattle.hunk_words.specs.declared.event.FileKind.TheVariants.{Object, Load}
+use Rattle.hunk_tool.specs.declared.counters.ObjectCounter.{ObjectCounter}
+use Rattle.hunk_tool.specs.declared.counters.LoadCounter.{LoadCounter}
+
+-- the hunks of all parts
+abbrev pub hunk_total : List Part → ℕ
+hunk_total parts = sum_by (λ part. length part.hunks) parts
+
+-- It holds the numbers of units and of their hunks, and the limit and the sites of the current
+-- hunk.
+pub record ObjectHolds {A : Type 0} (built : EventValue) (context : SiteContext) (counter : ObjectCounter A) : Type 0 where
+  pub same_units : counter.units ≡ length built.parts
+  pub same_hunks : counter.hunks ≡ hunk_total built.parts
+  pub holds_hunk : HoldsContext context counter.hunk
+
+pub record ObjectStandsFor {A : Type 0} (counter : ObjectCounter A) (told : List Event) : Type 0 where
+  pub holds : ObjectHolds (value_of_events initial_object told) (context_of Object told) counter
+  pub few : counter.units + counter.hunks ≤ length told
+
+-- It holds the sizes in the header and the number of hunks that have ended too.
+pub record LoadHolds {A : Type 0} (context : SiteContext) (counter : LoadCounter A) : Type 0 where
+  pub same_sizes : counter.sizes.items ≡ context.position.sizes
+  pub same_ended : counter.ended ≡ context.position.ended
+  pub holds_hunk : HoldsContext context counter.hunk
+
+pub record LoadStandsFor {A : Type 0} (counter : LoadCounter A) (told : List Event) : Type 0 where
+  pub holds : LoadHolds (context_of Load told) counter
+  pub few : counter.ended ≤ length told
