@@ -9,9 +9,9 @@ use std::test::Fail;
 // More allocations than the sites ask for.
 const MOST_ALLOCATIONS: u64 = 64;
 
-// Sites of four pages: a page after the others, one before, sites that fill its first blocks, and one
+// Sites of four pages of 4,096 bytes: a page after the others, one before, sites that fill its first blocks, and one
 // that ends in the page after its own.
-const OFFSETS: [u32; 9] = [2048, 0, 4, 8, 12, 16, 2044, 1021, 9000];
+const OFFSETS: [u32; 9] = [8192, 0, 4, 8, 12, 16, 8188, 4093, 36000];
 
 // Whether the map has these sites alone. The target of each is its offset.
 fn has_sites<A: Allocator + Copy>(sites: &Sites<u32, A>, offsets: &[u32]) -> bool {
@@ -25,7 +25,7 @@ fn has_sites<A: Allocator + Copy>(sites: &Sites<u32, A>, offsets: &[u32]) -> boo
 // next one adds the site. Returns how many allocations were asked for.
 fn allocations_of_adding(rt: &impl Abort, alloc: Global, refused: u64) -> Result<u64, Fail> {
     let heap = Refusing::new(alloc, refused);
-    let mut sites = Sites::new(&heap, 9004);
+    let mut sites = Sites::new(&heap, 36004);
     assert_eq!(rt; heap.asked(), 0);
     for (number, offset) in OFFSETS.iter().enumerate() {
         let before = &OFFSETS[..number];
