@@ -4,68 +4,15 @@
 # best of five runs. It ends with status 1 where a figure is missed. It needs the toolchain, python3 and xxd
 # on the PATH, and 2 GB for temporary files.
 set -eu
-export LC_ALL=C
-crates="$(cd "$(dirname "$0")/../crates" && pwd)"
-generator="$(cd "$(dirname "$0")" && pwd)/load_file.py"
-folder="$(mktemp -d)"
-trap 'rm -rf "$folder"' EXIT
-
-build() { # CRATE WORDS..
-    local crate="$1"
-    shift
-    (cd "$crates/$crate" && rt run "$@") > "$folder/build" 2>&1 || { cat "$folder/build" >&2; exit 1; }
-}
-
-build amihunk -- --help
-build hunk_bench
-amihunk="$crates/amihunk/out/amihunk"
-bench="$crates/hunk_bench/out/hunk_bench"
+. "$(dirname "$0")/common.sh"
 longwords=15728640 # 60 MB
-
-make_file() { # NAME LONGWORDS SITES ORDER DEBUG_BYTES
-    python3 "$generator" "$folder/$1" "$2" "$3" "$4" "$5"
-}
-
-best() { # the microseconds of COMMAND, which writes to OUT: OUT COMMAND..
-    local out="$1" least=0 start took
-    shift
-    for _ in 1 2 3 4 5; do
-        start="${EPOCHREALTIME/./}"
-        "$@" > "$out"
-        took=$((${EPOCHREALTIME/./} - start))
-        if [ "$least" = 0 ] || [ "$took" -lt "$least" ]; then least="$took"; fi
-    done
-    echo "$least"
-}
-
-peak() { # the most memory of COMMAND, in KiB: COMMAND..
-    python3 -c 'import resource, subprocess, sys
-subprocess.run(sys.argv[1:], stdout=subprocess.DEVNULL, check=True)
-print(resource.getrusage(resource.RUSAGE_CHILDREN).ru_maxrss)' "$@"
-}
-
-missed=0
-
-figure() { # NAME ALLOWED REACHED UNIT
-    local mark=""
-    if awk -v allowed="$2" -v reached="$3" 'BEGIN { exit !(reached > allowed) }'; then
-        mark="  MISSED"
-        missed=1
-    fi
-    printf '%-66s allowed %8.2f, reached %8.2f %s%s\n' "$1" "$2" "$3" "$4" "$mark"
-}
-
-ratio() { # A / B
-    awk -v a="$1" -v b="$2" 'BEGIN { print a / b }'
-}
-
 sites=1000000
-make_file plain "$longwords" 0 rising 0
+make_file plain --longwords "$longwords"
 for order in rising targets falling random; do
-    make_file "$order" "$longwords" "$sites" "$order" 0
+    make_file "$order" --longwords "$longwords" --sites "$sites" --order "$order"
 done
-make_file half "$((longwords / 2))" "$((sites / 2))" rising 0
-make_file debug "$longwords" 0 rising 400000000
+make_file half --longwords "$((longwords / 2))" --sites "$((sites / 2))"
+make_file debug --longwords "$longwords" --debug 400000000
 cd "$folder"
 
 cat_time="$(best /dev/null cat plain)"

@@ -1,9 +1,10 @@
-//! A file read to its end in the same pieces: by nothing else, by the decoder of load files, and by
+//! A file read to its end in the same pieces: by nothing else, by the decoder of its kind, and by
 //! `ImageLoader`.
 
 use hunk_loader::{ImageLoader, LoadRefusal};
-use hunk_loadfile::LoadDecoder;
-use hunk_words::Refusal;
+use hunk_loadfile::read_load;
+use hunk_objects::read_object;
+use hunk_words::Watched;
 use std::alloc::Global;
 use std::fs::File;
 use std::io::Read;
@@ -19,11 +20,20 @@ pub fn read_file(rt: &HostRuntime, name: &str) -> io::Result<()> {
     rt.println(format_args!("{total} bytes"))
 }
 
-/// Reads the file, and decodes it.
+/// Reads the load file, and decodes it.
 pub fn decode_file(rt: &HostRuntime, name: &str) -> io::Result<()> {
-    let mut file = fs::open(rt, name)?;
-    match decode_all(rt.alloc(), &mut file)? {
-        Ok(hunks) => rt.println(format_args!("{hunks} hunks")),
+    let mut reader = Watched::new(fs::open(rt, name)?);
+    match read_load(rt.alloc(), &mut reader) {
+        Ok(file) => rt.println(format_args!("{} hunks", file.hunks().len())),
+        Err(_) => rt.println("the decoder refused the file"),
+    }
+}
+
+/// Reads the object file, and decodes it.
+pub fn decode_object(rt: &HostRuntime, name: &str) -> io::Result<()> {
+    let mut reader = Watched::new(fs::open(rt, name)?);
+    match read_object(rt.alloc(), &mut reader) {
+        Ok(units) => rt.println(format_args!("{} units", units.len())),
         Err(_) => rt.println("the decoder refused the file"),
     }
 }
@@ -48,26 +58,6 @@ fn read_all(file: &mut File) -> io::Result<u64> {
         total = total.wrapping_add(count as u64);
     }
     Ok(total)
-}
-
-// The number of hunks in the file.
-fn decode_all(alloc: Global, file: &mut File) -> io::Result<Result<usize, Refusal>> {
-    let mut buffer = [0; PIECE];
-    let mut decoder = LoadDecoder::new(alloc);
-    for _ in 0..u64::MAX {
-        let count = file.read(&mut buffer)?;
-        if count == 0 {
-            break;
-        }
-        match decoder.feed(&buffer[..count]) {
-            Ok(()) => {}
-            Err(refusal) => return Ok(Err(refusal)),
-        }
-    }
-    match decoder.finish() {
-        Ok(file) => Ok(Ok(file.hunks().len())),
-        Err(refusal) => Ok(Err(refusal)),
-    }
 }
 
 // The number of bytes in the image.

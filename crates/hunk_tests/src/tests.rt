@@ -15,6 +15,7 @@
 //! - `reports`: files that are loaded.
 //! - `sites`: sites that are added while allocations fail.
 //! - `streaming`: what `ImageLoader` allocates.
+//! - `texts`: the texts that are written about files.
 //! - `units`: program units, as they are read.
 //! - `unit_values`: the expected units of an object file.
 //! - `values`: the expected hunks of a load file.
@@ -37,6 +38,7 @@ mod refusals;
 mod reports;
 mod sites;
 mod streaming;
+mod texts;
 mod unit_values;
 mod units;
 mod values;

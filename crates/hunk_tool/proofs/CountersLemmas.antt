@@ -1,8 +1,8 @@
 -- What a taker that checks sites and counts holds, after one more event and at the end of a file.
-use Rattle.std.proofs.Common.{◌≡◌, ℕ, suc, ◌+◌, ◌-◌, ◌*◌, ◌^◌, min, slice_index, ◌<◌, ◌≤◌, List, [], ◌∷◌, ◌++◌, length, length-append, refl, sym, ap, ◌∙◌, subst, sum_by, arith}
+use Rattle.std.proofs.Common.{◌≡◌, ℕ, suc, ◌+◌, ◌-◌, ◌*◌, ◌^◌, min, slice_index, ◌<◌, ◌≤◌, List, [], ◌∷◌, ◌++◌, length, length-append, append-nil, append_assoc, refl, sym, ap, ◌∙◌, subst, sum_by, arith}
 use Rattle.std.proofs.lemmas.List.{length-map}
 use Rattle.std.proofs.lemmas.List.Sums.{sum_by-cons, sum_by_push}
-use Rattle.hunk_words.specs.Event.{events}
+use Rattle.hunk_words.specs.Event.{events, word_events}
 use Rattle.hunk_words.specs.EventValue.{EventValue, Receiver, initial_load, initial_object, on_last, step, value_of_events, word_to}
 use Rattle.hunk_words.specs.EventValue.Receiver.{nothing_more, to_unit_name, to_name, to_content, to_debug, to_symbol, to_entry}
 use Rattle.hunk_words.specs.PartialHunk.{HoldsContext, HoldsSites}
@@ -179,6 +179,24 @@ stands-end told old new stands begun units hunks holds =
       same_hunks = omega (arith, hunks, stands.holds.same_hunks, total);
       holds_hunk = holds;
     }) (omega (arith, units, hunks, stands.few))
+
+-- ---- words, which are not kept
+
+-- of anything that holds after one more word
+pub stands-words : (Stands : List Event → Type 0) → ((told : List Event) (w : ℕ) → length told < 2 ^ 29 → Stands told → Stands (told ++ event_is.Word w ∷ []))
+    → (us : List ℕ) (told : List Event) → length told + length us < 2 ^ 29 → Stands told → Stands (told ++ word_events us)
+stands-words Stands one [] told few stands = subst Stands (sym (append-nil told)) stands
+stands-words Stands one (u ∷ us) told few stands =
+    subst Stands (append_assoc told (event_is.Word u ∷ []) (word_events us))
+    (stands-words Stands one us (told ++ event_is.Word u ∷ []) (omega (arith, few, length-append told (event_is.Word u ∷ []))) (one told u (omega (arith, few)) stands))
+
+pub object-words : {A : Type 0} (counter : ObjectCounter A) (told : List Event) (us : List ℕ) → length told + length us < 2 ^ 29 → ObjectStandsFor counter told → ObjectStandsFor counter (told ++ word_events us)
+object-words counter told us few stands =
+    stands-words (ObjectStandsFor counter) (λ before w room holds. stands-kept before (event_is.Word w) counter counter (λ e. absurd (cc)) (λ e. absurd (cc)) holds refl refl holds.holds.holds_hunk) us told few stands
+
+pub load-words : {A : Type 0} (counter : LoadCounter A) (told : List Event) (us : List ℕ) → length told + length us < 2 ^ 29 → LoadStandsFor counter told → LoadStandsFor counter (told ++ word_events us)
+load-words counter told us few stands =
+    stands-words (LoadStandsFor counter) (λ before w room holds. stands-one before (event_is.Word w) counter holds.holds (omega (arith, holds.few))) us told few stands
 
 -- ---- at the end of a file
 

@@ -1,11 +1,14 @@
 pub mod BasesLemmas
 pub mod ReportBlockLemmas
-pub mod DigitsLemmas
 pub mod FaultLineLemmas
 pub mod LawsLemmas
+pub mod FileLawsLemmas
 pub mod LoadLemmas
 pub mod ReportExampleLemmas
 pub mod ReportLemmas
 pub mod CountersLemmas
+pub mod FileDecoderLemmas
+pub mod FileTextLemmas
 pub mod CountingLemmas
 pub mod CheckLemmas
+pub mod ShowLemmas

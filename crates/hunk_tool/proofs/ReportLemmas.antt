@@ -10,8 +10,8 @@ use Rattle.hex.specs.Hex.{lower_digits}
 use Rattle.hex.proofs.HexLemmas.{length-encode_with}
 use Rattle.hunk_loader.specs.Image.{hunks_of}
 use Rattle.hunk_tool.specs.Report.{EndsInside, first_row_lines, hunk_line, hunk_lines, numbered_lines, report, row_count, row_line, row_lines, row_of}
-use Rattle.hunk_tool.specs.Digits.{eight_digits}
-use Rattle.hunk_tool.proofs.DigitsLemmas.{length-decimal}
+use Rattle.hunk_text.specs.Digits.{eight_digits}
+use Rattle.hunk_text.proofs.DigitsLemmas.{length-decimal}
 use Rattle.hunk_words.proofs.StreamsWritingLemmas.{flat_map-around, length-front-le}
 
 -- ---- rows

@@ -7,6 +7,8 @@ use Rattle.hunk_loadfile.specs.LoadFile.{IsLoadOf}
 use Rattle.hunk_loader.specs.ImageLoader.{IsNotPlaced, LoadsAs}
 use Rattle.hunk_loader.specs.declared.places.PlaceFault.{PlaceFault}
 use Rattle.hunk_loader.specs.ImageReader.{IsRefused}
+use Rattle.hunk_tool.specs.FileDecoder.{IsRefused as IsFileRefused}
+use Rattle.hunk_tool.specs.FileValue.{FileValue, IsOfItsKind}
 use Rattle.hunk_tool.specs.Load.{IsReported}
 
 -- What is rejected is not the beginning of a load file, and not one if it is rejected at its end.
@@ -36,3 +38,22 @@ HasOutcome bases bytes =
 -- There is always an outcome, for bases that are addresses.
 abbrev pub OutcomeExists : Type 0
 OutcomeExists = (bases bytes : List ℕ) → All (λ b. b < 256) bytes → EachIndex bases (λ hunk. slice_index bases hunk < 2 ^ 32) → HasOutcome bases bytes
+
+-- ---- files of either kind
+
+-- What was read up to a reader's end is a file of the kind that its first four bytes tell, or it is
+-- rejected.
+abbrev pub FileOrFault : Type 0
+FileOrFault = (bytes : List ℕ) → All (λ b. b < 256) bytes → ((value : FileValue) × IsOfItsKind value bytes) ⊎ ((fault : Fault) × IsFileRefused fault true bytes)
+
+-- What is rejected is no file of its kind.
+abbrev pub FaultyIsNoFile : Type 0
+FaultyIsNoFile = (fault : Fault) (ended : Bool) (value : FileValue) (bytes : List ℕ) → IsFileRefused fault ended bytes → IsOfItsKind value bytes → ⊥
+
+-- A file has one value.
+abbrev pub FileHasOneValue : Type 0
+FileHasOneValue = (one other : FileValue) (bytes : List ℕ) → IsOfItsKind one bytes → IsOfItsKind other bytes → one ≡ other
+
+-- What is rejected is rejected for one fault.
+abbrev pub FaultIsOne : Type 0
+FaultIsOne = (fault other : Fault) (ended also_ended : Bool) (bytes : List ℕ) → IsFileRefused fault ended bytes → IsFileRefused other also_ended bytes → fault ≡ other

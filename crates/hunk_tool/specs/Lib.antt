@@ -5,8 +5,9 @@ pub mod Load
 pub mod Phrase
 pub mod Report
 pub mod ToolFault
-pub mod Digits
-pub mod Printing
 pub mod Counters
-pub mod Counting
+pub mod FileValue
+pub mod FileDecoder
+pub mod FileText
 pub mod Check
+pub mod Show

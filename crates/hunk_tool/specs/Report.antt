@@ -4,8 +4,8 @@ use Rattle.std.specs.Fmt.{decimal}
 use Rattle.std.specs.Int.{div_ceil}
 use Rattle.std.specs.List.{enumerate_from, flat_map, range_with_len}
 use Rattle.hex.specs.Hex.{encode_lower}
-use Rattle.hunk_tool.specs.Printing.{line}
-use Rattle.hunk_tool.specs.Digits.{eight_digits}
+use Rattle.hunk_text.specs.Printing.{line}
+use Rattle.hunk_text.specs.Digits.{eight_digits}
 
 -- the first line of a hunk: its number, its base and its size in bytes
 abbrev pub hunk_line : ℕ → ℕ → ℕ → List ℕ

@@ -1,16 +1,16 @@
 //! Checks a file, and writes what it is.
 
-ghost use Rattle.std.specs.Prelude.{◌≡◌, IsTrue, OnOk, IfErr};
-ghost use Rattle.hunk_words.specs.Streams.{HasRead, IsDevice, Wrote, WroteAll};
-ghost use Rattle.hunk_tool.specs.Check.{IsCheckFault, IsChecked};
-ghost use Rattle.hunk_tool.specs.Counting.{first_line, load_line, object_line};
+ghost use Rattle.std.specs.Prelude.{IsTrue, OnOk, IfErr};
+ghost use Rattle.hunk_words.specs.Streams.{HasRead, IsDevice, WroteAll};
+ghost use Rattle.hunk_tool.specs.Check.{check_text, line_of};
+ghost use Rattle.hunk_tool.specs.FileText.{IsTextFault, IsWritten};
 ghost use Rattle.hunk_tool.specs.Load.{ends_of};
 
-use crate::counting::{Counts, read_counts};
-use crate::digits::Digits;
-use crate::printing::write_pieces;
+use crate::counters::{LoadCounter, ObjectCounter};
+use crate::file_decoder::{File, read_file};
 use crate::tool_fault::ToolFault;
-use hunk_words::{Sink, Source, WriteFault};
+use hunk_text::{write_load_line, write_object_line};
+use hunk_words::{Decoder, Sink, Source, WriteFault};
 use std::alloc::Allocator;
 
 /// Reads a file to the reader's end, checks it, and writes one line: `object file: U units, H hunks`,
@@ -35,55 +35,31 @@ pub fn check_run<A: Allocator + Copy, R: Source, W: Sink>(
     reader: &mut R,
     writer: &mut W,
 ) -> Result<(), ToolFault>
-    ensures ok { OnOk result (HasRead (R.left reader.old) (R.left reader.new) (IsChecked (W.taken writer.old) (W.taken writer.new))) }
+    ensures ok { OnOk result (HasRead (R.left reader.old) (R.left reader.new) (IsWritten check_text (W.taken writer.old) (W.taken writer.new))) }
     ensures ended { OnOk result (IsTrue (R.ended reader.new)) }
-    ensures err { IfErr result (IsCheckFault (ends_of
+    ensures err { IfErr result (IsTextFault check_text (ends_of
         (R.left reader.old) (R.left reader.new) (R.failed reader.new) (R.ended reader.new)
         (W.taken writer.old) (W.taken writer.new) (W.failed writer.new))) }
 {
-    let counts = read_counts(alloc, reader)?;
-    Ok(write_counts(counts, writer)?)
+    let object = Decoder::new(ObjectCounter::new(alloc));
+    let load = Decoder::new(LoadCounter::new(alloc));
+    let counted = read_file(reader, object, load)?;
+    Ok(write_counts(&counted, writer)?)
 }
 
-/// Writes the line of a file with these numbers. Does not allocate.
-fn write_counts<W: Sink>(counts: Counts, writer: &mut W) -> Result<(), WriteFault>
-    ensures wrote { WroteAll W.taken W.failed writer.old writer.new (first_line counts) result }
+/// Writes the line of a file that was counted. Does not allocate.
+fn write_counts<A: Allocator + Copy, W: Sink>(
+    counted: &File<ObjectCounter<A>, LoadCounter<A>>,
+    writer: &mut W,
+) -> Result<(), WriteFault>
+    ensures wrote { WroteAll W.taken W.failed writer.old writer.new (line_of counted.now) result }
     ensures device { IfErr result IsDevice }
 {
-    match counts {
-        Counts::Object { units, hunks } => write_object_line(units, hunks, writer)?,
-        Counts::Load { hunks } => write_load_line(hunks, writer)?,
+    match counted {
+        File::Object(counter) => write_object_line(counter.units(), counter.hunks(), writer)?,
+        File::Load(counter) => write_load_line(counter.hunks(), writer)?,
     };
     Ok(())
-}
-
-/// Writes the line of an object file, and returns its length.
-fn write_object_line<W: Sink>(units: u64, hunks: u64, writer: &mut W) -> Result<u64, WriteFault>
-    ensures wrote { Wrote W.taken W.failed writer.old writer.new (object_line units hunks) 0 result }
-    ensures device { IfErr result IsDevice }
-{
-    let units = Digits::decimal(units);
-    let hunks = Digits::decimal(hunks);
-    write_pieces(
-        writer,
-        0,
-        &[
-            b"object file: ",
-            units.as_bytes(),
-            b" units, ",
-            hunks.as_bytes(),
-            b" hunks\n",
-        ],
-    )
-}
-
-/// Writes the line of a load file, and returns its length.
-fn write_load_line<W: Sink>(hunks: u64, writer: &mut W) -> Result<u64, WriteFault>
-    ensures wrote { Wrote W.taken W.failed writer.old writer.new (load_line hunks) 0 result }
-    ensures device { IfErr result IsDevice }
-{
-    let hunks = Digits::decimal(hunks);
-    write_pieces(writer, 0, &[b"load file: ", hunks.as_bytes(), b" hunks\n"])
 }
 
 #[cfg(test)]

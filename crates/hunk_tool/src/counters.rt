@@ -8,10 +8,10 @@ ghost use Rattle.hunk_words.specs.Taker.{JudgesNone};
 ghost use Rattle.hunk_words.specs.Kinds.{hunk_kind_of};
 ghost use Rattle.hunk_words.specs.declared.event.Event.{Event};
 ghost use Rattle.hunk_words.specs.declared.event.FileKind.TheVariants.{Object, Load};
-ghost use Rattle.hunk_tool.specs.Counters.{ObjectStandsFor, LoadStandsFor};
+ghost use Rattle.hunk_tool.specs.Counters.{LoadStandsFor, ObjectStandsFor, header_hunks, hunks_of, units_of};
 
 use hunk_words::{Event, FileKind, HunkKind, PartialHunk, SiteRefusal, Taker};
-use std::alloc::{Allocator, Global};
+use std::alloc::{AllocError, Allocator, Global};
 
 // The content begins: the sites must lie in this many bytes. In a file no site comes before.
 fn begin<A: Allocator + Copy>(
@@ -63,14 +63,14 @@ impl<A: Allocator + Copy> ObjectCounter<A> {
 
     /// The number of units.
     pub fn units(&self) -> u64
-        ensures { result ≡ self.now.units }
+        ensures { result ≡ units_of self.now }
     {
         self.units
     }
 
     /// The number of hunks of all units.
     pub fn hunks(&self) -> u64
-        ensures { result ≡ self.now.hunks }
+        ensures { result ≡ hunks_of self.now }
     {
         self.hunks
     }
@@ -123,6 +123,10 @@ impl<A: Allocator + Copy> Taker for ObjectCounter<A> {
         }
     }
 
+    fn take_words(&mut self, _bytes: &[u8]) -> Result<bool, AllocError> {
+        Ok(true)
+    }
+
     fn size_of(&self, _hunk: u32) -> u32 {
         0
     }
@@ -154,7 +158,7 @@ impl<A: Allocator + Copy> LoadCounter<A> {
 
     /// The number of hunks in the header.
     pub fn hunks(&self) -> u64
-        ensures { result ≡ length self.now.sizes.items }
+        ensures { result ≡ header_hunks self.now }
     {
         self.sizes.len() as u64
     }
@@ -196,6 +200,10 @@ impl<A: Allocator + Copy> Taker for LoadCounter<A> {
             }
             _ => Ok(()),
         }
+    }
+
+    fn take_words(&mut self, _bytes: &[u8]) -> Result<bool, AllocError> {
+        Ok(true)
     }
 
     fn size_of(&self, hunk: u32) -> u32 {

@@ -5,12 +5,12 @@ ghost use Rattle.std.specs.String.{string_bytes};
 ghost use Rattle.hunk_words.specs.Streams.{IsDevice, Wrote, WroteAll};
 ghost use Rattle.hunk_tool.specs.FaultLine.{fault_line, fault_text, name_of, place_text, program_line, reason_text, IsOfInputs};
 ghost use Rattle.hunk_tool.specs.Phrase.{phrase_text};
-ghost use Rattle.hunk_tool.specs.Printing.{line};
+ghost use Rattle.hunk_text.specs.Printing.{line};
 
 use crate::phrase::Phrase;
-use crate::printing::write_pieces;
 use crate::tool_fault::ToolFault;
 use hunk_loader::PlaceFault;
+use hunk_text::write_pieces;
 use hunk_words::{Reason, Sink, WriteFault, write_all};
 
 /// Writes the line that reports why an operation failed. `files` are the names of its inputs: a

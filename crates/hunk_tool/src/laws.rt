@@ -1,6 +1,6 @@
 //! Laws about the outcomes of the operations, each a function without a body.
 
-ghost use Rattle.hunk_tool.specs.Laws.{NotPlacedForOne, OutcomeExists, RefusedBeginsNone, RefusedForOne, ReportedIsPlaced};
+ghost use Rattle.hunk_tool.specs.Laws.{FaultIsOne, FaultyIsNoFile, FileHasOneValue, FileOrFault, NotPlacedForOne, OutcomeExists, RefusedBeginsNone, RefusedForOne, ReportedIsPlaced};
 
 /// What was read has at most one outcome at the same bases. What is rejected is not a load file and
 /// not the beginning of one, and there is only one fault. A file is either reported or its bases
@@ -16,4 +16,13 @@ pub fn outcomes_exclude_each_other()
 /// load file whose hunks are placed, or one whose hunks cannot be placed, or it is rejected.
 pub fn an_outcome_exists()
     ensures { OutcomeExists }
+{}
+
+/// What was read up to a reader's end is a file of the kind that its first four bytes tell, or it
+/// is rejected, never both. A file has one value, and there is only one fault.
+pub fn a_file_or_a_fault()
+    ensures either { FileOrFault }
+    ensures never_both { FaultyIsNoFile }
+    ensures one_value { FileHasOneValue }
+    ensures one_fault { FaultIsOne }
 {}

@@ -3,28 +3,29 @@
 //! - `bases`: the list of addresses on the command line.
 //! - `laws`: laws about the outcomes of the operations.
 //! - `check`: checks a file of either kind and writes what it is.
+//! - `show`: reads a file of either kind and writes its listing.
 //! - `counters`: takers that check sites, and count what a file has.
-//! - `counting`: reads a file of either kind and counts what it has; `first_bytes` tell its kind.
+//! - `file_decoder`: reads a file of either kind; `first_bytes` tell which.
+//! - `counting`: decoders that check a file and count what it has.
 //! - `load`: loads a file and writes the report of its memory.
 //! - `report`: the report of an image.
 //! - `tool_fault`: why an operation failed.
 //! - `fault_line`: the line that reports why an operation failed.
-//! - `digits`, `phrase`, `printing`: digits, texts with at most one number, lines written in
-//!   pieces.
+//! - `phrase`: texts with at most one number.
 #![tactic(auto)]
 
 pub mod bases;
 pub mod check;
 pub mod counters;
 mod counting;
-mod digits;
 pub mod fault_line;
+mod file_decoder;
 mod first_bytes;
 pub mod laws;
 pub mod load;
 pub mod phrase;
-mod printing;
 mod report;
+pub mod show;
 pub mod tool_fault;
 
 pub use bases::{BasesFault, parse_bases};
@@ -34,4 +35,5 @@ pub use fault_line::{write_fault, write_line};
 pub use hunk_loader::PlaceFault;
 pub use load::load_run;
 pub use phrase::Phrase;
+pub use show::show_run;
 pub use tool_fault::{ToolFault, status_of};

@@ -2,9 +2,9 @@
 
 ghost use Rattle.std.specs.Prelude.{◌≡◌, ◌++◌, ◌+◌, ◌≤◌, length};
 ghost use Rattle.std.specs.Fmt.{decimal};
-ghost use Rattle.hunk_tool.specs.Digits.{eight_digits};
+ghost use Rattle.hunk_text.specs.Digits.{eight_digits};
 
-use crate::digits::Digits;
+use hunk_text::Digits;
 
 /// A text with at most one number in it, and at most 64 bytes around it.
 #[derive(Drop)]

@@ -7,8 +7,7 @@ ghost use Rattle.hunk_words.specs.Streams.{IsDevice, Wrote, WroteAll};
 ghost use Rattle.hunk_loader.specs.Image.{hunks_of};
 ghost use Rattle.hunk_tool.specs.Report.{hunk_line, hunk_lines, report, row_count, row_line, row_lines, EndsInside};
 
-use crate::digits::Digits;
-use crate::printing::write_pieces;
+use hunk_text::{Digits, write_pieces};
 use hunk_words::{Sink, WriteFault, write_all};
 use std::alloc::Allocator;
 

@@ -1,6 +1,7 @@
 //! What checks the bytes of a file: where it rejects them, why, and when.
 
 use super::files::{BASE, CHUNKS, ROOM};
+use super::texts::Text;
 use hunk_loader::{ImageLoader, LoadRefusal, PlaceFault};
 use hunk_loadfile::{LoadDecoder, read_load};
 use hunk_objects::{ObjectDecoder, read_object};
@@ -193,6 +194,46 @@ fn is_run_so(
     Ok(())
 }
 
+// Whether the first four bytes tell a load file: block type 1011 in the low 30 bits.
+fn is_told_load(bytes: &[u8]) -> bool {
+    match bytes {
+        [first, 0, 0x03, 0xF3, ..] => first & 0x3F == 0,
+        _ => false,
+    }
+}
+
+// A text about the file has this result, if the first four bytes tell a file of this kind. Nothing
+// is written of bytes that are rejected.
+fn is_told_so(
+    rt: &impl Abort,
+    alloc: Global,
+    kind: FileKind,
+    bytes: &[u8],
+    chunk: usize,
+    answer: Answer,
+) -> Result<(), Fail> {
+    if is_told_load(bytes) != (kind == Load) {
+        return Ok(());
+    }
+    let wanted = match fault_of(answer) {
+        Some(fault) => Err(ToolFault::Input { file: 0, fault }),
+        None => Ok(()),
+    };
+    assert!(rt; 1 <= chunk);
+    for text in [Text::Check, Text::Show] {
+        let mut reader = Pieces::new(bytes.to_vec(alloc)?, chunk, None);
+        let mut writer = Room::new(alloc, ROOM, ROOM, false)?;
+        let got = text.run(alloc, &mut reader, &mut writer);
+        assert_eq!(rt; got, wanted, "{text:?} of {bytes:?} by {chunk}");
+        assert_eq!(rt;
+            writer.bytes().is_empty(),
+            got.is_err(),
+            "{text:?} of {bytes:?} by {chunk}"
+        );
+    }
+    Ok(())
+}
+
 // Everything that reads an object file has this result for these bytes.
 fn is_object_judged(
     rt: &impl Abort,
@@ -204,6 +245,7 @@ fn is_object_judged(
     let judge = Decoder::new(ObjectCounter::new(alloc));
     answers_in_time(rt, judge, bytes, chunk, answer, Ok(()));
     answers_in_time(rt, ObjectDecoder::new(alloc), bytes, chunk, answer, Ok(()));
+    is_told_so(rt, alloc, Object, bytes, chunk, answer)?;
     is_read_so(rt, alloc, Object, bytes, chunk, answer)
 }
 
@@ -224,6 +266,7 @@ fn is_load_judged(
         let placed = placed_at(bytes, bases);
         answers_in_time(rt, loader, bytes, chunk, answer, placed);
     }
+    is_told_so(rt, alloc, Load, bytes, chunk, answer)?;
     is_read_so(rt, alloc, Load, bytes, chunk, answer)?;
     is_run_so(rt, alloc, bytes, chunk, answer)
 }

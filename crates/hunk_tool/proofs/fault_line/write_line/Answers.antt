@@ -5,7 +5,7 @@ use Rattle.std.proofs.lemmas.Result.{err_from_is_err_and}
 use Rattle.hunk_words.proofs.StreamsWritingLemmas.{Wrote-inside, Wrote-stop, Wrote-then, WroteAll-done}
 use Rattle.hunk_tool.specs.FaultLine.{program_line}
 use Rattle.hunk_tool.specs.Phrase.{phrase_text}
-use Rattle.hunk_tool.specs.Printing.{line}
+use Rattle.hunk_text.specs.Printing.{line}
 use Rattle.hunk_tool.proofs.FaultLineLemmas.{program_line-split}
 use Rattle.hunk_tool.proofs.fault_line.write_line.Goals as goal
 

@@ -1,0 +1,57 @@
+# What the benchmarks share: building, timing, and printing what is allowed and what was reached. A script
+# sources it, and ends with `exit "$missed"`.
+export LC_ALL=C
+benches="$(cd "$(dirname "${BASH_SOURCE[0]}")" && pwd)"
+crates="$(cd "$benches/../crates" && pwd)"
+folder="$(mktemp -d)"
+trap 'rm -rf "$folder"' EXIT
+
+build() { # CRATE WORDS..
+    local crate="$1"
+    shift
+    (cd "$crates/$crate" && rt run "$@") > "$folder/build" 2>&1 || { cat "$folder/build" >&2; exit 1; }
+}
+
+build amihunk -- --help
+build hunk_bench
+amihunk="$crates/amihunk/out/amihunk"
+bench="$crates/hunk_bench/out/hunk_bench"
+
+make_file() { # NAME OPTIONS..: those of hunk_file.py
+    local name="$1"
+    shift
+    python3 "$benches/hunk_file.py" "$folder/$name" "$@"
+}
+
+best() { # the microseconds of COMMAND, which writes to OUT: OUT COMMAND..
+    local out="$1" least=0 start took
+    shift
+    for _ in 1 2 3 4 5; do
+        start="${EPOCHREALTIME/./}"
+        "$@" > "$out"
+        took=$((${EPOCHREALTIME/./} - start))
+        if [ "$least" = 0 ] || [ "$took" -lt "$least" ]; then least="$took"; fi
+    done
+    echo "$least"
+}
+
+peak() { # the most memory of COMMAND, in KiB: COMMAND..
+    python3 -c 'import resource, subprocess, sys
+subprocess.run(sys.argv[1:], stdout=subprocess.DEVNULL, check=True)
+print(resource.getrusage(resource.RUSAGE_CHILDREN).ru_maxrss)' "$@"
+}
+
+missed=0
+
+figure() { # NAME ALLOWED REACHED UNIT
+    local mark=""
+    if awk -v allowed="$2" -v reached="$3" 'BEGIN { exit !(reached > allowed) }'; then
+        mark="  MISSED"
+        missed=1
+    fi
+    printf '%-66s allowed %8.2f, reached %8.2f %s%s\n' "$1" "$2" "$3" "$4" "$mark"
+}
+
+ratio() { # A / B
+    awk -v a="$1" -v b="$2" 'BEGIN { print a / b }'
+}

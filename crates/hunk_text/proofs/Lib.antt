@@ -1,0 +1,9 @@
+pub mod DigitsLemmas
+pub mod ListingLemmas
+pub mod QuotedNameLemmas
+pub mod ListingSizeLemmas
+pub mod ListingSizeLoadLemmas
+pub mod ListingSizeObjectLemmas
+pub mod ListingSizeTablesLemmas
+pub mod ListingSizeTreeLemmas
+pub mod ListingSizeUnitsLemmas

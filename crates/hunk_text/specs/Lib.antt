@@ -1,0 +1,5 @@
+pub mod Digits
+pub mod Printing
+pub mod QuotedName
+pub mod Listing
+pub mod Laws

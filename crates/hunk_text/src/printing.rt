@@ -1,0 +1,25 @@
+//! Lines that are written in pieces.
+
+ghost use Rattle.std.specs.Prelude.{◌+◌, ◌<◌, ◌^◌, length, IfErr};
+ghost use Rattle.hunk_words.specs.Streams.{IsDevice, Wrote};
+ghost use Rattle.hunk_text.specs.Printing.{joined};
+
+use hunk_words::{Sink, WriteFault, write_all};
+
+/// Writes these pieces, one after another, of a text of which `written` bytes have been written,
+/// and returns the number of bytes written after that.
+pub fn write_pieces<W: Sink>(
+    writer: &mut W,
+    written: u64,
+    pieces: &[&[u8]],
+) -> Result<u64, WriteFault>
+    requires { written + length (joined pieces.now) < 2 ^ 64 }
+    ensures wrote { Wrote W.taken W.failed writer.old writer.new (joined pieces.now) written result }
+    ensures device { IfErr result IsDevice }
+{
+    let mut written = written;
+    for piece in pieces {
+        written = write_all(writer, written, piece)?;
+    }
+    Ok(written)
+}

@@ -1,9 +1,0 @@
-use Rattle.std.proofs.Common.{◌∙◌, subst}
-use Rattle.hunk_words.specs.Streams.{Wrote}
-use Rattle.hunk_tool.proofs.CheckLemmas.{object_line-joined}
-use Rattle.hunk_tool.proofs.check.write_object_line.Goals as goal
-
-pub returns-clause-wrote : goal.returns-clause-wrote
-returns-clause-wrote g c =
-    subst (λ text. Wrote g.W.Sink.taken g.W.Sink.failed c.args.writer.now c.write_pieces.new.writer text 0 c.write_pieces.result)
-    (object_line-joined c.as_bytes.result.now c.as_bytes-2.result.now c.args.units c.args.hunks (c.as_bytes.ensures ∙ c.decimal-units.ensures.value) (c.as_bytes-2.ensures ∙ c.decimal-hunks.ensures.value)) c.write_pieces.ensures.wrote

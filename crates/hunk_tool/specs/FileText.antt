@@ -1,0 +1,32 @@
+-- What it means that a text of the value of a file was written, or why it was not.
+use Rattle.std.specs.Prelude.{◌≡◌, ℕ, List, IsTrue, Option}
+use Rattle.std.specs.Io.KnownBytes.{Appends, Keeps}
+use Rattle.hunk_words.specs.Streams.{HasRead, TookFront}
+use Rattle.hunk_tool.specs.FileDecoder.{IsRefused}
+use Rattle.hunk_tool.specs.FileValue.{FileValue, IsOfItsKind}
+use Rattle.hunk_tool.specs.Load.{Ends}
+use Rattle.hunk_tool.specs.declared.tool_fault.ToolFault.{ToolFault}
+use Rattle.hunk_tool.specs.declared.tool_fault.ToolFault.TheVariants.{Input, InputDevice, Place, Output, OutOfMemory}
+
+-- The bytes are a file of the kind that its first four bytes tell, and the text of its value was
+-- written.
+pub record IsWritten (text : FileValue → List ℕ) (old new : Option (List ℕ)) (bytes : List ℕ) : Type 0 where
+  pub value : FileValue
+  pub is_file : IsOfItsKind value bytes
+  pub written : Appends old new (text value)
+
+-- The bytes are such a file, and the writer took exactly the first `written` bytes of the text.
+pub record IsCutShort (text : FileValue → List ℕ) (old new : Option (List ℕ)) (written : ℕ) (bytes : List ℕ) : Type 0 where
+  pub value : FileValue
+  pub is_file : IsOfItsKind value bytes
+  pub front : TookFront old new (text value) 0 written
+
+-- Why the text of a file was not written, or not in full. Nothing was written before the reader
+-- ended.
+abbrev pub IsTextFault : (text : FileValue → List ℕ) → Ends → ToolFault → Type 0
+IsTextFault text ends (Input file fault) = (file ≡ 0) × HasRead ends.left ends.left_then (IsRefused fault ends.ended) × Keeps ends.taken ends.taken_then
+IsTextFault text ends (InputDevice file) = (file ≡ 0) × IsTrue ends.read_failed × Keeps ends.taken ends.taken_then
+IsTextFault text ends (Place fault) = ⊥
+IsTextFault text ends (Output written) =
+    IsTrue ends.ended × HasRead ends.left ends.left_then (IsCutShort text ends.taken ends.taken_then written) × IsTrue ends.write_failed
+IsTextFault text ends (OutOfMemory written) = (written ≡ 0) × Keeps ends.taken ends.taken_then

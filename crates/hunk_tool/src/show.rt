@@ -1,0 +1,106 @@
+//! Shows what is in a file.
+
+ghost use Rattle.std.specs.Prelude.{◌^◌, ◌<◌, length, IsTrue, OnOk, IfErr};
+ghost use Rattle.hunk_words.specs.Streams.{HasRead, IsDevice, WroteAll};
+ghost use Rattle.hunk_words.specs.declared.event.FileKind.TheVariants.{Load, Object};
+ghost use Rattle.hunk_objects.specs.ProgramUnit.{IsObjectOf};
+ghost use Rattle.hunk_loadfile.specs.LoadFile.{IsLoadOf};
+ghost use Rattle.hunk_tool.specs.FileText.{IsTextFault, IsWritten};
+ghost use Rattle.hunk_tool.specs.Load.{ends_of};
+ghost use Rattle.hunk_tool.specs.Show.{listing_of, show_text};
+
+use crate::file_decoder::{File, KindDecoder, read_file};
+use crate::tool_fault::ToolFault;
+use hunk_loadfile::{LoadDecoder, LoadFile};
+use hunk_objects::{ObjectDecoder, ProgramUnit};
+use hunk_text::{write_load_listing, write_object_listing};
+use hunk_words::{Refusal, Sink, Source, WriteFault};
+use std::alloc::Allocator;
+
+/// Reads a file to the reader's end, and writes its listing: the line that
+/// [`check_run`](crate::check_run) writes, and then a line for each unit and each hunk, followed by
+/// the hunk's sites by rising offset, its definitions, its symbols and its debug blocks.
+///
+/// A file is a load file if its first four bytes are there and the low 30 bits of that longword are
+/// the block type 1011, `HUNK_HEADER` of `doshunks.h`. Otherwise it is read as an object file.
+///
+/// It keeps the contents of the file. Nothing is written before the whole file has been read. It
+/// does not flush.
+///
+/// # Errors
+///
+/// - [`ToolFault::Input`] with the place and the reason of the first offence of what was read, for
+///   a file of its kind; where the file ends too early, at the reader's end.
+/// - [`ToolFault::InputDevice`] where a read failed.
+/// - [`ToolFault::Output`] if a write failed or took no byte, with the number of bytes of the
+///   listing that were written.
+/// - [`ToolFault::OutOfMemory`] if an allocation failed, with nothing written.
+pub fn show_run<A: Allocator + Copy, R: Source, W: Sink>(
+    alloc: A,
+    reader: &mut R,
+    writer: &mut W,
+) -> Result<(), ToolFault>
+    ensures ok { OnOk result (HasRead (R.left reader.old) (R.left reader.new) (IsWritten show_text (W.taken writer.old) (W.taken writer.new))) }
+    ensures ended { OnOk result (IsTrue (R.ended reader.new)) }
+    ensures err { IfErr result (IsTextFault show_text (ends_of
+        (R.left reader.old) (R.left reader.new) (R.failed reader.new) (R.ended reader.new)
+        (W.taken writer.old) (W.taken writer.new) (W.failed writer.new))) }
+{
+    let file = read_file(reader, ObjectDecoder::new(alloc), LoadDecoder::new(alloc))?;
+    Ok(write_listing(&file, writer)?)
+}
+
+/// Writes the listing of a file. Does not allocate.
+fn write_listing<A: Allocator + Copy, W: Sink>(
+    file: &File<Vec<ProgramUnit<A>, A>, LoadFile<A>>,
+    writer: &mut W,
+) -> Result<(), WriteFault>
+    requires { length (listing_of file.now) < 2 ^ 64 }
+    ensures wrote { WroteAll W.taken W.failed writer.old writer.new (listing_of file.now) result }
+    ensures device { IfErr result IsDevice }
+{
+    match file {
+        File::Object(units) => write_object_listing(units, writer),
+        File::Load(file) => write_load_listing(file.hunks(), writer),
+    }
+}
+
+impl<A: Allocator + Copy> KindDecoder for ObjectDecoder<A> {
+    ghost use Rattle.hunk_objects.specs.ObjectDecoder.{StandsFor};
+
+    ghost stands_for = { StandsFor };
+
+    ghost KIND = { Object };
+
+    ghost is_value = { λ units bytes. IsObjectOf units.items bytes };
+
+    type Value = Vec<ProgramUnit<A>, A>;
+
+    fn feed(&mut self, piece: &[u8]) -> Result<(), Refusal> {
+        self.feed(piece)
+    }
+
+    fn finish(self) -> Result<Vec<ProgramUnit<A>, A>, Refusal> {
+        self.finish()
+    }
+}
+
+impl<A: Allocator + Copy> KindDecoder for LoadDecoder<A> {
+    ghost use Rattle.hunk_loadfile.specs.LoadDecoder.{StandsFor};
+
+    ghost stands_for = { StandsFor };
+
+    ghost KIND = { Load };
+
+    ghost is_value = { λ file bytes. IsLoadOf file bytes };
+
+    type Value = LoadFile<A>;
+
+    fn feed(&mut self, piece: &[u8]) -> Result<(), Refusal> {
+        self.feed(piece)
+    }
+
+    fn finish(self) -> Result<LoadFile<A>, Refusal> {
+        self.finish()
+    }
+}
