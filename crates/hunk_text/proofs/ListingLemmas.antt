@@ -1,8 +1,8 @@
 -- Lines that are written one after another: those of numbered elements, and those of sites.
-use Rattle.std.proofs.Common.{◌≡◌, ◌<◌, ◌≤◌, ◌+◌, ◌^◌, ◌∙◌, ℕ, List, [], ◌∷◌, ◌++◌, length, take, get_or, sum_by, Vec, Bool, Option, Ok, Err, sym, ap, subst, append_assoc, append-nil, arith, zero-add}
+use Rattle.std.proofs.Common.{◌≡◌, ◌<◌, ◌≤◌, ◌+◌, ◌^◌, ◌∙◌, ℕ, List, [], ◌∷◌, ◌++◌, length, take, get_or, sum_by, Vec, Bool, Option, Ok, Err, sym, ap, append_assoc, append-nil, arith, zero-add}
 use Rattle.std.specs.List.{enumerate_from, flat_map}
 use Rattle.std.proofs.lemmas.Grind.{flat_map-append}
-use Rattle.std.proofs.lemmas.List.{length-append, length-map}
+use Rattle.std.proofs.lemmas.List.{length-append, length-map, take_all}
 use Rattle.std.proofs.lemmas.List.Folds.{length-flat_map-take}
 use Rattle.std.proofs.lemmas.List.Sums.{sum_by-cons}
 use Rattle.std.proofs.lemmas.List.FromFn.{get_or-enumerate_from, length-enumerate_from}
@@ -12,7 +12,7 @@ use Rattle.hunk_words.specs.declared.fault.WriteFault.{WriteFault}
 use Rattle.hunk_objects.specs.ProgramUnit.{ObjectUnit, hunk_count}
 use Rattle.hunk_objects.specs.UnitHunk.{ObjectHunk}
 use Rattle.hunk_text.specs.Listing.{unit_hunk_lines, unit_line, unit_lines}
-use Rattle.hunk_words.proofs.StreamsWritingLemmas.{Wrote-inside, Wrote-nothing, Wrote-then}
+use Rattle.hunk_words.proofs.StreamsWritingLemmas.{Wrote-inside, Wrote-more, Wrote-part, Wrote-then}
 
 -- ---- the elements of a list
 
@@ -25,15 +25,45 @@ part-room part xs index x d start written within is counted room =
 pub lists_of-within : {A T : Type 0} (vecs : List (Vec T A)) (index : ℕ) → index < length vecs → index < length (lists_of vecs)
 lists_of-within {A = A} {T = T} vecs index within = let items : Vec T A → List T = λ v. v.items in omega (arith, length-map vecs items)
 
-pub numbered-within : {X : Type 0} (xs : List X) (number : ℕ) → number < length xs → number < length (enumerate_from 0 xs)
-numbered-within xs number within = omega (arith, length-enumerate_from 0 xs)
+-- ---- numbered elements
 
--- an element with its number
-pub numbered-at : {X : Type 0} (xs : List X) (number : ℕ) (x d : X) → number < length xs → x ≡ get_or xs number d → (number, x) ≡ get_or (enumerate_from 0 xs) number (number, d)
-numbered-at {X = X} xs number x d within is =
-    let with_number : ℕ → ℕ × X = λ n. (n, get_or xs number d) in
-    let with_element : X → ℕ × X = λ y. (number, y) in
-    ap with_element is ∙ sym (ap with_number (zero-add number)) ∙ sym (get_or-enumerate_from 0 xs number (number, d) within)
+-- The lines of an element are those of the element with its number.
+module _ {X : Type 0} (lines : ℕ × X → List ℕ) (xs : List X) (number : ℕ) (x : X) where
+  numbered-within : number < length xs → number < length (enumerate_from 0 xs)
+  numbered-within within = omega (arith, length-enumerate_from 0 xs)
+
+  numbered-at : number < length xs → x ≡ get_or xs number x → (number, x) ≡ get_or (enumerate_from 0 xs) number (number, x)
+  numbered-at within is =
+      let with_number : ℕ → ℕ × X = λ n. (n, get_or xs number x) in
+      let with_element : X → ℕ × X = λ y. (number, y) in
+      ap with_element is ∙ sym (ap with_number (zero-add number)) ∙ sym (get_or-enumerate_from 0 xs number (number, x) within)
+
+  -- there is room for the lines of one more element
+  pub numbered-room : (start written : ℕ) → number < length xs → x ≡ get_or xs number x
+      → written ≡ start + length (flat_map lines (take number (enumerate_from 0 xs))) → start + length (flat_map lines (enumerate_from 0 xs)) < 2 ^ 64 → written + length (lines (number, x)) < 2 ^ 64
+  numbered-room start written within is counted room =
+      part-room lines (enumerate_from 0 xs) number (number, x) (number, x) start written (numbered-within within) (numbered-at within is) counted room
+
+  module _ {W : Type 0} (taken : W → Option (List ℕ)) (failed : W → Bool) where
+    -- it stopped in the lines of the next element
+    pub Numbered-part : (old between new : W) (start middle : ℕ) (fault : WriteFault) → number < length xs → x ≡ get_or xs number x
+        → Wrote taken failed old between (flat_map lines (take number (enumerate_from 0 xs))) start (Ok middle)
+        → Wrote taken failed between new (lines (number, x)) middle (Err fault)
+        → Wrote taken failed old new (flat_map lines (enumerate_from 0 xs)) start (Err fault)
+    Numbered-part old between new start middle fault within is first next =
+        Wrote-part taken failed lines (enumerate_from 0 xs) number (number, x) (number, x) old between new start middle fault (numbered-within within) (numbered-at within is) first next
+
+    -- those of one more element were written
+    pub Numbered-more : (old between new : W) (start middle written : ℕ) → number < length xs → x ≡ get_or xs number x
+        → Wrote taken failed old between (flat_map lines (take number (enumerate_from 0 xs))) start (Ok middle)
+        → Wrote taken failed between new (lines (number, x)) middle (Ok written)
+        → Wrote taken failed old new (flat_map lines (take (number + 1) (enumerate_from 0 xs))) start (Ok written)
+    Numbered-more old between new start middle written within is first next =
+        Wrote-more taken failed lines (enumerate_from 0 xs) number (number, x) (number, x) old between new start middle written (numbered-within within) (numbered-at within is) first next
+
+-- those of all elements
+pub numbered-all : {X : Type 0} (xs : List X) (number : ℕ) → length xs ≤ number → take number (enumerate_from 0 xs) ≡ enumerate_from 0 xs
+numbered-all xs number all = take_all number (enumerate_from 0 xs) (omega (arith, length-enumerate_from 0 xs))
 
 -- ---- sites
 
@@ -48,21 +78,6 @@ module _ {W T : Type 0} (taken : W → Option (List ℕ)) (failed : W → Bool) 
   lines-around : (done left all rest : List (ℕ × T)) (site : ℕ × T) → done ++ left ≡ all → left ≡ site ∷ rest → flat_map line all ≡ flat_map line done ++ (line site ++ flat_map line rest)
   lines-around done left all rest site parts next =
       sym (ap (flat_map line) parts) ∙ flat_map-append line done left ∙ ap (λ sites. flat_map line done ++ flat_map line sites) next
-
-  pub Walked-begin : (old : W) (start : ℕ) (left all : List (ℕ × T)) → left ≡ all → Walked taken failed line old old start start left all
-  Walked-begin old start left all is = record { done = []; parts = is; wrote = Wrote-nothing taken failed old start }
-
-  -- there is room for the next line
-  pub Walked-room : (old new : W) (start written : ℕ) (left all rest : List (ℕ × T)) (site : ℕ × T)
-      → Walked taken failed line old new start written left all → left ≡ site ∷ rest → start + length (flat_map line all) < 2 ^ 64 → written + length (line site) < 2 ^ 64
-  Walked-room old new start written left all rest site walked next room =
-      omega (
-        arith,
-        walked.wrote.0,
-        ap length (lines-around walked.done left all rest site walked.parts next),
-        length-append (flat_map line walked.done) (line site ++ flat_map line rest),
-        length-append (line site) (flat_map line rest),
-      )
 
   -- it stopped in the next line
   pub Walked-stop : (old between new : W) (start middle : ℕ) (left all rest : List (ℕ × T)) (site : ℕ × T) (fault : WriteFault)
@@ -86,12 +101,6 @@ module _ {W T : Type 0} (taken : W → Option (List ℕ)) (failed : W → Bool) 
             Wrote-then taken failed old between new (flat_map line (walked.done ++ site ∷ [])) (flat_map line walked.done) (line site) start middle (Ok written)
             (flat_map-append line walked.done (site ∷ []) ∙ ap (λ last. flat_map line walked.done ++ last) (append-nil (line site))) walked.wrote wrote;
       }
-
-  -- no site is left
-  pub Walked-end : (old new : W) (start written : ℕ) (left all : List (ℕ × T)) → Walked taken failed line old new start written left all → left ≡ [] → Wrote taken failed old new (flat_map line all) start (Ok written)
-  Walked-end old new start written left all walked none =
-      subst (λ sites. Wrote taken failed old new (flat_map line sites) start (Ok written))
-      (sym (append-nil walked.done) ∙ ap (λ sites. walked.done ++ sites) (sym none) ∙ walked.parts) walked.wrote
 
 -- ---- the number of hunks of all units
 

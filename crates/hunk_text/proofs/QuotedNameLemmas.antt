@@ -1,13 +1,12 @@
 -- A quoted name that is written block by block.
-use Rattle.std.proofs.Common.{◌≡◌, ◌<◌, ◌≤◌, ◌+◌, ◌∙◌, ℕ, List, [], ◌∷◌, ◌++◌, length, take, drop, get_or, Bool, true, false, Option, Ok, sym, ap, refl, append_assoc, append-nil, arith}
-use Rattle.std.specs.Prelude.{codes, if◌then◌else◌}
+use Rattle.std.proofs.Common.{◌≡◌, ◌<◌, ◌≤◌, ◌+◌, ◌∙◌, ℕ, List, [], ◌∷◌, ◌++◌, length, take, drop, get_or, Bool, Option, Ok, sym, ap, refl, append_assoc, append-nil, arith}
+use Rattle.std.specs.Prelude.{codes}
 use Rattle.std.proofs.lemmas.Grind.{flat_map-append}
 use Rattle.std.proofs.lemmas.List.{length-append, take-append-drop, take_all, take_more}
 use Rattle.hunk_words.specs.Streams.{Wrote}
-use Rattle.hunk_words.proofs.StreamsWritingLemmas.{Wrote-nothing, Wrote-then}
-use Rattle.hex.specs.Hex.{encode_lower, lower_digits}
-use Rattle.hex.proofs.HexLemmas.{length-encode_with}
-use Rattle.hunk_text.specs.QuotedName.{escaped, escaped_all, is_plain, quoted}
+use Rattle.hunk_words.proofs.StreamsWritingLemmas.{Wrote-then}
+use Rattle.hunk_text.proofs.ListingSizeLemmas.{length-escaped_all-le}
+use Rattle.hunk_text.specs.QuotedName.{escaped, escaped_all, quoted}
 
 -- The blocks so far were written. They and the block that is not written yet are the opening quote
 -- and these bytes of the name, escaped.
@@ -39,17 +38,13 @@ escaped_all-more name index byte within is =
     ∙ flat_map-append escaped (take index name) (get_or name index 0 ∷ [])
     ∙ ap (λ last. escaped_all (take index name) ++ last) (append-nil (escaped (get_or name index 0)) ∙ ap escaped (sym is))
 
-length-either : (plain : Bool) (byte : ℕ) → length (if plain then byte ∷ [] else codes "\\x" ++ encode_lower (byte ∷ [])) ≤ 4
-length-either true byte = omega arith
-length-either false byte = omega (arith, length-encode_with lower_digits (byte ∷ []))
-
 pub length-escaped : (byte : ℕ) → length (escaped byte) ≤ 4
-length-escaped byte = length-either (is_plain byte) byte
+length-escaped byte = omega (arith, length-escaped_all-le (byte ∷ []), length-append (escaped byte) [])
 
 -- a block is written with the closing quote behind it
-pub length-quoted-le : (name front block : List ℕ) (index : ℕ) → front ++ block ≡ codes "\"" ++ escaped_all (take index name) → length front + length block < length (quoted name)
+pub length-block-lt : (name front block : List ℕ) (index : ℕ) → front ++ block ≡ codes "\"" ++ escaped_all (take index name) → length front + length block < length (quoted name)
 unfolding quoted_behind
-length-quoted-le name front block index parts =
+length-block-lt name front block index parts =
     omega (
       arith,
       ap length (quoted-around name front block index parts),
@@ -66,10 +61,6 @@ quoted-all name front block index all parts =
     ∙ append_assoc front block (codes "\"")
 
 module _ {W : Type 0} (taken : W → Option (List ℕ)) (failed : W → Bool) where
-  -- nothing is written yet
-  pub Quoting-begin : (old : W) (start : ℕ) → Quoting taken failed old old start start (codes "\"") []
-  Quoting-begin old start = record { front = []; wrote = Wrote-nothing taken failed old start; parts = refl }
-
   -- the block is written
   pub Quoting-flush : (old between new : W) (start middle written : ℕ) (block bytes : List ℕ)
       → Quoting taken failed old between start middle block bytes

@@ -1,6 +1,7 @@
 //! Listings of load files, to the letter.
 
 use super::write_load_listing;
+use crate::laws::listings_fit;
 use hunk_loadfile::read_load;
 use hunk_words::{Pieces, Room, WriteFault};
 use std::test::Fail;
@@ -22,6 +23,7 @@ const LISTING: &str = "load file: 2 hunks\n\
 fn lists_each_hunk(rt: HostRuntime) -> Result<(), Fail> {
     let bytes = hex::decode(rt.alloc(), FILE).expect(&rt, "hexadecimal digits");
     let file = read_load(rt.alloc(), &mut Pieces::new(bytes, 64, None))?;
+    listings_fit();
     let mut room = Room::new(rt.alloc(), 7, 400, false)?;
     assert_eq!(rt; write_load_listing(file.hunks(), &mut room), Ok(()));
     assert_eq!(rt; room.bytes(), LISTING.as_bytes());
@@ -32,6 +34,7 @@ fn lists_each_hunk(rt: HostRuntime) -> Result<(), Fail> {
 fn tells_how_much_a_full_writer_has_taken(rt: HostRuntime) -> Result<(), Fail> {
     let bytes = hex::decode(rt.alloc(), FILE).expect(&rt, "hexadecimal digits");
     let file = read_load(rt.alloc(), &mut Pieces::new(bytes, 64, None))?;
+    listings_fit();
     for count in 0..LISTING.len() {
         let mut room = Room::new(rt.alloc(), 5, count, false)?;
         let written = count as u64;

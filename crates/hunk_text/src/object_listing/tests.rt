@@ -1,6 +1,7 @@
 //! Listings of object files, to the letter.
 
 use super::write_object_listing;
+use crate::laws::listings_fit;
 use hunk_objects::read_object;
 use hunk_words::{Pieces, Room, WriteFault};
 use std::alloc::Allocator;
@@ -48,6 +49,7 @@ fn is_listed<A: Allocator + Copy>(
 ) -> Result<(), Fail> {
     let bytes = hex::decode(alloc, file).expect(rt, "hexadecimal digits");
     let units = read_object(alloc, &mut Pieces::new(bytes, 64, None))?;
+    listings_fit();
     let mut room = Room::new(alloc, 7, 400, false)?;
     assert_eq!(rt; write_object_listing(&units, &mut room), Ok(()));
     assert_eq!(rt; room.bytes(), listing.as_bytes());
@@ -64,6 +66,7 @@ fn lists_each_unit(rt: HostRuntime) -> Result<(), Fail> {
 fn tells_how_much_a_full_writer_has_taken(rt: HostRuntime) -> Result<(), Fail> {
     let bytes = hex::decode(rt.alloc(), FILE).expect(&rt, "hexadecimal digits");
     let units = read_object(rt.alloc(), &mut Pieces::new(bytes, 64, None))?;
+    listings_fit();
     for count in 0..LISTING.len() {
         let mut room = Room::new(rt.alloc(), 5, count, false)?;
         let written = count as u64;

@@ -5,14 +5,14 @@ use Rattle.std.proofs.lemmas.List.{length-append}
 use Rattle.std.proofs.lemmas.Result.{err_from_is_err_and}
 use Rattle.hunk_words.proofs.StreamsWritingLemmas.{Wrote-inside, Wrote-then}
 use Rattle.hunk_text.specs.QuotedName.{escaped, quoted}
-use Rattle.hunk_text.proofs.QuotedNameLemmas.{Quoting, Quoting-flush, Quoting-push, length-escaped, length-quoted-le, quoted-all, quoted-around, quoted_behind}
+use Rattle.hunk_text.proofs.QuotedNameLemmas.{Quoting, Quoting-flush, Quoting-push, length-escaped, length-block-lt, quoted-all, quoted-around, quoted_behind}
 use Rattle.hunk_text.proofs.quoted_name.write_quoted.Goals as goal
 use Rattle.hunk_text.proofs.quoted_name.write_quoted.Goals.{then-remaining_capacity-le-MOST_ESCAPED+in_ok-written, else-remaining_capacity-le-MOST_ESCAPED}
 
 pub write_all-requires : goal.write_all-requires
 write_all-requires g c =
     let blocks = c.loop-byte.invariant.blocks in
-    let room = length-quoted-le c.args.name.now blocks.front c.loop-byte.block.items c.loop-byte.byte-index blocks.parts in
+    let room = length-block-lt c.args.name.now blocks.front c.loop-byte.block.items c.loop-byte.byte-index blocks.parts in
     omega (arith, blocks.wrote.0, ap length c.as_slice.ensures.value)
 
 pub returns-in_err-written-clause-wrote : goal.returns-in_err-written-clause-wrote
@@ -49,7 +49,7 @@ loop-byte-preserved g c =
 pub write_all-requires-2 : goal.write_all-requires-2
 write_all-requires-2 g c =
     let blocks = c.loop-byte.invariant.blocks in
-    let room = length-quoted-le c.args.name.now blocks.front c.loop-byte.block.items c.loop-byte.byte-index blocks.parts in
+    let room = length-block-lt c.args.name.now blocks.front c.loop-byte.block.items c.loop-byte.byte-index blocks.parts in
     omega (arith, blocks.wrote.0, ap length c.as_slice-2.ensures.value, ap length c.push-2.ensures.items, length-append c.loop-byte.block.items (codes "\""))
 
 pub returns-clause-wrote : goal.returns-clause-wrote
