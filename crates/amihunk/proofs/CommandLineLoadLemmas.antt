@@ -1,14 +1,14 @@
 -- The plain form of the subcommand `load`.
-use Rattle.std.proofs.Common.{◌≡◌, ◌∙◌, ap, ap₂, true, false, refl, List, [], ◌∷◌, codes, Some}
+use Rattle.std.proofs.Common.{◌≡◌, ◌∙◌, ap, refl, true, false, List, [], ◌∷◌, codes, Some}
 use Rattle.std.specs.Prelude.{fold}
 use Rattle.std.proofs.lemmas.Bool.{ne_eqb}
 use Rattle.clap.specs.Words.{Kinds, Row, Text, fault_of, first_of, subcommand_of}
-use Rattle.clap.specs.Walk.{Held, Names, Walk, nothing_held, option, finished, rows_after, settled, walk, walk_from, walked}
-use Rattle.clap.specs.Simple.{Shape, names_of}
-use Rattle.clap.specs.Faults.{check_fault, defaults_fault, level_fault, settle_fault, turn_fault, walk_fault}
-use Rattle.clap.specs.Kinds.{or_else}
+use Rattle.clap.specs.Walk.{Walk, nothing_held, option, finished, rows_after, settled, walk, walk_from, walked}
+use Rattle.clap.specs.Simple.{names_of}
+use Rattle.clap.specs.Faults.{level_fault, turn_fault, walk_fault}
 use Rattle.clap.proofs.OnLiterals.{clap_on_literals}
 use Rattle.amihunk.proofs.CommandLineLemmas.{built_load, line}
+use Rattle.amihunk.proofs.CommandLineWalkLemmas.{end_fault, level_fault-nil, walk_fault-cons, walk_fault-nil}
 use Rattle.amihunk.specs.CommandLine.{IsLoad, IsNoFlag, command_line, load_line}
 
 -- ---- the walk over `--at LIST FILE`
@@ -74,15 +74,6 @@ unfolding clap_on_literals
 turn_fault-file list [] plain = refl
 turn_fault-file list (c ∷ rest) plain = rw (ne_eqb c 45 plain, ne_eqb c 45 plain) refl
 
-walk_fault-cons : (s : Shape) (names : Names) (w v : Walk) (word : Text) (rest : List Text) → turn_fault s names w word ≡ []
-    → walked s.rules names w word ≡ v → walk_fault s names v rest ≡ [] → walk_fault s names w (word ∷ rest) ≡ []
-unfolding walk_fault
-walk_fault-cons s names w v word rest quiet goes_on next_quiet = rw (quiet, goes_on) next_quiet
-
-walk_fault-nil : (s : Shape) (names : Names) (w : Walk) → walk_fault s names w [] ≡ []
-unfolding walk_fault
-walk_fault-nil s names w = refl
-
 walk_fault-load : (list file : Text) → IsNoFlag list → IsNoFlag file → walk_fault built_load [] at_start (load_words list file) ≡ []
 walk_fault-load list file plain_list plain_file =
     walk_fault-cons built_load [] at_start after_at (codes "--at") (list ∷ file ∷ []) turn_fault-at walked-at
@@ -90,19 +81,14 @@ walk_fault-load list file plain_list plain_file =
     (walk_fault-cons built_load [] (after_list list) (after_file list file) file [] (turn_fault-file list file plain_file) (walked-file list file plain_file)
     (walk_fault-nil built_load [] (after_file list file))))
 
--- what is wrong with a level after its walk
-abbrev end_fault : Shape → Held → Kinds
-end_fault s end = or_else (settle_fault s.rules s.args_override_self end)
-    (or_else (defaults_fault (settled s.rules end).rows s.rules) (check_fault s (finished s.rules end) false))
-
 end_fault-load : (list file : Text) → end_fault built_load (after_file list file).held ≡ []
 unfolding clap_on_literals
 end_fault-load list file = refl
 
 level_fault-load : (list file : Text) → IsNoFlag list → IsNoFlag file → level_fault built_load [] nothing_held (load_words list file) false [] ≡ []
 level_fault-load list file plain_list plain_file =
-    let at_end = ap (λ (w : Walk). end_fault built_load w.held) (walk-load list file plain_list plain_file) ∙ end_fault-load list file in
-    ap₂ (λ before after. or_else before (or_else [] after)) (walk_fault-load list file plain_list plain_file) at_end
+    level_fault-nil built_load (load_words list file) (after_file list file) (walk-load list file plain_list plain_file)
+    (walk_fault-load list file plain_list plain_file) (end_fault-load list file)
 
 -- ---- the whole line
 
@@ -137,9 +123,11 @@ pub is_load-load_line : (program list file : Text) → IsNoFlag list → IsNoFla
 is_load-load_line program list file plain_list plain_file =
     let values = first_of-load_rows list file in
     record {
-      rows = load_rows list file;
-      load = subcommand_of-load_line program list file
-          ∙ ap (λ rows. Some (codes "load", rows)) (rows_after-load list file plain_list plain_file);
+      of_file = record {
+        rows = load_rows list file;
+        called = subcommand_of-load_line program list file
+            ∙ ap (λ rows. Some (codes "load", rows)) (rows_after-load list file plain_list plain_file);
+        file_is = values.1;
+      };
       list_is = values.0;
-      file_is = values.1;
     }

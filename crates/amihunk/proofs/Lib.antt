@@ -1,8 +1,10 @@
 pub mod CommandLineAnswerLemmas
 pub mod CommandLineLemmas
+pub mod CommandLineWalkLemmas
+pub mod CommandLineFileLemmas
 pub mod ProgramLemmas
 pub mod CommandLineRowLemmas
 pub mod CommandLineLoadLemmas
-pub mod LoadLemmas
+pub mod DevicesLemmas
 pub mod FailureLemmas
 pub mod CommandLineValueLemmas

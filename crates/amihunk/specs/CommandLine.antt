@@ -5,7 +5,7 @@ use Rattle.clap.specs.Words.{new_app, new_rule, subcommand_of, with_rule, with_s
 use Rattle.clap.specs.declared.error.ErrorKind.{ErrorKind}
 use Rattle.clap.specs.declared.error.ErrorKind.TheVariants as error
 use Rattle.amihunk.specs.declared.command_line.Request.{Request}
-use Rattle.amihunk.specs.declared.command_line.Request.TheVariants.{Load, Help, Refused, OutOfMemory}
+use Rattle.amihunk.specs.declared.command_line.Request.TheVariants.{Load, Check, Show, Help, Refused, OutOfMemory}
 
 -- `--at LIST`, which is required
 abbrev pub list_rule : Rule
@@ -29,34 +29,47 @@ bare_shape = record (new_app (codes "amihunk")).top {
   disable_help_subcommand = true;
 }
 
+-- a subcommand of this name, whose only argument is FILE
+abbrev pub file_shape : Text → Shape
+file_shape name = (with_rule (new_app name) file_rule).top
+
 abbrev pub command_line : App
-command_line = with_subcommand (record { top = bare_shape; subs = [] }) load_shape
+command_line = with_subcommand (with_subcommand (with_subcommand (record { top = bare_shape; subs = [] }) load_shape)
+    (file_shape (codes "check"))) (file_shape (codes "show"))
 
 -- a subcommand's name, and what was found for its arguments
 abbrev pub Met : Type 0
 Met = Option (Text × List Row)
 
--- the subcommand is `load`, with this LIST and this FILE
-pub record IsLoad (met : Met) (list file : Text) : Type 0 where
+-- the subcommand has this name, and its FILE is this one
+pub record IsCalled (met : Met) (name file : Text) : Type 0 where
   pub rows : List Row
-  pub load : met ≡ Some (codes "load", rows)
-  pub list_is : first_of (codes "at") rows ≡ Some list
+  pub called : met ≡ Some (name, rows)
   pub file_is : first_of (codes "file") rows ≡ Some file
 
+-- the subcommand is `load`, with this LIST and this FILE
+pub record IsLoad (met : Met) (list file : Text) : Type 0 where
+  pub of_file : IsCalled met (codes "load") file
+  pub list_is : first_of (codes "at") of_file.rows ≡ Some list
+
 -- the subcommand is one of the program's, with its required values
-pub record IsWhole (met : Met) : Type 0 where
-  pub list : Text
-  pub file : Text
-  pub load : IsLoad met list file
+pub data IsWhole (met : Met) : Type 0 where
+  load : (list file : Text) → IsLoad met list file → IsWhole met
+  check : (file : Text) → IsCalled met (codes "check") file → IsWhole met
+  show : (file : Text) → IsCalled met (codes "show") file → IsWhole met
 
 -- the request matches what was found
 abbrev pub Says : Met → Request → Type 0
 Says met (Load list file) = IsLoad met list.now file.now
+Says met (Check file) = IsCalled met (codes "check") file.now
+Says met (Show file) = IsCalled met (codes "show") file.now
 Says met _ = ⊥
 
 -- the request for arguments that `clap` rejects with this kind of error
 abbrev pub Answers : ErrorKind → Request → Type 0
 Answers k (Load list file) = ⊥
+Answers k (Check file) = ⊥
+Answers k (Show file) = ⊥
 Answers k (Help text) = k ≡ error.DisplayHelp
 Answers k (Refused text) = (k ≢ error.DisplayHelp) × (k ≢ error.OutOfMemory)
 Answers k OutOfMemory = ⊤
@@ -72,6 +85,10 @@ pub record IsRefusedBy (kinds : Kinds) : Type 0 where
 abbrev pub IsAskedBy : List Text → Request → Type 0
 IsAskedBy words (Load list file) = (fault_of command_line words ≡ [])
     × IsLoad (subcommand_of command_line words) list.now file.now
+IsAskedBy words (Check file) = (fault_of command_line words ≡ [])
+    × IsCalled (subcommand_of command_line words) (codes "check") file.now
+IsAskedBy words (Show file) = (fault_of command_line words ≡ [])
+    × IsCalled (subcommand_of command_line words) (codes "show") file.now
 IsAskedBy words (Help text) = IsAmong error.DisplayHelp (fault_of command_line words)
 IsAskedBy words (Refused text) = IsRefusedBy (fault_of command_line words)
 IsAskedBy words OutOfMemory = ⊤
@@ -82,7 +99,7 @@ IsRefusal (Refused text) = ⊤
 IsRefusal OutOfMemory = ⊤
 IsRefusal _ = ⊥
 
--- ---- the plain form of `load`
+-- ---- the plain forms
 
 -- the argument does not begin with a hyphen (45)
 abbrev pub IsNoFlag : Text → Type 0
@@ -93,8 +110,24 @@ IsNoFlag (c ∷ rest) = c ≢ 45
 abbrev pub load_line : Text → Text → Text → List Text
 load_line program list file = program ∷ codes "load" ∷ codes "--at" ∷ list ∷ file ∷ []
 
+-- the arguments `PROGRAM NAME FILE`
+abbrev pub file_line : Text → Text → Text → List Text
+file_line program name file = program ∷ name ∷ file ∷ []
+
 -- the request is `load` with this LIST and this FILE, or memory ran out
 abbrev pub AsksLoad : Text → Text → Request → Type 0
 AsksLoad list file (Load l f) = (l.now ≡ list) × (f.now ≡ file)
 AsksLoad list file OutOfMemory = ⊤
 AsksLoad list file _ = ⊥
+
+-- the request is `check` with this FILE, or memory ran out
+abbrev pub AsksCheck : Text → Request → Type 0
+AsksCheck file (Check f) = f.now ≡ file
+AsksCheck file OutOfMemory = ⊤
+AsksCheck file _ = ⊥
+
+-- the same of `show`
+abbrev pub AsksShow : Text → Request → Type 0
+AsksShow file (Show f) = f.now ≡ file
+AsksShow file OutOfMemory = ⊤
+AsksShow file _ = ⊥

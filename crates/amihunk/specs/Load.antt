@@ -1,14 +1,14 @@
 -- What is known of a list of addresses, a file and the standard output after `load`, or why it
 -- failed.
-use Rattle.std.specs.Prelude.{◌≡◌, ◌⊎◌, ℕ, List, Option, Some, map, ⊤}
-use Rattle.hunk_words.specs.Streams.{HasRead}
+use Rattle.std.specs.Prelude.{◌≡◌, ◌⊎◌, ℕ, List, Some, map}
 use Rattle.hunk_tool.specs.Bases.{IsBasesFault, numbers}
-use Rattle.hunk_tool.specs.Load.{Ends, IsLoadFault, IsReported}
+use Rattle.hunk_tool.specs.Load.{IsLoadFault, IsReported}
 use Rattle.hunk_tool.specs.declared.bases.BasesFault.TheVariants as bases_fault
 use Rattle.hunk_tool.specs.declared.tool_fault.ToolFault.TheVariants as tool_fault
 use Rattle.hunk_tool.specs.declared.tool_fault.ToolFault.{ToolFault}
 use Rattle.amihunk.specs.declared.failure.Failure.{Failure}
 use Rattle.amihunk.specs.declared.failure.Failure.TheVariants.{BadNumber, Opening, Printing, Tool}
+use Rattle.amihunk.specs.Devices.{Printed, StoppedBy}
 
 -- each part of the list is a number
 pub record IsList (list : List ℕ) : Type 0 where
@@ -21,40 +21,18 @@ IsListFailure list (BadNumber index) = IsBasesFault list (bases_fault.BadNumber 
 IsListFailure list (Tool fault) = fault ≡ tool_fault.OutOfMemory 0
 IsListFailure list _ = ⊥
 
--- the bytes that were read are a load file, and its report at these bases is all that was written
-pub record Reports (bases : List ℕ) (left old new : Option (List ℕ)) : Type 0 where
-  pub rest : Option (List ℕ)
-  pub reported : HasRead left rest (IsReported bases old new)
-
--- what `load_run` returned, for this reader and this writer
-pub record Stopped (bases : List ℕ) (left taken : Option (List ℕ)) (fault : ToolFault) : Type 0 where
-  pub ends : Ends
-  pub left_is : ends.left ≡ left
-  pub taken_is : ends.taken ≡ taken
-  pub stopped : IsLoadFault bases ends fault
-
--- why the report of what a reader has was not written
-abbrev pub IsReportFailure : List ℕ → (left taken : Option (List ℕ)) → Failure → Type 0
-IsReportFailure bases left taken Printing = ⊤
-IsReportFailure bases left taken (Tool fault) = Stopped bases left taken fault
-IsReportFailure bases left taken _ = ⊥
-
--- the numbers in the list are the bases at which a load file was reported
+-- the numbers in the list are the bases at which a load file was reported: the bytes that were read
+-- are a load file, and its report at these bases is all that was written
 pub record IsLoaded (list : List ℕ) : Type 0 where
   pub bases : List ℕ
   pub numbers_are : numbers list ≡ map Some bases
-  pub left : Option (List ℕ)
-  pub old : Option (List ℕ)
-  pub new : Option (List ℕ)
-  pub reports : Reports bases left old new
+  pub printed : Printed (IsReported bases)
 
 -- the numbers in the list are the bases that `load_run` was called with
 pub record IsStoppedAt (list : List ℕ) (fault : ToolFault) : Type 0 where
   pub bases : List ℕ
   pub numbers_are : numbers list ≡ map Some bases
-  pub left : Option (List ℕ)
-  pub taken : Option (List ℕ)
-  pub stopped : Stopped bases left taken fault
+  pub stopped : StoppedBy (IsLoadFault bases) fault
 
 -- why `load` failed: the list is checked first, and then the file is opened
 abbrev pub IsLoadFailure : (list file : List ℕ) → Failure → Type 0

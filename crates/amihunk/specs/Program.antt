@@ -3,26 +3,38 @@ use Rattle.std.specs.Prelude.{◌≡◌, ◌⊎◌, ◌∷◌, [], ℕ, List, Bo
 use Rattle.hunk_tool.specs.declared.tool_fault.ToolFault.TheVariants as tool_fault
 use Rattle.amihunk.specs.Failure.{failure_line, status_of, TellsLine}
 use Rattle.amihunk.specs.Load.{IsLoadFailure, IsLoaded}
+use Rattle.amihunk.specs.Text.{IsTextFailure, IsTold}
 use Rattle.amihunk.specs.CommandLine.{IsAskedBy}
 use Rattle.amihunk.specs.declared.failure.Failure.{Failure}
 use Rattle.amihunk.specs.declared.failure.Failure.TheVariants.{Tool}
+use Rattle.amihunk.specs.declared.text.Text.{Text}
+use Rattle.amihunk.specs.declared.text.Text.TheVariants.{Line, Listing}
 use Rattle.amihunk.specs.declared.command_line.Request.{Request}
-use Rattle.amihunk.specs.declared.command_line.Request.TheVariants.{Load, Help, Refused, OutOfMemory}
+use Rattle.amihunk.specs.declared.command_line.Request.TheVariants.{Load, Check, Show, Help, Refused, OutOfMemory}
 
--- `load` was not done, the status is that of the failure, and its line went to the writer, or a write to it failed
-pub record IsFailed {W : Type 0} (taken : W → Option (List ℕ)) (failed : W → Bool) (old new : W) (list file : List ℕ) (status : ℕ) : Type 0 where
+-- a request for FILE was not done, for a reason of which this holds; the status is that of the
+-- failure, and its line went to the writer, or a write to it failed
+pub record IsFailed {W : Type 0} (taken : W → Option (List ℕ)) (failed : W → Bool) (old new : W) (Why : Failure → Type 0) (file : List ℕ) (status : ℕ) : Type 0 where
   pub failure : Failure
-  pub why : IsLoadFailure list file failure
+  pub why : Why failure
   pub status_is : status ≡ status_of failure
   pub line : TellsLine taken failed old new (failure_line (file ∷ []) failure)
 
 -- the status after `load`
 abbrev pub EndsLoad : {W : Type 0} (taken : W → Option (List ℕ)) (failed : W → Bool) (old new : W) (list file : List ℕ) → ℕ → Type 0
-EndsLoad taken failed old new list file status = ((status ≡ 0) × IsLoaded list) ⊎ IsFailed taken failed old new list file status
+EndsLoad taken failed old new list file status =
+    ((status ≡ 0) × IsLoaded list) ⊎ IsFailed taken failed old new (IsLoadFailure list file) file status
+
+-- the status after a text about FILE
+abbrev pub EndsText : {W : Type 0} (taken : W → Option (List ℕ)) (failed : W → Bool) (old new : W) (text : Text) (file : List ℕ) → ℕ → Type 0
+EndsText taken failed old new text file status =
+    ((status ≡ 0) × IsTold text) ⊎ IsFailed taken failed old new (IsTextFailure text file) file status
 
 -- the status after a request
 abbrev pub Ends : {W : Type 0} (taken : W → Option (List ℕ)) (failed : W → Bool) (old new : W) → Request → ℕ → Type 0
 Ends taken failed old new (Load list file) status = EndsLoad taken failed old new list.now file.now status
+Ends taken failed old new (Check file) status = EndsText taken failed old new Line file.now status
+Ends taken failed old new (Show file) status = EndsText taken failed old new Listing file.now status
 Ends taken failed old new (Help text) status = (status ≡ 0) ⊎ (status ≡ 3)
 Ends taken failed old new (Refused text) status = status ≡ 2
 Ends taken failed old new OutOfMemory status = (status ≡ 4) × TellsLine taken failed old new (failure_line [] (Tool (tool_fault.OutOfMemory 0)))

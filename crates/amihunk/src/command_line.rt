@@ -1,10 +1,11 @@
 //! The arguments of the command line, as `clap` reads them.
-ghost use Rattle.std.specs.Prelude.{◌≡◌, ℕ, IfOk, List, Some, codes, false, map};
-ghost use Rattle.clap.specs.Words.{FailsBy, app_of, fault_of, found_of, kind_of, rows_of};
-ghost use Rattle.clap.specs.Words.{shape_of, subcommand_of, subcommand_rows_of};
+ghost use Rattle.std.specs.Prelude.{◌≡◌, ℕ, IfOk, List, Some, codes, false, is_some, map, true};
+ghost use Rattle.clap.specs.Words.{FailsBy, app_of, fault_of, first_of, found_of, kind_of, rows_of};
+ghost use Rattle.clap.specs.Words.{rule_of, shape_of, subcommand_of, subcommand_rows_of};
 ghost use Rattle.clap.specs.declared.builder.command.Command.TheViews.{out-Command};
-ghost use Rattle.amihunk.specs.CommandLine.{Answers, AsksLoad, IsAskedBy, IsNoFlag, Says, IsRefusal};
-ghost use Rattle.amihunk.specs.CommandLine.{IsWhole, command_line, load_line, load_shape};
+ghost use Rattle.amihunk.specs.CommandLine.{Answers, AsksCheck, AsksLoad, AsksShow, IsAskedBy, IsNoFlag};
+ghost use Rattle.amihunk.specs.CommandLine.{IsRefusal, IsWhole, Says, command_line, file_line, file_rule, file_shape};
+ghost use Rattle.amihunk.specs.CommandLine.{load_line, load_shape};
 
 use clap::error::ErrorKind;
 use clap::{Arg, ArgMatches, Command, Error};
@@ -18,6 +19,16 @@ pub enum Request<'a> {
     Load {
         /// The argument LIST, not yet parsed.
         list: &'a str,
+        /// The argument FILE.
+        file: &'a str,
+    },
+    /// `check FILE`: one line about FILE.
+    Check {
+        /// The argument FILE.
+        file: &'a str,
+    },
+    /// `show FILE`: a listing of FILE.
+    Show {
         /// The argument FILE.
         file: &'a str,
     },
@@ -35,6 +46,12 @@ pub fn read_words<'a, S: AsStr>(alloc: Global, words: &'a [S]) -> Request<'a>
     ensures load { (program list file : List ℕ)
         → map S.text words.entry.now ≡ load_line program list file
         → IsNoFlag list → IsNoFlag file → AsksLoad list file result }
+    ensures check { (program file : List ℕ)
+        → map S.text words.entry.now ≡ file_line program (codes "check") file
+        → IsNoFlag file → AsksCheck file result }
+    ensures show { (program file : List ℕ)
+        → map S.text words.entry.now ≡ file_line program (codes "show") file
+        → IsNoFlag file → AsksShow file result }
 {
     match matches_of(alloc, words) {
         Ok(matches) => request_of(&matches),
@@ -76,7 +93,9 @@ fn command<'a>(alloc: Global) -> Result<Command<'a>, AllocError>
         .about("An Amiga hunk linker and loader")
         .disable_help_subcommand(true)
         .subcommand_required(true)
-        .subcommand(load_command(alloc)?)
+        .subcommand(load_command(alloc)?)?
+        .subcommand(check_command(alloc)?)?
+        .subcommand(show_command(alloc)?)
 }
 
 /// The subcommand `load --at LIST FILE`.
@@ -89,14 +108,44 @@ fn load_command<'a>(alloc: Global) -> Result<Command<'a>, AllocError>
         .value_name("LIST")
         .required(true)
         .help("The address of each hunk, in hexadecimal, with commas between");
-    let file = Arg::new(alloc, "file")
-        .value_name("FILE")
-        .required(true)
-        .help("A load file");
     Command::new(alloc, "load")
         .about("Loads a file at addresses, and prints the bytes of its hunks")
+        .after_help(help::LOAD)
         .arg(list)?
-        .arg(file)
+        .arg(file_argument(alloc, "A load file"))
+}
+
+/// The subcommand `check FILE`.
+fn check_command<'a>(alloc: Global) -> Result<Command<'a>, AllocError>
+    ensures shape { IfOk result (λ c. shape_of c ≡ file_shape (codes "check")) }
+    ensures local { IfOk result (λ c. (out-Command c).has_globals ≡ false) }
+{
+    Command::new(alloc, "check")
+        .about("Checks a file, and prints which kind it is and how many units and hunks it has")
+        .after_help(help::CHECK)
+        .arg(file_argument(alloc, "An object file or a load file"))
+}
+
+/// The subcommand `show FILE`.
+fn show_command<'a>(alloc: Global) -> Result<Command<'a>, AllocError>
+    ensures shape { IfOk result (λ c. shape_of c ≡ file_shape (codes "show")) }
+    ensures local { IfOk result (λ c. (out-Command c).has_globals ≡ false) }
+{
+    Command::new(alloc, "show")
+        .about("Prints a listing of the units and hunks of a file, and of what is in them")
+        .after_help(help::SHOW)
+        .arg(file_argument(alloc, "An object file or a load file"))
+}
+
+/// The argument FILE, which each subcommand has.
+fn file_argument<'a>(alloc: Global, help: &'a str) -> Arg<'a>
+    ensures rule { rule_of result ≡ file_rule }
+    ensures local { result.global ≡ false }
+{
+    Arg::new(alloc, "file")
+        .value_name("FILE")
+        .required(true)
+        .help(help)
 }
 
 /// The request of a parse that found a subcommand.
@@ -104,20 +153,29 @@ fn request_of<'a>(matches: &ArgMatches<'a>) -> Request<'a>
     requires { IsWhole (subcommand_rows_of matches.now) }
     ensures { Says (subcommand_rows_of matches.now) result }
 {
-    match matches.subcommand_matches("load") {
-        Some(values) => load_of(values),
-        None => unreachable!(),
+    match matches.subcommand() {
+        Some(("load", values)) => Request::Load {
+            list: value_of(values, "at"),
+            file: value_of(values, "file"),
+        },
+        Some(("check", values)) => Request::Check {
+            file: value_of(values, "file"),
+        },
+        Some(("show", values)) => Request::Show {
+            file: value_of(values, "file"),
+        },
+        _ => unreachable!(),
     }
 }
 
-/// The request `load`, with the values that were found for its arguments.
-fn load_of<'a>(values: &ArgMatches<'a>) -> Request<'a>
-    requires { IsWhole (Some (codes "load", rows_of (found_of values.now))) }
-    ensures { Says (Some (codes "load", rows_of (found_of values.now))) result }
+/// The value of an argument that has one.
+fn value_of<'a>(values: &ArgMatches<'a>, id: &str) -> &'a str
+    requires { is_some (first_of id.now (rows_of (found_of values.now))) ≡ true }
+    ensures { first_of id.now (rows_of (found_of values.now)) ≡ Some result.now }
 {
-    match (values.get_str("at"), values.get_str("file")) {
-        (Some(list), Some(file)) => Request::Load { list, file },
-        _ => unreachable!(),
+    match values.get_str(id) {
+        Some(value) => value,
+        None => unreachable!(),
     }
 }
 
@@ -135,5 +193,6 @@ fn answer_to<'a>(alloc: Global, error: &Error) -> Request<'a>
     }
 }
 
+mod help;
 #[cfg(test)]
 mod tests;

@@ -1,11 +1,12 @@
 //! The program: the arguments of the command line, what they ask for, and the exit status.
-ghost use Rattle.std.specs.Prelude.{◌≡◌, ◌≤◌, ℕ, List, map};
-ghost use Rattle.amihunk.specs.Program.{Ends, EndsLine, EndsLoad};
-ghost use Rattle.amihunk.specs.CommandLine.{load_line, IsNoFlag};
+ghost use Rattle.std.specs.Prelude.{◌≡◌, ◌≤◌, ℕ, List, codes, map};
+ghost use Rattle.amihunk.specs.Program.{Ends, EndsLine, EndsLoad, EndsText};
+ghost use Rattle.amihunk.specs.CommandLine.{IsNoFlag, file_line, load_line};
 
 use crate::command_line::{Request, read_words, refuse_bytes};
 use crate::failure::{COMMAND_LINE, DONE, Failure, report_failure};
 use crate::load::load;
+use crate::text::{Text, print_text};
 use hunk_words::{Sink, write_all};
 use std::convert::AsStr;
 use std::io::ErrorKind;
@@ -37,6 +38,12 @@ pub fn run<R: Files + Print + AllocGlobal, W: Sink, S: AsStr>(
     ensures load { (program list file : List ℕ)
         → map S.text words.now ≡ load_line program list file
         → IsNoFlag list → IsNoFlag file → EndsLoad W.taken W.failed errors.old errors.new list file result }
+    ensures check { (program file : List ℕ)
+        → map S.text words.now ≡ file_line program (codes "check") file
+        → IsNoFlag file → EndsText W.taken W.failed errors.old errors.new Text.Line file result }
+    ensures show { (program file : List ℕ)
+        → map S.text words.now ≡ file_line program (codes "show") file
+        → IsNoFlag file → EndsText W.taken W.failed errors.old errors.new Text.Listing file result }
 {
     answer(rt, errors, read_words(rt.alloc(), words))
 }
@@ -57,6 +64,8 @@ fn answer<R: Files + Print + AllocGlobal, W: Sink>(
 {
     match request {
         Request::Load { list, file } => answer_load(rt, errors, list, file),
+        Request::Check { file } => answer_text(rt, errors, Text::Line, file),
+        Request::Show { file } => answer_text(rt, errors, Text::Listing, file),
         Request::Help(text) => match rt.print(text) {
             Ok(()) => DONE,
             Err(_) => report_failure(errors, &[], &Failure::Printing),
@@ -86,3 +95,24 @@ fn answer_load<R: Files + Print + AllocGlobal, W: Sink>(
         Err(failure) => report_failure(errors, &[name], &failure),
     }
 }
+
+/// Does a request for a text about FILE, and returns the exit status.
+fn answer_text<R: Files + Print + AllocGlobal, W: Sink>(
+    rt: &R,
+    errors: &mut W,
+    text: Text,
+    file: &str,
+) -> u8
+    ensures { EndsText W.taken W.failed errors.old errors.new text file.now result }
+{
+    let Ok(name) = String::from_str(rt.alloc(), file) else {
+        return report_failure(errors, &[], &Failure::out_of_memory());
+    };
+    match print_text(rt, text, file) {
+        Ok(()) => DONE,
+        Err(failure) => report_failure(errors, &[name], &failure),
+    }
+}
+
+#[cfg(test)]
+mod tests;

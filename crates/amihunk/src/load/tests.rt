@@ -1,32 +1,7 @@
-use super::{Failure, ToolFault, report};
+use super::{Failure, report};
+use crate::samples::{Broken, ONE_HUNK};
+use hunk_tool::ToolFault;
 use hunk_words::{Fault, Reason};
-use std::io;
-use std::io::{ErrorKind, Read, Write};
-
-static ONE_HUNK: [u8; 40] = [
-    0, 0, 3, 0xF3, 0, 0, 0, 0, 0, 0, 0, 1, 0, 0, 0, 0, 0, 0, 0, 0, 0, 0, 0, 1, 0, 0, 3, 0xE9, 0, 0,
-    0, 1, 0x4E, 0x75, 0x4E, 0x71, 0, 0, 3, 0xF2,
-];
-
-/// A device that fails.
-#[derive(Drop)]
-struct Broken;
-
-impl Read for Broken {
-    fn read(&mut self, _buf: &mut [u8]) -> io::Result<usize> {
-        Err(io::Error::from(ErrorKind::Other))
-    }
-}
-
-impl Write for Broken {
-    fn write(&mut self, _buf: &[u8]) -> io::Result<usize> {
-        Err(io::Error::from(ErrorKind::Other))
-    }
-
-    fn flush(&mut self) -> io::Result<()> {
-        Ok(())
-    }
-}
 
 #[test]
 fn reports_a_file(rt: HostRuntime) {

@@ -150,7 +150,10 @@ fn refuses_each_growth_of_a_text(rt: HostRuntime) -> Result<(), Fail> {
         {
             growths += 1;
         }
-        assert!(rt; least <= growths && growths < MOST_GROWTHS, "{growths} growths");
+        assert!(rt;
+            least <= growths && growths < MOST_GROWTHS,
+            "{growths} growths"
+        );
     }
     Ok(())
 }
@@ -170,7 +173,11 @@ fn tells_a_read_that_failed_before_a_text(rt: HostRuntime) -> Result<(), Fail> {
                 let fault = Err(ToolFault::InputDevice { file: 0 });
                 let wanted = if fails { fault } else { Ok(()) };
                 assert_eq!(rt; got, wanted, "{text:?}, read {number} of {chunk}");
-                assert_eq!(rt; writer.bytes().is_empty(), fails, "read {number} of {chunk}");
+                assert_eq!(rt;
+                    writer.bytes().is_empty(),
+                    fails,
+                    "read {number} of {chunk}"
+                );
             }
         }
     }

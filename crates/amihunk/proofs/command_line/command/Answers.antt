@@ -17,6 +17,10 @@ returns c =
     let bare : app_of c.subcommand_required.result ≡ record { top = bare_shape; subs = [] } =
     ap app_of_fields c.subcommand_required.ensures
     ∙ ap asks_subcommand (ap app_of_fields c.disable_help_subcommand.ensures ∙ ap without_help named) in
-    IfOk-weaker c.subcommand.result _ _
-    (λ r added. added.shape c.in_ok-load_command.ensures.local ∙ ap₂ with_subcommand bare c.in_ok-load_command.ensures.shape)
-    c.subcommand.ensures
+    let loads = c.in_ok-subcommand.ensures.shape c.in_ok-load_command.ensures.local
+    ∙ ap₂ with_subcommand bare c.in_ok-load_command.ensures.shape in
+    let checks = c.in_ok-subcommand-2.ensures.shape c.in_ok-check_command.ensures.local
+    ∙ ap₂ with_subcommand loads c.in_ok-check_command.ensures.shape in
+    IfOk-weaker c.subcommand-3.result _ _
+    (λ r added. added.shape c.in_ok-show_command.ensures.local ∙ ap₂ with_subcommand checks c.in_ok-show_command.ensures.shape)
+    c.subcommand-3.ensures

@@ -1,0 +1,53 @@
+//! The file that a request reads, and the output that it prints to through a buffer.
+ghost use Rattle.std.specs.Prelude.{◌≡◌, IfOk, IfErr};
+ghost use Rattle.std.specs.Io.Buffered.{writer_contents};
+ghost use Rattle.std.specs.Io.KnownBytes.{Keeps};
+ghost use Rattle.hunk_words.specs.Watched.{inner_of};
+
+use crate::failure::Failure;
+use hunk_tool::ToolFault;
+use hunk_words::Watched;
+use std::alloc::Global;
+use std::fs;
+use std::io::{BufWriter, Write};
+use std::rt::Files;
+
+/// Opens the file named `file`.
+pub fn open<'a, R: Files>(rt: &R, file: &'a str) -> Result<R::File, Failure<'a>>
+    ensures { IfErr result (λ failure. failure ≡ Failure.Opening file.entry) }
+{
+    match fs::open(rt, file) {
+        Ok(input) => Ok(input),
+        Err(_) => Err(Failure::Opening(file)),
+    }
+}
+
+/// Puts a buffer in front of `output`.
+pub fn buffered<'a, O: Write + Drop>(
+    alloc: Global,
+    output: O,
+) -> Result<Watched<BufWriter<O>>, Failure<'a>>
+    ensures ok { IfOk result (λ writer.
+        writer_contents O.contents (inner_of writer) ≡ O.contents output) }
+    ensures err { IfErr result (λ failure. failure ≡ Failure.Tool (ToolFault.OutOfMemory 0)) }
+{
+    match BufWriter::new(alloc, output) {
+        Ok(buffered) => Ok(Watched::new(buffered)),
+        Err(_) => Err(Failure::out_of_memory()),
+    }
+}
+
+/// Returns the writer under a buffer, flushed, with everything that the buffer held.
+pub fn flushed<'a, O: Write + Drop>(writer: Watched<BufWriter<O>>) -> Result<O, Failure<'a>>
+    ensures ok { IfOk result (λ output.
+        Keeps (writer_contents O.contents (inner_of writer)) (O.contents output)) }
+    ensures err { IfErr result (λ failure. failure ≡ Failure.Printing) }
+{
+    let Ok(mut output) = writer.into_inner().into_inner() else {
+        return Err(Failure::Printing);
+    };
+    match output.flush() {
+        Ok(()) => Ok(output),
+        Err(_) => Err(Failure::Printing),
+    }
+}

@@ -1,0 +1,41 @@
+//! Files and a device for the tests.
+
+use std::io;
+use std::io::{ErrorKind, Read, Write};
+
+/// A load file of one hunk.
+pub static ONE_HUNK: [u8; 40] = [
+    0, 0, 3, 0xF3, 0, 0, 0, 0, 0, 0, 0, 1, 0, 0, 0, 0, 0, 0, 0, 0, 0, 0, 0, 1, 0, 0, 3, 0xE9, 0, 0,
+    0, 1, 0x4E, 0x75, 0x4E, 0x71, 0, 0, 3, 0xF2,
+];
+
+/// An object file of one unit. Its first hunk has a name, a site, a definition, a symbol and a debug
+/// block.
+pub static ONE_UNIT: [u8; 128] = [
+    0, 0, 3, 0xE7, 0, 0, 0, 1, 0x74, 0x65, 0x73, 0x74, 0, 0, 3, 0xE8, 0, 0, 0, 1, 0x43, 0x4F, 0x44,
+    0x45, 0, 0, 3, 0xE9, 0, 0, 0, 2, 0x4E, 0xB9, 0, 0, 0, 0, 0x4E, 0x75, 0, 0, 3, 0xEC, 0, 0, 0, 1,
+    0, 0, 0, 1, 0, 0, 0, 2, 0, 0, 0, 0, 0, 0, 3, 0xEF, 1, 0, 0, 1, 0x6D, 0x61, 0x69, 0x6E, 0, 0, 0,
+    0, 0, 0, 0, 0, 0, 0, 3, 0xF0, 0, 0, 0, 1, 0x6C, 0x6F, 0x6F, 0x70, 0, 0, 0, 6, 0, 0, 0, 0, 0, 0,
+    3, 0xF1, 0, 0, 0, 1, 0x12, 0x34, 0x56, 0x78, 0, 0, 3, 0xF2, 0x40, 0, 3, 0xEB, 0, 0, 0, 2, 0, 0,
+    3, 0xF2,
+];
+
+/// A device that fails.
+#[derive(Drop)]
+pub struct Broken;
+
+impl Read for Broken {
+    fn read(&mut self, _buf: &mut [u8]) -> io::Result<usize> {
+        Err(io::Error::from(ErrorKind::Other))
+    }
+}
+
+impl Write for Broken {
+    fn write(&mut self, _buf: &[u8]) -> io::Result<usize> {
+        Err(io::Error::from(ErrorKind::Other))
+    }
+
+    fn flush(&mut self) -> io::Result<()> {
+        Ok(())
+    }
+}
