@@ -129,6 +129,24 @@ fn is_written(
     }
 }
 
+// The number of allocations: the run is out of memory with each of them failing, and succeeds once
+// none fails.
+fn growths_of(
+    rt: &impl Abort,
+    alloc: Global,
+    text: Text,
+    bytes: &[u8],
+    wanted: &str,
+) -> Result<u64, Fail> {
+    for refused in 0..MOST_GROWTHS {
+        if is_written(rt, alloc, text, bytes, wanted, refused)? {
+            return Ok(refused);
+        }
+    }
+    assert!(rt; false, "each of {MOST_GROWTHS} runs was refused a growth");
+    Ok(0)
+}
+
 #[test]
 fn refuses_each_growth_of_a_text(rt: HostRuntime) -> Result<(), Fail> {
     let rows: [(Text, &[u32], &str, u64); 4] = [
@@ -144,16 +162,8 @@ fn refuses_each_growth_of_a_text(rt: HostRuntime) -> Result<(), Fail> {
     for (text, words, listing, least) in rows {
         let bytes = bytes_of(rt.alloc(), words, &[])?;
         let wanted = text.of(listing)?;
-        let mut growths = 0;
-        while growths < MOST_GROWTHS
-            && !is_written(&rt, rt.alloc(), text, &bytes, wanted, growths)?
-        {
-            growths += 1;
-        }
-        assert!(rt;
-            least <= growths && growths < MOST_GROWTHS,
-            "{growths} growths"
-        );
+        let growths = growths_of(&rt, rt.alloc(), text, &bytes, wanted)?;
+        assert!(rt; least <= growths, "{text:?} met {growths} growths");
     }
     Ok(())
 }
