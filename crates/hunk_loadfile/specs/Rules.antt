@@ -24,8 +24,12 @@ symbol_longwords symbol = 2 + longword_count (length symbol.0)
 abbrev pub debug_longwords : List ℕ → ℕ
 debug_longwords ws = 2 + length ws
 
+-- those of a hunk's symbols and debug blocks
+abbrev pub info_longwords : List (List ℕ × ℕ) → List (List ℕ) → ℕ
+info_longwords symbols debugs = sum_by symbol_longwords symbols + sum_by debug_longwords debugs
+
 abbrev pub carried_by : FileHunk → ℕ
-carried_by hunk = sum_by symbol_longwords hunk.symbols + sum_by debug_longwords hunk.debugs
+carried_by hunk = info_longwords hunk.symbols hunk.debugs
 
 -- those of all symbols and debug blocks
 abbrev pub carried_longwords : List FileHunk → ℕ

@@ -1,7 +1,7 @@
 //! The rules for the hunks of a load file.
 ghost use Rattle.std.specs.Prelude.{◌≡◌, ◌≤◌, ◌<◌, ◌+◌, not, length, sum_by, position, MatchOption, OnSome, IfSome, IfNone, IsTrue};
 ghost use Rattle.std.specs.List.{All};
-ghost use Rattle.hunk_loadfile.specs.Rules.{IsLongword, IsTyped, IsTypedSymbol, build_fault, carried_longwords, carried_by, debug_longwords, has_content, has_limit, has_names, has_targets, is_hunk_count, is_small, most_hunks, symbol_longwords};
+ghost use Rattle.hunk_loadfile.specs.Rules.{IsLongword, IsTyped, IsTypedSymbol, build_fault, carried_longwords, carried_by, debug_longwords, info_longwords, has_content, has_limit, has_names, has_targets, is_hunk_count, is_small, most_hunks, symbol_longwords};
 ghost use Rattle.hunk_words.specs.DebugInfo.{lists_of};
 ghost use Rattle.hunk_words.specs.Sites.{AreApart};
 
@@ -10,13 +10,13 @@ use hunk_words::{HunkKind, Name};
 use std::alloc::{Allocator, Global};
 
 /// The most hunks in a load file.
-const MOST_HUNKS: usize = 65_535;
+pub const MOST_HUNKS: usize = 65_535;
 
 /// The most longwords of all hunks.
-const MOST_SIZE: u64 = 0x100_0000;
+pub const MOST_SIZE: u64 = 0x100_0000;
 
 /// The most longwords of all symbols and debug blocks in the file.
-const MOST_CARRIED: u64 = 0x800_0000;
+pub const MOST_CARRIED: u64 = 0x800_0000;
 
 /// The most bytes of a symbol's name: its longwords are counted in 24 bits.
 const MOST_NAME: usize = 0x3FF_FFFC;
@@ -138,16 +138,30 @@ fn room_behind_debugs<A: Allocator + Copy>(room: u64, debugs: &[Vec<u32, A>]) ->
     Some(left)
 }
 
-/// The same after the symbols and debug blocks of a hunk.
-fn room_behind<A: Allocator + Copy>(room: u64, hunk: &LoadHunk<A>) -> Option<u64>
+/// What is left of `room` longwords after the symbols and debug blocks of a hunk as a file has them,
+/// if they take no more.
+pub fn room_behind<A: Allocator + Copy>(
+    room: u64,
+    symbols: &[(Name<A>, u32)],
+    debugs: &[Vec<u32, A>],
+) -> Option<u64>
+    ensures room { MatchOption result (room < info_longwords symbols.now (lists_of debugs.now)) (λ left. left + info_longwords symbols.now (lists_of debugs.now) ≡ room) }
+    ensures symbols { OnSome result (All IsTypedSymbol symbols.now) }
+    ensures debugs { OnSome result (All (All IsLongword) (lists_of debugs.now)) }
+{
+    match room_behind_symbols(room, symbols) {
+        Some(left) => room_behind_debugs(left, debugs),
+        None => None,
+    }
+}
+
+/// The same after those of a hunk of a load file.
+fn room_behind_hunk<A: Allocator + Copy>(room: u64, hunk: &LoadHunk<A>) -> Option<u64>
     ensures room { MatchOption result (room < carried_by hunk.now) (λ left. left + carried_by hunk.now ≡ room) }
     ensures symbols { OnSome result (All IsTypedSymbol hunk.now.symbols) }
     ensures debugs { OnSome result (All (All IsLongword) hunk.now.debugs) }
 {
-    match room_behind_symbols(room, &hunk.symbols) {
-        Some(left) => room_behind_debugs(left, &hunk.debugs),
-        None => None,
-    }
+    room_behind(room, &hunk.symbols, &hunk.debugs)
 }
 
 /// The number of bytes.
@@ -179,7 +193,7 @@ fn is_small<A: Allocator + Copy>(hunks: &[LoadHunk<A>]) -> bool
     let mut room = MOST_CARRIED;
     for hunk in hunks {
         size += u64::from(size_of(hunk));
-        match room_behind(room, hunk) {
+        match room_behind_hunk(room, hunk) {
             Some(left) => room = left,
             None => return false,
         }

@@ -22,4 +22,4 @@ pub mod unit_hunk;
 pub use hunk_words::{HunkKind, Memory};
 pub use object_decoder::{ObjectDecoder, read_object};
 pub use program_unit::{ProgramUnit, hunk_total};
-pub use unit_hunk::{Adds, Definition, UnitHunk};
+pub use unit_hunk::{Adds, Definition, HunkParts, UnitHunk};

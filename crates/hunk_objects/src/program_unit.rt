@@ -47,6 +47,14 @@ impl<A: Allocator + Copy> ProgramUnit<A> {
     {
         &self.hunks
     }
+
+    /// Its hunks, in order, moved out of it. Does not allocate.
+    pub fn into_hunks(self) -> Vec<UnitHunk<A>, A>
+        ensures value { result.items ≡ self.hunks }
+        ensures valid { All IsUnitHunk self.hunks }
+    {
+        self.hunks
+    }
 }
 
 /// The number of hunks of all units.

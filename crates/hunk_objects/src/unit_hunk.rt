@@ -51,6 +51,25 @@ pub struct UnitHunk<A: Allocator + Copy = Global> {
     pub(crate) debugs: Vec<Vec<u32, A>, A>,
 }
 
+/// What a load file keeps of a hunk of a program unit.
+#[derive(Debug, Drop)]
+pub struct HunkParts<A: Allocator + Copy = Global> {
+    /// What the hunk holds.
+    pub kind: HunkKind,
+    /// Which memory it asks for.
+    pub memory: Memory,
+    /// Its size in longwords.
+    pub size: u32,
+    /// Its bytes.
+    pub content: Vec<u8, A>,
+    /// The offsets, in bytes, of the longwords to which something is added, and what is added there.
+    pub sites: Sites<Adds, A>,
+    /// The symbols for a debugger, each a name and a value, in file order.
+    pub symbols: Vec<(Name<A>, u32), A>,
+    /// The debug blocks, each a list of longwords, in file order.
+    pub debugs: Vec<Vec<u32, A>, A>,
+}
+
 impl<A: Allocator + Copy> Model for UnitHunk<A> {
     ghost use Rattle.hunk_words.specs.DebugInfo.{lists_of};
     ghost use Rattle.hunk_objects.specs.UnitHunk.{ObjectHunk, IsUnitHunk};
@@ -110,7 +129,8 @@ impl<A: Allocator + Copy> UnitHunk<A> {
     /// The names that the hunk refers to, in file order. A name that is referred to twice stands here
     /// twice, and each one has a site at least.
     pub fn references(&self) -> &[Name<A>]
-        ensures { result.now ≡ self.now.references }
+        ensures value { result.now ≡ self.now.references }
+        ensures valid { IsUnitHunk self.now }
     {
         &self.references
     }
@@ -165,5 +185,27 @@ impl<A: Allocator + Copy> UnitHunk<A> {
             debugs.push_reserved(Vec::from_slice(alloc, words)?);
         }
         Ok(debugs)
+    }
+
+    /// What a load file keeps of the hunk, moved out of it. Does not allocate.
+    pub fn into_parts(self) -> HunkParts<A>
+        ensures kind { result.kind ≡ self.kind }
+        ensures memory { result.memory ≡ self.memory }
+        ensures size { result.size ≡ self.size }
+        ensures content { result.content.items ≡ self.content }
+        ensures sites { result.sites ≡ self.sites }
+        ensures symbols { result.symbols.items ≡ self.symbols }
+        ensures debugs { lists_of result.debugs.items ≡ self.debugs }
+        ensures valid { IsUnitHunk self }
+    {
+        HunkParts {
+            kind: self.kind,
+            memory: self.memory,
+            size: self.size,
+            content: self.content,
+            sites: self.sites,
+            symbols: self.symbols,
+            debugs: self.debugs,
+        }
     }
 }

@@ -15,7 +15,7 @@ returns-in_err-written-clause-wrote g c =
     let hunk = c.args.hunk.now in
     rw (p.1, p.2)
     (Walked-stop g.W.Sink.taken g.W.Sink.failed (line_of hunk.references) c.args.writer.now c.loop-offset.writer c.write_site.new.writer c.args.written c.loop-offset.written c.loop-offset.offset-iterator hunk.sites.entries c.next.new.self (c.in-Some.offset, c.in-Some.adds.now) _
-    c.loop-offset.invariant.walked c.in-Some.ensures.steps (rw c.references-references.ensures at c.in_err-written.ensures.wrote))
+    c.loop-offset.invariant.walked c.in-Some.ensures.steps (rw c.references-references.ensures.value at c.in_err-written.ensures.wrote))
 
 pub loop-offset-preserved : goal.loop-offset-preserved
 loop-offset-preserved g c =
@@ -25,5 +25,5 @@ loop-offset-preserved g c =
       is_finite = tt;
       walked =
           Walked-more g.W.Sink.taken g.W.Sink.failed (line_of hunk.references) c.args.writer.now c.loop-offset.writer c.write_site.new.writer c.args.written c.loop-offset.written c.in_ok-written.written c.loop-offset.offset-iterator hunk.sites.entries c.next.new.self (c.in-Some.offset, c.in-Some.adds.now)
-          c.loop-offset.invariant.walked c.in-Some.ensures.steps (rw c.references-references.ensures at c.in_ok-written.ensures.wrote);
+          c.loop-offset.invariant.walked c.in-Some.ensures.steps (rw c.references-references.ensures.value at c.in_ok-written.ensures.wrote);
     }
