@@ -1,0 +1,14 @@
+pub mod AllLemmas
+pub mod RanksLemmas
+pub mod RankBoundsLemmas
+pub mod LimitsLemmas
+pub mod FirstToBreakLemmas
+pub mod ItemsLemmas
+pub mod SymbolTableLemmas
+pub mod CarryLemmas
+pub mod CarriedLemmas
+pub mod CarriedHunksLemmas
+pub mod CarriedTargetsLemmas
+pub mod CarriedLawsLemmas
+pub mod LinkableLemmas
+pub mod LinkingLemmas

@@ -1,0 +1,34 @@
+use Rattle.std.proofs.Common.{◌≡◌, length, sym, ap, subst, ◌∙◌}
+use Rattle.std.proofs.lemmas.List.{with_items_is}
+use Rattle.std.specs.List.{All}
+use Rattle.hunk_words.specs.DebugInfo.{lists_of}
+use Rattle.hunk_words.specs.Sites.{SiteMap}
+use Rattle.hunk_objects.specs.declared.unit_hunk.Adds.{Adds}
+use Rattle.hunk_link.specs.Addend.{addend_of}
+use Rattle.hunk_link.specs.Carried.{IsKnown, unless_stripped}
+use Rattle.hunk_link.proofs.CarriedLemmas.{carried_hunk-is, kept, stripped}
+use Rattle.hunk_link.proofs.carried.moved_hunk.Goals.{then-strip, else-strip}
+use Rattle.hunk_link.proofs.carried.moved_hunk.Goals as goal
+
+pub carry-requires-clause-known : goal.carry-requires-clause-known
+carry-requires-clause-known g c =
+    subst (λ (sites : SiteMap Adds). All (λ site. IsKnown c.args.first (length c.args.references.now) site.1) sites.entries) (sym c.into_parts-kind.ensures.sites) c.requires
+
+pub returns : goal.returns
+returns g c =
+    let hunk = c.args.hunk in
+    let parts = c.into_parts-kind.ensures in
+    let symbols : c.if-strip.symbols.items ≡ unless_stripped c.args.strip hunk.symbols =
+    elim c.if-strip.branch [
+      | then-strip w ↦ stripped _ _ _ w.if-strip.true (ap (λ v. v.items) w.symbols-is ∙ w.new-symbols.ensures.items)
+      | else-strip w ↦ kept _ _ _ w.if-strip.false (ap (λ v. v.items) w.symbols-is ∙ parts.symbols)
+    ] in
+    let debugs : lists_of c.if-strip.debugs.items ≡ unless_stripped c.args.strip hunk.debugs =
+    elim c.if-strip.branch [
+      | then-strip w ↦ stripped _ _ _ w.if-strip.true (ap (λ v. lists_of v.items) w.debugs-is ∙ ap (λ items. lists_of items) w.new-debugs.ensures.items)
+      | else-strip w ↦ kept _ _ _ w.if-strip.false (ap (λ v. lists_of v.items) w.debugs-is ∙ parts.debugs)
+    ] in
+    let content = with_items_is c.into_parts-kind.result.content c.carry.new.content (c.carry.auto.content ∙ c.deref_mut.ensures.len) in
+    carried_hunk-is (addend_of c.args.first c.args.references.now) c.args.strip hunk c.deref_mut.result.now c.into_parts-kind.result.sites c.into_parts-kind.result.size
+    (c.deref_mut.ensures.value ∙ parts.content) parts.sites parts.size
+    _ parts.kind parts.memory parts.size (content ∙ c.in_ok-sites.ensures.content) c.in_ok-sites.ensures.sites symbols debugs

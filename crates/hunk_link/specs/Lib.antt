@@ -1,0 +1,10 @@
+pub mod Ranks
+pub mod FirstToBreak
+pub mod Limits
+pub mod OwnHunks
+pub mod SymbolTable
+pub mod Addend
+pub mod References
+pub mod Linkable
+pub mod Carried
+pub mod Laws

@@ -1,0 +1,27 @@
+//! The linker: one load file from program units.
+//!
+//! - `linking`: linking program units.
+//! - `refusal`: why program units do not link.
+//! - `limits`: how much units may have that are linked.
+//! - `ranked_hunk`: a hunk with its place in the order of linking.
+//! - `own_hunks`: whether sites name hunks of their own unit.
+//! - `symbol_table`: what each name stands for.
+//! - `addend`: what the linker knows of what is added at a site.
+//! - `references`: what the references of hunks add.
+//! - `carried`: the hunks of the load file.
+//! - `laws`: laws about linking.
+#![tactic(auto)]
+
+mod addend;
+mod carried;
+pub mod laws;
+mod limits;
+pub mod linking;
+mod own_hunks;
+mod ranked_hunk;
+mod references;
+pub mod refusal;
+pub mod symbol_table;
+
+pub use linking::{link, link_units};
+pub use refusal::LinkRefusal;

@@ -1,0 +1,108 @@
+//! What each name stands for that the hunks define.
+ghost use Rattle.std.specs.Prelude.{◌≡◌, ◌≢◌, List, [], ◌∷◌, ◌++◌, map, None, IfOk, IfErr, OnOk, Ok, true, false};
+ghost use Rattle.hunk_link.specs.SymbolTable.{Definition as TableDefinition, DefinedOnce, IsDuplicate, definitions_in, definitions_of, entry, look_up, table_of};
+ghost use Rattle.std.specs.List.{All};
+ghost use Rattle.hunk_link.specs.Ranks.{IsRanked, items_of};
+
+use crate::ranked_hunk::RankedHunk;
+use crate::refusal::LinkRefusal;
+use hunk_objects::Definition;
+use hunk_words::Name;
+use indexmap::IndexMap;
+use std::alloc::{AllocError, Allocator, Global};
+use std::hash::{BuildHasherDefault, FoldHasher};
+use std::marker::Model;
+
+/// What a name stands for: the definition, and the rank of the hunk that defines it.
+#[derive(Clone, Copy, Debug, PartialEq, Eq)]
+pub struct Defined {
+    /// The rank of the hunk: its place among all hunks, in the order of linking.
+    pub rank: u32,
+    /// What the hunk says of the name.
+    pub definition: Definition,
+}
+
+/// The names that hunks define, in the order of their definitions. The names stay in their hunks.
+#[derive(Drop)]
+pub(crate) struct SymbolTable<'a, A: Allocator + Copy = Global> {
+    entries: IndexMap<&'a Name<A>, Defined, BuildHasherDefault<FoldHasher>, A>,
+}
+
+impl<'a, A: Allocator + Copy> Model for SymbolTable<'a, A> {
+    ghost use Rattle.hunk_link.specs.SymbolTable.{Table};
+    ghost use Rattle.std.specs.Prelude.{map};
+
+    ghost Value = { Table };
+
+    ghost view = { λ t. map (λ e. (e.0.now, e.1)) t.entries.entries };
+}
+
+impl<'a, A: Allocator + Copy> SymbolTable<'a, A> {
+    /// A table without names. Does not allocate.
+    fn new(alloc: A) -> Self
+        ensures { result ≡ [] }
+    {
+        SymbolTable {
+            entries: IndexMap::with_hasher(alloc, BuildHasherDefault::new()),
+        }
+    }
+
+    /// What a name stands for.
+    pub(crate) fn get(&self, name: &Name<A>) -> Option<Defined>
+        ensures { result ≡ look_up self.now name.now }
+    {
+        self.entries.get(&name).copied()
+    }
+
+    /// Adds a name, or returns false if it is there.
+    fn add(&mut self, name: &'a Name<A>, defined: Defined) -> Result<bool, AllocError>
+        ensures added { result ≡ Ok true → (look_up self.old name.now ≡ None) × (self.new ≡ self.old ++ (name.now, defined) ∷ []) }
+        ensures there { result ≡ Ok false → look_up self.old name.now ≢ None }
+    {
+        match self.entries.insert(name, defined) {
+            Ok(before) => Ok(before.is_none()),
+            Err(_) => Err(AllocError),
+        }
+    }
+
+    /// Adds the definitions of a hunk after those in the table.
+    fn add_definitions(&mut self, ranked: &RankedHunk<'a, A>) -> Result<(), LinkRefusal<A>>
+        requires { IsRanked ranked.now }
+        ensures added { (before : List TableDefinition) → self.old ≡ map entry before → DefinedOnce before
+            → OnOk result ((self.new ≡ map entry (before ++ items_of definitions_in ranked.now)) × DefinedOnce (before ++ items_of definitions_in ranked.now)) }
+        ensures twice { (before : List TableDefinition) → self.old ≡ map entry before → DefinedOnce before
+            → IfErr result (IsDuplicate (before ++ items_of definitions_in ranked.now)) }
+    {
+        for (name, definition) in ranked.hunk.definitions() {
+            let defined = Defined {
+                rank: ranked.first + ranked.number,
+                definition: *definition,
+            };
+            if !self.add(name, defined)? {
+                return Err(LinkRefusal::DuplicateName {
+                    unit: ranked.unit,
+                    hunk: ranked.number,
+                    name: name.copy(*self.entries.allocator())?,
+                });
+            }
+        }
+        Ok(())
+    }
+}
+
+/// The table of all names that the hunks define.
+pub(crate) fn symbol_table<'a, A: Allocator + Copy>(
+    alloc: A,
+    hunks: &[RankedHunk<'a, A>],
+) -> Result<SymbolTable<'a, A>, LinkRefusal<A>>
+    requires { All IsRanked hunks.now }
+    ensures table { IfOk result (λ table. table ≡ table_of hunks.now) }
+    ensures once { OnOk result (DefinedOnce (definitions_of hunks.now)) }
+    ensures twice { IfErr result (IsDuplicate (definitions_of hunks.now)) }
+{
+    let mut table = SymbolTable::new(alloc);
+    for ranked in hunks {
+        table.add_definitions(ranked)?;
+    }
+    Ok(table)
+}
