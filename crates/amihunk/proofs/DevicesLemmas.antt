@@ -1,5 +1,6 @@
 -- Why a text about a file was not printed, seen from the reader and from the writer under a buffer.
 use Rattle.std.proofs.Common.{◌≡◌, refl, false, List, ℕ, Option}
+use Rattle.std.specs.declared.alloc.Global.{Global}
 use Rattle.std.proofs.KnownBytes.{Keeps-refl}
 use Rattle.hunk_tool.specs.FileText.{IsTextFault}
 use Rattle.hunk_tool.specs.FileValue.{FileValue}
@@ -8,7 +9,7 @@ use Rattle.hunk_tool.specs.declared.tool_fault.ToolFault.{ToolFault}
 use Rattle.hunk_tool.specs.declared.tool_fault.ToolFault.TheVariants.{OutOfMemory}
 use Rattle.amihunk.specs.Devices.{Stopped}
 
-pub stopped_between : (Holds : Ends → ToolFault → Type 0) (left taken : Option (List ℕ)) (fault : ToolFault) (ends : Ends) → ends.left ≡ left → ends.taken ≡ taken
+pub stopped_between : (Holds : Ends → ToolFault Global → Type 0) (left taken : Option (List ℕ)) (fault : ToolFault Global) (ends : Ends) → ends.left ≡ left → ends.taken ≡ taken
     → Holds ends fault → Stopped Holds left taken fault
 stopped_between Holds left taken fault ends left_is taken_is holds =
     record { ends = ends; left_is = left_is; taken_is = taken_is; holds = holds }

@@ -1,4 +1,5 @@
 -- The exit status of the program for each failure, and the line that tells it.
+use Rattle.std.specs.declared.alloc.Global.{Global}
 use Rattle.std.specs.Prelude.{◌≡◌, ◌⊎◌, ◌++◌, ℕ, List, Bool, Option, ⊤, codes, decimal}
 use Rattle.std.specs.Io.KnownBytes.{Appends}
 use Rattle.hunk_words.specs.Streams.{WriteStopped}
@@ -35,7 +36,7 @@ opening_line file = codes "amihunk: " ++ file ++ codes ": cannot be opened\n"
 abbrev pub failure_line : List (List ℕ) → Failure → List ℕ
 failure_line names (BadNumber index) = bad_number_line index
 failure_line names (Opening file) = opening_line file.now
-failure_line names Printing = fault_line names (Output 0)
+failure_line names Printing = fault_line {A = Global} names (Output 0)
 failure_line names (Tool fault) = fault_line names fault
 
 -- The line was appended, and no write failed; or a write failed, and exactly the first bytes of the line were appended.

@@ -1,5 +1,6 @@
 -- What is known of a list of addresses, a file and the standard output after `load`, or why it
 -- failed.
+use Rattle.std.specs.declared.alloc.Global.{Global}
 use Rattle.std.specs.Prelude.{◌≡◌, ◌⊎◌, ℕ, List, Some, map}
 use Rattle.hunk_tool.specs.Bases.{IsBasesFault, numbers}
 use Rattle.hunk_tool.specs.Load.{IsLoadFault, IsReported}
@@ -29,7 +30,7 @@ pub record IsLoaded (list : List ℕ) : Type 0 where
   pub printed : Printed (IsReported bases)
 
 -- the numbers in the list are the bases that `load_run` was called with
-pub record IsStoppedAt (list : List ℕ) (fault : ToolFault) : Type 0 where
+pub record IsStoppedAt (list : List ℕ) (fault : ToolFault Global) : Type 0 where
   pub bases : List ℕ
   pub numbers_are : numbers list ≡ map Some bases
   pub stopped : StoppedBy (IsLoadFault bases) fault

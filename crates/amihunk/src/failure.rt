@@ -18,7 +18,7 @@ pub const COMMAND_LINE: u8 = 2;
 pub const DEVICE: u8 = 3;
 
 /// Why a request failed.
-#[derive(Clone, Copy, Debug, PartialEq, Eq)]
+#[derive(Debug, Drop, PartialEq, Eq)]
 pub enum Failure<'a> {
     /// The index, from 0, of the first part of the list of addresses that is not a number.
     BadNumber(usize),
@@ -77,7 +77,10 @@ fn write_failure<W: Sink>(
     match failure {
         Failure::BadNumber(index) => write_bad_number(*index, errors),
         Failure::Opening(file) => write_opening(file, errors),
-        Failure::Printing => write_fault(files, &ToolFault::Output { written: 0 }, errors),
+        Failure::Printing => {
+            let output: ToolFault = ToolFault::Output { written: 0 };
+            write_fault(files, &output, errors)
+        }
         Failure::Tool(fault) => write_fault(files, fault, errors),
     }
 }

@@ -24,4 +24,4 @@ pub use first_line::{write_load_line, write_object_line};
 pub use load_listing::write_load_listing;
 pub use object_listing::write_object_listing;
 pub use printing::write_pieces;
-pub use quoted_name::write_quoted;
+pub use quoted_name::{write_around_name, write_quoted};

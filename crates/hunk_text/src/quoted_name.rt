@@ -48,7 +48,7 @@ pub fn write_quoted<W: Sink>(writer: &mut W, written: u64, name: &[u8]) -> Resul
 }
 
 /// Writes these pieces of a text, then a name between double quotes, then the pieces after it.
-pub(crate) fn write_around_name<W: Sink>(
+pub fn write_around_name<W: Sink>(
     writer: &mut W,
     written: u64,
     before: &[&[u8]],

@@ -1,5 +1,5 @@
 -- What is known of a counter once its decoder has finished.
-use Rattle.std.proofs.Common.{◌≡◌, List, ℕ, IfErr, IfOk, Result, Ok, Err, refl}
+use Rattle.std.proofs.Common.{List, ℕ, IfErr, IfOk, Result, Ok, Err, refl}
 use Rattle.hunk_words.specs.Decoder.{Finished, RefusesInput}
 use Rattle.hunk_words.specs.declared.event.Event.{Event}
 use Rattle.hunk_words.specs.declared.event.FileKind.{FileKind}

@@ -7,7 +7,6 @@ use Rattle.hunk_words.specs.FirstOffence.FirstOffence.{longword_offends, end_off
 use Rattle.hunk_words.specs.Longwords.{longwords, unfinished}
 use Rattle.hunk_words.specs.Streams.{HasRead}
 use Rattle.hunk_words.specs.declared.event.FileKind.{FileKind}
-use Rattle.hunk_words.specs.declared.fault.ReadFault.{ReadFault}
 use Rattle.hunk_words.specs.declared.fault.ReadFault.TheVariants as read_fault
 use Rattle.hunk_words.specs.declared.fault.Refusal.{Refusal}
 use Rattle.hunk_words.specs.declared.fault.Refusal.TheVariants as refusal_is

@@ -1,7 +1,6 @@
 -- What was read is a file of the kind that its first four bytes tell, or it is rejected, and both
 -- for one value or fault.
-use Rattle.std.proofs.Common.{◌≡◌, ◌⊎◌, ℕ, ◌<◌, List, length, ap, ap₂, refl, inl, inr, Bool, true}
-use Rattle.std.specs.List.{All}
+use Rattle.std.proofs.Common.{◌≡◌, ℕ, List, length, ap, ap₂, refl, inl, inr, Bool, true}
 use Rattle.std.proofs.lemmas.List.{nil_from_length}
 use Rattle.hunk_words.specs.Files.{IsFile}
 use Rattle.hunk_words.specs.FirstOffence.{FirstOffence}
@@ -19,7 +18,7 @@ use Rattle.hunk_objects.proofs.PartialLemmas.{one-object}
 use Rattle.hunk_loadfile.specs.LoadFile.{load_value}
 use Rattle.hunk_loadfile.proofs.LoadFileLemmas.{one-load}
 use Rattle.hunk_tool.specs.FileDecoder.{IsRefused}
-use Rattle.hunk_tool.specs.FileValue.{FileValue, IsOfKind, IsOfItsKind, kind_of_bytes}
+use Rattle.hunk_tool.specs.FileValue.{FileValue, IsOfKind, kind_of_bytes}
 use Rattle.hunk_tool.specs.FileValue.FileValue.{load_file, object_file}
 use Rattle.hunk_tool.specs.Laws.{FaultIsOne, FaultyIsNoFile, FileHasOneValue, FileOrFault}
 

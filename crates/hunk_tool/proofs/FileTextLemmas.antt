@@ -22,17 +22,17 @@ pub record HasText (text : FileValue → List ℕ) (told bytes : List ℕ) : Typ
   pub is_text : told ≡ text value
 
 -- If nothing was made of the file, nothing was written.
-pub IsTextFault-read : (text : FileValue → List ℕ) (left left_then : Option (List ℕ)) (failed ended : Bool) (taken : Option (List ℕ)) (write_failed : Bool) (fault : ReadFault)
-    → IsReadFault left left_then failed ended fault → IsTextFault text (ends_of left left_then failed ended taken taken write_failed) (tool_fault_of_read fault)
-IsTextFault-read text left left_then failed ended taken write_failed (read_fault.Refused (refusal_is.Fault fault)) is = (refl, is, Keeps-refl taken)
-IsTextFault-read text left left_then failed ended taken write_failed (read_fault.Refused refusal_is.OutOfMemory) is = (refl, Keeps-refl taken)
-IsTextFault-read text left left_then failed ended taken write_failed read_fault.Device is = (refl, is, Keeps-refl taken)
+pub IsTextFault-read : (A : Type 0) (text : FileValue → List ℕ) (left left_then : Option (List ℕ)) (failed ended : Bool) (taken : Option (List ℕ)) (write_failed : Bool) (fault : ReadFault)
+    → IsReadFault left left_then failed ended fault → IsTextFault {A = A} text (ends_of left left_then failed ended taken taken write_failed) (tool_fault_of_read fault)
+IsTextFault-read A text left left_then failed ended taken write_failed (read_fault.Refused (refusal_is.Fault fault)) is = (refl, is, Keeps-refl taken)
+IsTextFault-read A text left left_then failed ended taken write_failed (read_fault.Refused refusal_is.OutOfMemory) is = (refl, Keeps-refl taken)
+IsTextFault-read A text left left_then failed ended taken write_failed read_fault.Device is = (refl, is, Keeps-refl taken)
 
 -- The file was read, and writing its text stopped.
-pub IsTextFault-written : {W : Type 0} (text : FileValue → List ℕ) (taken : W → Option (List ℕ)) (failed : W → Bool) (old new : W) (told : List ℕ) (left left_then : Option (List ℕ)) (read_failed ended : Bool) (fault : WriteFault)
+pub IsTextFault-written : (A : Type 0) {W : Type 0} (text : FileValue → List ℕ) (taken : W → Option (List ℕ)) (failed : W → Bool) (old new : W) (told : List ℕ) (left left_then : Option (List ℕ)) (read_failed ended : Bool) (fault : WriteFault)
     → IsTrue ended → HasRead left left_then (HasText text told) → IsDevice fault → WriteStopped taken failed old new told 0 fault
-    → IsTextFault text (ends_of left left_then read_failed ended (taken old) (taken new) (failed new)) (tool_fault_of_write fault)
-IsTextFault-written text taken failed old new told left left_then read_failed ended (write_fault.Device written) at_end read device stopped = (
+    → IsTextFault {A = A} text (ends_of left left_then read_failed ended (taken old) (taken new) (failed new)) (tool_fault_of_write fault)
+IsTextFault-written A text taken failed old new told left left_then read_failed ended (write_fault.Device written) at_end read device stopped = (
   at_end,
   HasRead-weaker left left_then _ (IsCutShort text (taken old) (taken new) written) (λ bytes has. record {
     value = has.value;
@@ -41,7 +41,7 @@ IsTextFault-written text taken failed old new told left left_then read_failed en
   }) read,
   stopped.1,
 )
-IsTextFault-written text taken failed old new told left left_then read_failed ended (write_fault.OutOfMemory written) at_end read device stopped = absurd device
+IsTextFault-written A text taken failed old new told left left_then read_failed ended (write_fault.OutOfMemory written) at_end read device stopped = absurd device
 
 -- The text of the file was written.
 pub IsWritten-of : (text : FileValue → List ℕ) (told : List ℕ) (left left_then old new : Option (List ℕ)) → HasRead left left_then (HasText text told)

@@ -56,7 +56,7 @@ refused-for-one fault other ended also_ended bytes one two =
     let same = first-one Load (longwords bytes) (length (unfinished bytes)) fault.place other.place fault.reason other.reason (first-offence fault ended bytes one) (first-offence other also_ended bytes two) in
     ap₂ (λ place reason. record { place = place; reason = reason }) same.0 same.1
 
-one-value : (one other : List FileHunk) (bytes : List ℕ) → IsLoadOf one bytes → IsLoadOf other bytes → one ≡ other
+pub one-value : (one other : List FileHunk) (bytes : List ℕ) → IsLoadOf one bytes → IsLoadOf other bytes → one ≡ other
 one-value one other bytes file same = one-load one other (longwords bytes) file.is_load same.is_load
 
 pub reported-is-placed : ReportedIsPlaced

@@ -12,3 +12,11 @@ pub mod FileTextLemmas
 pub mod CountingLemmas
 pub mod CheckLemmas
 pub mod ShowLemmas
+pub mod HeadlineLemmas
+pub mod LinkLineLemmas
+pub mod InputsLemmas
+pub mod LinkLemmas
+pub mod ImageLemmas
+pub mod NameLengthLemmas
+pub mod IsOfInputsLemmas
+pub mod RanksLemmas

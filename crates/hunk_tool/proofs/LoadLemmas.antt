@@ -35,18 +35,18 @@ use Rattle.hunk_tool.proofs.ReportLemmas.{length-hunks_of}
 -- ---- what was read
 
 -- If the image was not made, nothing was written.
-pub IsLoadFault-read : (bases : List ℕ) (left left_then : Option (List ℕ)) (failed ended : Bool) (taken : Option (List ℕ)) (write_failed : Bool) (fault : ImageFault)
-    → IsImageFault bases left left_then failed ended fault → IsLoadFault bases (ends_of left left_then failed ended taken taken write_failed) (tool_fault_of_image fault)
-IsLoadFault-read bases left left_then failed ended taken write_failed (image_fault.Refused (load_refusal.File fault)) is = (refl, is, Keeps-refl taken)
-IsLoadFault-read bases left left_then failed ended taken write_failed (image_fault.Refused (load_refusal.Place fault)) is = (is.0, is.1, Keeps-refl taken)
-IsLoadFault-read bases left left_then failed ended taken write_failed (image_fault.Refused load_refusal.OutOfMemory) is = (refl, Keeps-refl taken)
-IsLoadFault-read bases left left_then failed ended taken write_failed image_fault.Device is = (refl, is, Keeps-refl taken)
+pub IsLoadFault-read : (A : Type 0) (bases : List ℕ) (left left_then : Option (List ℕ)) (failed ended : Bool) (taken : Option (List ℕ)) (write_failed : Bool) (fault : ImageFault)
+    → IsImageFault bases left left_then failed ended fault → IsLoadFault {A = A} bases (ends_of left left_then failed ended taken taken write_failed) (tool_fault_of_image fault)
+IsLoadFault-read A bases left left_then failed ended taken write_failed (image_fault.Refused (load_refusal.File fault)) is = (refl, is, Keeps-refl taken)
+IsLoadFault-read A bases left left_then failed ended taken write_failed (image_fault.Refused (load_refusal.Place fault)) is = (is.0, is.1, Keeps-refl taken)
+IsLoadFault-read A bases left left_then failed ended taken write_failed (image_fault.Refused load_refusal.OutOfMemory) is = (refl, Keeps-refl taken)
+IsLoadFault-read A bases left left_then failed ended taken write_failed image_fault.Device is = (refl, is, Keeps-refl taken)
 
 -- Where the image was made, and writing its report stopped.
-pub IsLoadFault-written : {W : Type 0} (taken : W → Option (List ℕ)) (failed : W → Bool) (old new : W) (bases : List ℕ) (image : List (ℕ × List ℕ)) (left left_then : Option (List ℕ)) (read_failed ended : Bool) (fault : WriteFault)
+pub IsLoadFault-written : (A : Type 0) {W : Type 0} (taken : W → Option (List ℕ)) (failed : W → Bool) (old new : W) (bases : List ℕ) (image : List (ℕ × List ℕ)) (left left_then : Option (List ℕ)) (read_failed ended : Bool) (fault : WriteFault)
     → IsTrue ended → HasRead left left_then (λ bytes. LoadsAs bases bytes image) → IsDevice fault → WriteStopped taken failed old new (report image) 0 fault
-    → IsLoadFault bases (ends_of left left_then read_failed ended (taken old) (taken new) (failed new)) (tool_fault_of_write fault)
-IsLoadFault-written taken failed old new bases image left left_then read_failed ended (write_fault.Device written) at_end read device stopped = (
+    → IsLoadFault {A = A} bases (ends_of left left_then read_failed ended (taken old) (taken new) (failed new)) (tool_fault_of_write fault)
+IsLoadFault-written A taken failed old new bases image left left_then read_failed ended (write_fault.Device written) at_end read device stopped = (
   at_end,
   HasRead-weaker left left_then _ (IsCutShort bases (taken old) (taken new) written) (λ bytes loads. record {
     hunks = loads.hunks;
@@ -56,7 +56,7 @@ IsLoadFault-written taken failed old new bases image left left_then read_failed 
   }) read,
   stopped.1,
 )
-IsLoadFault-written taken failed old new bases image left left_then read_failed ended (write_fault.OutOfMemory written) at_end read device stopped = absurd device
+IsLoadFault-written A taken failed old new bases image left left_then read_failed ended (write_fault.OutOfMemory written) at_end read device stopped = absurd device
 
 -- ---- the image
 

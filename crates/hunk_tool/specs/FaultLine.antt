@@ -1,14 +1,17 @@
 -- The line that reports why an operation failed.
-use Rattle.std.specs.Prelude.{ℕ, ◌<◌, List, [], ◌++◌, slice_index_or, codes}
+use Rattle.std.specs.Prelude.{ℕ, ◌^◌, ◌<◌, ◌≤◌, List, [], ◌++◌, length, slice_index_or, codes}
 use Rattle.std.specs.Fmt.{decimal}
 use Rattle.hunk_words.specs.declared.fault.Reason.{Reason}
 use Rattle.hunk_words.specs.declared.fault.Reason.TheVariants.{PartialLongword, UnexpectedEnd, WrongStart, UnknownType, MisplacedType, UnsupportedBlock, UnsupportedExt, BothMemoryBits, ResidentNames, HunkTable, TooLarge, ContentTooLong, NoSuchHunk, SiteOutside, SiteOverlap, SymbolKind, TrailingData}
 use Rattle.hunk_loader.specs.declared.places.PlaceFault.{PlaceFault}
 use Rattle.hunk_loader.specs.declared.places.PlaceFault.TheVariants.{WrongCount, PastEnd, Overlap}
+use Rattle.hunk_link.specs.declared.refusal.LinkRefusal.{LinkRefusal}
+use Rattle.hunk_link.specs.declared.refusal.LinkRefusal.TheVariants as link
 use Rattle.hunk_text.specs.Printing.{line}
+use Rattle.hunk_text.specs.QuotedName.{quoted}
 use Rattle.hunk_text.specs.Digits.{eight_digits}
 use Rattle.hunk_tool.specs.declared.tool_fault.ToolFault.{ToolFault}
-use Rattle.hunk_tool.specs.declared.tool_fault.ToolFault.TheVariants.{Input, InputDevice, Place, Output, OutOfMemory}
+use Rattle.hunk_tool.specs.declared.tool_fault.ToolFault.TheVariants.{Input, InputDevice, Link, Place, Output, OutOfMemory}
 
 -- why a longword is rejected
 abbrev pub reason_text : Reason → List ℕ
@@ -36,19 +39,35 @@ place_text WrongCount = codes "wrong number of addresses"
 place_text (PastEnd hunk) = codes "hunk " ++ decimal hunk ++ codes " passes the end of memory"
 place_text (Overlap earlier later) = codes "hunks " ++ decimal earlier ++ codes " and " ++ decimal later ++ codes " overlap"
 
+-- a hunk of a unit, by their numbers
+abbrev pub hunk_of_unit : ℕ → ℕ → List ℕ
+hunk_of_unit unit hunk = codes "unit " ++ decimal unit ++ codes " hunk " ++ decimal hunk ++ codes ": "
+
+-- why units do not link
+abbrev pub link_text : {A : Type 0} → LinkRefusal A → List ℕ
+link_text link.NoHunks = codes "no hunks"
+link_text link.TooManyHunks = codes "more than 65535 hunks"
+link_text link.TooLarge = codes "too large"
+link_text (link.NoSuchHunk unit hunk target) = hunk_of_unit unit hunk ++ codes "no hunk " ++ decimal target ++ codes " in its unit"
+link_text (link.DuplicateName unit hunk name) = hunk_of_unit unit hunk ++ quoted name ++ codes " defined again"
+link_text (link.UndefinedName unit hunk name) = hunk_of_unit unit hunk ++ quoted name ++ codes " not defined"
+link_text link.OutOfMemory = codes "out of memory"
+
 -- the name of the input that the fault is about; empty if it is about none
-abbrev pub name_of : List (List ℕ) → ToolFault → List ℕ
+abbrev pub name_of : {A : Type 0} → List (List ℕ) → ToolFault A → List ℕ
 name_of names (Input file fault) = slice_index_or names file []
 name_of names (InputDevice file) = slice_index_or names file []
+name_of names (Link refusal) = []
 name_of names (Place fault) = []
 name_of names (Output written) = []
 name_of names (OutOfMemory written) = []
 
 -- why an operation failed, if its inputs have these names
-abbrev pub fault_text : List (List ℕ) → ToolFault → List ℕ
+abbrev pub fault_text : {A : Type 0} → List (List ℕ) → ToolFault A → List ℕ
 fault_text names (Input file fault) =
     slice_index_or names file [] ++ codes ": longword " ++ decimal fault.place ++ codes ": " ++ reason_text fault.reason
 fault_text names (InputDevice file) = slice_index_or names file [] ++ codes ": read failed"
+fault_text names (Link refusal) = codes "link: " ++ link_text refusal
 fault_text names (Place fault) = codes "places: " ++ place_text fault
 fault_text names (Output written) = codes "output: write failed"
 fault_text names (OutOfMemory written) = codes "out of memory"
@@ -58,13 +77,20 @@ abbrev pub program_line : List ℕ → List ℕ
 program_line text = line (codes "amihunk: " ++ text)
 
 -- the whole line
-abbrev pub fault_line : List (List ℕ) → ToolFault → List ℕ
+abbrev pub fault_line : {A : Type 0} → List (List ℕ) → ToolFault A → List ℕ
 fault_line names fault = program_line (fault_text names fault)
 
--- a file in the fault is one of n inputs
-abbrev pub IsOfInputs : ℕ → ToolFault → Type 0
+-- a name is no longer than an object file can have it
+abbrev pub HasShortName : {A : Type 0} → LinkRefusal A → Type 0
+HasShortName (link.DuplicateName unit hunk name) = length name ≤ 2 ^ 30
+HasShortName (link.UndefinedName unit hunk name) = length name ≤ 2 ^ 30
+HasShortName refusal = Unit {0}
+
+-- a file in the fault is one of n inputs, and a name is from an object file
+abbrev pub IsOfInputs : {A : Type 0} → ℕ → ToolFault A → Type 0
 IsOfInputs count (Input file fault) = file < count
 IsOfInputs count (InputDevice file) = file < count
+IsOfInputs count (Link refusal) = HasShortName refusal
 IsOfInputs count (Place fault) = Unit {0}
 IsOfInputs count (Output written) = Unit {0}
 IsOfInputs count (OutOfMemory written) = Unit {0}

@@ -6,7 +6,7 @@ use Rattle.hunk_tool.specs.FileDecoder.{IsRefused}
 use Rattle.hunk_tool.specs.FileValue.{FileValue, IsOfItsKind}
 use Rattle.hunk_tool.specs.Load.{Ends}
 use Rattle.hunk_tool.specs.declared.tool_fault.ToolFault.{ToolFault}
-use Rattle.hunk_tool.specs.declared.tool_fault.ToolFault.TheVariants.{Input, InputDevice, Place, Output, OutOfMemory}
+use Rattle.hunk_tool.specs.declared.tool_fault.ToolFault.TheVariants.{Input, InputDevice, Link, Place, Output, OutOfMemory}
 
 -- The bytes are a file of the kind that its first four bytes tell, and the text of its value was
 -- written.
@@ -23,9 +23,10 @@ pub record IsCutShort (text : FileValue → List ℕ) (old new : Option (List �
 
 -- Why the text of a file was not written, or not in full. Nothing was written before the reader
 -- ended.
-abbrev pub IsTextFault : (text : FileValue → List ℕ) → Ends → ToolFault → Type 0
+abbrev pub IsTextFault : {A : Type 0} → (text : FileValue → List ℕ) → Ends → ToolFault A → Type 0
 IsTextFault text ends (Input file fault) = (file ≡ 0) × HasRead ends.left ends.left_then (IsRefused fault ends.ended) × Keeps ends.taken ends.taken_then
 IsTextFault text ends (InputDevice file) = (file ≡ 0) × IsTrue ends.read_failed × Keeps ends.taken ends.taken_then
+IsTextFault text ends (Link refusal) = ⊥
 IsTextFault text ends (Place fault) = ⊥
 IsTextFault text ends (Output written) =
     IsTrue ends.ended × HasRead ends.left ends.left_then (IsCutShort text ends.taken ends.taken_then written) × IsTrue ends.write_failed

@@ -11,3 +11,8 @@ pub mod FileDecoder
 pub mod FileText
 pub mod Check
 pub mod Show
+pub mod Direct
+pub mod Inputs
+pub mod Link
+pub mod Image
+pub mod Headline

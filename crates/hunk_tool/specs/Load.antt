@@ -12,7 +12,7 @@ use Rattle.hunk_loader.specs.Places.{Placed}
 use Rattle.hunk_loader.specs.Sizes.{sizes_of}
 use Rattle.hunk_tool.specs.Report.{report}
 use Rattle.hunk_tool.specs.declared.tool_fault.ToolFault.{ToolFault}
-use Rattle.hunk_tool.specs.declared.tool_fault.ToolFault.TheVariants.{Input, InputDevice, Place, Output, OutOfMemory}
+use Rattle.hunk_tool.specs.declared.tool_fault.ToolFault.TheVariants.{Input, InputDevice, Link, Place, Output, OutOfMemory}
 
 -- The bytes are the load file of these hunks, and its report at these placed bases was written.
 pub record IsReported (bases : List ℕ) (old new : Option (List ℕ)) (bytes : List ℕ) : Type 0 where
@@ -46,9 +46,10 @@ ends_of left left_then read_failed ended taken taken_then write_failed =
 
 -- Why the report of a file at these bases was not written, or not in full. Nothing was written
 -- before the reader ended.
-abbrev pub IsLoadFault : List ℕ → Ends → ToolFault → Type 0
+abbrev pub IsLoadFault : {A : Type 0} → List ℕ → Ends → ToolFault A → Type 0
 IsLoadFault bases ends (Input file fault) = (file ≡ 0) × HasRead ends.left ends.left_then (IsRefused fault ends.ended) × Keeps ends.taken ends.taken_then
 IsLoadFault bases ends (InputDevice file) = (file ≡ 0) × IsTrue ends.read_failed × Keeps ends.taken ends.taken_then
+IsLoadFault bases ends (Link refusal) = ⊥
 IsLoadFault bases ends (Place fault) =
     IsTrue ends.ended × HasRead ends.left ends.left_then (λ bytes. IsNotPlaced bases bytes fault) × Keeps ends.taken ends.taken_then
 IsLoadFault bases ends (Output written) =

@@ -34,7 +34,7 @@ pub fn check_run<A: Allocator + Copy, R: Source, W: Sink>(
     alloc: A,
     reader: &mut R,
     writer: &mut W,
-) -> Result<(), ToolFault>
+) -> Result<(), ToolFault<A>>
     ensures ok { OnOk result (HasRead (R.left reader.old) (R.left reader.new) (IsWritten check_text (W.taken writer.old) (W.taken writer.new))) }
     ensures ended { OnOk result (IsTrue (R.ended reader.new)) }
     ensures err { IfErr result (IsTextFault check_text (ends_of
@@ -66,6 +66,7 @@ fn write_counts<A: Allocator + Copy, W: Sink>(
 mod tests {
     use super::*;
     use hunk_words::{Fault, Pieces, Reason, Room};
+    use std::alloc::Global;
     use std::process::Abort;
     use std::test::Fail;
 
@@ -92,9 +93,9 @@ mod tests {
         Err(ToolFault::Input { file: 0, fault })
     }
 
-    fn writes_in_any_pieces<A: Allocator + Copy>(
+    fn writes_in_any_pieces(
         rt: &impl Abort,
-        alloc: A,
+        alloc: Global,
         file: &[u8],
         want: Result<(), ToolFault>,
         line: &[u8],

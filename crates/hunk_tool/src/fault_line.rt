@@ -1,34 +1,41 @@
 //! The line that reports why an operation failed.
 
-ghost use Rattle.std.specs.Prelude.{◌≡◌, ◌++◌, ◌+◌, ◌<◌, ◌^◌, ℕ, List, codes, length, map, IfErr};
+ghost use Rattle.std.specs.Prelude.{◌≡◌, ◌≢◌, ◌++◌, ◌+◌, ◌<◌, ◌≤◌, ◌^◌, ℕ, List, codes, length, map, IfErr};
 ghost use Rattle.std.specs.String.{string_bytes};
 ghost use Rattle.hunk_words.specs.Streams.{IsDevice, Wrote, WroteAll};
-ghost use Rattle.hunk_tool.specs.FaultLine.{fault_line, fault_text, name_of, place_text, program_line, reason_text, IsOfInputs};
+ghost use Rattle.hunk_tool.specs.FaultLine.{fault_line, fault_text, name_of, place_text, program_line, reason_text, HasShortName, IsOfInputs};
+ghost use Rattle.hunk_link.specs.declared.refusal.LinkRefusal.{LinkRefusal};
 ghost use Rattle.hunk_tool.specs.Phrase.{phrase_text};
 ghost use Rattle.hunk_text.specs.Printing.{line};
 
+use crate::link_line::write_link_line;
 use crate::phrase::Phrase;
 use crate::tool_fault::ToolFault;
 use hunk_loader::PlaceFault;
 use hunk_text::write_pieces;
 use hunk_words::{Reason, Sink, WriteFault, write_all};
+use std::alloc::Allocator;
 
 /// Writes the line that reports why an operation failed. `files` are the names of its inputs: a
-/// `file` in the fault is an index into them. Does not allocate.
+/// `file` in the fault is an index into them. A name in the fault has at most 2^30 bytes, as all names
+/// of an object file have. Does not allocate.
 ///
 /// # Errors
 ///
 /// [`WriteFault::Device`] if a write failed or took no byte, with the number of bytes of the line
 /// that were written.
-pub fn write_fault<W: Sink>(
+pub fn write_fault<A: Allocator + Copy, W: Sink>(
     files: &[String],
-    fault: &ToolFault,
+    fault: &ToolFault<A>,
     writer: &mut W,
 ) -> Result<(), WriteFault>
     requires { IsOfInputs (length files.now) fault.now }
     ensures wrote { WroteAll W.taken W.failed writer.old writer.new (fault_line (map string_bytes files.now) fault.now) result }
     ensures device { IfErr result IsDevice }
 {
+    if let ToolFault::Link(refusal) = fault {
+        return write_link_line(refusal, writer);
+    }
     let (first, second) = phrases(fault);
     write_line(named_file(files, fault), &first, &second, writer)
 }
@@ -81,28 +88,33 @@ fn write_end<W: Sink>(
 }
 
 /// The name of the input that the fault is about; empty if it is about none.
-fn named_file<'a>(files: &'a [String], fault: &ToolFault) -> &'a [u8]
+fn named_file<'a, A: Allocator + Copy>(files: &'a [String], fault: &ToolFault<A>) -> &'a [u8]
     requires { IsOfInputs (length files.now) fault.now }
     ensures { result.now ≡ name_of (map string_bytes files.now) fault.now }
 {
-    match *fault {
-        ToolFault::Input { file, .. } | ToolFault::InputDevice { file } => files[file].as_bytes(),
-        ToolFault::Place(_) | ToolFault::Output { .. } | ToolFault::OutOfMemory { .. } => b"",
+    match fault {
+        ToolFault::Input { file, .. } | ToolFault::InputDevice { file } => files[*file].as_bytes(),
+        ToolFault::Link(_)
+        | ToolFault::Place(_)
+        | ToolFault::Output { .. }
+        | ToolFault::OutOfMemory { .. } => b"",
     }
 }
 
 /// What comes after that name.
-fn phrases(fault: &ToolFault) -> (Phrase, Phrase)
+fn phrases<A: Allocator + Copy>(fault: &ToolFault<A>) -> (Phrase, Phrase)
+    requires { (refusal : LinkRefusal A) → fault.now ≢ ToolFault.Link refusal }
     ensures { (names : List (List ℕ)) → name_of names fault.now ++ (phrase_text result.0 ++ phrase_text result.1) ≡ fault_text names fault.now }
 {
     let nothing = Phrase::plain("");
-    match *fault {
+    match fault {
         ToolFault::Input { fault, .. } => (
             Phrase::decimal(": longword ", fault.place, ": "),
             reason_phrase(fault.reason),
         ),
         ToolFault::InputDevice { .. } => (Phrase::plain(": read failed"), nothing),
-        ToolFault::Place(fault) => place_phrases(fault),
+        ToolFault::Link(_) => unreachable!(),
+        ToolFault::Place(fault) => place_phrases(*fault),
         ToolFault::Output { .. } => (Phrase::plain("output: write failed"), nothing),
         ToolFault::OutOfMemory { .. } => (Phrase::plain("out of memory"), nothing),
     }
@@ -162,43 +174,134 @@ fn reason_phrase(reason: Reason) -> Phrase
 #[cfg(test)]
 mod tests {
     use super::*;
-    use hunk_words::{Fault, Room};
+    use hunk_link::LinkRefusal;
+    use hunk_words::{Fault, Name, Room};
+    use std::alloc::Global;
+    use std::process::Abort;
+
+    /// The name in one longword.
+    fn name_in(rt: &impl Abort, alloc: Global, word: u32) -> Name
+        ensures { length result ≤ 2 ^ 30 }
+    {
+        let name = Name::from_words(alloc, &[word]).expect(rt, "a name");
+        assert!(rt; name.bytes().len() <= 4);
+        name
+    }
+
+    /// Writes the line of a fault of the inputs `x` and `y`.
+    fn is_told(rt: &impl Abort, alloc: Global, fault: ToolFault, line: &str)
+        requires { IsOfInputs 2 fault }
+    {
+        let files = [
+            String::from_str(alloc, "x").expect(rt, "a name"),
+            String::from_str(alloc, "y").expect(rt, "a name"),
+        ];
+        let mut room = Room::new(alloc, 7, 100, false).expect(rt, "room");
+        assert_eq!(rt; write_fault(&files, &fault, &mut room), Ok(()));
+        assert_eq!(rt; room.bytes(), line.as_bytes());
+    }
+
+    fn is_told_of_link(rt: &impl Abort, alloc: Global, refusal: LinkRefusal, line: &str)
+        requires { HasShortName refusal }
+    {
+        is_told(rt, alloc, ToolFault::Link(refusal), line);
+    }
 
     #[test]
     fn tells_each_refusal(rt: HostRuntime) {
-        let files = [
-            String::from_str(rt.alloc(), "x").expect(&rt, "a name"),
-            String::from_str(rt.alloc(), "y").expect(&rt, "a name"),
-        ];
-        let input = |file, place, reason| ToolFault::Input {
-            file,
-            fault: Fault { place, reason },
+        let alloc = rt.alloc();
+        let fault = Fault {
+            place: 7,
+            reason: Reason::ContentTooLong,
         };
-        for (fault, line) in [
+        is_told(
+            &rt,
+            alloc,
+            ToolFault::Input { file: 0, fault },
+            "amihunk: x: longword 7: block longer than its hunk\n",
+        );
+        let fault = Fault {
+            place: 15,
+            reason: Reason::SiteOverlap(4),
+        };
+        is_told(
+            &rt,
+            alloc,
+            ToolFault::Input { file: 1, fault },
+            "amihunk: y: longword 15: site 00000004 overlaps another\n",
+        );
+        is_told(
+            &rt,
+            alloc,
+            ToolFault::InputDevice { file: 1 },
+            "amihunk: y: read failed\n",
+        );
+        is_told(
+            &rt,
+            alloc,
+            ToolFault::Place(PlaceFault::Overlap(0, 12)),
+            "amihunk: places: hunks 0 and 12 overlap\n",
+        );
+        is_told(
+            &rt,
+            alloc,
+            ToolFault::OutOfMemory { written: 0 },
+            "amihunk: out of memory\n",
+        );
+        is_told_of_link(
+            &rt,
+            alloc,
+            LinkRefusal::NoHunks,
+            "amihunk: link: no hunks\n",
+        );
+        is_told_of_link(
+            &rt,
+            alloc,
+            LinkRefusal::TooManyHunks,
+            "amihunk: link: more than 65535 hunks\n",
+        );
+        is_told_of_link(
+            &rt,
+            alloc,
+            LinkRefusal::TooLarge,
+            "amihunk: link: too large\n",
+        );
+        is_told_of_link(
+            &rt,
+            alloc,
+            LinkRefusal::NoSuchHunk {
+                unit: 0,
+                hunk: 0,
+                target: 2,
+            },
+            "amihunk: link: unit 0 hunk 0: no hunk 2 in its unit\n",
+        );
+        is_told_of_link(
+            &rt,
+            alloc,
+            LinkRefusal::DuplicateName {
+                unit: 2,
+                hunk: 0,
+                name: name_in(&rt, alloc, 0x666F_6F00),
+            },
+            "amihunk: link: unit 2 hunk 0: \"foo\" defined again\n",
+        );
+        for (word, line) in [
             (
-                input(0, 7, Reason::ContentTooLong),
-                "amihunk: x: longword 7: block longer than its hunk\n",
+                0x666F_6F00,
+                "amihunk: link: unit 0 hunk 0: \"foo\" not defined\n",
             ),
             (
-                input(1, 15, Reason::SiteOverlap(4)),
-                "amihunk: y: longword 15: site 00000004 overlaps another\n",
-            ),
-            (
-                ToolFault::InputDevice { file: 1 },
-                "amihunk: y: read failed\n",
-            ),
-            (
-                ToolFault::Place(PlaceFault::Overlap(0, 12)),
-                "amihunk: places: hunks 0 and 12 overlap\n",
-            ),
-            (
-                ToolFault::OutOfMemory { written: 0 },
-                "amihunk: out of memory\n",
+                0x6122_FF00,
+                "amihunk: link: unit 0 hunk 0: \"a\\x22\\xff\" not defined\n",
             ),
         ] {
-            let mut room = Room::new(rt.alloc(), 7, 100, false).expect(&rt, "room");
-            assert_eq!(rt; write_fault(&files, &fault, &mut room), Ok(()));
-            assert_eq!(rt; room.bytes(), line.as_bytes());
+            let refusal = LinkRefusal::UndefinedName {
+                unit: 0,
+                hunk: 0,
+                name: name_in(&rt, alloc, word),
+            };
+            is_told_of_link(&rt, alloc, refusal, line);
         }
     }
 }

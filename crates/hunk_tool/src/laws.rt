@@ -1,5 +1,6 @@
 //! Laws about the outcomes of the operations, each a function without a body.
 
+ghost use Rattle.hunk_tool.specs.Headline.{LinkedIsReported, LoadedIsDirect, MemoryIsDirect, ReportsAgree};
 ghost use Rattle.hunk_tool.specs.Laws.{FaultIsOne, FaultyIsNoFile, FileHasOneValue, FileOrFault, NotPlacedForOne, OutcomeExists, RefusedBeginsNone, RefusedForOne, ReportedIsPlaced};
 
 /// What was read has at most one outcome at the same bases. What is rejected is not a load file and
@@ -25,4 +26,19 @@ pub fn a_file_or_a_fault()
     ensures never_both { FaultyIsNoFile }
     ensures one_value { FileHasOneValue }
     ensures one_fault { FaultIsOne }
+{}
+
+/// The headline, over values: the load file that units make, with or without their symbols and debug
+/// blocks, has in memory, at any bases, exactly what the units define directly.
+pub fn loaded_is_direct()
+    ensures bytes { LoadedIsDirect }
+    ensures memory { MemoryIsDirect }
+{}
+
+/// The headline, over bytes: whatever [`link_run`](crate::link_run) appends, read in any pieces and
+/// loaded by [`load_run`](crate::load_run), has the report that [`image_run`](crate::image_run)
+/// writes of the same inputs, and no other.
+pub fn linked_is_reported()
+    ensures reported { LinkedIsReported }
+    ensures one_report { ReportsAgree }
 {}

@@ -7,10 +7,14 @@
 //! - `counters`: takers that check sites, and count what a file has.
 //! - `file_decoder`: reads a file of either kind; `first_bytes` tell which.
 //! - `counting`: decoders that check a file and count what it has.
+//! - `inputs`: the object files that an operation reads.
+//! - `link`: links object files and writes the load file.
+//! - `image`: writes the report of the memory that object files define.
 //! - `load`: loads a file and writes the report of its memory.
 //! - `report`: the report of an image.
 //! - `tool_fault`: why an operation failed.
 //! - `fault_line`: the line that reports why an operation failed.
+//! - `link_line`: the line that reports why units do not link.
 //! - `phrase`: texts with at most one number.
 #![tactic(auto)]
 
@@ -21,7 +25,11 @@ mod counting;
 pub mod fault_line;
 mod file_decoder;
 mod first_bytes;
+pub mod image;
+mod inputs;
 pub mod laws;
+pub mod link;
+mod link_line;
 pub mod load;
 pub mod phrase;
 mod report;
@@ -33,6 +41,8 @@ pub use check::check_run;
 pub use counters::{LoadCounter, ObjectCounter};
 pub use fault_line::{write_fault, write_line};
 pub use hunk_loader::PlaceFault;
+pub use image::image_run;
+pub use link::link_run;
 pub use load::load_run;
 pub use phrase::Phrase;
 pub use show::show_run;

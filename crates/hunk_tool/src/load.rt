@@ -31,7 +31,7 @@ pub fn load_run<A: Allocator + Copy, R: Source, W: Sink>(
     reader: &mut R,
     bases: &[u32],
     writer: &mut W,
-) -> Result<(), ToolFault>
+) -> Result<(), ToolFault<A>>
     ensures ok { OnOk result (HasRead (R.left reader.old) (R.left reader.new) (IsReported bases.now (W.taken writer.old) (W.taken writer.new))) }
     ensures ended { OnOk result (IsTrue (R.ended reader.new)) }
     ensures err { IfErr result (IsLoadFault bases.now (ends_of

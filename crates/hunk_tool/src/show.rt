@@ -39,7 +39,7 @@ pub fn show_run<A: Allocator + Copy, R: Source, W: Sink>(
     alloc: A,
     reader: &mut R,
     writer: &mut W,
-) -> Result<(), ToolFault>
+) -> Result<(), ToolFault<A>>
     ensures ok { OnOk result (HasRead (R.left reader.old) (R.left reader.new) (IsWritten show_text (W.taken writer.old) (W.taken writer.new))) }
     ensures ended { OnOk result (IsTrue (R.ended reader.new)) }
     ensures err { IfErr result (IsTextFault show_text (ends_of

@@ -1,31 +1,41 @@
+ghost use Rattle.amihunk.specs.Failure.{IsOfFiles};
+
 use super::{Failure, ToolFault, report_failure};
 use hunk_words::{Room, Watched};
+use std::alloc::Global;
+use std::process::Abort;
 use std::test::Fail;
+
+// The failure of a request for the file `x` is told in this line.
+fn is_told(
+    rt: &impl Abort,
+    alloc: Global,
+    failure: &Failure<'_>,
+    line: &str,
+    status: u8,
+) -> Result<(), Fail>
+    requires { IsOfFiles 1 failure.now }
+{
+    let files = [String::from_str(alloc, "x")?];
+    let mut errors = Watched::new(Vec::new(alloc));
+    assert_eq!(rt; report_failure(&mut errors, &files, failure), status);
+    assert_eq!(rt; errors.into_inner().as_slice(), line.as_bytes());
+    Ok(())
+}
 
 #[test]
 fn tells_each_failure_in_a_line(rt: HostRuntime) -> Result<(), Fail> {
     let alloc = rt.alloc();
-    let files = [String::from_str(alloc, "x")?];
-    for (failure, line, status) in [
-        (
-            Failure::BadNumber(1),
-            "amihunk: --at: part 1 is not 1 to 8 hexadecimal digits\n",
-            2,
-        ),
-        (Failure::Opening("x"), "amihunk: x: cannot be opened\n", 3),
-        (Failure::Printing, "amihunk: output: write failed\n", 3),
-        (
-            Failure::Tool(ToolFault::InputDevice { file: 0 }),
-            "amihunk: x: read failed\n",
-            3,
-        ),
-        (Failure::out_of_memory(), "amihunk: out of memory\n", 4),
-    ] {
-        let mut errors = Watched::new(Vec::new(alloc));
-        assert_eq!(rt; report_failure(&mut errors, &files, &failure), status);
-        assert_eq!(rt; errors.into_inner().as_slice(), line.as_bytes());
-    }
-    Ok(())
+    let part = "amihunk: --at: part 1 is not 1 to 8 hexadecimal digits\n";
+    is_told(&rt, alloc, &Failure::BadNumber(1), part, 2)?;
+    let opening = "amihunk: x: cannot be opened\n";
+    is_told(&rt, alloc, &Failure::Opening("x"), opening, 3)?;
+    let printing = "amihunk: output: write failed\n";
+    is_told(&rt, alloc, &Failure::Printing, printing, 3)?;
+    let unread = Failure::Tool(ToolFault::InputDevice { file: 0 });
+    is_told(&rt, alloc, &unread, "amihunk: x: read failed\n", 3)?;
+    let memory = "amihunk: out of memory\n";
+    is_told(&rt, alloc, &Failure::out_of_memory(), memory, 4)
 }
 
 #[test]

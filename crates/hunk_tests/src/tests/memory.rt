@@ -24,13 +24,13 @@ fn runs_with_each_growth_refused(
         let mut writer = Room::new(alloc, 64, 256, false)?;
         let got = load_run(&heap, &mut reader, &[BASE], &mut writer);
         if heap.asked() <= number {
-            assert_eq!(rt; got, Ok(()));
+            assert!(rt; got.is_ok());
             assert_eq!(rt; writer.bytes(), text.as_bytes());
             assert!(rt; 4 <= number, "bases, sizes, content and hunks grow");
             return Ok(());
         }
-        let fault = ToolFault::OutOfMemory { written: 0 };
-        assert_eq!(rt; got, Err(fault), "growth {number}");
+        let out_of_memory = matches!(&got, Err(ToolFault::OutOfMemory { written: 0 }));
+        assert!(rt; out_of_memory, "growth {number}");
         assert_eq!(rt; writer.bytes(), b"".as_slice(), "growth {number}");
     }
     assert!(rt; false, "each of {MOST_GROWTHS} runs was refused a growth");

@@ -58,7 +58,7 @@ impl Text {
         alloc: A,
         reader: &mut R,
         writer: &mut W,
-    ) -> Result<(), ToolFault> {
+    ) -> Result<(), ToolFault<A>> {
         match self {
             Text::Check => check_run(alloc, reader, writer),
             Text::Show => show_run(alloc, reader, writer),
@@ -121,7 +121,8 @@ fn is_written(
             Ok(true)
         }
         Err(fault) => {
-            assert_eq!(rt; fault, ToolFault::OutOfMemory { written: 0 });
+            let out_of_memory = matches!(&fault, ToolFault::OutOfMemory { written: 0 });
+            assert!(rt; out_of_memory, "growth {refused}");
             assert_eq!(rt; writer.bytes(), b"".as_slice());
             assert!(rt; refused < heap.asked(), "growth {refused}");
             Ok(false)

@@ -9,7 +9,7 @@ use Rattle.hunk_tool.proofs.load.load_run.Goals as goal
 pub returns-in_err-image-clause-err : goal.returns-in_err-image-clause-err
 returns-in_err-image-clause-err g c =
     let p = err_from_is_err_and c.from_residual.result c.from_residual.ensures.1 in
-    rw (p.1, p.2) (IsLoadFault-read c.args.bases.now _ _ _ _ (g.W.Sink.taken c.args.writer.now) (g.W.Sink.failed c.args.writer.now) _ c.in_err-image.ensures.refused)
+    rw (p.1, p.2) (IsLoadFault-read g.row.A.Denot c.args.bases.now (g.R.Source.left c.args.reader.now) (g.R.Source.left c.read_image.new.reader) (g.R.Source.failed c.read_image.new.reader) (g.R.Source.ended c.read_image.new.reader) (g.W.Sink.taken c.args.writer.now) (g.W.Sink.failed c.args.writer.now) _ c.in_err-image.ensures.refused)
 
 pub write_report-requires-clause-few : goal.write_report-requires-clause-few
 write_report-requires-clause-few g c =
@@ -25,7 +25,7 @@ pub returns-in_err-write_report-clause-err : goal.returns-in_err-write_report-cl
 returns-in_err-write_report-clause-err g c =
     let p = err_from_is_err_and c.from_residual-in_err-write_report.result c.from_residual-in_err-write_report.ensures.1 in
     rw (p.1, p.2)
-    (IsLoadFault-written g.W.Sink.taken g.W.Sink.failed c.args.writer.now c.write_report.new.writer c.args.bases.now _ _ _ (g.R.Source.failed c.read_image.new.reader) (g.R.Source.ended c.read_image.new.reader) _
+    (IsLoadFault-written g.row.A.Denot g.W.Sink.taken g.W.Sink.failed c.args.writer.now c.write_report.new.writer c.args.bases.now _ (g.R.Source.left c.args.reader.now) (g.R.Source.left c.read_image.new.reader) (g.R.Source.failed c.read_image.new.reader) (g.R.Source.ended c.read_image.new.reader) _
     c.in_ok-image.ensures.ended c.in_ok-image.ensures.image c.in_err-write_report.ensures.device (rw c.hunks.ensures at c.in_err-write_report.ensures.wrote))
 
 pub returns-clause-ok : goal.returns-clause-ok

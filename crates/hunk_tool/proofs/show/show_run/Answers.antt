@@ -11,13 +11,13 @@ write_listing-requires g c = listing_of-fits c.in_ok-file.file _ _ c.in_ok-file.
 pub returns-in_err-file-clause-err : goal.returns-in_err-file-clause-err
 returns-in_err-file-clause-err g c =
     let p = err_from_is_err_and c.from_residual.result c.from_residual.ensures.1 in
-    rw (p.1, p.2) (IsTextFault-read show_text _ _ _ _ (g.W.Sink.taken c.args.writer.now) (g.W.Sink.failed c.args.writer.now) _ c.in_err-file.ensures.refused)
+    rw (p.1, p.2) (IsTextFault-read g.row.A.Denot show_text (g.R.Source.left c.args.reader.now) (g.R.Source.left c.read_file.new.reader) (g.R.Source.failed c.read_file.new.reader) (g.R.Source.ended c.read_file.new.reader) (g.W.Sink.taken c.args.writer.now) (g.W.Sink.failed c.args.writer.now) _ c.in_err-file.ensures.refused)
 
 pub returns-in_err-write_listing-clause-err : goal.returns-in_err-write_listing-clause-err
 returns-in_err-write_listing-clause-err g c =
     let p = err_from_is_err_and c.from_residual-in_err-write_listing.result c.from_residual-in_err-write_listing.ensures.1 in
     rw (p.1, p.2)
-    (IsTextFault-written show_text g.W.Sink.taken g.W.Sink.failed c.args.writer.now c.write_listing.new.writer (listing_of c.in_ok-file.file) _ _ (g.R.Source.failed c.read_file.new.reader) (g.R.Source.ended c.read_file.new.reader) _
+    (IsTextFault-written g.row.A.Denot show_text g.W.Sink.taken g.W.Sink.failed c.args.writer.now c.write_listing.new.writer (listing_of c.in_ok-file.file) (g.R.Source.left c.args.reader.now) (g.R.Source.left c.read_file.new.reader) (g.R.Source.failed c.read_file.new.reader) (g.R.Source.ended c.read_file.new.reader) _
     c.in_ok-file.ensures.ended (HasText-listed c.in_ok-file.file _ _ c.in_ok-file.ensures.file) c.in_err-write_listing.ensures.device c.in_err-write_listing.ensures.wrote)
 
 pub returns-clause-ok : goal.returns-clause-ok

@@ -1,8 +1,8 @@
 -- The decoder of its kind was fed all bytes.
-use Rattle.std.proofs.Common.{length, inl, inr, subst, ◌∙◌, ap, sym, arith}
+use Rattle.std.proofs.Common.{length, inl, inr, subst, ◌∙◌, ap, arith}
 use Rattle.std.proofs.lemmas.Result.{IfErr-weaker, IfOk-weaker}
 use Rattle.hunk_words.specs.Decoder.{RefusesInput}
-use Rattle.hunk_tool.specs.FileDecoder.{IsFileOf, KindStandsFor, StandsFor}
+use Rattle.hunk_tool.specs.FileDecoder.{IsFileOf, KindStandsFor}
 use Rattle.hunk_tool.specs.FileValue.{kind_of_bytes}
 use Rattle.hunk_tool.proofs.FileDecoderLemmas.{IsFedWhole, stands-at_end}
 use Rattle.hunk_tool.proofs.file_decoder.FileDecoder.finish.Given.{Over}

@@ -1,5 +1,5 @@
 -- The first bytes are four, and were not before.
-use Rattle.std.proofs.Common.{◌≡◌, ◌-◌, ◌<◌, ◌++◌, length, drop, take, inl, inr, ap, subst, sym, ◌∙◌, arith}
+use Rattle.std.proofs.Common.{◌≡◌, ◌-◌, ◌<◌, ◌++◌, length, drop, take, ap, subst, ◌∙◌, arith}
 use Rattle.std.proofs.lemmas.List.{take_all, length-drop}
 use Rattle.hunk_tool.specs.FileDecoder.{KindStandsFor}
 use Rattle.hunk_tool.specs.FileValue.{kind_of_bytes}

@@ -1,0 +1,116 @@
+-- The written form of a load file is the bytes of one, and what a fault of linking says.
+use Rattle.std.proofs.Common.{◌≡◌, ℕ, ◌/◌, ◌^◌, ◌<◌, ◌≤◌, inl, inr, List, [], ◌∷◌, length, Option, Bool, refl, sym, subst, arith}
+use Rattle.std.specs.Io.KnownBytes.{Appends}
+use Rattle.std.specs.List.{All}
+use Rattle.std.proofs.KnownBytes.{Keeps-refl}
+use Rattle.std.proofs.lemmas.List.Elements.{All-from_recursion}
+use Rattle.hunk_words.specs.Files.{AllLong, IsFileOf, most_longwords}
+use Rattle.hunk_words.specs.Kinds.{Kind, Width, bound, width}
+use Rattle.hunk_words.specs.Kinds.Width.{long, half}
+use Rattle.hunk_words.specs.Machine.{due}
+use Rattle.hunk_words.specs.Name.{bytes_of}
+use Rattle.hunk_words.specs.Reading.{Reads, WordPasses, word_next}
+use Rattle.hunk_words.specs.Streams.{TookFront, WriteStopped}
+use Rattle.hunk_words.specs.Trees.{LoadTree}
+use Rattle.hunk_words.specs.declared.event.FileKind.TheVariants.{Load}
+use Rattle.hunk_words.specs.declared.fault.WriteFault.{WriteFault}
+use Rattle.hunk_words.specs.declared.fault.WriteFault.TheVariants as write_fault
+use Rattle.hunk_words.proofs.FilesPrefixLemmas.{end_of, spelling-read, start}
+use Rattle.hunk_words.proofs.LongwordsByteLemmas.{bytes_of-IsWhole, longwords-bytes_of}
+use Rattle.hunk_objects.specs.ProgramUnit.{ObjectUnit}
+use Rattle.hunk_loadfile.specs.LoadFile.{IsLoad, IsLoadOf}
+use Rattle.hunk_loadfile.specs.LoadHunk.{FileHunk}
+use Rattle.hunk_loadfile.specs.Rules.{IsLoadFile}
+use Rattle.hunk_loadfile.specs.WrittenForm.{written_form}
+use Rattle.hunk_loadfile.proofs.WrittenFormLemmas.{written_form-is_load}
+use Rattle.hunk_link.specs.Carried.{carried}
+use Rattle.hunk_link.specs.Ranks.{IsUnit}
+use Rattle.hunk_link.specs.Linkable.{IsLinkRefusal, Linkable}
+use Rattle.hunk_link.specs.declared.refusal.LinkRefusal.{LinkRefusal}
+use Rattle.hunk_link.specs.declared.refusal.LinkRefusal.TheVariants as link_refusal
+use Rattle.hunk_tool.specs.Inputs.{AreObjects, HaveRead, Input, IsInputFault}
+use Rattle.hunk_tool.specs.Link.{DoLink, IsLinkCutShort, IsLinkFault, IsLinked, IsNotLinked, linked_bytes}
+use Rattle.hunk_tool.specs.ToolFault.{tool_fault_of_link, tool_fault_of_write}
+use Rattle.hunk_tool.specs.declared.tool_fault.ToolFault.{ToolFault}
+use Rattle.hunk_tool.specs.declared.tool_fault.ToolFault.TheVariants as tool_fault
+use Rattle.hunk_tool.proofs.InputsLemmas.{HaveRead-weaker}
+
+-- ---- the bytes
+
+word-long : (w : Width) (stack : List Kind) (word : ℕ) → width (due stack) ≡ w → WordPasses w stack word → word < 2 ^ 32
+word-long long stack word is passes = let fits : word < bound long = subst (λ w. word < bound w) is passes.fits in omega arith
+word-long (half h) stack word is passes =
+    let fits : word / 2 ^ 16 < bound (half h) = subst (λ w. word / 2 ^ 16 < bound w) is passes.0.fits in omega arith
+
+reads-long : (stack : List Kind) (words : List ℕ) (after : List Kind) → Reads stack words after → AllLong words
+reads-long stack [] after reads = tt
+reads-long stack (word ∷ words) after reads =
+    (word-long (width (due stack)) stack word refl reads.0, reads-long (word_next (width (due stack)) stack word) words after reads.1)
+
+-- A load file is longwords.
+long-load : (tree : LoadTree) (words : List ℕ) → IsFileOf Load tree words → AllLong words
+long-load tree words file = reads-long (start Load) words (end_of Load) (subst (λ spelled. Reads (start Load) spelled (end_of Load)) file.spelled (spelling-read Load tree file.fits))
+
+pub written_bytes-are_load : (hunks : List FileHunk) → IsLoadFile hunks → length (written_form hunks) ≤ most_longwords → IsLoadOf hunks (bytes_of (written_form hunks))
+written_bytes-are_load hunks valid short =
+    let is = written_form-is_load hunks valid short in
+    let all : All (λ w. w < 2 ^ 32) (written_form hunks) = All-from_recursion (λ w. w < 2 ^ 32) (written_form hunks) (long-load is.tree (written_form hunks) is.is_file) in
+    record { whole = bytes_of-IsWhole (written_form hunks); is_load = subst (IsLoad hunks) (sym (longwords-bytes_of (written_form hunks) all)) is }
+
+-- ---- faults
+
+pub HaveRead-not_linked : {A : Type 0} (inputs : List Input) (strip : Bool) (units : List ObjectUnit) (refusal : LinkRefusal A)
+    → HaveRead inputs (λ files. AreObjects files units) → IsLinkRefusal units strip refusal → HaveRead inputs (IsNotLinked strip refusal)
+HaveRead-not_linked inputs strip units refusal read first =
+    HaveRead-weaker inputs (λ files. AreObjects files units) (IsNotLinked strip refusal) (λ files are. record { units = units; are = are; first = first }) read
+
+pub HaveRead-linked : (inputs : List Input) (strip : Bool) (units : List ObjectUnit) → HaveRead inputs (λ files. AreObjects files units) → All IsUnit units → Linkable units strip → HaveRead inputs (λ files. DoLink strip files units)
+HaveRead-linked inputs strip units read typed linkable =
+    HaveRead-weaker inputs (λ files. AreObjects files units) (λ files. DoLink strip files units) (λ files are. record { are = are; typed = typed; linkable = linkable }) read
+
+-- If the units were not read, nothing was written.
+pub IsLinkFault-read : {A : Type 0} (strip : Bool) (inputs : List Input) (taken : Option (List ℕ)) (failed : Bool) (fault : ToolFault A)
+    → IsInputFault inputs fault → IsLinkFault strip inputs (record { old = taken; new = taken; failed = failed }) fault
+IsLinkFault-read strip inputs taken failed (tool_fault.Input file fault) is = (is, Keeps-refl taken)
+IsLinkFault-read strip inputs taken failed (tool_fault.InputDevice file) is = (is, Keeps-refl taken)
+IsLinkFault-read strip inputs taken failed (tool_fault.Link refusal) is = absurd is
+IsLinkFault-read strip inputs taken failed (tool_fault.Place fault) is = absurd is
+IsLinkFault-read strip inputs taken failed (tool_fault.Output written) is = absurd is
+IsLinkFault-read strip inputs taken failed (tool_fault.OutOfMemory written) is = inl (is, Keeps-refl taken)
+
+-- Nor if they do not link.
+pub IsLinkFault-link : {A : Type 0} (strip : Bool) (inputs : List Input) (taken : Option (List ℕ)) (failed : Bool) (refusal : LinkRefusal A)
+    → HaveRead inputs (IsNotLinked strip refusal) → IsLinkFault strip inputs (record { old = taken; new = taken; failed = failed }) (tool_fault_of_link refusal)
+IsLinkFault-link strip inputs taken failed link_refusal.OutOfMemory is = inl (refl, Keeps-refl taken)
+IsLinkFault-link strip inputs taken failed link_refusal.NoHunks is = (is, λ same. cc, Keeps-refl taken)
+IsLinkFault-link strip inputs taken failed link_refusal.TooManyHunks is = (is, λ same. cc, Keeps-refl taken)
+IsLinkFault-link strip inputs taken failed link_refusal.TooLarge is = (is, λ same. cc, Keeps-refl taken)
+IsLinkFault-link strip inputs taken failed (link_refusal.NoSuchHunk unit hunk target) is = (is, λ same. cc, Keeps-refl taken)
+IsLinkFault-link strip inputs taken failed (link_refusal.DuplicateName unit hunk name) is = (is, λ same. cc, Keeps-refl taken)
+IsLinkFault-link strip inputs taken failed (link_refusal.UndefinedName unit hunk name) is = (is, λ same. cc, Keeps-refl taken)
+
+cut_short : (inputs : List Input) (strip : Bool) (units : List ObjectUnit) (old new : Option (List ℕ)) (written : ℕ) → HaveRead inputs (λ files. DoLink strip files units)
+    → TookFront old new (linked_bytes units strip) 0 written → HaveRead inputs (IsLinkCutShort strip old new written)
+cut_short inputs strip units old new written read front =
+    HaveRead-weaker inputs (λ files. DoLink strip files units) (IsLinkCutShort strip old new written) (λ files link. record { units = units; link = link; front = front }) read
+
+-- Where writing the load file stopped.
+pub IsLinkFault-written : (A : Type 0) {W : Type 0} (taken : W → Option (List ℕ)) (failed : W → Bool) (old new : W) (strip : Bool) (inputs : List Input) (units : List ObjectUnit) (file : List FileHunk) (fault : WriteFault)
+    → HaveRead inputs (λ files. DoLink strip files units) → file ≡ carried units strip → WriteStopped taken failed old new (bytes_of (written_form file)) 0 fault
+    → IsLinkFault strip inputs (record { old = taken old; new = taken new; failed = failed new }) (tool_fault_of_write {A = A} fault)
+IsLinkFault-written A taken failed old new strip inputs units file fault read is stopped =
+    go fault (subst (λ hunks. WriteStopped taken failed old new (bytes_of (written_form hunks)) 0 fault) is stopped)
+  where
+    go : (fault : WriteFault) → WriteStopped taken failed old new (linked_bytes units strip) 0 fault → IsLinkFault strip inputs (record { old = taken old; new = taken new; failed = failed new }) (tool_fault_of_write {A = A} fault)
+    go (write_fault.Device written) stopped = (cut_short inputs strip units (taken old) (taken new) written read stopped.0, stopped.1)
+    go (write_fault.OutOfMemory written) stopped = inr (cut_short inputs strip units (taken old) (taken new) written read stopped.0)
+
+pub IsLinked-written : (inputs : List Input) (strip : Bool) (units : List ObjectUnit) (file : List FileHunk) (old new : Option (List ℕ)) → HaveRead inputs (λ files. DoLink strip files units)
+    → file ≡ carried units strip → IsLoadFile file → length (written_form file) ≤ most_longwords → Appends old new (bytes_of (written_form file)) → HaveRead inputs (IsLinked strip old new)
+IsLinked-written inputs strip units file old new read is valid short written =
+    HaveRead-weaker inputs (λ files. DoLink strip files units) (IsLinked strip old new) (λ files link. record {
+      units = units;
+      link = link;
+      is_load = subst (λ hunks. IsLoadOf hunks (bytes_of (written_form hunks))) is (written_bytes-are_load file valid short);
+      written = subst (λ hunks. Appends old new (bytes_of (written_form hunks))) is written;
+    }) read

@@ -1,0 +1,51 @@
+-- What it means that the report of the memory that object files define was written, or why it was
+-- not.
+use Rattle.std.specs.Prelude.{◌≡◌, ◌≢◌, ℕ, List, map, true, IsTrue, Option}
+use Rattle.std.specs.Io.KnownBytes.{Appends, Keeps}
+use Rattle.hunk_words.specs.Streams.{TookFront}
+use Rattle.hunk_objects.specs.ProgramUnit.{ObjectUnit}
+use Rattle.hunk_link.specs.Ranks.{hunks_of}
+use Rattle.hunk_link.specs.declared.refusal.LinkRefusal.TheVariants as link_refusal
+use Rattle.hunk_loader.specs.Places.{IsFirstRefusal, Placed}
+use Rattle.hunk_loader.specs.declared.places.PlaceFault.{PlaceFault}
+use Rattle.hunk_tool.specs.Direct.{direct}
+use Rattle.hunk_tool.specs.Inputs.{HaveRead, Input, IsRefused, StopsAt}
+use Rattle.hunk_tool.specs.Link.{DoLink, IsNotLinked, Taken}
+use Rattle.hunk_tool.specs.Report.{report}
+use Rattle.hunk_tool.specs.declared.tool_fault.ToolFault.{ToolFault}
+use Rattle.hunk_tool.specs.declared.tool_fault.ToolFault.TheVariants.{Input as InputFault, InputDevice, Link, Place, Output, OutOfMemory}
+
+-- the sizes of the units' hunks, in the order of the ranks
+abbrev pub ranked_sizes : List ObjectUnit → List ℕ
+ranked_sizes units = map (λ ranked. ranked.hunk.size) (hunks_of units)
+
+-- The object files link, and the report of the memory that their units define at these placed bases
+-- was written.
+pub record IsImaged (bases : List ℕ) (old new : Option (List ℕ)) (files : List (List ℕ)) : Type 0 where
+  pub units : List ObjectUnit
+  pub link : DoLink true files units
+  pub placed : Placed (ranked_sizes units) bases
+  pub written : Appends old new (report (direct units bases))
+
+-- They link and are placed, and the writer took exactly the first `written` bytes of the report.
+pub record IsImageCutShort (bases : List ℕ) (old new : Option (List ℕ)) (written : ℕ) (files : List (List ℕ)) : Type 0 where
+  pub units : List ObjectUnit
+  pub link : DoLink true files units
+  pub placed : Placed (ranked_sizes units) bases
+  pub front : TookFront old new (report (direct units bases)) 0 written
+
+-- They link, and their hunks cannot be placed at the bases, with this as the first fault.
+pub record AreNotPlaced (bases : List ℕ) (fault : PlaceFault) (files : List (List ℕ)) : Type 0 where
+  pub units : List ObjectUnit
+  pub link : DoLink true files units
+  pub first : IsFirstRefusal (ranked_sizes units) bases fault
+
+-- Why the report was not written, or not in full. Nothing was written before all inputs were read,
+-- their units linked and their hunks placed.
+abbrev pub IsImageFault : {A : Type 0} → List ℕ → List Input → Taken → ToolFault A → Type 0
+IsImageFault bases inputs taken (InputFault file fault) = StopsAt inputs file (IsRefused fault) × Keeps taken.old taken.new
+IsImageFault bases inputs taken (InputDevice file) = StopsAt inputs file (λ input. IsTrue input.failed) × Keeps taken.old taken.new
+IsImageFault bases inputs taken (Link refusal) = HaveRead inputs (IsNotLinked true refusal) × (refusal ≢ link_refusal.OutOfMemory) × Keeps taken.old taken.new
+IsImageFault bases inputs taken (Place fault) = HaveRead inputs (AreNotPlaced bases fault) × Keeps taken.old taken.new
+IsImageFault bases inputs taken (Output written) = HaveRead inputs (IsImageCutShort bases taken.old taken.new written) × IsTrue taken.failed
+IsImageFault bases inputs taken (OutOfMemory written) = (written ≡ 0) × Keeps taken.old taken.new

@@ -1,0 +1,62 @@
+-- What it means that object files were linked and the load file was written, or why it was not.
+use Rattle.std.specs.Prelude.{◌≡◌, ◌≢◌, ◌⊎◌, ℕ, List, Bool, IsTrue, Option}
+use Rattle.std.specs.Io.KnownBytes.{Appends, Keeps}
+use Rattle.std.specs.List.{All}
+use Rattle.hunk_words.specs.Name.{bytes_of}
+use Rattle.hunk_words.specs.Streams.{TookFront}
+use Rattle.hunk_objects.specs.ProgramUnit.{ObjectUnit}
+use Rattle.hunk_loadfile.specs.LoadFile.{IsLoadOf}
+use Rattle.hunk_loadfile.specs.WrittenForm.{written_form}
+use Rattle.hunk_link.specs.Carried.{carried}
+use Rattle.hunk_link.specs.Ranks.{IsUnit}
+use Rattle.hunk_link.specs.Linkable.{IsLinkRefusal, Linkable}
+use Rattle.hunk_link.specs.declared.refusal.LinkRefusal.{LinkRefusal}
+use Rattle.hunk_link.specs.declared.refusal.LinkRefusal.TheVariants as link_refusal
+use Rattle.hunk_tool.specs.Inputs.{AreObjects, HaveRead, Input, IsRefused, StopsAt}
+use Rattle.hunk_tool.specs.declared.tool_fault.ToolFault.{ToolFault}
+use Rattle.hunk_tool.specs.declared.tool_fault.ToolFault.TheVariants.{Input as InputFault, InputDevice, Link, Place, Output, OutOfMemory}
+
+-- The files are object files whose units, these, link.
+pub record DoLink (strip : Bool) (files : List (List ℕ)) (units : List ObjectUnit) : Type 0 where
+  pub are : AreObjects files units
+  pub typed : All IsUnit units
+  pub linkable : Linkable units strip
+
+-- the bytes of the load file that the units make
+abbrev pub linked_bytes : List ObjectUnit → Bool → List ℕ
+linked_bytes units strip = bytes_of (written_form (carried units strip))
+
+-- The object files link, and the bytes of the load file, which is that of their hunks, were written.
+pub record IsLinked (strip : Bool) (old new : Option (List ℕ)) (files : List (List ℕ)) : Type 0 where
+  pub units : List ObjectUnit
+  pub link : DoLink strip files units
+  pub is_load : IsLoadOf (carried units strip) (linked_bytes units strip)
+  pub written : Appends old new (linked_bytes units strip)
+
+-- The object files link, and the writer took exactly the first `written` bytes of the load file.
+pub record IsLinkCutShort (strip : Bool) (old new : Option (List ℕ)) (written : ℕ) (files : List (List ℕ)) : Type 0 where
+  pub units : List ObjectUnit
+  pub link : DoLink strip files units
+  pub front : TookFront old new (linked_bytes units strip) 0 written
+
+-- The object files do not link, first of all for this reason.
+pub record IsNotLinked {A : Type 0} (strip : Bool) (refusal : LinkRefusal A) (files : List (List ℕ)) : Type 0 where
+  pub units : List ObjectUnit
+  pub are : AreObjects files units
+  pub first : IsLinkRefusal units strip refusal
+
+-- What the writer took before and after a call, and whether a write has failed.
+pub record Taken : Type 0 where
+  pub old : Option (List ℕ)
+  pub new : Option (List ℕ)
+  pub failed : Bool
+
+-- Why the load file was not written, or not in full. Nothing was written before all inputs were read
+-- and their units linked.
+abbrev pub IsLinkFault : {A : Type 0} → Bool → List Input → Taken → ToolFault A → Type 0
+IsLinkFault strip inputs taken (InputFault file fault) = StopsAt inputs file (IsRefused fault) × Keeps taken.old taken.new
+IsLinkFault strip inputs taken (InputDevice file) = StopsAt inputs file (λ input. IsTrue input.failed) × Keeps taken.old taken.new
+IsLinkFault strip inputs taken (Link refusal) = HaveRead inputs (IsNotLinked strip refusal) × (refusal ≢ link_refusal.OutOfMemory) × Keeps taken.old taken.new
+IsLinkFault strip inputs taken (Place fault) = ⊥
+IsLinkFault strip inputs taken (Output written) = HaveRead inputs (IsLinkCutShort strip taken.old taken.new written) × IsTrue taken.failed
+IsLinkFault strip inputs taken (OutOfMemory written) = ((written ≡ 0) × Keeps taken.old taken.new) ⊎ HaveRead inputs (IsLinkCutShort strip taken.old taken.new written)

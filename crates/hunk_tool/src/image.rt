@@ -1,0 +1,53 @@
+//! Writes the report of the memory that object files define.
+
+ghost use Rattle.std.specs.Prelude.{length, OnOk, IfErr};
+ghost use Rattle.hunk_tool.specs.FaultLine.{IsOfInputs};
+ghost use Rattle.hunk_tool.specs.Image.{IsImageFault, IsImaged};
+ghost use Rattle.hunk_tool.specs.Inputs.{HaveRead, inputs_of};
+
+use crate::inputs::read_inputs;
+use crate::report::write_report;
+use crate::tool_fault::ToolFault;
+use hunk_link::link_units;
+use hunk_loader::{LoadRefusal, load};
+use hunk_words::{Sink, Source};
+use std::alloc::Allocator;
+
+/// Reads every input in order, to its end, as an object file, and writes the report of the memory
+/// that all their units define at `bases`: each hunk's content followed by zeros, with the address or
+/// number that each site names added to the longword there, modulo 2^32. The bases are addresses, one
+/// for each hunk, in the order of linking.
+///
+/// Nothing is written before all inputs have been read, linked and placed. It does not flush.
+///
+/// # Errors
+///
+/// - [`ToolFault::Input`] for the first input that is not an object file, with the place and the
+///   reason of the first offence of what was read.
+/// - [`ToolFault::InputDevice`] if a read failed.
+/// - [`ToolFault::Link`] if the units do not link without their symbols and debug blocks, as
+///   [`link`](hunk_link::link) returns it.
+/// - [`ToolFault::Place`] as `check_places` returns it for the sizes of the hunks.
+/// - [`ToolFault::Output`] if a write failed or took no byte, with the number of bytes of the report
+///   that were written.
+/// - [`ToolFault::OutOfMemory`] if an allocation failed, with nothing written.
+pub fn image_run<A: Allocator + Copy, R: Source, W: Sink>(
+    alloc: A,
+    inputs: &mut [R],
+    bases: &[u32],
+    writer: &mut W,
+) -> Result<(), ToolFault<A>>
+    ensures ok { OnOk result (HaveRead (inputs_of R.left R.failed R.ended inputs.old inputs.new) (IsImaged bases.now (W.taken writer.old) (W.taken writer.new))) }
+    ensures err { IfErr result (IsImageFault bases.now (inputs_of R.left R.failed R.ended inputs.old inputs.new)
+        (record { old = W.taken writer.old; new = W.taken writer.new; failed = W.failed writer.new })) }
+    ensures writable { IfErr result (IsOfInputs (length inputs.old)) }
+{
+    let units = read_inputs(alloc, inputs)?;
+    let file = link_units(alloc, units, true)?;
+    match load(alloc, &file, bases) {
+        Ok(image) => Ok(write_report(image.hunks(), writer)?),
+        Err(LoadRefusal::Place(fault)) => Err(ToolFault::Place(fault)),
+        Err(LoadRefusal::OutOfMemory) => Err(ToolFault::OutOfMemory { written: 0 }),
+        Err(LoadRefusal::File(_)) => unreachable!(),
+    }
+}

@@ -1,0 +1,47 @@
+//! The object files that an operation reads.
+
+ghost use Rattle.std.specs.Prelude.{◌≡◌, IfOk, IfErr};
+ghost use Rattle.hunk_tool.specs.Inputs.{AreObjects, HaveRead, IsInputFault, input_fault, inputs_of};
+
+use crate::tool_fault::ToolFault;
+use hunk_objects::{ProgramUnit, read_object};
+use hunk_words::{ReadFault, Refusal, Source};
+use std::alloc::Allocator;
+
+/// Reads every input in order, to its end, as an object file, and gives the units of all.
+///
+/// # Errors
+///
+/// For the first input that is not read as an object file:
+///
+/// - [`ToolFault::Input`] with the place and the reason of the first offence of what was read, as
+///   [`read_object`] returns it.
+/// - [`ToolFault::InputDevice`] if a read failed.
+/// - [`ToolFault::OutOfMemory`] if an allocation failed.
+pub(crate) fn read_inputs<A: Allocator + Copy, R: Source>(
+    alloc: A,
+    inputs: &mut [R],
+) -> Result<Vec<ProgramUnit<A>, A>, ToolFault<A>>
+    ensures read { IfOk result (λ units. HaveRead (inputs_of R.left R.failed R.ended inputs.old inputs.new) (λ files. AreObjects files units.items)) }
+    ensures stopped { IfErr result (IsInputFault (inputs_of R.left R.failed R.ended inputs.old inputs.new)) }
+{
+    let mut units = Vec::new(alloc);
+    for file in 0..inputs.len() {
+        match read_object(alloc, &mut inputs[file]) {
+            Ok(mut more) => units.append(&mut more)?,
+            Err(fault) => return Err(input_fault(file, fault)),
+        }
+    }
+    Ok(units)
+}
+
+/// A fault of reading the input with this number.
+fn input_fault<A: Allocator + Copy>(file: usize, fault: ReadFault) -> ToolFault<A>
+    ensures { result ≡ input_fault file fault }
+{
+    match fault {
+        ReadFault::Refused(Refusal::Fault(fault)) => ToolFault::Input { file, fault },
+        ReadFault::Refused(Refusal::OutOfMemory) => ToolFault::OutOfMemory { written: 0 },
+        ReadFault::Device => ToolFault::InputDevice { file },
+    }
+}
