@@ -21,7 +21,7 @@ use Rattle.hunk_link.specs.Limits.{carried_by}
 use Rattle.hunk_link.specs.Ranks.{RankedHunk, hunks_of}
 use Rattle.hunk_link.specs.SymbolTable.{Table, table_of}
 use Rattle.hunk_link.proofs.CarriedTargetsLemmas.{targets-ranks}
-use Rattle.hunk_link.proofs.RankBoundsLemmas.{All-hunks_of}
+use Rattle.hunk_link.proofs.RanksLemmas.{All-hunks_of}
 
 pub sizes-carried : SizesAreCarried
 sizes-carried units strip = map-map (λ (hunk : FileHunk). hunk.size) (carried_ranked (table_of (hunks_of units)) strip) (hunks_of units)

@@ -20,7 +20,7 @@ use Rattle.hunk_link.specs.SymbolTable.{Definition, Table, definitions_in, defin
 use Rattle.hunk_link.specs.declared.addend.Addend.{Addend}
 use Rattle.hunk_link.specs.declared.symbol_table.Defined.{Defined}
 use Rattle.hunk_link.proofs.AllLemmas.{All-flat_map, All-flat_map-parts, All-map-parts}
-use Rattle.hunk_link.proofs.RankBoundsLemmas.{IsPlaced, hunks_of-placed}
+use Rattle.hunk_link.proofs.RanksLemmas.{IsRankedBelow, IsRankedBelow-hunks_of}
 
 -- ---- what the names of a table add
 
@@ -32,7 +32,7 @@ IsBelow count base = IfSome base (λ rank. rank < count)
 abbrev TableBelow : ℕ → Table → Type 0
 TableBelow count table = All (λ e. e.1.rank < count) table
 
-table_of-below : (count : ℕ) (hunks : List RankedHunk) → All (IsPlaced count) hunks → TableBelow count (table_of hunks)
+table_of-below : (count : ℕ) (hunks : List RankedHunk) → All (IsRankedBelow count) hunks → TableBelow count (table_of hunks)
 table_of-below count hunks placed =
     let InHunk : Definition → Type 0 = λ d. d.0.first + d.0.number < count in
     All-map (λ e. e.1.rank < count) entry (definitions_of hunks)
@@ -80,7 +80,7 @@ All-second_sites {T} P part (site ∷ sites) all =
 
 -- ---- of the load file
 
-carried_ranked-below : (count : ℕ) (table : Table) (strip : Bool) (ranked : RankedHunk) → IsPlaced count ranked → TableBelow count table → AllNameOwnHunks (items_of sites_in ranked)
+carried_ranked-below : (count : ℕ) (table : Table) (strip : Bool) (ranked : RankedHunk) → IsRankedBelow count ranked → TableBelow count table → AllNameOwnHunks (items_of sites_in ranked)
     → NamesRanks count (carried_ranked table strip ranked)
 carried_ranked-below count table strip ranked placed low own =
     let addends = reference_addends table ranked.hunk in
@@ -94,7 +94,7 @@ pub targets-ranks : TargetsAreRanks
 targets-ranks units strip typed linkable =
     let count = length (hunks_of units) in
     let hunks = hunks_of units in
-    let placed = hunks_of-placed units in
+    let placed = IsRankedBelow-hunks_of units in
     let own = All-flat_map-parts NamesOwnHunk (items_of sites_in) hunks linkable.own_hunks in
     All-map (NamesRanks count) (carried_ranked (table_of hunks) strip) hunks
     (λ k d within. carried_ranked-below count (table_of hunks) strip (get_or hunks k d) (placed k d within) (table_of-below count hunks placed) (own k d within))

@@ -1,6 +1,5 @@
 pub mod AllLemmas
 pub mod RanksLemmas
-pub mod RankBoundsLemmas
 pub mod LimitsLemmas
 pub mod FirstToBreakLemmas
 pub mod ItemsLemmas

@@ -1,9 +1,10 @@
--- The hunks of units in the order of linking: how many they are, sums over them, and their ranks.
+-- The hunks of units in the order of linking: how many they are, sums over them, their ranks, and what
+-- holds of each.
 use Rattle.std.proofs.Common.{◌≡◌, ℕ, suc, ◌+◌, ◌-◌, ◌<◌, ◌≤◌, List, [], ◌∷◌, ◌++◌, Some, drop, length, map, sum_by, get_or, inl, inr, refl, sym, ap, ◌∙◌, arith}
 use Rattle.std.specs.List.{All, enumerate_from, slice_get}
 use Rattle.std.proofs.lemmas.Bool.{cases_lt}
 use Rattle.std.proofs.lemmas.List.{append-nil, append_assoc, drop_all, drop_more, get_or_append_left, get_or-append_right, get_or-map, length-append, length-map}
-use Rattle.std.proofs.lemmas.List.Elements.{All-append, All-cons, All-nil, All-weaker}
+use Rattle.std.proofs.lemmas.List.Elements.{All-append, All-cons, All-head, All-map, All-nil, All-tail, All-weaker}
 use Rattle.std.proofs.lemmas.List.FromFn.{get_or-enumerate_from, length-enumerate_from}
 use Rattle.std.proofs.lemmas.List.Sums.{sum_by-append, sum_by-cons}
 use Rattle.std.proofs.lemmas.Option.{get_or_from_slice_get, slice_get_within}
@@ -138,6 +139,33 @@ rank_of-hunks_of place units d within = rank_of-hunks_from 0 0 place units d wit
 pub rank_of-place : (units : List ObjectUnit) (place : ℕ) (ranked : RankedHunk) → slice_get (hunks_of units) place ≡ Some ranked → place ≡ rank_of ranked
 rank_of-place units place ranked is =
     sym (rank_of-hunks_of place units ranked (slice_get_within (hunks_of units) place ranked is)) ∙ ap rank_of (get_or_from_slice_get (hunks_of units) place ranked ranked is)
+
+-- ---- what each hunk of each unit has
+
+All-enumerate_from : {X : Type 0} (P : X → Type 0) (from : ℕ) (xs : List X) → All P xs → All (λ e. P e.1) (enumerate_from from xs)
+All-enumerate_from P from [] all = All-nil (λ e. P e.1)
+All-enumerate_from P from (x ∷ xs) all =
+    All-cons (λ e. P e.1) (from, x) (enumerate_from (from + 1) xs) (All-head P x xs all) (All-enumerate_from P (from + 1) xs (All-tail P x xs all))
+
+-- each hunk of a unit
+abbrev AllIn : (ObjectHunk → Type 0) → ObjectUnit → Type 0
+AllIn P unit = All P unit.hunks
+
+abbrev OfHunk : (ObjectHunk → Type 0) → RankedHunk → Type 0
+OfHunk P ranked = P ranked.hunk
+
+All-unit_hunks : (P : ObjectHunk → Type 0) (unit first : ℕ) (hunks : List ObjectHunk) → All P hunks → All (OfHunk P) (unit_hunks unit first hunks)
+All-unit_hunks P unit first hunks all = All-map (OfHunk P) _ (enumerate_from 0 hunks) (All-enumerate_from P 0 hunks all)
+
+All-hunks_from : (P : ObjectHunk → Type 0) (unit first : ℕ) (units : List ObjectUnit) → All (AllIn P) units → All (OfHunk P) (hunks_from unit first units)
+All-hunks_from P unit first [] all = All-nil (OfHunk P)
+All-hunks_from P unit first (u ∷ units) all =
+    All-append (OfHunk P) (unit_hunks unit first u.hunks) _
+    (All-unit_hunks P unit first u.hunks (All-head (AllIn P) u units all))
+    (All-hunks_from P (suc unit) (first + length u.hunks) units (All-tail (AllIn P) u units all))
+
+pub All-hunks_of : (P : ObjectHunk → Type 0) (units : List ObjectUnit) → All (λ unit. All P unit.hunks) units → All (λ ranked. P ranked.hunk) (hunks_of units)
+All-hunks_of P units all = All-hunks_from P 0 0 units all
 
 -- ---- one after another
 

@@ -1,8 +1,9 @@
 -- How much units may have that are linked (our own limits).
-use Rattle.std.specs.Prelude.{◌≡◌, ℕ, ◌<◌, ◌≤◌, Bool, true, false, List, length, sum_by}
+use Rattle.std.specs.Prelude.{◌≡◌, ◌⊎◌, ℕ, ◌+◌, ◌<◌, ◌≤◌, Bool, true, false, List, length, sum_by, Option, MatchOption}
 use Rattle.hunk_loadfile.specs.Rules.{info_longwords, most_carried, most_hunks, most_size}
 use Rattle.hunk_objects.specs.UnitHunk.{ObjectHunk}
 use Rattle.hunk_link.specs.Ranks.{RankedHunk}
+use Rattle.hunk_link.specs.declared.limits.Room.{Room}
 use Rattle.hunk_link.specs.declared.refusal.LinkRefusal.{LinkRefusal}
 use Rattle.hunk_link.specs.declared.refusal.LinkRefusal.TheVariants.{NoHunks, TooManyHunks, TooLarge}
 
@@ -35,3 +36,13 @@ IsOverLimit strip hunks NoHunks = length hunks ≡ 0
 IsOverLimit strip hunks TooManyHunks = most_hunks < length hunks
 IsOverLimit strip hunks TooLarge = IsHunkCount hunks × (¬ IsSmall strip hunks)
 IsOverLimit strip hunks _ = ⊥
+
+-- ---- in the code
+
+-- What is left of the room after so many longwords of hunks and of symbols and debug blocks; none if
+-- they do not fit.
+abbrev pub Leaves : Room → (size carried : ℕ) → Option Room → Type 0
+Leaves room size carried result =
+    MatchOption result
+    ((room.size < size) ⊎ (room.carried < carried))
+    (λ left. (left.size + size ≡ room.size) × (left.carried + carried ≡ room.carried))

@@ -8,7 +8,7 @@ use hunk_objects::{Adds, Definition};
 
 /// What is added at a site: a number that the linker adds, and the rank of the hunk whose base the
 /// loader is to add, if there is one.
-#[derive(Clone, Copy, Debug, PartialEq, Eq)]
+#[derive(Clone, Copy)]
 pub(crate) struct Addend {
     pub(crate) known: u32,
     pub(crate) base: Option<u32>,

@@ -1,9 +1,9 @@
 //! How much units may have that are linked.
-ghost use Rattle.std.specs.Prelude.{◌≡◌, ◌⊎◌, ◌+◌, ◌<◌, ◌≤◌, length, sum_by, MatchBool, MatchOption, IfOk, IfErr, OnOk, OnSome};
+ghost use Rattle.std.specs.Prelude.{◌≡◌, ◌<◌, ◌≤◌, length, sum_by, MatchBool, MatchOption, IfOk, IfErr, OnOk, OnSome};
 ghost use Rattle.std.specs.List.{All};
 ghost use Rattle.hunk_loadfile.specs.Rules.{most_hunks};
 ghost use Rattle.hunk_objects.specs.ProgramUnit.{hunk_count};
-ghost use Rattle.hunk_link.specs.Limits.{IsHunkCount, IsOverLimit, IsSmall, carried_by};
+ghost use Rattle.hunk_link.specs.Limits.{IsHunkCount, IsOverLimit, IsSmall, Leaves, carried_by};
 ghost use Rattle.hunk_link.specs.Ranks.{IsUnit, hunks_of};
 
 use crate::refusal::LinkRefusal;
@@ -81,9 +81,7 @@ fn room_behind_unit<A: Allocator + Copy>(
     unit: &ProgramUnit<A>,
     strip: bool,
 ) -> Option<Room>
-    ensures { MatchOption result
-        ((room.size < sum_by (λ hunk. hunk.size) unit.now.hunks) ⊎ (room.carried < sum_by (carried_by strip) unit.now.hunks))
-        (λ left. (left.size + sum_by (λ hunk. hunk.size) unit.now.hunks ≡ room.size) × (left.carried + sum_by (carried_by strip) unit.now.hunks ≡ room.carried)) }
+    ensures { Leaves room (sum_by (λ hunk. hunk.size) unit.now.hunks) (sum_by (carried_by strip) unit.now.hunks) result }
 {
     let mut left = room;
     for hunk in unit.hunks() {
@@ -98,9 +96,7 @@ fn room_behind_hunk<A: Allocator + Copy>(
     hunk: &UnitHunk<A>,
     strip: bool,
 ) -> Option<Room>
-    ensures { MatchOption result
-        ((room.size < hunk.now.size) ⊎ (room.carried < carried_by strip hunk.now))
-        (λ left. (left.size + hunk.now.size ≡ room.size) × (left.carried + carried_by strip hunk.now ≡ room.carried)) }
+    ensures { Leaves room hunk.now.size (carried_by strip hunk.now) result }
 {
     let size = room.size.checked_sub(u64::from(hunk.size()))?;
     let carried = if strip {

@@ -1,13 +1,13 @@
 //! Linking program units.
 ghost use Rattle.std.specs.Prelude.{◌≡◌, ◌≤◌, Bool, None, length, IfOk, IfErr, OnOk};
-ghost use Rattle.hunk_loadfile.specs.Rules.{build_fault};
-ghost use Rattle.hunk_link.specs.Carried.{all_addends, carried};
-ghost use Rattle.hunk_words.specs.Files.{most_longwords};
-ghost use Rattle.hunk_loadfile.specs.WrittenForm.{written_form};
-ghost use Rattle.hunk_link.specs.Linkable.{IsFirstReason, IsLinkRefusal, Linkable};
-ghost use Rattle.hunk_link.specs.Limits.{IsHunkCount, IsSmall};
-ghost use Rattle.hunk_link.specs.OwnHunks.{AllNameOwnHunks, sites_of};
 ghost use Rattle.std.specs.List.{All};
+ghost use Rattle.hunk_words.specs.Files.{most_longwords};
+ghost use Rattle.hunk_loadfile.specs.Rules.{build_fault};
+ghost use Rattle.hunk_loadfile.specs.WrittenForm.{written_form};
+ghost use Rattle.hunk_link.specs.Carried.{all_addends, carried};
+ghost use Rattle.hunk_link.specs.Limits.{IsHunkCount, IsSmall};
+ghost use Rattle.hunk_link.specs.Linkable.{IsFirstReason, IsLinkRefusal, Linkable};
+ghost use Rattle.hunk_link.specs.OwnHunks.{AllNameOwnHunks, sites_of};
 ghost use Rattle.hunk_link.specs.Ranks.{IsRanked, IsUnit};
 ghost use Rattle.hunk_link.specs.References.{AllDefined, references_of};
 ghost use Rattle.hunk_link.specs.SymbolTable.{DefinedOnce, definitions_of, table_of};
