@@ -7,6 +7,7 @@
 //! - `open_hunk`: the current hunk of a load file.
 //! - `load_decoder`: load files from bytes.
 //! - `load_writer`: load files as bytes.
+//! - `written_form`: the written form of a load file in memory, and its length.
 //! - `relocation_writer`: writes the relocation block of a hunk.
 //! - `debug_writer`: writes the symbols and debug blocks of a hunk.
 //! - `longword_writer`: writes bytes and longwords of a text.
@@ -26,6 +27,7 @@ mod open_hunk;
 pub mod patching;
 mod relocation_writer;
 pub mod rules;
+pub mod written_form;
 
 pub use hunk_objects::{HunkKind, Memory};
 pub use load_decoder::{LoadDecoder, read_load};
@@ -34,3 +36,4 @@ pub use load_hunk::LoadHunk;
 pub use load_writer::write_load;
 pub use patching::{add_at, patch};
 pub use rules::{BuildFault, BuildRefusal};
+pub use written_form::{written_bytes, written_length};

@@ -33,10 +33,21 @@ pub fn write_load<A: Allocator + Copy, W: Sink>(
 ) -> Result<(), WriteFault>
     ensures wrote { WroteAll W.taken W.failed writer.old writer.new (bytes_of (written_form file.now)) result }
 {
+    let _length = write_file(alloc, file, writer)?;
+    Ok(())
+}
+
+/// Writes a load file as [`write_load`] does, and returns the number of bytes written.
+pub(crate) fn write_file<A: Allocator + Copy, W: Sink>(
+    alloc: A,
+    file: &LoadFile<A>,
+    writer: &mut W,
+) -> Result<u64, WriteFault>
+    ensures wrote { Wrote W.taken W.failed writer.old writer.new (bytes_of (written_form file.now)) 0 result }
+{
     let hunks = file.hunks();
     let written = write_header(writer, hunks)?;
-    let _whole = write_hunks(alloc, writer, written, hunks)?;
-    Ok(())
+    write_hunks(alloc, writer, written, hunks)
 }
 
 /// Writes the header, and returns the number of bytes written after it.

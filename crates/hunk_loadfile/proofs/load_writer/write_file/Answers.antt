@@ -1,11 +1,11 @@
 -- The header is written, and then the hunks.
-use Rattle.std.proofs.Common.{Ok, Err, ap, length, sym, arith}
+use Rattle.std.proofs.Common.{ap, length, sym, arith}
 use Rattle.std.proofs.lemmas.Result.{err_from_is_err_and}
 use Rattle.std.specs.List.{flat_map}
 use Rattle.hunk_loadfile.specs.WrittenForm.{header_words, hunk_words, written_form}
 use Rattle.hunk_loadfile.proofs.LoadWriterLemmas.{length-header_words}
 use Rattle.hunk_loadfile.proofs.LongwordWriterLemmas.{length-bytes_of, words-stop, words-then}
-use Rattle.hunk_loadfile.proofs.load_writer.write_load.Goals as goal
+use Rattle.hunk_loadfile.proofs.load_writer.write_file.Goals as goal
 
 pub returns-in_err-written : goal.returns-in_err-written
 returns-in_err-written g c =
@@ -21,18 +21,10 @@ write_hunks-requires-clause-room g c =
     let hunks = c.hunks-hunks.result.now in
     omega (arith, ap length c.hunks-hunks.ensures.value, c.hunks-hunks.ensures.valid.few, length-header_words hunks, length-bytes_of (header_words hunks), c.in_ok-written.ensures.wrote.0)
 
-pub returns-in_err-_whole : goal.returns-in_err-_whole
-returns-in_err-_whole g c =
-    let p = err_from_is_err_and c.from_residual-in_err-_whole.result c.from_residual-in_err-_whole.ensures.1 in
-    let hunks = c.hunks-hunks.result.now in
-    let file = c.args.file.now in
-    record {
-      wrote = rw (p.1, p.2) (words-then g.W.Sink.taken g.W.Sink.failed c.args.writer.now c.write_header.new.writer c.write_hunks.new.writer (written_form file) (header_words hunks) (flat_map (hunk_words (length hunks)) hunks) 0 c.in_ok-written.written (Err c.in_err-_whole.field-0.0) (ap written_form (sym c.hunks-hunks.ensures.value)) c.in_ok-written.ensures.wrote c.in_err-_whole.ensures.wrote);
-    }
-
 pub returns : goal.returns
 returns g c =
     let hunks = c.hunks-hunks.result.now in
     let file = c.args.file.now in
-    let wrote = words-then g.W.Sink.taken g.W.Sink.failed c.args.writer.now c.write_header.new.writer c.write_hunks.new.writer (written_form file) (header_words hunks) (flat_map (hunk_words (length hunks)) hunks) 0 c.in_ok-written.written (Ok c.in_ok-_whole._whole) (ap written_form (sym c.hunks-hunks.ensures.value)) c.in_ok-written.ensures.wrote c.in_ok-_whole.ensures.wrote in
-    record { wrote = (wrote.1, wrote.2) }
+    record {
+      wrote = words-then g.W.Sink.taken g.W.Sink.failed c.args.writer.now c.write_header.new.writer c.write_hunks.new.writer (written_form file) (header_words hunks) (flat_map (hunk_words (length hunks)) hunks) 0 c.in_ok-written.written c.write_hunks.result (ap written_form (sym c.hunks-hunks.ensures.value)) c.in_ok-written.ensures.wrote c.write_hunks.ensures.wrote;
+    }

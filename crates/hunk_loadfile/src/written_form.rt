@@ -1,0 +1,67 @@
+//! The written form of a load file in memory, and its length.
+ghost use Rattle.std.specs.Prelude.{◌≡◌, length, IfOk};
+ghost use Rattle.hunk_words.specs.Name.{bytes_of};
+ghost use Rattle.hunk_loadfile.specs.WrittenForm.{written_form};
+
+use crate::load_file::LoadFile;
+use crate::load_writer::{write_file, write_load};
+use hunk_words::{DeviceFault, Sink, Watched, WriteFault};
+use std::alloc::{AllocError, Allocator};
+
+/// The number of bytes that [`write_load`] writes for this file. It allocates the sites of one hunk
+/// at a time.
+///
+/// # Errors
+///
+/// [`AllocError`] only if an allocation failed.
+pub fn written_length<A: Allocator + Copy>(alloc: A, file: &LoadFile<A>) -> Result<u64, AllocError>
+    ensures { IfOk result (λ count. count ≡ length (bytes_of (written_form file.now))) }
+{
+    match write_file(alloc, file, &mut Discarding) {
+        Ok(count) => Ok(count),
+        Err(WriteFault::OutOfMemory { .. }) => Err(AllocError),
+        Err(WriteFault::Device { .. }) => unreachable!(),
+    }
+}
+
+/// The bytes that [`write_load`] writes for this file, in one allocation of exactly their number.
+///
+/// # Errors
+///
+/// [`AllocError`] only if an allocation failed.
+pub fn written_bytes<A: Allocator + Copy>(
+    alloc: A,
+    file: &LoadFile<A>,
+) -> Result<Vec<u8, A>, AllocError>
+    ensures { IfOk result (λ bytes. bytes.items ≡ bytes_of (written_form file.now)) }
+{
+    let count = written_length(alloc, file)?;
+    let mut writer = Watched::new(Vec::with_capacity(alloc, count as usize)?);
+    match write_load(alloc, file, &mut writer) {
+        Ok(()) => Ok(writer.into_inner()),
+        Err(_) => Err(AllocError),
+    }
+}
+
+/// A writer that takes everything, and keeps nothing.
+#[derive(Drop)]
+struct Discarding;
+
+impl Sink for Discarding {
+    ghost use Rattle.std.specs.Prelude.{None, false};
+
+    ghost taken = { λ _. None };
+
+    ghost failed = { λ _. false };
+
+    fn write(&mut self, buffer: &[u8]) -> Result<usize, DeviceFault> {
+        Ok(buffer.len())
+    }
+
+    fn failed(&self) -> bool {
+        false
+    }
+}
+
+#[cfg(test)]
+mod tests;
