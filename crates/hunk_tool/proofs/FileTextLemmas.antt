@@ -23,7 +23,7 @@ pub record HasText (text : FileValue → List ℕ) (told bytes : List ℕ) : Typ
 
 -- If nothing was made of the file, nothing was written.
 pub IsTextFault-read : (A : Type 0) (text : FileValue → List ℕ) (left left_then : Option (List ℕ)) (failed ended : Bool) (taken : Option (List ℕ)) (write_failed : Bool) (fault : ReadFault)
-    → IsReadFault left left_then failed ended fault → IsTextFault {A = A} text (ends_of left left_then failed ended taken taken write_failed) (tool_fault_of_read fault)
+    → IsReadFault left left_then failed ended fault → IsTextFault {A = A} text (ends_of left left_then failed ended taken taken write_failed) (tool_fault_of_read 0 fault)
 IsTextFault-read A text left left_then failed ended taken write_failed (read_fault.Refused (refusal_is.Fault fault)) is = (refl, is, Keeps-refl taken)
 IsTextFault-read A text left left_then failed ended taken write_failed (read_fault.Refused refusal_is.OutOfMemory) is = (refl, Keeps-refl taken)
 IsTextFault-read A text left left_then failed ended taken write_failed read_fault.Device is = (refl, is, Keeps-refl taken)

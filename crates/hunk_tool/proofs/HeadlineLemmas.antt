@@ -23,10 +23,11 @@ use Rattle.hunk_loadfile.specs.Patching.{patched_bytes}
 use Rattle.hunk_loadfile.proofs.PatchingTwiceLemmas.{patched_bytes-twice}
 use Rattle.hunk_link.specs.Addend.{addend_of, defined_addend, definition_addend, name_addend, nothing, reference_addends}
 use Rattle.hunk_link.specs.Carried.{carried, carried_ranked}
-use Rattle.hunk_link.specs.Ranks.{IsUnit}
-use Rattle.hunk_link.specs.Ranks.{RankedHunk, hunks_from, hunks_of, unit_hunks}
+use Rattle.hunk_link.specs.Ranks.{IsUnit, RankedHunk, hunks_of}
 use Rattle.hunk_link.specs.SymbolTable.{Table, look_up, table_of}
 use Rattle.hunk_link.specs.declared.symbol_table.Defined.{Defined}
+use Rattle.hunk_link.proofs.CarriedLawsLemmas.{sizes-carried}
+use Rattle.hunk_link.proofs.RanksLemmas.{All-hunks_of}
 use Rattle.hunk_loader.specs.Image.{memory_map}
 use Rattle.hunk_loader.specs.Loading.{loaded, loaded_bytes}
 use Rattle.hunk_loader.specs.Places.{Placed}
@@ -92,25 +93,11 @@ map-zip P make f g same (a ∷ firsts) [] all = refl
 map-zip P make f g same (a ∷ firsts) (b ∷ seconds) all =
     ap₂ (λ x xs. x ∷ xs) (same a b (All-head P b seconds all)) (map-zip P make f g same firsts seconds (All-tail P b seconds all))
 
-unit_hunks-typed : (unit first : ℕ) (hunks : List ObjectHunk) → All IsUnitHunk hunks → All IsTyped (unit_hunks unit first hunks)
-unit_hunks-typed unit first hunks typed =
-    All-map IsTyped (λ hunk. record { unit = unit; number = hunk.0; first = first; count = length hunks; hunk = hunk.1 }) (enumerate_from 0 hunks)
-    (λ k d low.
-    let within : k < length hunks = omega (arith, length-enumerate_from 0 hunks) in
-    subst (λ numbered. IsUnitHunk numbered.1) (sym (get_or-enumerate_from 0 hunks k d within)) (typed k d.1 within))
-
-hunks_from-typed : (unit first : ℕ) (units : List ObjectUnit) → All IsUnit units → All IsTyped (hunks_from unit first units)
-hunks_from-typed unit first [] typed = All-nil IsTyped
-hunks_from-typed unit first (u ∷ units) typed =
-    All-append IsTyped (unit_hunks unit first u.hunks) (hunks_from (suc unit) (first + length u.hunks) units)
-    (unit_hunks-typed unit first u.hunks (All-head IsUnit u units typed))
-    (hunks_from-typed (suc unit) (first + length u.hunks) units (All-tail IsUnit u units typed))
-
 pub loaded-is-direct : LoadedIsDirect
 loaded-is-direct units strip bases typed =
     let table : Table = table_of (hunks_of units) in
     map-zip IsTyped (carried_ranked table strip) (λ placed. (placed.0, loaded_bytes bases placed.1)) (λ placed. (placed.0, direct_bytes bases table placed.1))
-    (λ base ranked is. ap (λ bytes. (base, bytes)) (bytes-direct bases table strip ranked is)) bases (hunks_of units) (hunks_from-typed 0 0 units typed)
+    (λ base ranked is. ap (λ bytes. (base, bytes)) (bytes-direct bases table strip ranked is)) bases (hunks_of units) (All-hunks_of IsUnitHunk units typed)
 
 pub memory-is-direct : MemoryIsDirect
 memory-is-direct units strip bases address typed = ap (λ hunks. memory_map hunks address) (loaded-is-direct units strip bases typed)
@@ -131,7 +118,7 @@ linked-is-reported strip files bases file linked image told link imaged =
     let same : imaged.units ≡ units = one-units files imaged.units units imaged.link.are link.link.are in
     let bytes : linked ≡ linked_bytes units strip = append_cancel_left file linked (linked_bytes units strip) link.written in
     let sizes : ranked_sizes imaged.units ≡ sizes_of (carried units strip) =
-    ap ranked_sizes same ∙ sym (map-map (λ hunk. hunk.size) (carried_ranked (table_of (hunks_of units)) strip) (hunks_of units)) in
+    ap ranked_sizes same ∙ sym (sizes-carried units strip) in
     let memory : direct imaged.units bases ≡ loaded (carried units strip) bases = ap (λ us. direct us bases) same ∙ sym (loaded-is-direct units strip bases link.link.typed) in
     record {
       hunks = carried units strip;

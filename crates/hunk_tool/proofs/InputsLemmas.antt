@@ -10,7 +10,8 @@ use Rattle.hunk_words.specs.declared.fault.ReadFault.{ReadFault}
 use Rattle.hunk_words.specs.declared.fault.ReadFault.TheVariants as read_fault
 use Rattle.hunk_words.specs.declared.fault.Refusal.TheVariants as refusal_is
 use Rattle.hunk_objects.specs.ProgramUnit.{IsObjectOf, ObjectUnit}
-use Rattle.hunk_tool.specs.Inputs.{AreObjects, HaveRead, Input, IsInputFault, IsRefused, StopsAt, WasRead, WereRead, input_fault, inputs_of}
+use Rattle.hunk_tool.specs.Inputs.{AreObjects, HaveRead, Input, IsInputFault, IsRefusedAt, WasRead, WereRead, inputs_of}
+use Rattle.hunk_tool.specs.ToolFault.{tool_fault_of_read}
 
 -- ---- the files
 
@@ -84,11 +85,11 @@ HaveRead-first {R = R} left failed ended olds nows count reader new units more w
 
 -- ---- the first that is not read
 
-stops_at : {R : Type 0} (left : R → Option (List ℕ)) (failed ended : R → Bool) (olds nows : List R) (count : ℕ) (reader new : R) (units : List ObjectUnit) (Why : Input → Type 0)
+refused_at : {R : Type 0} (left : R → Option (List ℕ)) (failed ended : R → Bool) (olds nows : List R) (count : ℕ) (reader new : R) (units : List ObjectUnit) (fault : ReadFault)
     → count < length olds → length nows ≡ length olds → drop count nows ≡ drop count olds
     → HaveRead (inputs_of left failed ended (take count olds) (take count nows)) (λ files. AreObjects files units)
-    → Why (record { left = left (get_or nows count reader); left_then = left new; failed = failed new; ended = ended new }) → StopsAt (inputs_of left failed ended olds (set nows count new)) count Why
-stops_at {R = R} left failed ended olds nows count reader new units Why within same rest have why =
+    → RefusesRead Object (left (get_or nows count reader)) (left new) (ended new) (failed new) fault → IsRefusedAt (inputs_of left failed ended olds (set nows count new)) count fault
+refused_at {R = R} left failed ended olds nows count reader new units fault within same rest have refused =
     let old : R = get_or nows count reader in
     let input : Input = record { left = left old; left_then = left new; failed = failed new; ended = ended new } in
     let rest_old : List R = drop (count + 1) olds in let rest_new : List R = drop (count + 1) nows in
@@ -107,19 +108,19 @@ stops_at {R = R} left failed ended olds nows count reader new units Why within s
           ∙ inputs_of-append left failed ended (take count olds) (take count nows) (old ∷ rest_old) (new ∷ rest_new) (omega arith);
       number = omega (arith, length-inputs_of left failed ended (take count olds) (take count nows));
       earlier = record { files = have.files; were_read = have.were_read; holds = (units, have.holds) };
-      why = why;
+      refused = refused;
     }
 
 pub IsInputFault-first : (A : Type 0) {R : Type 0} (left : R → Option (List ℕ)) (failed ended : R → Bool) (olds nows : List R) (count : ℕ) (reader new : R) (units : List ObjectUnit) (fault : ReadFault)
     → count < length olds → length nows ≡ length olds → drop count nows ≡ drop count olds
     → HaveRead (inputs_of left failed ended (take count olds) (take count nows)) (λ files. AreObjects files units)
     → RefusesRead Object (left (get_or nows count reader)) (left new) (ended new) (failed new) fault
-    → IsInputFault (inputs_of left failed ended olds (set nows count new)) (input_fault {A = A} count fault)
-IsInputFault-first A left failed ended olds nows count reader new units (read_fault.Refused (refusal_is.Fault fault)) within same rest have why =
-    stops_at left failed ended olds nows count reader new units (IsRefused fault) within same rest have why
-IsInputFault-first A left failed ended olds nows count reader new units (read_fault.Refused refusal_is.OutOfMemory) within same rest have why = refl
-IsInputFault-first A left failed ended olds nows count reader new units read_fault.Device within same rest have why =
-    stops_at left failed ended olds nows count reader new units (λ input. IsTrue input.failed) within same rest have why
+    → IsInputFault (inputs_of left failed ended olds (set nows count new)) (tool_fault_of_read {A = A} count fault)
+IsInputFault-first A left failed ended olds nows count reader new units (read_fault.Refused (refusal_is.Fault fault)) within same rest have refused =
+    refused_at left failed ended olds nows count reader new units (read_fault.Refused (refusal_is.Fault fault)) within same rest have refused
+IsInputFault-first A left failed ended olds nows count reader new units (read_fault.Refused refusal_is.OutOfMemory) within same rest have refused = refl
+IsInputFault-first A left failed ended olds nows count reader new units read_fault.Device within same rest have refused =
+    refused_at left failed ended olds nows count reader new units read_fault.Device within same rest have refused
 
 -- ---- what holds of the files
 

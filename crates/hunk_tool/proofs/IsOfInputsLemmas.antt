@@ -6,18 +6,19 @@ use Rattle.hunk_link.specs.Linkable.{IsLinkRefusal}
 use Rattle.hunk_link.specs.declared.refusal.LinkRefusal.{LinkRefusal}
 use Rattle.hunk_link.specs.declared.refusal.LinkRefusal.TheVariants as link_refusal
 use Rattle.hunk_tool.specs.FaultLine.{IsOfInputs}
-use Rattle.hunk_tool.specs.Inputs.{AreObjects, HaveRead, Input, IsInputFault, StopsAt}
+use Rattle.hunk_words.specs.declared.fault.ReadFault.{ReadFault}
+use Rattle.hunk_tool.specs.Inputs.{AreObjects, HaveRead, Input, IsInputFault, IsRefusedAt}
 use Rattle.hunk_tool.specs.ToolFault.{tool_fault_of_link}
 use Rattle.hunk_tool.specs.declared.tool_fault.ToolFault.{ToolFault}
 use Rattle.hunk_tool.specs.declared.tool_fault.ToolFault.TheVariants as tool_fault
 use Rattle.hunk_tool.proofs.NameLengthLemmas.{HasShortName-refused}
 
-StopsAt-lt : (inputs : List Input) (file count : ℕ) (Why : Input → Type 0) → length inputs ≤ count → StopsAt inputs file Why → file < count
-StopsAt-lt inputs file count Why few stops = omega (arith, stops.number, ap length stops.among, length-append stops.before (stops.input ∷ stops.after))
+refused_at-lt : (inputs : List Input) (file count : ℕ) (fault : ReadFault) → length inputs ≤ count → IsRefusedAt inputs file fault → file < count
+refused_at-lt inputs file count fault few at = omega (arith, at.number, ap length at.among, length-append at.before (at.input ∷ at.after))
 
 pub IsOfInputs-read : {A : Type 0} (inputs : List Input) (count : ℕ) (fault : ToolFault A) → length inputs ≤ count → IsInputFault inputs fault → IsOfInputs count fault
-IsOfInputs-read inputs count (tool_fault.Input file fault) few is = StopsAt-lt inputs file count _ few is
-IsOfInputs-read inputs count (tool_fault.InputDevice file) few is = StopsAt-lt inputs file count _ few is
+IsOfInputs-read inputs count (tool_fault.Input file fault) few is = refused_at-lt inputs file count _ few is
+IsOfInputs-read inputs count (tool_fault.InputDevice file) few is = refused_at-lt inputs file count _ few is
 IsOfInputs-read inputs count (tool_fault.Link refusal) few is = absurd is
 IsOfInputs-read inputs count (tool_fault.Place fault) few is = tt
 IsOfInputs-read inputs count (tool_fault.Output written) few is = tt

@@ -29,7 +29,7 @@ use Rattle.hunk_link.specs.Linkable.{IsLinkRefusal, Linkable}
 use Rattle.hunk_link.specs.declared.refusal.LinkRefusal.{LinkRefusal}
 use Rattle.hunk_link.specs.declared.refusal.LinkRefusal.TheVariants as link_refusal
 use Rattle.hunk_tool.specs.Inputs.{AreObjects, HaveRead, Input, IsInputFault}
-use Rattle.hunk_tool.specs.Link.{DoLink, IsLinkCutShort, IsLinkFault, IsLinked, IsNotLinked, linked_bytes}
+use Rattle.hunk_tool.specs.Link.{IsLinkCutShort, IsLinkFault, IsLinked, IsNotLinked, IsUnlinked, LinkTo}
 use Rattle.hunk_tool.specs.ToolFault.{tool_fault_of_link, tool_fault_of_write}
 use Rattle.hunk_tool.specs.declared.tool_fault.ToolFault.{ToolFault}
 use Rattle.hunk_tool.specs.declared.tool_fault.ToolFault.TheVariants as tool_fault
@@ -57,60 +57,68 @@ written_bytes-are_load hunks valid short =
     let all : All (λ w. w < 2 ^ 32) (written_form hunks) = All-from_recursion (λ w. w < 2 ^ 32) (written_form hunks) (long-load is.tree (written_form hunks) is.is_file) in
     record { whole = bytes_of-IsWhole (written_form hunks); is_load = subst (IsLoad hunks) (sym (longwords-bytes_of (written_form hunks) all)) is }
 
+-- ---- the load file of inputs
+
+pub HaveRead-link_to : (inputs : List Input) (strip : Bool) (units : List ObjectUnit) (file : List FileHunk) → HaveRead inputs (λ files. AreObjects files units)
+    → All IsUnit units → Linkable units strip → file ≡ carried units strip → HaveRead inputs (LinkTo strip file)
+HaveRead-link_to inputs strip units file read typed linkable is =
+    HaveRead-weaker inputs (λ files. AreObjects files units) (LinkTo strip file)
+    (λ files are. record { units = units; link = record { are = are; typed = typed; linkable = linkable }; file_is = is }) read
+
+pub IsLinked-written : (inputs : List Input) (strip : Bool) (file : List FileHunk) (old new : Option (List ℕ)) → HaveRead inputs (LinkTo strip file)
+    → IsLoadFile file → length (written_form file) ≤ most_longwords → Appends old new (bytes_of (written_form file)) → HaveRead inputs (IsLinked strip old new)
+IsLinked-written inputs strip file old new read valid short written =
+    HaveRead-weaker inputs (LinkTo strip file) (IsLinked strip old new) (λ files to. record {
+      units = to.units;
+      link = to.link;
+      is_load = subst (λ hunks. IsLoadOf hunks (bytes_of (written_form hunks))) to.file_is (written_bytes-are_load file valid short);
+      written = subst (λ hunks. Appends old new (bytes_of (written_form hunks))) to.file_is written;
+    }) read
+
 -- ---- faults
 
-pub HaveRead-not_linked : {A : Type 0} (inputs : List Input) (strip : Bool) (units : List ObjectUnit) (refusal : LinkRefusal A)
-    → HaveRead inputs (λ files. AreObjects files units) → IsLinkRefusal units strip refusal → HaveRead inputs (IsNotLinked strip refusal)
-HaveRead-not_linked inputs strip units refusal read first =
-    HaveRead-weaker inputs (λ files. AreObjects files units) (IsNotLinked strip refusal) (λ files are. record { units = units; are = are; first = first }) read
+pub IsUnlinked-read : {A : Type 0} (strip : Bool) (inputs : List Input) (fault : ToolFault A) → IsInputFault inputs fault → IsUnlinked strip inputs fault
+IsUnlinked-read strip inputs (tool_fault.Input file fault) is = is
+IsUnlinked-read strip inputs (tool_fault.InputDevice file) is = is
+IsUnlinked-read strip inputs (tool_fault.Link refusal) is = absurd is
+IsUnlinked-read strip inputs (tool_fault.Place fault) is = is
+IsUnlinked-read strip inputs (tool_fault.Output written) is = is
+IsUnlinked-read strip inputs (tool_fault.OutOfMemory written) is = is
 
-pub HaveRead-linked : (inputs : List Input) (strip : Bool) (units : List ObjectUnit) → HaveRead inputs (λ files. AreObjects files units) → All IsUnit units → Linkable units strip → HaveRead inputs (λ files. DoLink strip files units)
-HaveRead-linked inputs strip units read typed linkable =
-    HaveRead-weaker inputs (λ files. AreObjects files units) (λ files. DoLink strip files units) (λ files are. record { are = are; typed = typed; linkable = linkable }) read
+-- The units that were read do not link.
+pub IsUnlinked-link : {A : Type 0} (strip : Bool) (inputs : List Input) (units : List ObjectUnit) (refusal : LinkRefusal A) → HaveRead inputs (λ files. AreObjects files units)
+    → IsLinkRefusal units strip refusal → IsUnlinked strip inputs (tool_fault_of_link refusal)
+IsUnlinked-link {A = A} strip inputs units refusal read first =
+    go refusal (HaveRead-weaker inputs (λ files. AreObjects files units) (IsNotLinked strip refusal) (λ files are. record { units = units; are = are; first = first }) read)
+  where
+    go : (refusal : LinkRefusal A) → HaveRead inputs (IsNotLinked strip refusal) → IsUnlinked strip inputs (tool_fault_of_link refusal)
+    go link_refusal.OutOfMemory is = refl
+    go link_refusal.NoHunks is = (is, λ same. cc)
+    go link_refusal.TooManyHunks is = (is, λ same. cc)
+    go link_refusal.TooLarge is = (is, λ same. cc)
+    go (link_refusal.NoSuchHunk unit hunk target) is = (is, λ same. cc)
+    go (link_refusal.DuplicateName unit hunk name) is = (is, λ same. cc)
+    go (link_refusal.UndefinedName unit hunk name) is = (is, λ same. cc)
 
--- If the units were not read, nothing was written.
-pub IsLinkFault-read : {A : Type 0} (strip : Bool) (inputs : List Input) (taken : Option (List ℕ)) (failed : Bool) (fault : ToolFault A)
-    → IsInputFault inputs fault → IsLinkFault strip inputs (record { old = taken; new = taken; failed = failed }) fault
-IsLinkFault-read strip inputs taken failed (tool_fault.Input file fault) is = (is, Keeps-refl taken)
-IsLinkFault-read strip inputs taken failed (tool_fault.InputDevice file) is = (is, Keeps-refl taken)
-IsLinkFault-read strip inputs taken failed (tool_fault.Link refusal) is = absurd is
-IsLinkFault-read strip inputs taken failed (tool_fault.Place fault) is = absurd is
-IsLinkFault-read strip inputs taken failed (tool_fault.Output written) is = absurd is
-IsLinkFault-read strip inputs taken failed (tool_fault.OutOfMemory written) is = inl (is, Keeps-refl taken)
+-- Then nothing was written.
+pub IsLinkFault-unlinked : {A : Type 0} (strip : Bool) (inputs : List Input) (taken : Option (List ℕ)) (failed : Bool) (fault : ToolFault A)
+    → IsUnlinked strip inputs fault → IsLinkFault strip inputs (record { old = taken; new = taken; failed = failed }) fault
+IsLinkFault-unlinked strip inputs taken failed (tool_fault.Input file fault) is = (is, Keeps-refl taken)
+IsLinkFault-unlinked strip inputs taken failed (tool_fault.InputDevice file) is = (is, Keeps-refl taken)
+IsLinkFault-unlinked strip inputs taken failed (tool_fault.Link refusal) is = (is, Keeps-refl taken)
+IsLinkFault-unlinked strip inputs taken failed (tool_fault.Place fault) is = absurd is
+IsLinkFault-unlinked strip inputs taken failed (tool_fault.Output written) is = absurd is
+IsLinkFault-unlinked strip inputs taken failed (tool_fault.OutOfMemory written) is = inl (is, Keeps-refl taken)
 
--- Nor if they do not link.
-pub IsLinkFault-link : {A : Type 0} (strip : Bool) (inputs : List Input) (taken : Option (List ℕ)) (failed : Bool) (refusal : LinkRefusal A)
-    → HaveRead inputs (IsNotLinked strip refusal) → IsLinkFault strip inputs (record { old = taken; new = taken; failed = failed }) (tool_fault_of_link refusal)
-IsLinkFault-link strip inputs taken failed link_refusal.OutOfMemory is = inl (refl, Keeps-refl taken)
-IsLinkFault-link strip inputs taken failed link_refusal.NoHunks is = (is, λ same. cc, Keeps-refl taken)
-IsLinkFault-link strip inputs taken failed link_refusal.TooManyHunks is = (is, λ same. cc, Keeps-refl taken)
-IsLinkFault-link strip inputs taken failed link_refusal.TooLarge is = (is, λ same. cc, Keeps-refl taken)
-IsLinkFault-link strip inputs taken failed (link_refusal.NoSuchHunk unit hunk target) is = (is, λ same. cc, Keeps-refl taken)
-IsLinkFault-link strip inputs taken failed (link_refusal.DuplicateName unit hunk name) is = (is, λ same. cc, Keeps-refl taken)
-IsLinkFault-link strip inputs taken failed (link_refusal.UndefinedName unit hunk name) is = (is, λ same. cc, Keeps-refl taken)
-
-cut_short : (inputs : List Input) (strip : Bool) (units : List ObjectUnit) (old new : Option (List ℕ)) (written : ℕ) → HaveRead inputs (λ files. DoLink strip files units)
-    → TookFront old new (linked_bytes units strip) 0 written → HaveRead inputs (IsLinkCutShort strip old new written)
-cut_short inputs strip units old new written read front =
-    HaveRead-weaker inputs (λ files. DoLink strip files units) (IsLinkCutShort strip old new written) (λ files link. record { units = units; link = link; front = front }) read
+cut_short : (inputs : List Input) (strip : Bool) (file : List FileHunk) (old new : Option (List ℕ)) (written : ℕ) → HaveRead inputs (LinkTo strip file)
+    → TookFront old new (bytes_of (written_form file)) 0 written → HaveRead inputs (IsLinkCutShort strip old new written)
+cut_short inputs strip file old new written read front =
+    HaveRead-weaker inputs (LinkTo strip file) (IsLinkCutShort strip old new written)
+    (λ files to. record { units = to.units; link = to.link; front = subst (λ hunks. TookFront old new (bytes_of (written_form hunks)) 0 written) to.file_is front }) read
 
 -- Where writing the load file stopped.
-pub IsLinkFault-written : (A : Type 0) {W : Type 0} (taken : W → Option (List ℕ)) (failed : W → Bool) (old new : W) (strip : Bool) (inputs : List Input) (units : List ObjectUnit) (file : List FileHunk) (fault : WriteFault)
-    → HaveRead inputs (λ files. DoLink strip files units) → file ≡ carried units strip → WriteStopped taken failed old new (bytes_of (written_form file)) 0 fault
+pub IsLinkFault-written : (A : Type 0) {W : Type 0} (taken : W → Option (List ℕ)) (failed : W → Bool) (old new : W) (strip : Bool) (inputs : List Input) (file : List FileHunk) (fault : WriteFault)
+    → HaveRead inputs (LinkTo strip file) → WriteStopped taken failed old new (bytes_of (written_form file)) 0 fault
     → IsLinkFault strip inputs (record { old = taken old; new = taken new; failed = failed new }) (tool_fault_of_write {A = A} fault)
-IsLinkFault-written A taken failed old new strip inputs units file fault read is stopped =
-    go fault (subst (λ hunks. WriteStopped taken failed old new (bytes_of (written_form hunks)) 0 fault) is stopped)
-  where
-    go : (fault : WriteFault) → WriteStopped taken failed old new (linked_bytes units strip) 0 fault → IsLinkFault strip inputs (record { old = taken old; new = taken new; failed = failed new }) (tool_fault_of_write {A = A} fault)
-    go (write_fault.Device written) stopped = (cut_short inputs strip units (taken old) (taken new) written read stopped.0, stopped.1)
-    go (write_fault.OutOfMemory written) stopped = inr (cut_short inputs strip units (taken old) (taken new) written read stopped.0)
-
-pub IsLinked-written : (inputs : List Input) (strip : Bool) (units : List ObjectUnit) (file : List FileHunk) (old new : Option (List ℕ)) → HaveRead inputs (λ files. DoLink strip files units)
-    → file ≡ carried units strip → IsLoadFile file → length (written_form file) ≤ most_longwords → Appends old new (bytes_of (written_form file)) → HaveRead inputs (IsLinked strip old new)
-IsLinked-written inputs strip units file old new read is valid short written =
-    HaveRead-weaker inputs (λ files. DoLink strip files units) (IsLinked strip old new) (λ files link. record {
-      units = units;
-      link = link;
-      is_load = subst (λ hunks. IsLoadOf hunks (bytes_of (written_form hunks))) is (written_bytes-are_load file valid short);
-      written = subst (λ hunks. Appends old new (bytes_of (written_form hunks))) is written;
-    }) read
+IsLinkFault-written A taken failed old new strip inputs file (write_fault.Device written) read stopped = (cut_short inputs strip file (taken old) (taken new) written read stopped.0, stopped.1)
+IsLinkFault-written A taken failed old new strip inputs file (write_fault.OutOfMemory written) read stopped = inr (cut_short inputs strip file (taken old) (taken new) written read stopped.0)

@@ -20,7 +20,8 @@ use Rattle.hunk_link.specs.declared.refusal.LinkRefusal.{LinkRefusal}
 use Rattle.hunk_link.specs.declared.refusal.LinkRefusal.TheVariants as link_refusal
 use Rattle.hunk_tool.specs.FaultLine.{HasShortName}
 use Rattle.hunk_tool.specs.Inputs.{AreObjects}
-use Rattle.hunk_tool.proofs.RanksLemmas.{All-all_items, All-broken, All-hunks_of}
+use Rattle.hunk_link.proofs.RanksLemmas.{All-hunks_of}
+use Rattle.hunk_tool.proofs.RanksLemmas.{All-all_items, All-broken}
 
 abbrev IsShort : List ℕ → Type 0
 IsShort name = length name ≤ 2 ^ 30

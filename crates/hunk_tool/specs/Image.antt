@@ -1,19 +1,18 @@
 -- What it means that the report of the memory that object files define was written, or why it was
 -- not.
-use Rattle.std.specs.Prelude.{◌≡◌, ◌≢◌, ℕ, List, map, true, IsTrue, Option}
+use Rattle.std.specs.Prelude.{ℕ, List, map, true, IsTrue, Option}
 use Rattle.std.specs.Io.KnownBytes.{Appends, Keeps}
 use Rattle.hunk_words.specs.Streams.{TookFront}
 use Rattle.hunk_objects.specs.ProgramUnit.{ObjectUnit}
 use Rattle.hunk_link.specs.Ranks.{hunks_of}
-use Rattle.hunk_link.specs.declared.refusal.LinkRefusal.TheVariants as link_refusal
 use Rattle.hunk_loader.specs.Places.{IsFirstRefusal, Placed}
 use Rattle.hunk_loader.specs.declared.places.PlaceFault.{PlaceFault}
 use Rattle.hunk_tool.specs.Direct.{direct}
-use Rattle.hunk_tool.specs.Inputs.{HaveRead, Input, IsRefused, StopsAt}
-use Rattle.hunk_tool.specs.Link.{DoLink, IsNotLinked, Taken}
+use Rattle.hunk_tool.specs.Inputs.{HaveRead, Input}
+use Rattle.hunk_tool.specs.Link.{DoLink, IsUnlinked, Taken}
 use Rattle.hunk_tool.specs.Report.{report}
 use Rattle.hunk_tool.specs.declared.tool_fault.ToolFault.{ToolFault}
-use Rattle.hunk_tool.specs.declared.tool_fault.ToolFault.TheVariants.{Input as InputFault, InputDevice, Link, Place, Output, OutOfMemory}
+use Rattle.hunk_tool.specs.declared.tool_fault.ToolFault.TheVariants.{Place, Output}
 
 -- the sizes of the units' hunks, in the order of the ranks
 abbrev pub ranked_sizes : List ObjectUnit → List ℕ
@@ -43,9 +42,6 @@ pub record AreNotPlaced (bases : List ℕ) (fault : PlaceFault) (files : List (L
 -- Why the report was not written, or not in full. Nothing was written before all inputs were read,
 -- their units linked and their hunks placed.
 abbrev pub IsImageFault : {A : Type 0} → List ℕ → List Input → Taken → ToolFault A → Type 0
-IsImageFault bases inputs taken (InputFault file fault) = StopsAt inputs file (IsRefused fault) × Keeps taken.old taken.new
-IsImageFault bases inputs taken (InputDevice file) = StopsAt inputs file (λ input. IsTrue input.failed) × Keeps taken.old taken.new
-IsImageFault bases inputs taken (Link refusal) = HaveRead inputs (IsNotLinked true refusal) × (refusal ≢ link_refusal.OutOfMemory) × Keeps taken.old taken.new
 IsImageFault bases inputs taken (Place fault) = HaveRead inputs (AreNotPlaced bases fault) × Keeps taken.old taken.new
 IsImageFault bases inputs taken (Output written) = HaveRead inputs (IsImageCutShort bases taken.old taken.new written) × IsTrue taken.failed
-IsImageFault bases inputs taken (OutOfMemory written) = (written ≡ 0) × Keeps taken.old taken.new
+IsImageFault bases inputs taken fault = IsUnlinked true inputs fault × Keeps taken.old taken.new

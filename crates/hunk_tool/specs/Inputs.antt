@@ -1,10 +1,8 @@
 -- Object files that are read from several readers, one after another.
-use Rattle.std.specs.Prelude.{◌≡◌, ◌⊎◌, ℕ, List, [], ◌∷◌, ◌++◌, length, map, Bool, IsTrue, Option}
+use Rattle.std.specs.Prelude.{◌≡◌, ℕ, List, [], ◌∷◌, ◌++◌, length, map, Bool, IsTrue, Option}
 use Rattle.std.specs.Io.KnownBytes.{Consumes}
 use Rattle.std.specs.List.{zip}
-use Rattle.hunk_words.specs.FirstOffence.{EndsEarly, OffendsAt}
-use Rattle.hunk_words.specs.Longwords.{longwords, unfinished}
-use Rattle.hunk_words.specs.Streams.{HasRead}
+use Rattle.hunk_words.specs.Decoder.{RefusesRead}
 use Rattle.hunk_words.specs.declared.event.FileKind.TheVariants.{Object}
 use Rattle.hunk_words.specs.declared.fault.Fault.{Fault}
 use Rattle.hunk_words.specs.declared.fault.ReadFault.{ReadFault}
@@ -50,32 +48,28 @@ pub record HaveRead (inputs : List Input) (Holds : List (List ℕ) → Type 0) :
 
 -- ---- faults
 
--- What was read offends first at the place of the fault, for its reason; or the reader ended, and
--- what was read ends too early at that place, for that reason.
-abbrev pub IsRefused : Fault → Input → Type 0
-IsRefused fault input =
-    HasRead input.left input.left_then (λ bytes. OffendsAt Object (longwords bytes) fault.place fault.reason)
-    ⊎ (IsTrue input.ended × HasRead input.left input.left_then (λ bytes. EndsEarly Object (longwords bytes) (length (unfinished bytes)) fault.place fault.reason))
-
--- The input of this number is the first that is not an object file, and this is why.
-pub record StopsAt (inputs : List Input) (file : ℕ) (Why : Input → Type 0) : Type 0 where
+-- The input of this number is the first that was not read as an object file: reading it gave this
+-- fault.
+pub record IsRefusedAt (inputs : List Input) (file : ℕ) (fault : ReadFault) : Type 0 where
   pub before : List Input
   pub input : Input
   pub after : List Input
   pub among : inputs ≡ before ++ input ∷ after
   pub number : length before ≡ file
   pub earlier : HaveRead before (λ files. (units : List ObjectUnit) × AreObjects files units)
-  pub why : Why input
+  pub refused : RefusesRead Object input.left input.left_then input.ended input.failed fault
+
+-- It is not an object file, with this as the first offence.
+abbrev pub IsNoObject : List Input → ℕ → Fault → Type 0
+IsNoObject inputs file fault = IsRefusedAt inputs file (read_fault.Refused (refusal_is.Fault fault))
+
+-- A read of it failed.
+abbrev pub IsUnread : List Input → ℕ → Type 0
+IsUnread inputs file = IsRefusedAt inputs file read_fault.Device
 
 -- Why the units of the inputs were not read.
 abbrev pub IsInputFault : {A : Type 0} → List Input → ToolFault A → Type 0
-IsInputFault inputs (InputFault file fault) = StopsAt inputs file (IsRefused fault)
-IsInputFault inputs (InputDevice file) = StopsAt inputs file (λ input. IsTrue input.failed)
+IsInputFault inputs (InputFault file fault) = IsNoObject inputs file fault
+IsInputFault inputs (InputDevice file) = IsUnread inputs file
 IsInputFault inputs (OutOfMemory written) = written ≡ 0
 IsInputFault inputs _ = ⊥
-
--- a fault of reading the input with this number, before anything is written
-abbrev pub input_fault : {A : Type 0} → ℕ → ReadFault → ToolFault A
-input_fault file (read_fault.Refused (refusal_is.Fault fault)) = InputFault file fault
-input_fault file (read_fault.Refused refusal_is.OutOfMemory) = OutOfMemory 0
-input_fault file read_fault.Device = InputDevice file

@@ -6,15 +6,16 @@ use Rattle.hunk_words.specs.Name.{bytes_of}
 use Rattle.hunk_words.specs.Streams.{TookFront}
 use Rattle.hunk_objects.specs.ProgramUnit.{ObjectUnit}
 use Rattle.hunk_loadfile.specs.LoadFile.{IsLoadOf}
+use Rattle.hunk_loadfile.specs.LoadHunk.{FileHunk}
 use Rattle.hunk_loadfile.specs.WrittenForm.{written_form}
 use Rattle.hunk_link.specs.Carried.{carried}
 use Rattle.hunk_link.specs.Ranks.{IsUnit}
 use Rattle.hunk_link.specs.Linkable.{IsLinkRefusal, Linkable}
 use Rattle.hunk_link.specs.declared.refusal.LinkRefusal.{LinkRefusal}
 use Rattle.hunk_link.specs.declared.refusal.LinkRefusal.TheVariants as link_refusal
-use Rattle.hunk_tool.specs.Inputs.{AreObjects, HaveRead, Input, IsRefused, StopsAt}
+use Rattle.hunk_tool.specs.Inputs.{AreObjects, HaveRead, Input, IsInputFault}
 use Rattle.hunk_tool.specs.declared.tool_fault.ToolFault.{ToolFault}
-use Rattle.hunk_tool.specs.declared.tool_fault.ToolFault.TheVariants.{Input as InputFault, InputDevice, Link, Place, Output, OutOfMemory}
+use Rattle.hunk_tool.specs.declared.tool_fault.ToolFault.TheVariants.{Link, Output, OutOfMemory}
 
 -- The files are object files whose units, these, link.
 pub record DoLink (strip : Bool) (files : List (List ℕ)) (units : List ObjectUnit) : Type 0 where
@@ -39,11 +40,22 @@ pub record IsLinkCutShort (strip : Bool) (old new : Option (List ℕ)) (written 
   pub link : DoLink strip files units
   pub front : TookFront old new (linked_bytes units strip) 0 written
 
+-- The object files link, and this is the load file of their units.
+pub record LinkTo (strip : Bool) (file : List FileHunk) (files : List (List ℕ)) : Type 0 where
+  pub units : List ObjectUnit
+  pub link : DoLink strip files units
+  pub file_is : file ≡ carried units strip
+
 -- The object files do not link, first of all for this reason.
 pub record IsNotLinked {A : Type 0} (strip : Bool) (refusal : LinkRefusal A) (files : List (List ℕ)) : Type 0 where
   pub units : List ObjectUnit
   pub are : AreObjects files units
   pub first : IsLinkRefusal units strip refusal
+
+-- Why object files were not linked.
+abbrev pub IsUnlinked : {A : Type 0} → Bool → List Input → ToolFault A → Type 0
+IsUnlinked strip inputs (Link refusal) = HaveRead inputs (IsNotLinked strip refusal) × (refusal ≢ link_refusal.OutOfMemory)
+IsUnlinked strip inputs fault = IsInputFault inputs fault
 
 -- What the writer took before and after a call, and whether a write has failed.
 pub record Taken : Type 0 where
@@ -54,9 +66,6 @@ pub record Taken : Type 0 where
 -- Why the load file was not written, or not in full. Nothing was written before all inputs were read
 -- and their units linked.
 abbrev pub IsLinkFault : {A : Type 0} → Bool → List Input → Taken → ToolFault A → Type 0
-IsLinkFault strip inputs taken (InputFault file fault) = StopsAt inputs file (IsRefused fault) × Keeps taken.old taken.new
-IsLinkFault strip inputs taken (InputDevice file) = StopsAt inputs file (λ input. IsTrue input.failed) × Keeps taken.old taken.new
-IsLinkFault strip inputs taken (Link refusal) = HaveRead inputs (IsNotLinked strip refusal) × (refusal ≢ link_refusal.OutOfMemory) × Keeps taken.old taken.new
-IsLinkFault strip inputs taken (Place fault) = ⊥
 IsLinkFault strip inputs taken (Output written) = HaveRead inputs (IsLinkCutShort strip taken.old taken.new written) × IsTrue taken.failed
 IsLinkFault strip inputs taken (OutOfMemory written) = ((written ≡ 0) × Keeps taken.old taken.new) ⊎ HaveRead inputs (IsLinkCutShort strip taken.old taken.new written)
+IsLinkFault strip inputs taken fault = IsUnlinked strip inputs fault × Keeps taken.old taken.new

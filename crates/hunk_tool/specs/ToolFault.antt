@@ -20,11 +20,11 @@ tool_fault_of_image (image_fault.Refused (load_refusal.Place fault)) = Place fau
 tool_fault_of_image (image_fault.Refused load_refusal.OutOfMemory) = OutOfMemory 0
 tool_fault_of_image image_fault.Device = InputDevice 0
 
--- The same for a fault of reading it.
-abbrev pub tool_fault_of_read : {A : Type 0} → ReadFault → ToolFault A
-tool_fault_of_read (read_fault.Refused (refusal.Fault fault)) = Input 0 fault
-tool_fault_of_read (read_fault.Refused refusal.OutOfMemory) = OutOfMemory 0
-tool_fault_of_read read_fault.Device = InputDevice 0
+-- A fault of reading the input with this number, before anything is written.
+abbrev pub tool_fault_of_read : {A : Type 0} → ℕ → ReadFault → ToolFault A
+tool_fault_of_read file (read_fault.Refused (refusal.Fault fault)) = Input file fault
+tool_fault_of_read file (read_fault.Refused refusal.OutOfMemory) = OutOfMemory 0
+tool_fault_of_read file read_fault.Device = InputDevice file
 
 abbrev pub tool_fault_of_write : {A : Type 0} → WriteFault → ToolFault A
 tool_fault_of_write (write_fault.Device written) = Output written

@@ -5,10 +5,9 @@ ghost use Rattle.hunk_tool.specs.FaultLine.{IsOfInputs};
 ghost use Rattle.hunk_tool.specs.Image.{IsImageFault, IsImaged};
 ghost use Rattle.hunk_tool.specs.Inputs.{HaveRead, inputs_of};
 
-use crate::inputs::read_inputs;
+use crate::link::link_inputs;
 use crate::report::write_report;
 use crate::tool_fault::ToolFault;
-use hunk_link::link_units;
 use hunk_loader::{LoadRefusal, load};
 use hunk_words::{Sink, Source};
 use std::alloc::Allocator;
@@ -42,8 +41,7 @@ pub fn image_run<A: Allocator + Copy, R: Source, W: Sink>(
         (record { old = W.taken writer.old; new = W.taken writer.new; failed = W.failed writer.new })) }
     ensures writable { IfErr result (IsOfInputs (length inputs.old)) }
 {
-    let units = read_inputs(alloc, inputs)?;
-    let file = link_units(alloc, units, true)?;
+    let file = link_inputs(alloc, inputs, true)?;
     match load(alloc, &file, bases) {
         Ok(image) => Ok(write_report(image.hunks(), writer)?),
         Err(LoadRefusal::Place(fault)) => Err(ToolFault::Place(fault)),

@@ -1,11 +1,11 @@
 //! The object files that an operation reads.
 
-ghost use Rattle.std.specs.Prelude.{◌≡◌, IfOk, IfErr};
-ghost use Rattle.hunk_tool.specs.Inputs.{AreObjects, HaveRead, IsInputFault, input_fault, inputs_of};
+ghost use Rattle.std.specs.Prelude.{IfOk, IfErr};
+ghost use Rattle.hunk_tool.specs.Inputs.{AreObjects, HaveRead, IsInputFault, inputs_of};
 
 use crate::tool_fault::ToolFault;
 use hunk_objects::{ProgramUnit, read_object};
-use hunk_words::{ReadFault, Refusal, Source};
+use hunk_words::Source;
 use std::alloc::Allocator;
 
 /// Reads every input in order, to its end, as an object file, and gives the units of all.
@@ -29,19 +29,8 @@ pub(crate) fn read_inputs<A: Allocator + Copy, R: Source>(
     for file in 0..inputs.len() {
         match read_object(alloc, &mut inputs[file]) {
             Ok(mut more) => units.append(&mut more)?,
-            Err(fault) => return Err(input_fault(file, fault)),
+            Err(fault) => return Err(ToolFault::of_read(file, fault)),
         }
     }
     Ok(units)
-}
-
-/// A fault of reading the input with this number.
-fn input_fault<A: Allocator + Copy>(file: usize, fault: ReadFault) -> ToolFault<A>
-    ensures { result ≡ input_fault file fault }
-{
-    match fault {
-        ReadFault::Refused(Refusal::Fault(fault)) => ToolFault::Input { file, fault },
-        ReadFault::Refused(Refusal::OutOfMemory) => ToolFault::OutOfMemory { written: 0 },
-        ReadFault::Device => ToolFault::InputDevice { file },
-    }
 }

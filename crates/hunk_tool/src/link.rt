@@ -1,14 +1,16 @@
 //! Links object files, and writes the load file.
 
-ghost use Rattle.std.specs.Prelude.{length, OnOk, IfErr};
+ghost use Rattle.std.specs.Prelude.{◌≤◌, [], length, IfOk, OnOk, IfErr, Some};
+ghost use Rattle.hunk_words.specs.Files.{most_longwords};
+ghost use Rattle.hunk_loadfile.specs.WrittenForm.{written_form};
 ghost use Rattle.hunk_tool.specs.FaultLine.{IsOfInputs};
 ghost use Rattle.hunk_tool.specs.Inputs.{HaveRead, inputs_of};
-ghost use Rattle.hunk_tool.specs.Link.{IsLinkFault, IsLinked};
+ghost use Rattle.hunk_tool.specs.Link.{IsLinkFault, IsLinked, IsUnlinked, LinkTo};
 
 use crate::inputs::read_inputs;
 use crate::tool_fault::ToolFault;
 use hunk_link::link_units;
-use hunk_loadfile::write_load;
+use hunk_loadfile::{LoadFile, write_load, written_bytes};
 use hunk_words::{Sink, Source};
 use std::alloc::Allocator;
 
@@ -37,7 +39,46 @@ pub fn link_run<A: Allocator + Copy, R: Source, W: Sink>(
         (record { old = W.taken writer.old; new = W.taken writer.new; failed = W.failed writer.new })) }
     ensures writable { IfErr result (IsOfInputs (length inputs.old)) }
 {
-    let units = read_inputs(alloc, inputs)?;
-    let file = link_units(alloc, units, strip)?;
+    let file = link_inputs(alloc, inputs, strip)?;
     Ok(write_load(alloc, &file, writer)?)
+}
+
+/// Links as [`link_run`] does, and returns the bytes of the load file, in one allocation of exactly
+/// their number.
+///
+/// # Errors
+///
+/// - [`ToolFault::Input`], [`ToolFault::InputDevice`] and [`ToolFault::Link`] as [`link_run`] returns
+///   them.
+/// - [`ToolFault::OutOfMemory`] if an allocation failed, with nothing written.
+pub fn link_to_vec<A: Allocator + Copy, R: Source>(
+    alloc: A,
+    inputs: &mut [R],
+    strip: bool,
+) -> Result<Vec<u8, A>, ToolFault<A>>
+    ensures ok { IfOk result (λ bytes. HaveRead (inputs_of R.left R.failed R.ended inputs.old inputs.new) (IsLinked strip (Some []) (Some bytes.items))) }
+    ensures err { IfErr result (IsUnlinked strip (inputs_of R.left R.failed R.ended inputs.old inputs.new)) }
+    ensures writable { IfErr result (IsOfInputs (length inputs.old)) }
+{
+    let file = link_inputs(alloc, inputs, strip)?;
+    Ok(written_bytes(alloc, &file)?)
+}
+
+/// Reads every input in order, to its end, as an object file, and links all their units.
+///
+/// # Errors
+///
+/// As [`link_to_vec`].
+pub(crate) fn link_inputs<A: Allocator + Copy, R: Source>(
+    alloc: A,
+    inputs: &mut [R],
+    strip: bool,
+) -> Result<LoadFile<A>, ToolFault<A>>
+    ensures linked { IfOk result (λ file. HaveRead (inputs_of R.left R.failed R.ended inputs.old inputs.new) (LinkTo strip file)) }
+    ensures short { IfOk result (λ file. length (written_form file) ≤ most_longwords) }
+    ensures unlinked { IfErr result (IsUnlinked strip (inputs_of R.left R.failed R.ended inputs.old inputs.new)) }
+    ensures writable { IfErr result (IsOfInputs (length inputs.old)) }
+{
+    let units = read_inputs(alloc, inputs)?;
+    Ok(link_units(alloc, units, strip)?)
 }

@@ -41,16 +41,25 @@ impl<A: Allocator + Copy> From<ImageFault> for ToolFault<A> {
     }
 }
 
+impl<A: Allocator + Copy> ToolFault<A> {
+    /// A fault of reading the input with the number `file`. Nothing is written yet.
+    pub(crate) fn of_read(file: usize, fault: ReadFault) -> ToolFault<A>
+        ensures { result ≡ tool_fault_of_read file fault }
+    {
+        match fault {
+            ReadFault::Refused(Refusal::Fault(fault)) => ToolFault::Input { file, fault },
+            ReadFault::Refused(Refusal::OutOfMemory) => ToolFault::OutOfMemory { written: 0 },
+            ReadFault::Device => ToolFault::InputDevice { file },
+        }
+    }
+}
+
 /// The only input has the number 0, and nothing is written yet.
 impl<A: Allocator + Copy> From<ReadFault> for ToolFault<A> {
-    ghost from_gives = { λ fault tool. tool ≡ tool_fault_of_read fault };
+    ghost from_gives = { λ fault tool. tool ≡ tool_fault_of_read 0 fault };
 
     fn from(fault: ReadFault) -> ToolFault<A> {
-        match fault {
-            ReadFault::Refused(Refusal::Fault(fault)) => ToolFault::Input { file: 0, fault },
-            ReadFault::Refused(Refusal::OutOfMemory) => ToolFault::OutOfMemory { written: 0 },
-            ReadFault::Device => ToolFault::InputDevice { file: 0 },
-        }
+        ToolFault::of_read(0, fault)
     }
 }
 

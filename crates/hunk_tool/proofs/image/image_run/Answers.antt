@@ -1,37 +1,20 @@
 -- Each exit of the run, and the report of what the units define.
-use Rattle.std.proofs.Common.{length, Err, refl, ap, subst, ◌∙◌, arith}
+use Rattle.std.proofs.Common.{Err, refl, ap, subst, ◌∙◌}
 use Rattle.std.proofs.KnownBytes.{Keeps-refl}
 use Rattle.std.proofs.lemmas.Result.{err_from_is_err_and}
 use Rattle.hunk_words.specs.Name.{bytes_of}
 use Rattle.hunk_loadfile.specs.Rules.{IsLoadFile}
 use Rattle.hunk_loadfile.specs.WrittenForm.{written_form}
 use Rattle.hunk_loader.specs.Image.{hunks_of}
-use Rattle.hunk_tool.specs.Inputs.{inputs_of}
-use Rattle.hunk_tool.proofs.ImageLemmas.{FirstRefusal-carried, HaveRead-imaged, HaveRead-not_placed, IsImageFault-link, IsImageFault-written, LoadsAs-written, Placed-carried, direct-carried}
-use Rattle.hunk_tool.proofs.InputsLemmas.{length-inputs_of}
-use Rattle.hunk_tool.proofs.IsOfInputsLemmas.{IsOfInputs-link, IsOfInputs-read}
-use Rattle.hunk_tool.proofs.LinkLemmas.{HaveRead-linked, HaveRead-not_linked}
+use Rattle.hunk_tool.proofs.ImageLemmas.{HaveRead-imaged, HaveRead-not_placed, IsImageFault-unlinked, IsImageFault-written, LoadsAs-written}
 use Rattle.hunk_tool.proofs.LoadLemmas.{ends-loaded, few-loaded}
 use Rattle.hunk_tool.proofs.image.image_run.Goals as goal
 
-pub returns-in_err-units-clause-writable : goal.returns-in_err-units-clause-writable
-returns-in_err-units-clause-writable g c =
-    let p = err_from_is_err_and c.from_residual.result c.from_residual.ensures.1 in
-    rw (p.1, p.2)
-    (IsOfInputs-read (inputs_of g.R.Source.left g.R.Source.failed g.R.Source.ended c.args.inputs.now c.read_inputs.new.inputs) (length c.args.inputs.now) _
-    (omega (arith, length-inputs_of g.R.Source.left g.R.Source.failed g.R.Source.ended c.args.inputs.now c.read_inputs.new.inputs)) c.in_err-units.ensures.stopped)
-
 pub returns-in_err-file-clause-err : goal.returns-in_err-file-clause-err
 returns-in_err-file-clause-err g c =
-    let p = err_from_is_err_and c.from_residual-in_err-file.result c.from_residual-in_err-file.ensures.1 in
+    let p = err_from_is_err_and c.from_residual.result c.from_residual.ensures.1 in
     rw (p.1, p.2)
-    (IsImageFault-link c.args.bases.now _ (g.W.Sink.taken c.args.writer.now) (g.W.Sink.failed c.args.writer.now) c.in_err-file.field-0.0
-    (HaveRead-not_linked _ _ c.in_ok-units.units.items c.in_err-file.field-0.0 c.in_ok-units.ensures.read c.in_err-file.ensures.refused))
-
-pub returns-in_err-file-clause-writable : goal.returns-in_err-file-clause-writable
-returns-in_err-file-clause-writable g c =
-    let p = err_from_is_err_and c.from_residual-in_err-file.result c.from_residual-in_err-file.ensures.1 in
-    rw (p.1, p.2) (IsOfInputs-link _ (length c.args.inputs.now) c.in_ok-units.units.items _ c.in_err-file.field-0.0 c.in_ok-units.ensures.read c.in_err-file.ensures.refused)
+    (IsImageFault-unlinked c.args.bases.now _ (g.W.Sink.taken c.args.writer.now) (g.W.Sink.failed c.args.writer.now) _ c.in_err-file.ensures.unlinked)
 
 pub write_report-requires-clause-few : goal.write_report-requires-clause-few
 write_report-requires-clause-few g c =
@@ -47,25 +30,18 @@ pub returns-in_err-write_report-in-Ok-clause-err : goal.returns-in_err-write_rep
 returns-in_err-write_report-in-Ok-clause-err g c =
     let p = err_from_is_err_and c.from_residual-in_err-write_report-in-Ok.result c.from_residual-in_err-write_report-in-Ok.ensures.1 in
     rw (p.1, p.2)
-    (IsImageFault-written g.row.A.Denot g.W.Sink.taken g.W.Sink.failed c.args.writer.now c.write_report.new.writer c.args.bases.now _ c.in_ok-units.units.items (hunks_of c.hunks.result.now) c.in_err-write_report-in-Ok.field-0.0
-    (HaveRead-linked _ _ c.in_ok-units.units.items c.in_ok-units.ensures.read c.in_ok-file.ensures.typed c.in_ok-file.ensures.linkable)
-    (Placed-carried c.in_ok-units.units.items c.in_ok-file.file c.args.bases.now c.in_ok-file.ensures.file (c.in-Ok.ensures.placed refl))
-    (direct-carried c.in_ok-units.units.items c.in_ok-file.file c.args.bases.now _ c.in_ok-file.ensures.file c.in_ok-file.ensures.typed (c.hunks.ensures ∙ c.in-Ok.ensures.image))
+    (IsImageFault-written g.row.A.Denot g.W.Sink.taken g.W.Sink.failed c.args.writer.now c.write_report.new.writer c.args.bases.now _ c.in_ok-file.file (hunks_of c.hunks.result.now) c.in_err-write_report-in-Ok.field-0.0
+    c.in_ok-file.ensures.linked (c.in-Ok.ensures.placed refl) (c.hunks.ensures ∙ c.in-Ok.ensures.image)
     c.in_err-write_report-in-Ok.ensures.device c.in_err-write_report-in-Ok.ensures.wrote)
 
 pub returns-in-Ok-clause-ok : goal.returns-in-Ok-clause-ok
 returns-in-Ok-clause-ok g c =
-    HaveRead-imaged _ c.args.bases.now c.in_ok-units.units.items (hunks_of c.hunks.result.now) _ _
-    (HaveRead-linked _ _ c.in_ok-units.units.items c.in_ok-units.ensures.read c.in_ok-file.ensures.typed c.in_ok-file.ensures.linkable)
-    (Placed-carried c.in_ok-units.units.items c.in_ok-file.file c.args.bases.now c.in_ok-file.ensures.file (c.in-Ok.ensures.placed refl))
-    (direct-carried c.in_ok-units.units.items c.in_ok-file.file c.args.bases.now _ c.in_ok-file.ensures.file c.in_ok-file.ensures.typed (c.hunks.ensures ∙ c.in-Ok.ensures.image))
-    c.in_ok-write_report-in-Ok.ensures.wrote.0
+    HaveRead-imaged _ c.args.bases.now c.in_ok-file.file (hunks_of c.hunks.result.now) _ _
+    c.in_ok-file.ensures.linked (c.in-Ok.ensures.placed refl) (c.hunks.ensures ∙ c.in-Ok.ensures.image) c.in_ok-write_report-in-Ok.ensures.wrote.0
 
 pub returns-in-Err-Place-clause-err : goal.returns-in-Err-Place-clause-err
 returns-in-Err-Place-clause-err g c =
     let fault = c.in-Err-Place.fault in (
-      HaveRead-not_placed _ c.args.bases.now c.in_ok-units.units.items fault
-          (HaveRead-linked _ _ c.in_ok-units.units.items c.in_ok-units.ensures.read c.in_ok-file.ensures.typed c.in_ok-file.ensures.linkable)
-          (FirstRefusal-carried c.in_ok-units.units.items c.in_ok-file.file c.args.bases.now fault c.in_ok-file.ensures.file ((c.in-Err-Place.ensures.refused fault).0 (ap Err c.in-Err-Place.field-0-is))),
+      HaveRead-not_placed _ c.args.bases.now c.in_ok-file.file fault c.in_ok-file.ensures.linked ((c.in-Err-Place.ensures.refused fault).0 (ap Err c.in-Err-Place.field-0-is)),
       Keeps-refl (g.W.Sink.taken c.args.writer.now),
     )

@@ -7,7 +7,7 @@ use Rattle.hunk_tool.proofs.inputs.read_inputs.Goals as goal
 pub returns-in-Err-clause-stopped : goal.returns-in-Err-clause-stopped
 returns-in-Err-clause-stopped g c =
     let loop = c.loop-file in
-    rw c.input_fault.ensures
+    rw c.of_read.ensures
     (IsInputFault-first g.row.A.Denot g.R.Source.left g.R.Source.failed g.R.Source.ended c.args.inputs.now loop.inputs loop.file c.index-inputs-file.result c.read_object.new.reader loop.units.items c.in-Err.fault
     (omega (arith, c.loop-file-test.true)) loop.auto.inputs loop.invariant.rest loop.invariant.read c.in-Err.ensures.refused)
 
