@@ -1,14 +1,20 @@
 -- What the arguments of a command line ask for.
-use Rattle.std.proofs.Common.{◌≡◌, List, [], ◌⊎◌, codes, inl, inr, refl, subst}
+use Rattle.std.proofs.Common.{◌≡◌, ◌<◌, ◌≤◌, All, Bool, true, false, List, [], ◌⊎◌, arith, codes, IfOk, inl, inr, length, Err, Ok, refl, Result, subst, sym}
 use Rattle.std.specs.Prelude.{⊤}
+use Rattle.std.specs.Result.{result_unwrap_or}
+use Rattle.std.specs.declared.alloc.AllocError.{AllocError}
+use Rattle.clap.specs.Lexer.{usize_max}
+use Rattle.clap.specs.Walk.{texts}
 use Rattle.clap.specs.Words.{IsAmong, Text, fault_of, subcommand_of}
 use Rattle.clap.specs.declared.error.ErrorKind.{ErrorKind}
 use Rattle.clap.specs.declared.error.ErrorKind.TheVariants as error
 use Rattle.amihunk.specs.declared.command_line.Request.{Request}
-use Rattle.amihunk.specs.declared.command_line.Request.TheVariants.{Load, Check, Show, Help, Refused, OutOfMemory}
-use Rattle.amihunk.specs.CommandLine.{Answers, AsksCheck, AsksLoad, AsksShow, IsAskedBy, IsCalled, IsNoFlag, IsLoad, Says, Met, command_line, file_line, load_line}
-use Rattle.amihunk.proofs.CommandLineValueLemmas.{IsCalled-apart, IsCalled-same, IsLoad-same}
-use Rattle.amihunk.proofs.CommandLineFileLemmas.{fault_of-check_line, fault_of-show_line, is_called-check_line, is_called-show_line}
+use Rattle.amihunk.specs.declared.command_line.Request.TheVariants.{Link, Load, Image, Check, Show, Help, Refused, OutOfMemory}
+use Rattle.amihunk.specs.CommandLine.{Answers, AsksCheck, AsksImage, AsksLink, AsksLoad, AsksShow, IsAskedBy, IsCalled, IsImage, IsLink, IsLoad, IsNoFlag, Says, Met, command_line, file_line, image_line, link_line, load_line}
+use Rattle.amihunk.proofs.CommandLineValueLemmas.{IsCalled-same, IsImage-same, IsLink-same, IsLoad-same, names_apart}
+use Rattle.amihunk.proofs.CommandLineFileLemmas.{calls-check, calls-show, fault_of-file_line, is_called-file_line}
+use Rattle.amihunk.proofs.CommandLineImageLemmas.{fault_of-image_line, is_image-image_line}
+use Rattle.amihunk.proofs.CommandLineLinkLemmas.{fault_of-link_line, is_link-link_line}
 use Rattle.amihunk.proofs.CommandLineLoadLemmas.{fault_of-load_line, is_load-load_line}
 
 -- the request is neither help nor a rejection
@@ -20,7 +26,9 @@ IsNoAnswer _ = ⊤
 -- what one of the kinds of error asks for is what the arguments ask for
 pub asked_by_kind : (words : List Text) (request : Request) (k : ErrorKind) → (k ≡ error.OutOfMemory) ⊎ IsAmong k (fault_of command_line words)
     → Answers k request → IsAskedBy words request
+asked_by_kind words (Link out strip files) k has answers = absurd answers
 asked_by_kind words (Load list file) k has answers = absurd answers
+asked_by_kind words (Image list files) k has answers = absurd answers
 asked_by_kind words (Check file) k has answers = absurd answers
 asked_by_kind words (Show file) k has answers = absurd answers
 asked_by_kind words (Help text) k (inl none) answers = cc
@@ -30,40 +38,78 @@ asked_by_kind words (Refused text) k (inr among) answers = record { kind = k; am
 asked_by_kind words OutOfMemory k has answers = tt
 
 -- the request that matches what was found is what arguments ask for with which nothing is wrong
-pub asked_by_met : (words : List Text) (met : Met) (request : Request) → fault_of command_line words ≡ []
+asked_by_met : (words : List Text) (met : Met) (request : Request) → fault_of command_line words ≡ []
     → met ≡ subcommand_of command_line words → Says met request → IsAskedBy words request
+asked_by_met words met (Link out strip files) quiet is link = (quiet, subst (λ m. IsLink m out.now strip (texts files.items)) is link)
 asked_by_met words met (Load list file) quiet is load = (quiet, subst (λ m. IsLoad m list.now file.now) is load)
+asked_by_met words met (Image list files) quiet is image = (quiet, subst (λ m. IsImage m list.now (texts files.items)) is image)
 asked_by_met words met (Check file) quiet is check = (quiet, subst (λ m. IsCalled m (codes "check") file.now) is check)
 asked_by_met words met (Show file) quiet is show = (quiet, subst (λ m. IsCalled m (codes "show") file.now) is show)
-asked_by_met words met (Help text) quiet is load = absurd load
-asked_by_met words met (Refused text) quiet is load = absurd load
-asked_by_met words met OutOfMemory quiet is load = absurd load
+asked_by_met words met (Help text) quiet is nothing = absurd nothing
+asked_by_met words met (Refused text) quiet is nothing = absurd nothing
+asked_by_met words met OutOfMemory quiet is nothing = absurd nothing
+
+-- the same, where memory may have run out
+pub asked_by_result : (words : List Text) (met : Met) (r : Result Request AllocError) (request : Request) → fault_of command_line words ≡ []
+    → met ≡ subcommand_of command_line words → IfOk r (Says met) → request ≡ result_unwrap_or r OutOfMemory → IsAskedBy words request
+asked_by_result words met (Ok found) request quiet is says same = subst (IsAskedBy words) (sym same) (asked_by_met words met found quiet is says)
+asked_by_result words met (Err e) request quiet is says same = subst (IsAskedBy words) (sym same) tt
 
 -- arguments with which nothing is wrong ask neither for help nor are they rejected
 asks_no_help : (words : List Text) (request : Request) → fault_of command_line words ≡ [] → IsAskedBy words request → IsNoAnswer request
+asks_no_help words (Link out strip files) quiet asked = tt
 asks_no_help words (Load list file) quiet asked = tt
+asks_no_help words (Image list files) quiet asked = tt
 asks_no_help words (Check file) quiet asked = tt
 asks_no_help words (Show file) quiet asked = tt
 asks_no_help words (Help text) quiet asked = subst (λ kinds. IsAmong error.DisplayHelp kinds) quiet asked
 asks_no_help words (Refused text) quiet asked = subst (λ kinds. IsAmong asked.kind kinds) quiet asked.among
 asks_no_help words OutOfMemory quiet asked = tt
 
+-- what arguments that are `link` with this OUT, a strip or none, and these files ask for
+asks_link : (words : List Text) (out : Text) (strip : Bool) (files : List Text) → fault_of command_line words ≡ [] → IsLink (subcommand_of command_line words) out strip files
+    → (request : Request) → IsAskedBy words request → AsksLink out strip files request
+asks_link words out strip files quiet is (Link o s fs) asked = IsLink-same _ o.now out s strip (texts fs.items) files asked.1 is
+asks_link words out strip files quiet is (Load l f) asked = absurd (names_apart _ (codes "load") (codes "link") _ _ asked.1.of_file.called is.of_files.called refl)
+asks_link words out strip files quiet is (Image l fs) asked = absurd (names_apart _ (codes "image") (codes "link") _ _ asked.1.of_files.called is.of_files.called refl)
+asks_link words out strip files quiet is (Check f) asked = absurd (names_apart _ (codes "check") (codes "link") _ _ asked.1.called is.of_files.called refl)
+asks_link words out strip files quiet is (Show f) asked = absurd (names_apart _ (codes "show") (codes "link") _ _ asked.1.called is.of_files.called refl)
+asks_link words out strip files quiet is (Help text) asked = asks_no_help words (Help text) quiet asked
+asks_link words out strip files quiet is (Refused text) asked = asks_no_help words (Refused text) quiet asked
+asks_link words out strip files quiet is OutOfMemory asked = tt
+
 -- what arguments that are `load` with this LIST and this FILE ask for
 asks_load : (words : List Text) (list file : Text) → fault_of command_line words ≡ [] → IsLoad (subcommand_of command_line words) list file
     → (request : Request) → IsAskedBy words request → AsksLoad list file request
+asks_load words list file quiet is (Link o s fs) asked = absurd (names_apart _ (codes "link") (codes "load") _ _ asked.1.of_files.called is.of_file.called refl)
 asks_load words list file quiet is (Load l f) asked = IsLoad-same _ l.now f.now list file asked.1 is
-asks_load words list file quiet is (Check f) asked = absurd (IsCalled-apart _ (codes "check") (codes "load") f.now file asked.1 is.of_file refl)
-asks_load words list file quiet is (Show f) asked = absurd (IsCalled-apart _ (codes "show") (codes "load") f.now file asked.1 is.of_file refl)
+asks_load words list file quiet is (Image l fs) asked = absurd (names_apart _ (codes "image") (codes "load") _ _ asked.1.of_files.called is.of_file.called refl)
+asks_load words list file quiet is (Check f) asked = absurd (names_apart _ (codes "check") (codes "load") _ _ asked.1.called is.of_file.called refl)
+asks_load words list file quiet is (Show f) asked = absurd (names_apart _ (codes "show") (codes "load") _ _ asked.1.called is.of_file.called refl)
 asks_load words list file quiet is (Help text) asked = asks_no_help words (Help text) quiet asked
 asks_load words list file quiet is (Refused text) asked = asks_no_help words (Refused text) quiet asked
 asks_load words list file quiet is OutOfMemory asked = tt
 
+-- what arguments that are `image` with this LIST and these files ask for
+asks_image : (words : List Text) (list : Text) (files : List Text) → fault_of command_line words ≡ [] → IsImage (subcommand_of command_line words) list files
+    → (request : Request) → IsAskedBy words request → AsksImage list files request
+asks_image words list files quiet is (Link o s fs) asked = absurd (names_apart _ (codes "link") (codes "image") _ _ asked.1.of_files.called is.of_files.called refl)
+asks_image words list files quiet is (Load l f) asked = absurd (names_apart _ (codes "load") (codes "image") _ _ asked.1.of_file.called is.of_files.called refl)
+asks_image words list files quiet is (Image l fs) asked = IsImage-same _ l.now list (texts fs.items) files asked.1 is
+asks_image words list files quiet is (Check f) asked = absurd (names_apart _ (codes "check") (codes "image") _ _ asked.1.called is.of_files.called refl)
+asks_image words list files quiet is (Show f) asked = absurd (names_apart _ (codes "show") (codes "image") _ _ asked.1.called is.of_files.called refl)
+asks_image words list files quiet is (Help text) asked = asks_no_help words (Help text) quiet asked
+asks_image words list files quiet is (Refused text) asked = asks_no_help words (Refused text) quiet asked
+asks_image words list files quiet is OutOfMemory asked = tt
+
 -- what arguments that are `check` with this FILE ask for
 asks_check : (words : List Text) (file : Text) → fault_of command_line words ≡ [] → IsCalled (subcommand_of command_line words) (codes "check") file
     → (request : Request) → IsAskedBy words request → AsksCheck file request
-asks_check words file quiet is (Load l f) asked = absurd (IsCalled-apart _ (codes "load") (codes "check") f.now file asked.1.of_file is refl)
+asks_check words file quiet is (Link o s fs) asked = absurd (names_apart _ (codes "link") (codes "check") _ _ asked.1.of_files.called is.called refl)
+asks_check words file quiet is (Load l f) asked = absurd (names_apart _ (codes "load") (codes "check") _ _ asked.1.of_file.called is.called refl)
+asks_check words file quiet is (Image l fs) asked = absurd (names_apart _ (codes "image") (codes "check") _ _ asked.1.of_files.called is.called refl)
 asks_check words file quiet is (Check f) asked = IsCalled-same _ (codes "check") (codes "check") f.now file asked.1 is
-asks_check words file quiet is (Show f) asked = absurd (IsCalled-apart _ (codes "show") (codes "check") f.now file asked.1 is refl)
+asks_check words file quiet is (Show f) asked = absurd (names_apart _ (codes "show") (codes "check") _ _ asked.1.called is.called refl)
 asks_check words file quiet is (Help text) asked = asks_no_help words (Help text) quiet asked
 asks_check words file quiet is (Refused text) asked = asks_no_help words (Refused text) quiet asked
 asks_check words file quiet is OutOfMemory asked = tt
@@ -71,14 +117,28 @@ asks_check words file quiet is OutOfMemory asked = tt
 -- what arguments that are `show` with this FILE ask for
 asks_show : (words : List Text) (file : Text) → fault_of command_line words ≡ [] → IsCalled (subcommand_of command_line words) (codes "show") file
     → (request : Request) → IsAskedBy words request → AsksShow file request
-asks_show words file quiet is (Load l f) asked = absurd (IsCalled-apart _ (codes "load") (codes "show") f.now file asked.1.of_file is refl)
-asks_show words file quiet is (Check f) asked = absurd (IsCalled-apart _ (codes "check") (codes "show") f.now file asked.1 is refl)
+asks_show words file quiet is (Link o s fs) asked = absurd (names_apart _ (codes "link") (codes "show") _ _ asked.1.of_files.called is.called refl)
+asks_show words file quiet is (Load l f) asked = absurd (names_apart _ (codes "load") (codes "show") _ _ asked.1.of_file.called is.called refl)
+asks_show words file quiet is (Image l fs) asked = absurd (names_apart _ (codes "image") (codes "show") _ _ asked.1.of_files.called is.called refl)
+asks_show words file quiet is (Check f) asked = absurd (names_apart _ (codes "check") (codes "show") _ _ asked.1.called is.called refl)
 asks_show words file quiet is (Show f) asked = IsCalled-same _ (codes "show") (codes "show") f.now file asked.1 is
 asks_show words file quiet is (Help text) asked = asks_no_help words (Help text) quiet asked
 asks_show words file quiet is (Refused text) asked = asks_no_help words (Refused text) quiet asked
 asks_show words file quiet is OutOfMemory asked = tt
 
--- the same, of the plain forms
+-- the same, of the plain forms; there are at most 2 ^ 64 - 1 words
+
+line_fits : (program : Text) (strip : Bool) (out : Text) (files : List Text) → length (link_line program strip out files) ≤ usize_max → length files ≤ usize_max
+line_fits program true out files fits = omega (arith, fits)
+line_fits program false out files fits = omega (arith, fits)
+
+pub asks_link_where : (words : List Text) (request : Request) → length words ≤ usize_max → IsAskedBy words request
+    → (program : Text) (strip : Bool) (out : Text) (files : List Text) → words ≡ link_line program strip out files
+    → IsNoFlag out → 0 < length files → All IsNoFlag files → AsksLink out strip files request
+asks_link_where words request fits asked program strip out files is_line plain_out some plain_files =
+    let files_fit = line_fits program strip out files (subst (λ w. length w ≤ usize_max) is_line fits) in
+    asks_link (link_line program strip out files) out strip files (fault_of-link_line program strip out plain_out files some plain_files files_fit)
+    (is_link-link_line program strip out plain_out files some plain_files) request (subst (λ w. IsAskedBy w request) is_line asked)
 
 pub asks_load_where : (words : List Text) (request : Request) → IsAskedBy words request → (program list file : Text)
     → words ≡ load_line program list file → IsNoFlag list → IsNoFlag file → AsksLoad list file request
@@ -86,14 +146,22 @@ asks_load_where words request asked program list file is_line plain_list plain_f
     asks_load (load_line program list file) list file (fault_of-load_line program list file plain_list plain_file)
     (is_load-load_line program list file plain_list plain_file) request (subst (λ w. IsAskedBy w request) is_line asked)
 
+pub asks_image_where : (words : List Text) (request : Request) → length words ≤ usize_max → IsAskedBy words request
+    → (program list : Text) (files : List Text) → words ≡ image_line program list files
+    → IsNoFlag list → 0 < length files → All IsNoFlag files → AsksImage list files request
+asks_image_where words request fits asked program list files is_line plain_list some plain_files =
+    let line_fit : length (image_line program list files) ≤ usize_max = subst (λ w. length w ≤ usize_max) is_line fits in
+    asks_image (image_line program list files) list files (fault_of-image_line program list plain_list files some plain_files (omega (arith, line_fit)))
+    (is_image-image_line program list plain_list files some plain_files) request (subst (λ w. IsAskedBy w request) is_line asked)
+
 pub asks_check_where : (words : List Text) (request : Request) → IsAskedBy words request → (program file : Text)
     → words ≡ file_line program (codes "check") file → IsNoFlag file → AsksCheck file request
 asks_check_where words request asked program file is_line plain =
-    asks_check (file_line program (codes "check") file) file (fault_of-check_line program file plain)
-    (is_called-check_line program file plain) request (subst (λ w. IsAskedBy w request) is_line asked)
+    asks_check (file_line program (codes "check") file) file (fault_of-file_line program (codes "check") file calls-check plain)
+    (is_called-file_line program (codes "check") file calls-check plain) request (subst (λ w. IsAskedBy w request) is_line asked)
 
 pub asks_show_where : (words : List Text) (request : Request) → IsAskedBy words request → (program file : Text)
     → words ≡ file_line program (codes "show") file → IsNoFlag file → AsksShow file request
 asks_show_where words request asked program file is_line plain =
-    asks_show (file_line program (codes "show") file) file (fault_of-show_line program file plain)
-    (is_called-show_line program file plain) request (subst (λ w. IsAskedBy w request) is_line asked)
+    asks_show (file_line program (codes "show") file) file (fault_of-file_line program (codes "show") file calls-show plain)
+    (is_called-file_line program (codes "show") file calls-show plain) request (subst (λ w. IsAskedBy w request) is_line asked)

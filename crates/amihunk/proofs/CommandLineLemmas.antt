@@ -1,33 +1,17 @@
 -- Arguments with which nothing is wrong name a subcommand of the program, with its required values.
-use Rattle.std.proofs.Common.{◌≡◌, ◌∙◌, ◌||◌, Bool, true, false, not, cond, ap, sym, refl, inl, inr, arith, subst, List, [], ◌∷◌, codes, drop, Option, Some, None, is_some}
-use Rattle.std.specs.Prelude.{⊤, find, fold}
+use Rattle.std.proofs.Common.{◌≡◌, ◌||◌, Bool, true, false, not, cond, refl, inl, inr, arith, List, [], ◌∷◌, codes, drop, Option, Some, None, is_some}
+use Rattle.std.specs.Prelude.{⊤, find}
 use Rattle.std.specs.Option.{option_map, option_map_or}
-use Rattle.clap.specs.Words.{App, Row, Rule, Text, built, fault_of, first_of, subcommand_of, with_subcommand}
-use Rattle.clap.specs.Walk.{answers_to, finished, has_row, nothing_held, rows_after, settled, walk, walk_from, with_default}
+use Rattle.clap.specs.Words.{App, Row, Text, built, fault_of, subcommand_of, with_subcommand}
+use Rattle.clap.specs.Walk.{answers_to, finished, nothing_held, rows_after, settled, walk, walk_from}
 use Rattle.clap.specs.Simple.{Shape, entered, label_of, names_of, rows_at}
 use Rattle.clap.specs.Takes.{is_given}
 use Rattle.clap.specs.Faults.{check_fault, defaults_fault, entered_fault, level_fault, settle_fault, walk_fault}
 use Rattle.clap.specs.Kinds.{check_kinds}
-use Rattle.amihunk.proofs.CommandLineRowLemmas.{AllFilling, Filled, or_else-nil, filled-settled, filled-walk, is_some-first_of}
-use Rattle.amihunk.specs.CommandLine.{IsCalled, IsWhole, bare_shape, command_line, file_shape, load_shape}
-use Rattle.amihunk.specs.CommandLine.IsWhole.{load, check, show}
-
--- ---- defaults
-
-abbrev HasNoDefaults : List Rule → Type 0
-HasNoDefaults [] = ⊤
-HasNoDefaults (a ∷ rest) = (a.defaults ≡ []) × HasNoDefaults rest
-
-with_default-none : (rows : List Row) (a : Rule) → a.defaults ≡ [] → with_default rows a ≡ rows
-with_default-none rows a none = rw none (go (has_row a.id rows))
-  where
-    go : (b : Bool) → cond b rows rows ≡ rows
-    go true = refl
-    go false = refl
-
-fold-with_default : (c : List Rule) (rows : List Row) → HasNoDefaults c → fold with_default rows c ≡ rows
-fold-with_default [] rows h = refl
-fold-with_default (a ∷ rest) rows h = ap (λ r. fold with_default r rest) (with_default-none rows a h.0) ∙ fold-with_default rest rows h.1
+use Rattle.amihunk.proofs.CommandLineUseLemmas.{AllDefaulting, Filled, filled-defaults, IsDefaulted, flag_read, has_row-defaults, or_else-nil, value_given, values_given}
+use Rattle.amihunk.proofs.CommandLineRowLemmas.{AllFilling, filled-settled, filled-walk}
+use Rattle.amihunk.specs.CommandLine.{IsCalled, IsWhole, bare_shape, command_line, file_shape, image_shape, link_shape, load_shape}
+use Rattle.amihunk.specs.CommandLine.IsWhole.{link, load, image, check, show}
 
 -- ---- one level
 
@@ -36,16 +20,16 @@ record IsRight (s : Shape) (words : List Text) : Type 0 where
   filled : Filled (rows_after s.rules [] words)
   checked : check_fault s (rows_after s.rules [] words) false ≡ []
 
-right_where_faultless : (s : Shape) (words : List Text) → AllFilling s.rules → HasNoDefaults s.rules
+right_where_faultless : (s : Shape) (words : List Text) → AllFilling s.args_override_self s.rules → AllDefaulting s.rules
     → level_fault s [] nothing_held words false [] ≡ [] → IsRight s words
-right_where_faultless s words all none e =
+right_where_faultless s words all defaults e =
     let end = (walk s.rules [] nothing_held words).held in
     let walked_well = or_else-nil (walk_fault s [] (walk_from nothing_held) words) _ e in
     let settled_well = or_else-nil (settle_fault s.rules s.args_override_self end) _ walked_well.1 in
     let checked_well = or_else-nil (defaults_fault (settled s.rules end).rows s.rules) _ settled_well.1 in
     let held : Filled end.rows = filled-walk s [] words (walk_from nothing_held) all walked_well.0 tt in
     record {
-      filled = subst Filled (sym (fold-with_default s.rules (settled s.rules end).rows none))
+      filled = filled-defaults s.rules (settled s.rules end).rows defaults
           (filled-settled s.rules s.args_override_self end all settled_well.0 held);
       checked = checked_well.1;
     }
@@ -60,19 +44,17 @@ first_shape (s ∷ rest) = s
 abbrev pub built_below : Shape → Shape
 built_below s = first_shape (built (with_subcommand (record { top = bare_shape; subs = [] }) s)).subs
 
+abbrev pub built_link : Shape
+built_link = built_below link_shape
+
 abbrev pub built_load : Shape
 built_load = built_below load_shape
 
+abbrev pub built_image : Shape
+built_image = built_below image_shape
+
 abbrev pub built_file : Text → Shape
 built_file name = built_below (file_shape name)
-
--- an argument that was used has a value
-value_given : (id : Text) (rows : List Row) → Filled rows → is_given id rows ≡ true → (value : Text) × (first_of id rows ≡ Some value)
-value_given id rows filled given = go (first_of id rows) refl (is_some-first_of id rows filled given)
-  where
-    go : (o : Option Text) → first_of id rows ≡ o → is_some o ≡ true → (value : Text) × (first_of id rows ≡ Some value)
-    go None is has = cc
-    go (Some value) is has = (value, is)
 
 -- where nothing is wrong with the arguments of the subcommand, it is whole
 abbrev IsSound : Shape → Type 0
@@ -82,18 +64,54 @@ abbrev AllSound : List Shape → Type 0
 AllSound [] = ⊤
 AllSound (s ∷ rest) = IsSound s × AllSound rest
 
--- `load`
+-- a subcommand with two required arguments
 
-both_given : (at of : Bool) → check_kinds false false (not at || (not of || false)) ≡ [] → (at ≡ true) × (of ≡ true)
+both_given : (a b : Bool) → check_kinds false false (not a || (not b || false)) ≡ [] → (a ≡ true) × (b ≡ true)
 both_given true true e = (refl, refl)
 both_given true false e = cc
-both_given false of e = cc
+both_given false b e = cc
 
-load_filling : AllFilling built_load.rules
-load_filling = (inr (refl, omega arith), (inr (refl, omega arith), (inl refl, tt)))
+-- `link`
 
-load_defaults : HasNoDefaults built_load.rules
-load_defaults = (refl, (refl, (refl, tt)))
+link_filling : AllFilling false built_link.rules
+link_filling = (
+  inr (inl (inl refl, (omega arith, refl))),
+  (
+    inr (inr (record { action_is = refl; range_is = refl; missing_is = refl; reading_is = refl }, refl)),
+    (inr (inl (inr refl, (omega arith, refl))), (inl refl, tt)),
+  ),
+)
+
+link_defaults : AllDefaulting built_link.rules
+link_defaults = (inl refl, (inr (refl, refl), (inl refl, (inl refl, tt))))
+
+-- `--strip` has a row, by its default
+strip_defaulted : IsDefaulted (codes "strip") built_link.rules
+strip_defaulted = inr (inl (record { id_is = refl; first = codes "false"; others = []; defaults_are = refl }))
+
+sound_link : IsSound built_link
+sound_link words e =
+    let rows = rows_after built_link.rules [] words in
+    let right = right_where_faultless built_link words link_filling link_defaults e in
+    let given = both_given (is_given (codes "out") rows) (is_given (codes "file") rows) right.checked in
+    let out = value_given (codes "out") rows right.filled given.0 in
+    let files = values_given (codes "file") rows right.filled given.1 in
+    let end = (walk built_link.rules [] nothing_held words).held in
+    let flag = flag_read rows right.filled (has_row-defaults (codes "strip") built_link.rules (settled built_link.rules end).rows strip_defaulted) in
+    link out.0 flag.0 files.0 (record {
+      of_files = record { rows = rows; called = refl; files_are = files.2; some = files.1 };
+      out_is = out.1;
+      strip_is = flag.1.given_is;
+      flag_is = flag.1.read_is;
+    })
+
+-- `load`
+
+load_filling : AllFilling false built_load.rules
+load_filling = (inr (inl (inl refl, (omega arith, refl))), (inr (inl (inl refl, (omega arith, refl))), (inl refl, tt)))
+
+load_defaults : AllDefaulting built_load.rules
+load_defaults = (inl refl, (inl refl, (inl refl, tt)))
 
 sound_load : IsSound built_load
 sound_load words e =
@@ -104,17 +122,37 @@ sound_load words e =
     let file = value_given (codes "file") rows right.filled given.1 in
     load list.0 file.0 (record { of_file = record { rows = rows; called = refl; file_is = file.1 }; list_is = list.1 })
 
+-- `image`
+
+image_filling : AllFilling false built_image.rules
+image_filling = (inr (inl (inl refl, (omega arith, refl))), (inr (inl (inr refl, (omega arith, refl))), (inl refl, tt)))
+
+image_defaults : AllDefaulting built_image.rules
+image_defaults = (inl refl, (inl refl, (inl refl, tt)))
+
+sound_image : IsSound built_image
+sound_image words e =
+    let rows = rows_after built_image.rules [] words in
+    let right = right_where_faultless built_image words image_filling image_defaults e in
+    let given = both_given (is_given (codes "at") rows) (is_given (codes "file") rows) right.checked in
+    let list = value_given (codes "at") rows right.filled given.0 in
+    let files = values_given (codes "file") rows right.filled given.1 in
+    image list.0 files.0 (record {
+      of_files = record { rows = rows; called = refl; files_are = files.2; some = files.1 };
+      list_is = list.1;
+    })
+
 -- a subcommand whose only argument is FILE
 
 one_given : (of : Bool) → check_kinds false false (not of || false) ≡ [] → of ≡ true
 one_given true e = refl
 one_given false e = cc
 
-file_filling : (name : Text) → AllFilling (built_file name).rules
-file_filling name = (inr (refl, omega arith), (inl refl, tt))
+file_filling : (name : Text) → AllFilling false (built_file name).rules
+file_filling name = (inr (inl (inl refl, (omega arith, refl))), (inl refl, tt))
 
-file_defaults : (name : Text) → HasNoDefaults (built_file name).rules
-file_defaults name = (refl, (refl, tt))
+file_defaults : (name : Text) → AllDefaulting (built_file name).rules
+file_defaults name = (inl refl, (inl refl, tt))
 
 called_file : (name : Text) (words : List Text) → level_fault (built_file name) [] nothing_held words false [] ≡ []
     → (file : Text) × IsCalled (Some (rows_at (built_file name) words)) name file
@@ -167,7 +205,7 @@ whole_where_entered : (stop : Option (Text × List Text)) (rows : List Row) → 
     → check_fault line.top rows (is_some (entered line stop)) ≡ [] → IsWhole (entered line stop)
 whole_where_entered None rows below checked = absurd (asked_for rows checked)
 whole_where_entered (Some p) rows below checked =
-    whole_where_found (λ s. answers_to p.0 (label_of s)) p.1 rows line.subs (sound_load, (sound_check, (sound_show, tt))) below checked
+    whole_where_found (λ s. answers_to p.0 (label_of s)) p.1 rows line.subs (sound_link, (sound_load, (sound_image, (sound_check, (sound_show, tt))))) below checked
 
 pub whole_where_faultless : (words : List Text) → fault_of command_line words ≡ [] → IsWhole (subcommand_of command_line words)
 whole_where_faultless words e =

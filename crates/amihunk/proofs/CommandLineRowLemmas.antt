@@ -1,99 +1,38 @@
--- If nothing is wrong with the arguments, each row of their matches has a value.
-use Rattle.std.proofs.Common.{◌≡◌, ◌⊎◌, ◌≤◌, ◌&&◌, ℕ, zero, suc, Bool, true, false, cond, refl, subst, inl, inr, arith, List, [], ◌∷◌, ◌++◌, length, length-append, lt-ltb, drop, Option, Some, None, is_some}
+-- If nothing is wrong with the words, the walk over them keeps each row filled.
+use Rattle.std.proofs.Common.{◌≡◌, ◌&&◌, ℕ, zero, suc, Bool, true, false, cond, refl, subst, List, [], ◌∷◌, length, drop, Option, Some, None, is_some}
 use Rattle.std.specs.Prelude.{⊤, encode_utf8, find, fold, slice_get, if◌then◌else◌}
-use Rattle.std.specs.Option.{option_and_then, option_map_or}
+use Rattle.std.specs.Option.{option_map_or}
 use Rattle.std.specs.Str.{bytes_eq, chars}
 use Rattle.clap.specs.Lexer.{long_of, short_of}
-use Rattle.clap.specs.Facts.{explicit_source, unwrap_or_range}
-use Rattle.clap.specs.Kinds.{Kinds, or_else, range_kinds}
-use Rattle.clap.specs.Walk.{Held, Names, Outcome, Row, Rule, Step, Text, Waiting, Walk, action_of, after_flag, after_step, arg_by_id, arg_by_index, arg_by_long, arg_by_short, at_row, attached_value, bundle_met, bundle_step, first_of, flag_met, idle, long_met, long_or_other, more_values, most_values, next, option, option_met, option_word, plain, plain_word, positional, positional_held, reacted, reading_by, settled, settled_rows, short_met, short_or_plain, subcommand, subcommand_met, subcommand_or_other, to_positional, trailing, used, used_by_id, value, values_or_missing, waits, walked, walked_from, with_values, without, word_met, done, refused, is_pending, takes_several, takes_values}
+use Rattle.clap.specs.Kinds.{Kinds, or_else}
+use Rattle.clap.specs.Walk.{Held, Names, Outcome, Rule, Step, Text, Waiting, Walk, after_flag, after_step, arg_by_id, arg_by_index, arg_by_long, arg_by_short, attached_value, bundle_met, bundle_step, flag_met, idle, long_met, long_or_other, next, option, option_met, option_word, plain, plain_word, positional, positional_held, reacted, settled, settled_rows, short_met, short_or_plain, subcommand, subcommand_met, subcommand_or_other, to_positional, trailing, used_by_id, value, waits, walked, walked_from, word_met, done, refused, is_pending, takes_several, takes_values}
 use Rattle.clap.specs.Simple.{Shape}
-use Rattle.clap.specs.Takes.{is_given}
 use Rattle.clap.specs.Faults.{bundle_fault, bundle_step_fault, flag_word_fault, flags_fault, long_fault, option_fault, other_fault, positional_fault, react_fault, settle_fault, short_fault, step_fault, stray_fault, turn_fault, use_fault, walk_fault, word_fault}
-use Rattle.clap.specs.declared.ArgAction.TheVariants.{Help, Set}
-use Rattle.clap.specs.declared.builder.value_parser.Reading.{Reading}
-use Rattle.clap.specs.declared.parser.matches.ValueSource.{ValueSource}
-use Rattle.clap.specs.declared.parser.matches.ValueSource.TheVariants.{CommandLine}
 use Rattle.clap.specs.declared.error.ErrorKind.TheVariants.{TooManyValues}
+use Rattle.amihunk.proofs.CommandLineUseLemmas.{Filled, IsFilling, filled-used, or_else-nil}
 
--- each row has a value
-abbrev pub Filled : List Row → Type 0
-Filled [] = ⊤
-Filled (r ∷ rs) = (1 ≤ length r.values) × Filled rs
+-- each argument is filling
+abbrev pub AllFilling : Bool → List Rule → Type 0
+AllFilling again [] = ⊤
+AllFilling again (a ∷ rest) = IsFilling again a × AllFilling again rest
 
--- a use of the argument asks for help, or has at least one value
-abbrev pub IsFilling : Rule → Type 0
-IsFilling a = (action_of a ≡ Help) ⊎ ((action_of a ≡ Set) × (1 ≤ (unwrap_or_range a.range).start_inclusive))
-
-abbrev pub AllFilling : List Rule → Type 0
-AllFilling [] = ⊤
-AllFilling (a ∷ rest) = IsFilling a × AllFilling rest
-
-pub or_else-nil : (xs ys : Kinds) → or_else xs ys ≡ [] → (xs ≡ []) × (ys ≡ [])
-or_else-nil [] ys e = (refl, e)
-or_else-nil (x ∷ xs) ys e = cc
-
-find-filling : (p : Rule → Bool) (c : List Rule) (a : Rule) → AllFilling c → find p c ≡ Some a → IsFilling a
-find-filling p [] a all found = cc
-find-filling p (x ∷ xs) a all found = go (p x) found (find-filling p xs a all.1)
+find-filling : (again : Bool) (p : Rule → Bool) (c : List Rule) (a : Rule) → AllFilling again c → find p c ≡ Some a → IsFilling again a
+find-filling again p [] a all found = cc
+find-filling again p (x ∷ xs) a all found = go (p x) found (find-filling again p xs a all.1)
   where
-    go : (b : Bool) → cond b (Some x) (find p xs) ≡ Some a → (find p xs ≡ Some a → IsFilling a) → IsFilling a
-    go true e rest = let same : x ≡ a = cc in subst IsFilling same all.0
+    go : (b : Bool) → cond b (Some x) (find p xs) ≡ Some a → (find p xs ≡ Some a → IsFilling again a) → IsFilling again a
+    go true e rest = let same : x ≡ a = cc in subst (IsFilling again) same all.0
     go false e rest = rest e
-
--- ---- rows
-
-filled-append : (xs ys : List Row) → Filled xs → Filled ys → Filled (xs ++ ys)
-filled-append [] ys h k = k
-filled-append (x ∷ xs) ys h k = (h.0, filled-append xs ys h.1 k)
-
-filled-at_row : (id : Text) (change : Row → List Row) (missing : List Row) → ((r : Row) → 1 ≤ length r.values → Filled (change r))
-    → Filled missing → (rows : List Row) → Filled rows → Filled (at_row id change missing rows)
-filled-at_row id change missing changed none [] h = none
-filled-at_row id change missing changed none (r ∷ rs) h = go (bytes_eq r.id id) (filled-at_row id change missing changed none rs h.1)
-  where
-    go : (b : Bool) → Filled (at_row id change missing rs) → Filled (cond b (change r ++ rs) (r ∷ at_row id change missing rs))
-    go true rest = filled-append (change r) rs (changed r h.0) h.1
-    go false rest = (h.0, rest)
-
-filled-with_values : (id : Text) (how : Reading) (source : ValueSource) (values : List Text) (rows : List Row) → 1 ≤ length values
-    → Filled rows → Filled (with_values id how source values rows)
-filled-with_values id how source values rows some h =
-    let first : Row = record { id = id; values = values; count = None; source = Some source; reading = how } in
-    let more : (r : Row) → 1 ≤ length r.values → Filled (more_values source values r) =
-    λ r full. (rw length-append (omega arith), tt) in
-    filled-at_row id (more_values source values) (first ∷ []) more (some, tt) rows h
-
-value_needed : (least most n : ℕ) → 1 ≤ least → range_kinds least most n ≡ [] → 1 ≤ n
-value_needed least most zero h e =
-    let positive = lt-ltb 0 least h in
-    let bad = rw positive at e in
-    cc
-value_needed least most (suc n) h e = omega arith
-
-values_needed : (a : Rule) (values : List Text) → 1 ≤ length values → 1 ≤ length (values_or_missing a values)
-values_needed a [] h = absurd (omega arith)
-values_needed a (v ∷ vs) h = h
-
-filled-used : (again : Bool) (a : Rule) (values : List Text) (rows : List Row) → IsFilling a → use_fault again a values rows ≡ []
-    → Filled rows → Filled (used a values rows)
-filled-used again a values rows (inl help) e h = rw help h
-filled-used again a values rows (inr set) e h =
-    let wanted = (unwrap_or_range a.range).start_inclusive in
-    let some : 1 ≤ length values = value_needed wanted (most_values a) (length values) set.1 (or_else-nil _ _ e).0 in
-    let given : 1 ≤ length (values_or_missing a values) = values_needed a values some in
-    let bare : Filled (without a.id rows) = filled-at_row a.id (λ _. []) [] (λ r full. tt) tt rows h in
-    rw set.0 (filled-with_values a.id (reading_by a) CommandLine (values_or_missing a values) (without a.id rows) given bare)
 
 -- ---- what is held
 
-pub filled-settled : (c : List Rule) (again : Bool) (h : Held) → AllFilling c → settle_fault c again h ≡ [] → Filled h.rows → Filled (settled c h).rows
+pub filled-settled : (c : List Rule) (again : Bool) (h : Held) → AllFilling again c → settle_fault c again h ≡ [] → Filled h.rows → Filled (settled c h).rows
 filled-settled c again h all e full = go h.pending e
   where
     met : (p : Text × List Text) (o : Option Rule) → arg_by_id c p.0 ≡ o → option_map_or (λ a. use_fault again a p.1 h.rows) o [] ≡ []
         → Filled (used_by_id o p.1 h.rows)
     met p None is fault = full
-    met p (Some a) is fault = filled-used again a p.1 h.rows (find-filling _ c a all is) fault full
+    met p (Some a) is fault = filled-used again a p.1 h.rows (find-filling again _ c a all is) fault full
 
     go : (pending : Option (Text × List Text))
         → option_map_or (λ p. option_map_or (λ a. use_fault again a p.1 h.rows) (arg_by_id c p.0) []) pending [] ≡ []
@@ -101,24 +40,24 @@ filled-settled c again h all e full = go h.pending e
     go None fault = full
     go (Some p) fault = met p (arg_by_id c p.0) refl fault
 
-filled-reacted : (c : List Rule) (again : Bool) (a : Rule) (values : List Text) (h : Held) → AllFilling c → IsFilling a
+filled-reacted : (c : List Rule) (again : Bool) (a : Rule) (values : List Text) (h : Held) → AllFilling again c → IsFilling again a
     → react_fault c again a values h ≡ [] → Filled h.rows → Filled (reacted c a values h).rows
 filled-reacted c again a values h all filling e full =
     let parts = or_else-nil (settle_fault c again h) (use_fault again a values (settled c h).rows) e in
     filled-used again a values (settled c h).rows filling parts.1 (filled-settled c again h all parts.0 full)
 
-filled-option_met : (c : List Rule) (again : Bool) (a : Rule) (v : Option Text) (h : Held) → AllFilling c → IsFilling a
+filled-option_met : (c : List Rule) (again : Bool) (a : Rule) (v : Option Text) (h : Held) → AllFilling again c → IsFilling again a
     → option_fault c again a v h ≡ [] → Filled h.rows → Filled (option_met c a v h).0.rows
 filled-option_met c again a (Some v) h all filling e full = filled-reacted c again a (v ∷ []) h all filling e full
 filled-option_met c again a None h all filling e full = filled-settled c again h all e full
 
-filled-flag_met : (c : List Rule) (again : Bool) (a : Rule) (v : Option Text) (h : Held) → AllFilling c → IsFilling a
+filled-flag_met : (c : List Rule) (again : Bool) (a : Rule) (v : Option Text) (h : Held) → AllFilling again c → IsFilling again a
     → (if is_some v then TooManyValues ∷ [] else react_fault c again a [] h) ≡ [] → Filled h.rows → Filled (flag_met c a v h).0.rows
 filled-flag_met c again a (Some v) h all filling e full = full
 filled-flag_met c again a None h all filling e full = filled-reacted c again a [] h all filling e full
 
-filled-long_met : (c : List Rule) (again : Bool) (o : Option Rule) (v : Option Text) (h : Held) → AllFilling c
-    → ((a : Rule) → o ≡ Some a → IsFilling a) → long_fault c again o v h ≡ [] → Filled h.rows → Filled (long_met c o v h).0.rows
+filled-long_met : (c : List Rule) (again : Bool) (o : Option Rule) (v : Option Text) (h : Held) → AllFilling again c
+    → ((a : Rule) → o ≡ Some a → IsFilling again a) → long_fault c again o v h ≡ [] → Filled h.rows → Filled (long_met c o v h).0.rows
 filled-long_met c again None v h all filling e full = full
 filled-long_met c again (Some a) v h all filling e full = go (takes_values a) e
   where
@@ -134,8 +73,8 @@ abbrev KeepsFilled : (Text → ℕ → Outcome → Held → Held × Outcome) →
 KeepsFilled step fault = (t : Text) (n : ℕ) (s : Outcome) (g : Held) → fault t n g ≡ [] → Filled g.rows → Filled (step t n s g).0.rows
 
 filled-short_met : (c : List Rule) (again : Bool) (o : Option Rule) (rest : Text) (h : Held)
-    (step : Text → ℕ → Outcome → Held → Held × Outcome) (fault : Text → ℕ → Held → Kinds) → KeepsFilled step fault → AllFilling c
-    → ((a : Rule) → o ≡ Some a → IsFilling a) → short_fault c again o rest h (fault rest 0) ≡ [] → Filled h.rows
+    (step : Text → ℕ → Outcome → Held → Held × Outcome) (fault : Text → ℕ → Held → Kinds) → KeepsFilled step fault → AllFilling again c
+    → ((a : Rule) → o ≡ Some a → IsFilling again a) → short_fault c again o rest h (fault rest 0) ≡ [] → Filled h.rows
     → Filled (short_met c o rest h (step rest 0 done)).0.rows
 filled-short_met c again None rest h step fault keeps all filling e full = full
 filled-short_met c again (Some a) rest h step fault keeps all filling e full = go (takes_values a) e
@@ -148,16 +87,16 @@ filled-short_met c again (Some a) rest h step fault keeps all filling e full = g
         keeps rest 0 done (reacted c a [] h) parts.1 (filled-reacted c again a [] h all (filling a refl) parts.0 full)
 
 filled-bundle_step : (c : List Rule) (again : Bool) (o : Option ℕ) (flags : Text) (skip : ℕ) (so_far : Outcome) (h : Held)
-    (step : Text → ℕ → Outcome → Held → Held × Outcome) (fault : Text → ℕ → Held → Kinds) → KeepsFilled step fault → AllFilling c
+    (step : Text → ℕ → Outcome → Held → Held × Outcome) (fault : Text → ℕ → Held → Kinds) → KeepsFilled step fault → AllFilling again c
     → bundle_step_fault c again o flags skip h fault ≡ [] → Filled h.rows → Filled (bundle_step c o flags skip so_far h step).0.rows
 filled-bundle_step c again None flags skip so_far h step fault keeps all e full = full
 filled-bundle_step c again (Some x) flags zero so_far h step fault keeps all e full =
     filled-short_met c again (arg_by_short c x) (drop (length (encode_utf8 x)) flags) h step fault keeps all
-    (λ a found. find-filling _ c a all found) e full
+    (λ a found. find-filling again _ c a all found) e full
 filled-bundle_step c again (Some x) flags (suc skip) so_far h step fault keeps all e full =
     keeps (drop (length (encode_utf8 x)) flags) skip so_far h e full
 
-filled-bundle_met : (c : List Rule) (again : Bool) (k : ℕ) → AllFilling c → KeepsFilled (bundle_met c k) (flags_fault c again k)
+filled-bundle_met : (c : List Rule) (again : Bool) (k : ℕ) → AllFilling again c → KeepsFilled (bundle_met c k) (flags_fault c again k)
 unfolding bundle_met flags_fault
 filled-bundle_met c again zero all flags skip so_far h e full = full
 filled-bundle_met c again (suc k) all flags skip so_far h e full =
@@ -182,12 +121,12 @@ rows-after_flag c waiting word h (waits id) = refl
 rows-after_flag c waiting word h plain = rows-plain_word c waiting word h
 rows-after_flag c waiting word h refused = rows-plain_word c waiting word h
 
-filled-flag_word : (c : List Rule) (again : Bool) (waiting : Waiting) (word : Text) (p : Option (Text × Option Text)) (h : Held) → AllFilling c
+filled-flag_word : (c : List Rule) (again : Bool) (waiting : Waiting) (word : Text) (p : Option (Text × Option Text)) (h : Held) → AllFilling again c
     → flag_word_fault c again p word h ≡ [] → Filled h.rows → Filled (long_or_other c waiting word p h).0.rows
 filled-flag_word c again waiting word (Some p) h all e full =
     let met = long_met c (arg_by_long c p.0) p.1 h in
     rw (rows-after_flag c waiting word met.0 met.1)
-    (filled-long_met c again (arg_by_long c p.0) p.1 h all (λ a found. find-filling _ c a all found) e full)
+    (filled-long_met c again (arg_by_long c p.0) p.1 h all (λ a found. find-filling again _ c a all found) e full)
 filled-flag_word c again waiting word None h all e full = go (short_of word) e
   where
     go : (o : Option Text) → option_map_or (λ flags. bundle_fault c again flags h) o [] ≡ [] → Filled (short_or_plain c waiting word o h).0.rows
@@ -197,7 +136,7 @@ filled-flag_word c again waiting word None h all e full = go (short_of word) e
         rw (rows-after_flag c waiting word met.0 met.1)
         (filled-bundle_met c again (length flags) all flags h.skip plain (record h { skip = 0 }) f full)
 
-filled-other : (s : Shape) (o : Option Text) (waiting : Waiting) (position : ℕ) (word : Text) (h : Held) → AllFilling s.rules
+filled-other : (s : Shape) (o : Option Text) (waiting : Waiting) (position : ℕ) (word : Text) (h : Held) → AllFilling s.args_override_self s.rules
     → other_fault s o word h ≡ [] → Filled h.rows → Filled (subcommand_or_other s.rules o waiting position word h).0.rows
 filled-other s (Some name) waiting position word h all e full = full
 filled-other s None waiting position word h all e full = go (bytes_eq word (45 ∷ 45 ∷ [])) e
@@ -208,7 +147,7 @@ filled-other s None waiting position word h all e full = go (bytes_eq word (45 �
     go false f = filled-flag_word s.rules s.args_override_self waiting word (long_of word) h all f full
 
 filled-word_met : (s : Shape) (names : Names) (is_trailing : Bool) (waiting : Waiting) (position : ℕ) (word : Text) (h : Held)
-    → AllFilling s.rules → word_fault s names is_trailing waiting word h ≡ [] → Filled h.rows
+    → AllFilling s.args_override_self s.rules → word_fault s names is_trailing waiting word h ≡ [] → Filled h.rows
     → Filled (word_met s.rules names is_trailing waiting position word h).0.rows
 filled-word_met s names true waiting position word h all e full = full
 filled-word_met s names false waiting position word h all e full =
@@ -216,7 +155,7 @@ filled-word_met s names false waiting position word h all e full =
 
 -- ---- the walk
 
-filled-positional : (s : Shape) (a : Rule) (word : Text) (h : Held) → AllFilling s.rules
+filled-positional : (s : Shape) (a : Rule) (word : Text) (h : Held) → AllFilling s.args_override_self s.rules
     → positional_fault s.rules s.args_override_self a h ≡ [] → Filled h.rows → Filled (positional_held s.rules a word h).rows
 filled-positional s a word h all e full = go (is_pending a h.pending && takes_several a) e
   where
@@ -224,7 +163,7 @@ filled-positional s a word h all e full = go (is_pending a h.pending && takes_se
     go true f = full
     go false f = filled-settled s.rules s.args_override_self h all f full
 
-filled-after_step : (s : Shape) (word : Text) (w : Walk) (h : Held) (step : Step) → AllFilling s.rules
+filled-after_step : (s : Shape) (word : Text) (w : Walk) (h : Held) (step : Step) → AllFilling s.args_override_self s.rules
     → step_fault s w.position h step ≡ [] → Filled h.rows → Filled (after_step s.rules word w h step).held.rows
 filled-after_step s word w h (next waiting) all e full = full
 filled-after_step s word w h (trailing position) all e full = full
@@ -236,7 +175,7 @@ filled-after_step s word w h value all e full = go (arg_by_index s.rules w.posit
     go None f = full
     go (Some a) f = filled-positional s a word h all f full
 
-filled-walked : (s : Shape) (names : Names) (w : Walk) (word : Text) → AllFilling s.rules → turn_fault s names w word ≡ []
+filled-walked : (s : Shape) (names : Names) (w : Walk) (word : Text) → AllFilling s.args_override_self s.rules → turn_fault s names w word ≡ []
     → Filled w.held.rows → Filled (walked s.rules names w word).held.rows
 unfolding walked
 filled-walked s names w word all e full = go w.stopped e
@@ -253,27 +192,10 @@ filled-walked s names w word all e full = go w.stopped e
         filled-after_step s word w met.0 met.1 all parts.1 (filled-word_met s names w.is_trailing w.waiting w.position word w.held all parts.0 full)
 
 -- a walk with which nothing is wrong keeps each row filled
-pub filled-walk : (s : Shape) (names : Names) (words : List Text) (w : Walk) → AllFilling s.rules → walk_fault s names w words ≡ []
+pub filled-walk : (s : Shape) (names : Names) (words : List Text) (w : Walk) → AllFilling s.args_override_self s.rules → walk_fault s names w words ≡ []
     → Filled w.held.rows → Filled (fold (walked s.rules names) w words).held.rows
 unfolding walk_fault
 filled-walk s names [] w all e full = full
 filled-walk s names (word ∷ rest) w all e full =
     let parts = or_else-nil (turn_fault s names w word) (walk_fault s names (walked s.rules names w word) rest) e in
     filled-walk s names rest (walked s.rules names w word) all parts.1 (filled-walked s names w word all parts.0 full)
-
--- ---- the values of filled rows
-
-first_given : (values : List Text) → 1 ≤ length values → is_some (slice_get values 0) ≡ true
-first_given [] h = absurd (omega arith)
-first_given (v ∷ vs) h = refl
-
--- an argument that was used has a value
-pub is_some-first_of : (id : Text) (rows : List Row) → Filled rows → is_given id rows ≡ true → is_some (first_of id rows) ≡ true
-is_some-first_of id [] full e = cc
-is_some-first_of id (r ∷ rs) full e = go (bytes_eq r.id id) e (is_some-first_of id rs full.1)
-  where
-    go : (b : Bool) → option_map_or (λ (x : Row). explicit_source x.source) (cond b (Some r) (find (λ x. bytes_eq x.id id) rs)) false ≡ true
-        → (is_given id rs ≡ true → is_some (first_of id rs) ≡ true)
-        → is_some (option_and_then (λ (x : Row). slice_get x.values 0) (cond b (Some r) (find (λ x. bytes_eq x.id id) rs))) ≡ true
-    go true f rest = first_given r.values full.0
-    go false f rest = rest f

@@ -16,10 +16,13 @@ pub walk_fault-nil : (s : Shape) (names : Names) (w : Walk) → walk_fault s nam
 unfolding walk_fault
 walk_fault-nil s names w = refl
 
+-- what is wrong with the defaults, or with what is required
+abbrev pub late_fault : Shape → Held → Kinds
+late_fault s end = or_else (defaults_fault (settled s.rules end).rows s.rules) (check_fault s (finished s.rules end) false)
+
 -- what is wrong after the words
 abbrev pub end_fault : Shape → Held → Kinds
-end_fault s end = or_else (settle_fault s.rules s.args_override_self end)
-    (or_else (defaults_fault (settled s.rules end).rows s.rules) (check_fault s (finished s.rules end) false))
+end_fault s end = or_else (settle_fault s.rules s.args_override_self end) (late_fault s end)
 
 pub level_fault-nil : (s : Shape) (words : List Text) (end : Walk) → walk s.rules [] nothing_held words ≡ end
     → walk_fault s [] (walk_from nothing_held) words ≡ [] → end_fault s end.held ≡ []

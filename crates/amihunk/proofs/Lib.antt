@@ -8,3 +8,11 @@ pub mod CommandLineLoadLemmas
 pub mod DevicesLemmas
 pub mod FailureLemmas
 pub mod CommandLineValueLemmas
+pub mod CommandLineUseLemmas
+pub mod CommandLineSubcommandLemmas
+pub mod CommandLineOptionLemmas
+pub mod CommandLineFilesLemmas
+pub mod CommandLineImageLemmas
+pub mod CommandLineLinkLemmas
+pub mod ImageLemmas
+pub mod InputsLemmas

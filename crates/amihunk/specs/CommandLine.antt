@@ -1,26 +1,44 @@
 -- What the arguments of a command line ask for, as `clap` reads them.
-use Rattle.std.specs.Prelude.{◌≡◌, ◌≢◌, ⊤, ◌∷◌, List, [], true, codes, Option, Some}
-use Rattle.clap.specs.Words.{App, IsAmong, Kinds, Row, Rule, Shape, Text, fault_of, first_of}
-use Rattle.clap.specs.Words.{new_app, new_rule, subcommand_of, with_rule, with_subcommand}
+use Rattle.std.specs.Prelude.{◌≡◌, ◌≢◌, ◌<◌, ⊤, ◌∷◌, Bool, List, [], true, codes, if◌then◌else◌, length, Option, Some}
+use Rattle.clap.specs.Lexer.{usize_max}
+use Rattle.clap.specs.Takes.{is_given}
+use Rattle.clap.specs.Values.{bool_text}
+use Rattle.clap.specs.Walk.{texts}
+use Rattle.clap.specs.Words.{App, IsAmong, Kinds, Row, Rule, Shape, Text, all_of, fault_of, first_of}
+use Rattle.clap.specs.Words.{new_app, new_rule, one_of, subcommand_of, with_rule, with_subcommand}
+use Rattle.clap.specs.declared.builder.action.ArgAction.TheVariants.{SetTrue}
 use Rattle.clap.specs.declared.error.ErrorKind.{ErrorKind}
 use Rattle.clap.specs.declared.error.ErrorKind.TheVariants as error
 use Rattle.amihunk.specs.declared.command_line.Request.{Request}
-use Rattle.amihunk.specs.declared.command_line.Request.TheVariants.{Load, Check, Show, Help, Refused, OutOfMemory}
+use Rattle.amihunk.specs.declared.command_line.Request.TheVariants.{Link, Load, Image, Check, Show, Help, Refused, OutOfMemory}
 
--- `--at LIST`, which is required
-abbrev pub list_rule : Rule
-list_rule = record (new_rule (codes "at")) {
-  long = Some (codes "at");
-  value_names = 1;
-  required = true;
-}
+-- `--NAME VALUE`, which is required
+abbrev pub option_rule : Text → Rule
+option_rule name = record (new_rule name) { long = Some name; value_names = 1; required = true }
+
+-- `--strip`
+abbrev pub strip_rule : Rule
+strip_rule = record (new_rule (codes "strip")) { long = Some (codes "strip"); action = Some SetTrue }
 
 -- `FILE`, which is required
 abbrev pub file_rule : Rule
 file_rule = record (new_rule (codes "file")) { value_names = 1; required = true }
 
+-- `FILE...`, at least one of which is required
+abbrev pub files_rule : Rule
+files_rule = record file_rule { range = Some (record { start_inclusive = 1; end_inclusive = usize_max }) }
+
+-- `link --out OUT [--strip] FILE...`
+abbrev pub link_shape : Shape
+link_shape = (with_rule (with_rule (with_rule (new_app (codes "link")) (option_rule (codes "out"))) strip_rule) files_rule).top
+
+-- `load --at LIST FILE`
 abbrev pub load_shape : Shape
-load_shape = (with_rule (with_rule (new_app (codes "load")) list_rule) file_rule).top
+load_shape = (with_rule (with_rule (new_app (codes "load")) (option_rule (codes "at"))) file_rule).top
+
+-- `image --at LIST FILE...`
+abbrev pub image_shape : Shape
+image_shape = (with_rule (with_rule (new_app (codes "image")) (option_rule (codes "at"))) files_rule).top
 
 -- the program, which requires a subcommand, and has none called `help`
 abbrev pub bare_shape : Shape
@@ -34,7 +52,8 @@ abbrev pub file_shape : Text → Shape
 file_shape name = (with_rule (new_app name) file_rule).top
 
 abbrev pub command_line : App
-command_line = with_subcommand (with_subcommand (with_subcommand (record { top = bare_shape; subs = [] }) load_shape)
+command_line = with_subcommand (with_subcommand (with_subcommand (with_subcommand (with_subcommand
+    (record { top = bare_shape; subs = [] }) link_shape) load_shape) image_shape)
     (file_shape (codes "check"))) (file_shape (codes "show"))
 
 -- a subcommand's name, and what was found for its arguments
@@ -47,27 +66,53 @@ pub record IsCalled (met : Met) (name file : Text) : Type 0 where
   pub called : met ≡ Some (name, rows)
   pub file_is : first_of (codes "file") rows ≡ Some file
 
+-- the subcommand has this name, and its files are these, of which there is at least one
+pub record IsCalledOn (met : Met) (name : Text) (files : List Text) : Type 0 where
+  pub rows : List Row
+  pub called : met ≡ Some (name, rows)
+  pub files_are : all_of (codes "file") rows ≡ Some files
+  pub some : 0 < length files
+
+-- the subcommand is `link`, with this OUT and these files; strip says whether `--strip` was given,
+-- and is what `clap` reads of the flag
+pub record IsLink (met : Met) (out : Text) (strip : Bool) (files : List Text) : Type 0 where
+  pub of_files : IsCalledOn met (codes "link") files
+  pub out_is : first_of (codes "out") of_files.rows ≡ Some out
+  pub strip_is : is_given (codes "strip") of_files.rows ≡ strip
+  pub flag_is : one_of (codes "strip") of_files.rows ≡ Some (bool_text strip)
+
 -- the subcommand is `load`, with this LIST and this FILE
 pub record IsLoad (met : Met) (list file : Text) : Type 0 where
   pub of_file : IsCalled met (codes "load") file
   pub list_is : first_of (codes "at") of_file.rows ≡ Some list
 
+-- the subcommand is `image`, with this LIST and these files
+pub record IsImage (met : Met) (list : Text) (files : List Text) : Type 0 where
+  pub of_files : IsCalledOn met (codes "image") files
+  pub list_is : first_of (codes "at") of_files.rows ≡ Some list
+
 -- the subcommand is one of the program's, with its required values
 pub data IsWhole (met : Met) : Type 0 where
+  link : (out : Text) (strip : Bool) (files : List Text) → IsLink met out strip files → IsWhole met
   load : (list file : Text) → IsLoad met list file → IsWhole met
+  image : (list : Text) (files : List Text) → IsImage met list files → IsWhole met
   check : (file : Text) → IsCalled met (codes "check") file → IsWhole met
   show : (file : Text) → IsCalled met (codes "show") file → IsWhole met
 
 -- the request matches what was found
 abbrev pub Says : Met → Request → Type 0
+Says met (Link out strip files) = IsLink met out.now strip (texts files.items)
 Says met (Load list file) = IsLoad met list.now file.now
+Says met (Image list files) = IsImage met list.now (texts files.items)
 Says met (Check file) = IsCalled met (codes "check") file.now
 Says met (Show file) = IsCalled met (codes "show") file.now
 Says met _ = ⊥
 
 -- the request for arguments that `clap` rejects with this kind of error
 abbrev pub Answers : ErrorKind → Request → Type 0
+Answers k (Link out strip files) = ⊥
 Answers k (Load list file) = ⊥
+Answers k (Image list files) = ⊥
 Answers k (Check file) = ⊥
 Answers k (Show file) = ⊥
 Answers k (Help text) = k ≡ error.DisplayHelp
@@ -83,8 +128,12 @@ pub record IsRefusedBy (kinds : Kinds) : Type 0 where
 -- what the arguments ask for: the subcommand that they name if nothing is wrong with them, help if
 -- they ask for it, a rejection if something is wrong; nothing is said if memory runs out
 abbrev pub IsAskedBy : List Text → Request → Type 0
+IsAskedBy words (Link out strip files) = (fault_of command_line words ≡ [])
+    × IsLink (subcommand_of command_line words) out.now strip (texts files.items)
 IsAskedBy words (Load list file) = (fault_of command_line words ≡ [])
     × IsLoad (subcommand_of command_line words) list.now file.now
+IsAskedBy words (Image list files) = (fault_of command_line words ≡ [])
+    × IsImage (subcommand_of command_line words) list.now (texts files.items)
 IsAskedBy words (Check file) = (fault_of command_line words ≡ [])
     × IsCalled (subcommand_of command_line words) (codes "check") file.now
 IsAskedBy words (Show file) = (fault_of command_line words ≡ [])
@@ -106,19 +155,41 @@ abbrev pub IsNoFlag : Text → Type 0
 IsNoFlag [] = ⊤
 IsNoFlag (c ∷ rest) = c ≢ 45
 
+-- the arguments `PROGRAM link --out OUT FILE...`, with `--strip` after OUT if strip is true
+abbrev pub link_line : Text → Bool → Text → List Text → List Text
+link_line program strip out files =
+    program ∷ codes "link" ∷ codes "--out" ∷ out ∷ (if strip then codes "--strip" ∷ files else files)
+
 -- the arguments `PROGRAM load --at LIST FILE`
 abbrev pub load_line : Text → Text → Text → List Text
 load_line program list file = program ∷ codes "load" ∷ codes "--at" ∷ list ∷ file ∷ []
 
+-- the arguments `PROGRAM image --at LIST FILE...`
+abbrev pub image_line : Text → Text → List Text → List Text
+image_line program list files = program ∷ codes "image" ∷ codes "--at" ∷ list ∷ files
+
 -- the arguments `PROGRAM NAME FILE`
 abbrev pub file_line : Text → Text → Text → List Text
 file_line program name file = program ∷ name ∷ file ∷ []
+
+-- the request is `link` with this OUT, with a strip or without, and with these files in this order;
+-- or memory ran out
+abbrev pub AsksLink : Text → Bool → List Text → Request → Type 0
+AsksLink out strip files (Link o s fs) = (o.now ≡ out) × (s ≡ strip) × (texts fs.items ≡ files)
+AsksLink out strip files OutOfMemory = ⊤
+AsksLink out strip files _ = ⊥
 
 -- the request is `load` with this LIST and this FILE, or memory ran out
 abbrev pub AsksLoad : Text → Text → Request → Type 0
 AsksLoad list file (Load l f) = (l.now ≡ list) × (f.now ≡ file)
 AsksLoad list file OutOfMemory = ⊤
 AsksLoad list file _ = ⊥
+
+-- the request is `image` with this LIST and these files in this order, or memory ran out
+abbrev pub AsksImage : Text → List Text → Request → Type 0
+AsksImage list files (Image l fs) = (l.now ≡ list) × (texts fs.items ≡ files)
+AsksImage list files OutOfMemory = ⊤
+AsksImage list files _ = ⊥
 
 -- the request is `check` with this FILE, or memory ran out
 abbrev pub AsksCheck : Text → Request → Type 0

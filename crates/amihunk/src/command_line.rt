@@ -1,26 +1,46 @@
 //! The arguments of the command line, as `clap` reads them.
-ghost use Rattle.std.specs.Prelude.{◌≡◌, ℕ, IfOk, List, Some, codes, false, is_some, map, true};
-ghost use Rattle.clap.specs.Words.{FailsBy, app_of, fault_of, first_of, found_of, kind_of, rows_of};
+ghost use Rattle.std.specs.Prelude.{◌≡◌, ◌<◌, ℕ, All, Bool, IfOk, List, Some, codes, false, is_some, length, map, true};
+ghost use Rattle.clap.specs.Walk.{texts};
+ghost use Rattle.clap.specs.Words.{FailsBy, all_of, app_of, fault_of, first_of, found_of, kind_of, rows_of};
 ghost use Rattle.clap.specs.Words.{rule_of, shape_of, subcommand_of, subcommand_rows_of};
 ghost use Rattle.clap.specs.declared.builder.command.Command.TheViews.{out-Command};
-ghost use Rattle.amihunk.specs.CommandLine.{Answers, AsksCheck, AsksLoad, AsksShow, IsAskedBy, IsNoFlag};
-ghost use Rattle.amihunk.specs.CommandLine.{IsRefusal, IsWhole, Says, command_line, file_line, file_rule, file_shape};
-ghost use Rattle.amihunk.specs.CommandLine.{load_line, load_shape};
+ghost use Rattle.amihunk.specs.CommandLine.{Answers, AsksCheck, AsksImage, AsksLink, AsksLoad, AsksShow, IsAskedBy};
+ghost use Rattle.amihunk.specs.CommandLine.{IsNoFlag, IsRefusal, IsWhole, Says, command_line, file_line, file_rule};
+ghost use Rattle.amihunk.specs.CommandLine.{file_shape, files_rule, image_line, image_shape, link_line, link_shape};
+ghost use Rattle.amihunk.specs.CommandLine.{load_line, load_shape, option_rule};
 
 use clap::error::ErrorKind;
-use clap::{Arg, ArgMatches, Command, Error};
+use clap::{Arg, ArgAction, ArgMatches, Command, Error};
 use std::alloc::{AllocError, Global};
 use std::convert::AsStr;
 
 /// What the arguments of the command line ask for.
 #[derive(Debug, Drop)]
 pub enum Request<'a> {
+    /// `link --out OUT [--strip] FILE...`: the load file of the object files FILE..., written to
+    /// OUT.
+    Link {
+        /// The argument OUT.
+        out: &'a str,
+        /// Whether `--strip` is given.
+        strip: bool,
+        /// The arguments FILE..., in the order given, of which there is at least one.
+        files: Vec<&'a str>,
+    },
     /// `load --at LIST FILE`: the report of FILE, loaded at the addresses in LIST.
     Load {
         /// The argument LIST, not yet parsed.
         list: &'a str,
         /// The argument FILE.
         file: &'a str,
+    },
+    /// `image --at LIST FILE...`: the report of the memory that the object files FILE... define at
+    /// the addresses in LIST.
+    Image {
+        /// The argument LIST, not yet parsed.
+        list: &'a str,
+        /// The arguments FILE..., in the order given, of which there is at least one.
+        files: Vec<&'a str>,
     },
     /// `check FILE`: one line about FILE.
     Check {
@@ -43,9 +63,15 @@ pub enum Request<'a> {
 /// Reads the arguments of a command line, the first of which is the program's name.
 pub fn read_words<'a, S: AsStr>(alloc: Global, words: &'a [S]) -> Request<'a>
     ensures answer { IsAskedBy (map S.text words.entry.now) result }
+    ensures link { (program : List ℕ) (strip : Bool) (out : List ℕ) (files : List (List ℕ))
+        → map S.text words.entry.now ≡ link_line program strip out files
+        → IsNoFlag out → 0 < length files → All IsNoFlag files → AsksLink out strip files result }
     ensures load { (program list file : List ℕ)
         → map S.text words.entry.now ≡ load_line program list file
         → IsNoFlag list → IsNoFlag file → AsksLoad list file result }
+    ensures image { (program list : List ℕ) (files : List (List ℕ))
+        → map S.text words.entry.now ≡ image_line program list files
+        → IsNoFlag list → 0 < length files → All IsNoFlag files → AsksImage list files result }
     ensures check { (program file : List ℕ)
         → map S.text words.entry.now ≡ file_line program (codes "check") file
         → IsNoFlag file → AsksCheck file result }
@@ -54,7 +80,7 @@ pub fn read_words<'a, S: AsStr>(alloc: Global, words: &'a [S]) -> Request<'a>
         → IsNoFlag file → AsksShow file result }
 {
     match matches_of(alloc, words) {
-        Ok(matches) => request_of(&matches),
+        Ok(matches) => request_of(alloc, &matches).unwrap_or(Request::OutOfMemory),
         Err(error) => answer_to(alloc, &error),
     }
 }
@@ -93,9 +119,28 @@ fn command<'a>(alloc: Global) -> Result<Command<'a>, AllocError>
         .about("An Amiga hunk linker and loader")
         .disable_help_subcommand(true)
         .subcommand_required(true)
+        .subcommand(link_command(alloc)?)?
         .subcommand(load_command(alloc)?)?
+        .subcommand(image_command(alloc)?)?
         .subcommand(check_command(alloc)?)?
         .subcommand(show_command(alloc)?)
+}
+
+/// The subcommand `link --out OUT [--strip] FILE...`.
+fn link_command<'a>(alloc: Global) -> Result<Command<'a>, AllocError>
+    ensures shape { IfOk result (λ c. shape_of c ≡ link_shape) }
+    ensures local { IfOk result (λ c. (out-Command c).has_globals ≡ false) }
+{
+    let strip = Arg::new(alloc, "strip")
+        .long("strip")
+        .action(ArgAction::SetTrue)
+        .help("Leaves out symbols and debug blocks");
+    Command::new(alloc, "link")
+        .about("Links object files, and writes the load file")
+        .after_help(help::LINK)
+        .arg(option_argument(alloc, "out", "OUT", "The load file to write"))?
+        .arg(strip)?
+        .arg(files_argument(alloc))
 }
 
 /// The subcommand `load --at LIST FILE`.
@@ -103,16 +148,23 @@ fn load_command<'a>(alloc: Global) -> Result<Command<'a>, AllocError>
     ensures shape { IfOk result (λ c. shape_of c ≡ load_shape) }
     ensures local { IfOk result (λ c. (out-Command c).has_globals ≡ false) }
 {
-    let list = Arg::new(alloc, "at")
-        .long("at")
-        .value_name("LIST")
-        .required(true)
-        .help("The address of each hunk, in hexadecimal, with commas between");
     Command::new(alloc, "load")
         .about("Loads a file at addresses, and prints the bytes of its hunks")
         .after_help(help::LOAD)
-        .arg(list)?
+        .arg(list_argument(alloc))?
         .arg(file_argument(alloc, "A load file"))
+}
+
+/// The subcommand `image --at LIST FILE...`.
+fn image_command<'a>(alloc: Global) -> Result<Command<'a>, AllocError>
+    ensures shape { IfOk result (λ c. shape_of c ≡ image_shape) }
+    ensures local { IfOk result (λ c. (out-Command c).has_globals ≡ false) }
+{
+    Command::new(alloc, "image")
+        .about("Links object files at addresses, and prints the bytes of their hunks")
+        .after_help(help::IMAGE)
+        .arg(list_argument(alloc))?
+        .arg(files_argument(alloc))
 }
 
 /// The subcommand `check FILE`.
@@ -137,7 +189,28 @@ fn show_command<'a>(alloc: Global) -> Result<Command<'a>, AllocError>
         .arg(file_argument(alloc, "An object file or a load file"))
 }
 
-/// The argument FILE, which each subcommand has.
+/// The argument `--at LIST`.
+fn list_argument<'a>(alloc: Global) -> Arg<'a>
+    ensures rule { rule_of result ≡ option_rule (codes "at") }
+    ensures local { result.global ≡ false }
+{
+    let help = "The address of each hunk, in hexadecimal, with commas between";
+    option_argument(alloc, "at", "LIST", help)
+}
+
+/// The argument `--NAME VALUE`, which is required.
+fn option_argument<'a>(alloc: Global, name: &'a str, value: &'a str, help: &'a str) -> Arg<'a>
+    ensures rule { rule_of result ≡ option_rule name.now }
+    ensures local { result.global ≡ false }
+{
+    Arg::new(alloc, name)
+        .long(name)
+        .value_name(value)
+        .required(true)
+        .help(help)
+}
+
+/// The argument FILE, for one file.
 fn file_argument<'a>(alloc: Global, help: &'a str) -> Arg<'a>
     ensures rule { rule_of result ≡ file_rule }
     ensures local { result.global ≡ false }
@@ -148,22 +221,39 @@ fn file_argument<'a>(alloc: Global, help: &'a str) -> Arg<'a>
         .help(help)
 }
 
+/// The arguments FILE..., for one file or more.
+fn files_argument<'a>(alloc: Global) -> Arg<'a>
+    ensures rule { rule_of result ≡ files_rule }
+    ensures local { result.global ≡ false }
+{
+    file_argument(alloc, "Object files, in the order of linking").num_args(1..)
+}
+
 /// The request of a parse that found a subcommand.
-fn request_of<'a>(matches: &ArgMatches<'a>) -> Request<'a>
+fn request_of<'a>(alloc: Global, matches: &ArgMatches<'a>) -> Result<Request<'a>, AllocError>
     requires { IsWhole (subcommand_rows_of matches.now) }
-    ensures { Says (subcommand_rows_of matches.now) result }
+    ensures { IfOk result (Says (subcommand_rows_of matches.now)) }
 {
     match matches.subcommand() {
-        Some(("load", values)) => Request::Load {
+        Some(("link", values)) => Ok(Request::Link {
+            out: value_of(values, "out"),
+            strip: values.get_flag("strip"),
+            files: files_of(alloc, values)?,
+        }),
+        Some(("load", values)) => Ok(Request::Load {
             list: value_of(values, "at"),
             file: value_of(values, "file"),
-        },
-        Some(("check", values)) => Request::Check {
+        }),
+        Some(("image", values)) => Ok(Request::Image {
+            list: value_of(values, "at"),
+            files: files_of(alloc, values)?,
+        }),
+        Some(("check", values)) => Ok(Request::Check {
             file: value_of(values, "file"),
-        },
-        Some(("show", values)) => Request::Show {
+        }),
+        Some(("show", values)) => Ok(Request::Show {
             file: value_of(values, "file"),
-        },
+        }),
         _ => unreachable!(),
     }
 }
@@ -175,6 +265,18 @@ fn value_of<'a>(values: &ArgMatches<'a>, id: &str) -> &'a str
 {
     match values.get_str(id) {
         Some(value) => value,
+        None => unreachable!(),
+    }
+}
+
+/// The arguments FILE..., in the order given.
+fn files_of<'a>(alloc: Global, values: &ArgMatches<'a>) -> Result<Vec<&'a str>, AllocError>
+    requires { is_some (all_of (codes "file") (rows_of (found_of values.now))) ≡ true }
+    ensures { IfOk result (λ files.
+        all_of (codes "file") (rows_of (found_of values.now)) ≡ Some (texts files.items)) }
+{
+    match values.get_strs("file") {
+        Some(files) => files.to_vec(alloc),
         None => unreachable!(),
     }
 }

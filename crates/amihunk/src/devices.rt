@@ -1,12 +1,13 @@
-//! The file that a request reads, and the output that it prints to through a buffer.
+//! The file that a request reads, the file that it writes, and the output that it prints to through a
+//! buffer.
 ghost use Rattle.std.specs.Prelude.{◌≡◌, IfOk, IfErr};
 ghost use Rattle.std.specs.Io.Buffered.{writer_contents};
-ghost use Rattle.std.specs.Io.KnownBytes.{Keeps};
+ghost use Rattle.std.specs.Io.KnownBytes.{Appends, Keeps};
 ghost use Rattle.hunk_words.specs.Watched.{inner_of};
 
 use crate::failure::Failure;
 use hunk_tool::ToolFault;
-use hunk_words::Watched;
+use hunk_words::{Watched, write_all};
 use std::alloc::Global;
 use std::fs;
 use std::io::{BufWriter, Write};
@@ -19,6 +20,16 @@ pub fn open<'a, R: Files>(rt: &R, file: &'a str) -> Result<R::File, Failure<'a>>
     match fs::open(rt, file) {
         Ok(input) => Ok(input),
         Err(_) => Err(Failure::Opening(file)),
+    }
+}
+
+/// Creates the file named `out`, or empties it if there is one.
+pub fn create<'a, R: Files>(rt: &R, out: &'a str) -> Result<R::File, Failure<'a>>
+    ensures { IfErr result (λ failure. failure ≡ Failure.Opening out.entry) }
+{
+    match fs::create(rt, out) {
+        Ok(output) => Ok(output),
+        Err(_) => Err(Failure::Opening(out)),
     }
 }
 
@@ -43,9 +54,29 @@ pub fn flushed<'a, O: Write + Drop>(writer: Watched<BufWriter<O>>) -> Result<O, 
         Keeps (writer_contents O.contents (inner_of writer)) (O.contents output)) }
     ensures err { IfErr result (λ failure. failure ≡ Failure.Printing) }
 {
-    let Ok(mut output) = writer.into_inner().into_inner() else {
+    let Ok(output) = writer.into_inner().into_inner() else {
         return Err(Failure::Printing);
     };
+    flush(output)
+}
+
+/// Writes `bytes` to `output`, and returns it, flushed.
+pub fn write_bytes<'a, O: Write + Drop>(output: O, bytes: &[u8]) -> Result<O, Failure<'a>>
+    ensures ok { IfOk result (λ after. Appends (O.contents output) (O.contents after) bytes.now) }
+    ensures err { IfErr result (λ failure. failure ≡ Failure.Printing) }
+{
+    let mut writer = Watched::new(output);
+    match write_all(&mut writer, 0, bytes) {
+        Ok(_) => flush(writer.into_inner()),
+        Err(_) => Err(Failure::Printing),
+    }
+}
+
+/// Flushes `output`, and returns it.
+fn flush<'a, O: Write + Drop>(mut output: O) -> Result<O, Failure<'a>>
+    ensures ok { IfOk result (λ after. Keeps (O.contents output) (O.contents after)) }
+    ensures err { IfErr result (λ failure. failure ≡ Failure.Printing) }
+{
     match output.flush() {
         Ok(()) => Ok(output),
         Err(_) => Err(Failure::Printing),

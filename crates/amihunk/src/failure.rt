@@ -22,9 +22,9 @@ pub const DEVICE: u8 = 3;
 pub enum Failure<'a> {
     /// The index, from 0, of the first part of the list of addresses that is not a number.
     BadNumber(usize),
-    /// The file with this name cannot be opened.
+    /// The file with this name cannot be opened, or cannot be created.
     Opening(&'a str),
-    /// Standard output did not take everything that was written to it.
+    /// The output did not take everything that was written to it.
     Printing,
     /// What `hunk_tool` returned.
     Tool(ToolFault),

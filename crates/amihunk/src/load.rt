@@ -1,13 +1,13 @@
 //! The request `load`: the report of a load file at the addresses of a list.
-ghost use Rattle.std.specs.Prelude.{◌≡◌, IfOk, IfErr, OnOk, Some, map};
-ghost use Rattle.hunk_tool.specs.Bases.{numbers};
+ghost use Rattle.std.specs.Prelude.{IfOk, IfErr, OnOk};
 ghost use Rattle.hunk_tool.specs.Load.{IsLoadFault, IsReported};
 ghost use Rattle.amihunk.specs.Devices.{IsPrintFailure, Prints};
-ghost use Rattle.amihunk.specs.Load.{IsListFailure, IsLoadFailure, IsLoaded};
+ghost use Rattle.amihunk.specs.Load.{IsLoadFailure, IsLoaded};
 
+use crate::bases::bases_of;
 use crate::devices::{buffered, flushed, open};
 use crate::failure::Failure;
-use hunk_tool::{BasesFault, load_run, parse_bases};
+use hunk_tool::load_run;
 use hunk_words::Watched;
 use std::alloc::Global;
 use std::io;
@@ -28,18 +28,6 @@ pub fn load<'a, R: Files + Print + AllocGlobal>(
     let input = open(rt, file)?;
     report(rt.alloc(), input, bases.as_slice(), io::writer(rt))?;
     Ok(())
-}
-
-/// The addresses in a list.
-fn bases_of<'a>(alloc: Global, list: &str) -> Result<Vec<u32>, Failure<'a>>
-    ensures ok { IfOk result (λ bases. numbers list.now ≡ map Some bases.items) }
-    ensures err { IfErr result (IsListFailure list.now) }
-{
-    match parse_bases(alloc, list) {
-        Ok(bases) => Ok(bases),
-        Err(BasesFault::BadNumber(index)) => Err(Failure::BadNumber(index)),
-        Err(BasesFault::OutOfMemory) => Err(Failure::out_of_memory()),
-    }
 }
 
 /// Writes the report of the load file that is read from `input`, through a buffer, and returns

@@ -20,6 +20,32 @@ pub static ONE_UNIT: [u8; 128] = [
     3, 0xF2,
 ];
 
+/// An object file whose only hunk calls `foo`.
+pub static CALLER: [u8; 52] = [
+    0, 0, 3, 0xE7, 0, 0, 0, 0, 0, 0, 3, 0xE9, 0, 0, 0, 2, 0x4E, 0xB9, 0, 0, 0, 0, 0x4E, 0x75, 0, 0,
+    3, 0xEF, 0x81, 0, 0, 1, 0x66, 0x6F, 0x6F, 0, 0, 0, 0, 1, 0, 0, 0, 2, 0, 0, 0, 0, 0, 0, 3, 0xF2,
+];
+
+/// An object file whose only hunk defines `foo`.
+pub static CALLEE: [u8; 48] = [
+    0, 0, 3, 0xE7, 0, 0, 0, 0, 0, 0, 3, 0xE9, 0, 0, 0, 2, 0x4E, 0x71, 0x4E, 0x71, 0x4E, 0x75, 0x4E,
+    0x71, 0, 0, 3, 0xEF, 1, 0, 0, 1, 0x66, 0x6F, 0x6F, 0, 0, 0, 0, 4, 0, 0, 0, 0, 0, 0, 3, 0xF2,
+];
+
+/// The load file of [`CALLER`] and [`CALLEE`].
+pub static PROGRAM: [u8; 88] = [
+    0, 0, 3, 0xF3, 0, 0, 0, 0, 0, 0, 0, 2, 0, 0, 0, 0, 0, 0, 0, 1, 0, 0, 0, 2, 0, 0, 0, 2, 0, 0, 3,
+    0xE9, 0, 0, 0, 2, 0x4E, 0xB9, 0, 0, 0, 4, 0x4E, 0x75, 0, 0, 3, 0xEC, 0, 0, 0, 1, 0, 0, 0, 1, 0,
+    0, 0, 2, 0, 0, 0, 0, 0, 0, 3, 0xF2, 0, 0, 3, 0xE9, 0, 0, 0, 2, 0x4E, 0x71, 0x4E, 0x71, 0x4E,
+    0x75, 0x4E, 0x71, 0, 0, 3, 0xF2,
+];
+
+/// An object file whose only hunk has a symbol and defines nothing.
+pub static LOOP: [u8; 44] = [
+    0, 0, 3, 0xE7, 0, 0, 0, 0, 0, 0, 3, 0xE9, 0, 0, 0, 1, 0x4E, 0x75, 0x4E, 0x71, 0, 0, 3, 0xF0, 0,
+    0, 0, 1, 0x6C, 0x6F, 0x6F, 0x70, 0, 0, 0, 2, 0, 0, 0, 0, 0, 0, 3, 0xF2,
+];
+
 /// A device that fails.
 #[derive(Drop)]
 pub struct Broken;

@@ -1,5 +1,13 @@
 //! What the help of each subcommand says after its arguments.
 
+/// The end of the help of `link`.
+pub const LINK: &str = "\
+It writes to OUT one load file with the hunks of all the object files, in the order of linking: the
+files in the order given, the units in the order of a file, and the hunks in the order of a unit.
+
+For example, this links two files without their symbols and debug blocks:
+  amihunk link --out program --strip startup.o main.o";
+
 /// The end of the help of `load`.
 pub const LOAD: &str = "\
 For each hunk it prints a line with the hunk's number, address and size in bytes, and then the
@@ -7,6 +15,12 @@ bytes, at most 16 in a line, after the address of the first of them. For example
 `amihunk load --at 10000 FILE` prints for a file of one hunk
   hunk 0 at 00010000 size 4
   00010000 4e754e71";
+
+/// The end of the help of `image`.
+pub const IMAGE: &str = "\
+It prints what `load` prints of the load file of the object files. LIST has one address for each hunk,
+in the order of linking: the files in the order given, the units in the order of a file, and the hunks
+in the order of a unit.";
 
 /// The end of the help of `check`.
 pub const CHECK: &str = "\

@@ -1,6 +1,82 @@
 use super::{Request, read_words};
 
 #[test]
+fn reads_link(rt: HostRuntime) {
+    let lines: [(&[&str], bool, &[&str]); 8] = [
+        (&["amihunk", "link", "--out", "o", "x"], false, &["x"]),
+        (
+            &["amihunk", "link", "--out", "o", "x", "y", "x"],
+            false,
+            &["x", "y", "x"],
+        ),
+        (
+            &["amihunk", "link", "--out", "o", "--strip", "x", "y"],
+            true,
+            &["x", "y"],
+        ),
+        (
+            &["amihunk", "link", "--strip", "--out=o", "x"],
+            true,
+            &["x"],
+        ),
+        (
+            &["amihunk", "link", "x", "--strip", "y", "--out", "o", "z"],
+            true,
+            &["x", "y", "z"],
+        ),
+        (
+            &["amihunk", "link", "x", "y", "--out=o", "--strip"],
+            true,
+            &["x", "y"],
+        ),
+        (
+            &["amihunk", "link", "--out", "o", "--", "--strip", "x"],
+            false,
+            &["--strip", "x"],
+        ),
+        (
+            &["amihunk", "link", "--out", "o", "link", "strip"],
+            false,
+            &["link", "strip"],
+        ),
+    ];
+    for (words, with_strip, names) in &lines {
+        match read_words(rt.alloc(), words) {
+            Request::Link { out, strip, files } => {
+                assert!(rt; out == "o" && strip == *with_strip, "{words:?}");
+                assert_eq!(rt; files.as_slice(), *names);
+            }
+            request => panic!(rt; "{words:?}: {request:?}"),
+        }
+    }
+}
+
+#[test]
+fn reads_image(rt: HostRuntime) {
+    let lines: [(&[&str], &[&str]); 4] = [
+        (&["amihunk", "image", "--at", "0,100", "x"], &["x"]),
+        (
+            &["amihunk", "image", "--at", "0,100", "x", "y", "x"],
+            &["x", "y", "x"],
+        ),
+        (&["amihunk", "image", "x", "--at=0,100", "y"], &["x", "y"]),
+        (
+            &["amihunk", "image", "x", "y", "--at", "0,100", "--", "--at"],
+            &["x", "y", "--at"],
+        ),
+    ];
+    for (words, names) in &lines {
+        match read_words(rt.alloc(), words) {
+            Request::Image { list, files } => {
+                assert!(rt; list == "0,100", "{words:?}");
+                assert_eq!(rt; files.as_slice(), *names);
+            }
+            request => panic!(rt; "{words:?}: {request:?}"),
+        }
+    }
+}
+
+#[test]
 fn reads_load(rt: HostRuntime) {
     let lines: [&[&str]; 3] = [
         &["amihunk", "load", "--at", "10000", "x"],
@@ -32,12 +108,40 @@ fn reads_a_file_to_be_checked_or_shown(rt: HostRuntime) {
 
 #[test]
 fn refuses_what_is_no_command_line(rt: HostRuntime) {
-    let lines: [(&[&str], &str); 8] = [
+    let lines: [(&[&str], &str); 15] = [
         (
             &["amihunk"],
             "error: 'amihunk' requires a subcommand but one was not provided\n  \
-             [subcommands: load, check, show]\n\nUsage: amihunk <COMMAND>\n\n\
+             [subcommands: link, load, image, check, show]\n\nUsage: amihunk <COMMAND>\n\n\
              For more information, try '--help'.\n",
+        ),
+        (
+            &["amihunk", "link", "x"],
+            "error: the following required arguments were not provided:\n  --out <OUT>\n\n\
+             Usage: amihunk link --out <OUT> <FILE>...\n\nFor more information, try '--help'.\n",
+        ),
+        (
+            &["amihunk", "link", "--out", "o", "--strip"],
+            "error: the following required arguments were not provided:\n  <FILE>...\n\n\
+             Usage: amihunk link --out <OUT> --strip <FILE>...\n\n\
+             For more information, try '--help'.\n",
+        ),
+        (
+            &["amihunk", "link", "x", "--out"],
+            "error: a value is required for '--out <OUT>' but none was supplied\n\n\
+             For more information, try '--help'.\n",
+        ),
+        (
+            &["amihunk", "link", "--out", "o", "x", "--out", "y"],
+            "error: the argument '--out <OUT>' cannot be used multiple times\n\n\
+             Usage: amihunk link [OPTIONS] --out <OUT> <FILE>...\n\n\
+             For more information, try '--help'.\n",
+        ),
+        (
+            &["amihunk", "link", "--out", "o", "--at", "0", "x"],
+            "error: unexpected argument '--at' found\n\n  \
+             tip: to pass '--at' as a value, use '-- --at'\n\n\
+             Usage: amihunk link --out <OUT> <FILE>...\n\nFor more information, try '--help'.\n",
         ),
         (
             &["amihunk", "load", "x"],
@@ -54,6 +158,16 @@ fn refuses_what_is_no_command_line(rt: HostRuntime) {
             "error: unexpected argument '--fast' found\n\n  \
              tip: to pass '--fast' as a value, use '-- --fast'\n\n\
              Usage: amihunk load --at <LIST> <FILE>\n\nFor more information, try '--help'.\n",
+        ),
+        (
+            &["amihunk", "image", "x", "y"],
+            "error: the following required arguments were not provided:\n  --at <LIST>\n\n\
+             Usage: amihunk image --at <LIST> <FILE>...\n\nFor more information, try '--help'.\n",
+        ),
+        (
+            &["amihunk", "image", "--at", "0"],
+            "error: the following required arguments were not provided:\n  <FILE>...\n\n\
+             Usage: amihunk image --at <LIST> <FILE>...\n\nFor more information, try '--help'.\n",
         ),
         (
             &["amihunk", "check"],
@@ -86,14 +200,31 @@ fn refuses_what_is_no_command_line(rt: HostRuntime) {
 
 #[test]
 fn gives_help(rt: HostRuntime) {
-    let lines: [(&[&str], &str); 4] = [
+    let lines: [(&[&str], &str); 6] = [
         (
             &["amihunk", "--help"],
             "An Amiga hunk linker and loader\n\nUsage: amihunk <COMMAND>\n\nCommands:\n  \
+             link   Links object files, and writes the load file\n  \
              load   Loads a file at addresses, and prints the bytes of its hunks\n  \
+             image  Links object files at addresses, and prints the bytes of their hunks\n  \
              check  Checks a file, and prints which kind it is and how many units and hunks it has\n  \
              show   Prints a listing of the units and hunks of a file, and of what is in them\n\n\
              Options:\n  -h, --help  Print help\n",
+        ),
+        (
+            &["amihunk", "link", "--help"],
+            "Links object files, and writes the load file\n\n\
+             Usage: amihunk link [OPTIONS] --out <OUT> <FILE>...\n\n\
+             Arguments:\n  <FILE>...  Object files, in the order of linking\n\n\
+             Options:\n      \
+             --out <OUT>  The load file to write\n      \
+             --strip      Leaves out symbols and debug blocks\n  \
+             -h, --help       Print help\n\n\
+             It writes to OUT one load file with the hunks of all the object files, in the order of \
+             linking: the\nfiles in the order given, the units in the order of a file, and the hunks \
+             in the order of a unit.\n\n\
+             For example, this links two files without their symbols and debug blocks:\n  \
+             amihunk link --out program --strip startup.o main.o\n",
         ),
         (
             &["amihunk", "load", "--help"],
@@ -106,6 +237,18 @@ fn gives_help(rt: HostRuntime) {
              then the\nbytes, at most 16 in a line, after the address of the first of them. For \
              example,\n`amihunk load --at 10000 FILE` prints for a file of one hunk\n  \
              hunk 0 at 00010000 size 4\n  00010000 4e754e71\n",
+        ),
+        (
+            &["amihunk", "image", "--help"],
+            "Links object files at addresses, and prints the bytes of their hunks\n\n\
+             Usage: amihunk image --at <LIST> <FILE>...\n\n\
+             Arguments:\n  <FILE>...  Object files, in the order of linking\n\n\
+             Options:\n      \
+             --at <LIST>  The address of each hunk, in hexadecimal, with commas between\n  \
+             -h, --help       Print help\n\n\
+             It prints what `load` prints of the load file of the object files. LIST has one address \
+             for each hunk,\nin the order of linking: the files in the order given, the units in the \
+             order of a file, and the hunks\nin the order of a unit.\n",
         ),
         (
             &["amihunk", "check", "--help"],

@@ -17,10 +17,14 @@ returns c =
     let bare : app_of c.subcommand_required.result ≡ record { top = bare_shape; subs = [] } =
     ap app_of_fields c.subcommand_required.ensures
     ∙ ap asks_subcommand (ap app_of_fields c.disable_help_subcommand.ensures ∙ ap without_help named) in
-    let loads = c.in_ok-subcommand.ensures.shape c.in_ok-load_command.ensures.local
-    ∙ ap₂ with_subcommand bare c.in_ok-load_command.ensures.shape in
-    let checks = c.in_ok-subcommand-2.ensures.shape c.in_ok-check_command.ensures.local
-    ∙ ap₂ with_subcommand loads c.in_ok-check_command.ensures.shape in
-    IfOk-weaker c.subcommand-3.result _ _
+    let links = c.in_ok-subcommand.ensures.shape c.in_ok-link_command.ensures.local
+    ∙ ap₂ with_subcommand bare c.in_ok-link_command.ensures.shape in
+    let loads = c.in_ok-subcommand-2.ensures.shape c.in_ok-load_command.ensures.local
+    ∙ ap₂ with_subcommand links c.in_ok-load_command.ensures.shape in
+    let images = c.in_ok-subcommand-3.ensures.shape c.in_ok-image_command.ensures.local
+    ∙ ap₂ with_subcommand loads c.in_ok-image_command.ensures.shape in
+    let checks = c.in_ok-subcommand-4.ensures.shape c.in_ok-check_command.ensures.local
+    ∙ ap₂ with_subcommand images c.in_ok-check_command.ensures.shape in
+    IfOk-weaker c.subcommand-5.result _ _
     (λ r added. added.shape c.in_ok-show_command.ensures.local ∙ ap₂ with_subcommand checks c.in_ok-show_command.ensures.shape)
-    c.subcommand-3.ensures
+    c.subcommand-5.ensures

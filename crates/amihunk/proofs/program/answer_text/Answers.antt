@@ -1,10 +1,10 @@
 -- There is no memory for the name of the file.
-use Rattle.std.proofs.Common.{[], inl, inr, refl}
+use Rattle.std.proofs.Common.{◌∷◌, [], inl, inr, refl}
 use Rattle.amihunk.specs.Text.{IsTextFailure}
 use Rattle.amihunk.proofs.ProgramLemmas.{not_begun, out_of_memory_told}
 use Rattle.amihunk.proofs.program.answer_text.Goals as goal
 
 pub returns-in_default : goal.returns-in_default
 returns-in_default g c =
-    inr (not_begun g.W.Sink.taken g.W.Sink.failed c.args.errors.now c.report_failure.new.errors (IsTextFailure c.args.text c.args.file.now) c.args.file.now c.report_failure.result (inl refl)
+    inr (not_begun g.W.Sink.taken g.W.Sink.failed c.args.errors.now c.report_failure.new.errors (IsTextFailure c.args.text c.args.file.now) (c.args.file.now ∷ []) c.report_failure.result (inl refl)
     (out_of_memory_told g.W.Sink.taken g.W.Sink.failed c.args.errors.now c.report_failure.new.errors [] c.out_of_memory.result c.report_failure.result c.out_of_memory.ensures c.report_failure.ensures.status c.report_failure.ensures.line))

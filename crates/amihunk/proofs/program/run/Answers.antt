@@ -1,4 +1,4 @@
-use Rattle.amihunk.proofs.ProgramLemmas.{ends_check, ends_load, ends_show}
+use Rattle.amihunk.proofs.ProgramLemmas.{ends_check, ends_image, ends_link, ends_load, ends_show}
 use Rattle.amihunk.proofs.program.run.Goals as goal
 
 pub returns-clause-load : goal.returns-clause-load
@@ -12,3 +12,11 @@ returns-clause-check g c program file is_line plain =
 pub returns-clause-show : goal.returns-clause-show
 returns-clause-show g c program file is_line plain =
     ends_show g.W.Sink.taken g.W.Sink.failed c.args.errors.now c.answer.new.errors file c.read_words.result c.answer.result (c.read_words.ensures.show program file is_line plain) c.answer.ensures
+
+pub returns-clause-link : goal.returns-clause-link
+returns-clause-link g c program strip out files is_line plain_out some plain_files =
+    ends_link g.W.Sink.taken g.W.Sink.failed c.args.errors.now c.answer.new.errors out strip files c.read_words.result c.answer.result (c.read_words.ensures.link program strip out files is_line plain_out some plain_files) c.answer.ensures
+
+pub returns-clause-image : goal.returns-clause-image
+returns-clause-image g c program list files is_line plain_list some plain_files =
+    ends_image g.W.Sink.taken g.W.Sink.failed c.args.errors.now c.answer.new.errors list files c.read_words.result c.answer.result (c.read_words.ensures.image program list files is_line plain_list some plain_files) c.answer.ensures
