@@ -1,6 +1,6 @@
 //! Tests of the linker, from object files to load files.
 //!
-//! - `tests`: what units link to, by both calls, and why they do not.
+//! - `tests`: what object files link to, by every call, what that is in memory, and why they do not.
 #![tactic(auto)]
 
 #[cfg(test)]

@@ -1,6 +1,7 @@
 //! As many hunks as a link may have, and as large ones.
 
 use super::answers::links_to;
+use super::refusals::is_refused;
 use hunk_link::LinkRefusal;
 use std::alloc::{AllocError, Global};
 use std::test::Fail;
@@ -43,8 +44,7 @@ fn links_as_many_hunks_as_a_file_may_have(rt: HostRuntime) -> Result<(), Fail> {
 #[test]
 fn refuses_one_hunk_more(rt: HostRuntime) -> Result<(), Fail> {
     let more = zeros(rt.alloc(), &[(32_768, 0), (32_768, 0)])?;
-    let refusal = LinkRefusal::TooManyHunks;
-    links_to(&rt, rt.alloc(), &[&more], false, Err(&refusal))
+    is_refused(&rt, rt.alloc(), &[&more], LinkRefusal::TooManyHunks)
 }
 
 #[test]
@@ -57,6 +57,5 @@ fn links_as_many_longwords_as_a_file_may_have(rt: HostRuntime) -> Result<(), Fai
 #[test]
 fn refuses_one_longword_more(rt: HostRuntime) -> Result<(), Fail> {
     let more = zeros(rt.alloc(), &[(1, MOST_SIZE), (1, 1)])?;
-    let refusal = LinkRefusal::TooLarge;
-    links_to(&rt, rt.alloc(), &[&more], false, Err(&refusal))
+    is_refused(&rt, rt.alloc(), &[&more], LinkRefusal::TooLarge)
 }

@@ -2,12 +2,24 @@
 
 use super::dice::Dice;
 use super::names::name_word;
-use super::plans::{Added, Longword, Plan};
-use hunk_objects::Definition;
+use super::plans::{Added, Plan};
+use hunk_objects::{Definition, HunkKind, Memory};
 use std::alloc::{AllocError, Global};
 
-// A unit has fewer hunks than this, and a hunk at most as many longwords.
-const MOST: u32 = 4;
+// A unit has fewer hunks than this.
+const MOST_HUNKS: u32 = 4;
+
+// A hunk has fewer longwords than this.
+const MOST_SIZE: u32 = 7;
+
+/// The number of units of each of a few files.
+pub(crate) fn made_files(alloc: Global, dice: &mut Dice) -> Result<Vec<usize>, AllocError> {
+    let mut files = Vec::new(alloc);
+    for _ in 0..=dice.roll(3) {
+        files.push(dice.roll(2).saturating_add(1) as usize)?;
+    }
+    Ok(files)
+}
 
 /// The hunks of this many units. So that many of them link, a hunk mostly defines the name with its
 /// number over all units, and mostly refers to such names.
@@ -19,7 +31,7 @@ pub(crate) fn made_plans(
     let mut counts = Vec::new(alloc);
     let mut total = 0u32;
     for _ in 0..units {
-        let count = dice.roll(MOST);
+        let count = dice.roll(MOST_HUNKS);
         counts.push(count)?;
         total = total.wrapping_add(count);
     }
@@ -27,39 +39,98 @@ pub(crate) fn made_plans(
     let mut rank = 0u32;
     for (unit, count) in counts.iter().enumerate() {
         for number in 0..*count {
-            plans.push(Plan {
-                unit,
-                number,
-                rank,
-                code: made_code(alloc, dice, *count, total)?,
-                definitions: made_definitions(alloc, dice, rank)?,
-            })?;
+            let mut plan = empty_plan(alloc, dice, unit, number, rank);
+            fill_plan(alloc, dice, &mut plan, *count, total)?;
+            plans.push(plan)?;
             rank = rank.wrapping_add(1);
         }
     }
     Ok(plans)
 }
 
-// The code of a hunk, whose unit has `count` hunks, and all units have `total`.
-fn made_code(
+// A hunk in which nothing is yet.
+fn empty_plan(alloc: Global, dice: &mut Dice, unit: usize, number: u32, rank: u32) -> Plan {
+    Plan {
+        unit,
+        number,
+        rank,
+        kind: match dice.roll(4) {
+            0 => HunkKind::Bss,
+            1 => HunkKind::Data,
+            _ => HunkKind::Code,
+        },
+        memory: match dice.roll(4) {
+            0 => Memory::Chip,
+            1 => Memory::Fast,
+            _ => Memory::Any,
+        },
+        size: dice.roll(MOST_SIZE),
+        content: Vec::new(alloc),
+        sites: Vec::new(alloc),
+        definitions: Vec::new(alloc),
+        symbols: Vec::new(alloc),
+        debugs: Vec::new(alloc),
+    }
+}
+
+// Fills a hunk, whose unit has `count` hunks, and all units have `total`.
+fn fill_plan(
     alloc: Global,
     dice: &mut Dice,
+    plan: &mut Plan,
     count: u32,
     total: u32,
-) -> Result<Vec<Longword>, AllocError> {
-    let mut code = Vec::new(alloc);
-    for place in 0..=dice.roll(MOST) {
-        code.push(Longword {
-            offset: place.wrapping_mul(4),
-            value: dice.word(),
-            added: match dice.roll(4) {
-                0 => Added::Base(dice.roll_beyond(count)),
-                1 => Added::Name(name_word(alloc, dice.roll_beyond(total))?),
-                _ => Added::Nothing,
-            },
-        })?;
+) -> Result<(), AllocError> {
+    if plan.kind != HunkKind::Bss {
+        plan.content = made_words(alloc, dice, plan.size)?;
+        for offset in made_offsets(alloc, dice, plan.size)? {
+            let added = made_added(alloc, dice, count, total)?;
+            plan.sites.push((offset, added))?;
+        }
     }
-    Ok(code)
+    plan.definitions = made_definitions(alloc, dice, plan.rank)?;
+    for _ in 0..dice.roll(3) {
+        let name = name_word(alloc, dice.roll(1000))?;
+        plan.symbols.push((name, dice.word()))?;
+    }
+    for _ in 0..dice.roll(3) {
+        let length = dice.roll(3);
+        plan.debugs.push(made_words(alloc, dice, length)?)?;
+    }
+    Ok(())
+}
+
+fn made_words(alloc: Global, dice: &mut Dice, count: u32) -> Result<Vec<u32>, AllocError> {
+    let mut words = Vec::new(alloc);
+    for _ in 0..count {
+        words.push(dice.word())?;
+    }
+    Ok(words)
+}
+
+// Offsets in so many longwords, in ascending order and apart. They are odd as often as not.
+fn made_offsets(alloc: Global, dice: &mut Dice, longwords: u32) -> Result<Vec<u32>, AllocError> {
+    let mut offsets = Vec::new(alloc);
+    let shift = dice.roll(4);
+    let places = if shift == 0 {
+        longwords
+    } else {
+        longwords.saturating_sub(1)
+    };
+    for place in 0..places {
+        if dice.roll(2) == 0 {
+            offsets.push(place.wrapping_mul(4).wrapping_add(shift))?;
+        }
+    }
+    Ok(offsets)
+}
+
+fn made_added(alloc: Global, dice: &mut Dice, count: u32, total: u32) -> Result<Added, AllocError> {
+    if dice.roll(2) == 0 {
+        Ok(Added::Base(dice.roll_beyond(count)))
+    } else {
+        Ok(Added::Name(name_word(alloc, dice.roll_beyond(total))?))
+    }
 }
 
 // Mostly the name with this number, and now and then another one.

@@ -1,9 +1,12 @@
 //! Units that do not link.
 
 use super::answers::links_to;
+use super::cases::BASES;
 use super::names::{duplicate, undefined};
+use super::runs::{Run, refuses};
 use super::words::{DEFINES, DEFINES_NUMBER, FOREIGN, NO_HUNKS, REFERS};
 use hunk_link::LinkRefusal;
+use hunk_tool::ToolFault;
 use std::alloc::Global;
 use std::process::Abort;
 use std::test::Fail;
@@ -11,48 +14,66 @@ use std::test::Fail;
 // The longword of the name `foo`.
 const FOO: u32 = 0x666F6F00;
 
-// The units of these files do not link, for this reason.
-fn is_refused(
+/// The units of these files do not link, for this reason: by both calls that link, and by runs, which
+/// write nothing. Whether an image could be placed does not matter.
+pub(crate) fn is_refused(
     rt: &impl Abort,
     alloc: Global,
     objects: &[&[u32]],
-    refusal: &LinkRefusal,
+    refusal: LinkRefusal,
 ) -> Result<(), Fail> {
-    links_to(rt, alloc, objects, false, Err(refusal))
+    links_to(rt, alloc, objects, false, Err(&refusal))?;
+    links_to(rt, alloc, objects, true, Err(&refusal))?;
+    let fault = ToolFault::Link(refusal);
+    for run in [
+        Run::Link { strip: false },
+        Run::Link { strip: true },
+        Run::LinkToVec { strip: false },
+        Run::Image { bases: &BASES },
+        Run::Image { bases: &[] },
+    ] {
+        refuses(rt, alloc, objects, run, &fault)?;
+    }
+    Ok(())
 }
 
 #[test]
 fn tells_the_first_name_that_is_defined_twice(rt: HostRuntime) -> Result<(), Fail> {
     let third = duplicate(rt.alloc(), 2, 0, FOO)?;
-    is_refused(&rt, rt.alloc(), &[&REFERS, &DEFINES, &DEFINES], &third)?;
+    is_refused(&rt, rt.alloc(), &[&REFERS, &DEFINES, &DEFINES], third)?;
     let second = duplicate(rt.alloc(), 1, 0, FOO)?;
-    is_refused(&rt, rt.alloc(), &[&DEFINES, &DEFINES_NUMBER], &second)?;
+    is_refused(&rt, rt.alloc(), &[&DEFINES, &DEFINES_NUMBER], second)?;
     // that no hunk defines `bar` comes after that in the order of reasons
     let mut refers = REFERS;
     refers[8] = 0x62617200;
-    is_refused(&rt, rt.alloc(), &[&DEFINES, &DEFINES, &refers], &second)
+    let second = duplicate(rt.alloc(), 1, 0, FOO)?;
+    is_refused(&rt, rt.alloc(), &[&DEFINES, &DEFINES, &refers], second)
 }
 
 #[test]
 fn tells_a_name_that_no_hunk_defines(rt: HostRuntime) -> Result<(), Fail> {
     let first = undefined(rt.alloc(), 0, 0, FOO)?;
-    is_refused(&rt, rt.alloc(), &[&REFERS], &first)
+    is_refused(&rt, rt.alloc(), &[&REFERS], first)
 }
 
 #[test]
 fn refuses_units_without_hunks(rt: HostRuntime) -> Result<(), Fail> {
-    is_refused(&rt, rt.alloc(), &[], &LinkRefusal::NoHunks)?;
-    is_refused(&rt, rt.alloc(), &[&NO_HUNKS], &LinkRefusal::NoHunks)
+    is_refused(&rt, rt.alloc(), &[], LinkRefusal::NoHunks)?;
+    is_refused(&rt, rt.alloc(), &[&NO_HUNKS], LinkRefusal::NoHunks)
 }
 
 // In the order of reasons it comes before a name that is defined twice.
 #[test]
 fn tells_a_hunk_that_its_unit_does_not_have(rt: HostRuntime) -> Result<(), Fail> {
-    let foreign = LinkRefusal::NoSuchHunk {
-        unit: 0,
-        hunk: 0,
-        target: 2,
-    };
-    is_refused(&rt, rt.alloc(), &[&FOREIGN], &foreign)?;
-    is_refused(&rt, rt.alloc(), &[&FOREIGN, &DEFINES, &DEFINES], &foreign)
+    let alone: [&[u32]; 1] = [&FOREIGN];
+    let first: [&[u32]; 3] = [&FOREIGN, &DEFINES, &DEFINES];
+    for objects in [alone.as_slice(), &first] {
+        let foreign = LinkRefusal::NoSuchHunk {
+            unit: 0,
+            hunk: 0,
+            target: 2,
+        };
+        is_refused(&rt, rt.alloc(), objects, foreign)?;
+    }
+    Ok(())
 }

@@ -1,0 +1,170 @@
+//! Runs with each of their allocations failing in turn.
+
+use super::answers::bytes_of;
+use super::cases::BASES;
+use super::runs::{Run, inputs_of};
+use super::words::{
+    ASSEMBLED, DEFINES, LINKED, LINKED_ALONE, REFERS, REPORT, REPORT_ALONE, STRIPPED,
+};
+use hunk_tests::Refusing;
+use hunk_tool::{ToolFault, load_run, status_of};
+use hunk_words::{Pieces, Room};
+use std::alloc::{Allocator, Global};
+use std::process::Abort;
+use std::test::Fail;
+
+// More allocations than a run of these tests makes.
+const MOST_GROWTHS: u64 = 128;
+
+// What is run, and the text that it writes.
+#[derive(Clone, Copy)]
+struct Job<'a> {
+    objects: &'a [&'a [u32]],
+    run: Run<'a>,
+    text: &'a [u8],
+}
+
+// Whether all of the text was written. If not, memory ran out, and what was written is a beginning of
+// the text, as long as the fault tells.
+fn is_whole<A: Allocator + Copy>(
+    rt: &impl Abort,
+    got: Result<(), ToolFault<A>>,
+    taken: &[u8],
+    text: &[u8],
+) -> bool {
+    let Err(fault) = got else {
+        assert_eq!(rt; taken, text);
+        return true;
+    };
+    assert_eq!(rt; status_of(&fault), 4);
+    match fault {
+        ToolFault::OutOfMemory { written } => assert_eq!(rt; written, taken.len() as u64),
+        _ => assert!(rt; false, "another fault"),
+    }
+    assert!(rt; text.starts_with(taken));
+    false
+}
+
+// Whether the job was done on this heap. If not, memory ran out, and only a link to a writer may have
+// written a beginning.
+fn is_done<A: Allocator + Copy>(
+    rt: &impl Abort,
+    alloc: Global,
+    heap: A,
+    job: Job<'_>,
+) -> Result<bool, Fail> {
+    let mut inputs = inputs_of(rt, alloc, job.objects, 4096, None)?;
+    let mut writer = Room::new(alloc, 4096, job.text.len(), false)?;
+    let got = job.run.of(heap, &mut inputs, &mut writer);
+    let done = is_whole(rt, got, writer.bytes(), job.text);
+    match job.run {
+        Run::Link { .. } => {}
+        _ => assert!(rt; done || writer.bytes().is_empty()),
+    }
+    Ok(done)
+}
+
+// Whether the job was done with allocation number `refused` failing, and each one after it: the next
+// two fail too, and no more are asked for.
+fn is_done_from_there(
+    rt: &impl Abort,
+    alloc: Global,
+    refused: u64,
+    job: Job<'_>,
+) -> Result<bool, Fail> {
+    // Each passes on what it does not fail, and so counts one less than the one that passes it on.
+    let third = Refusing::new(alloc, refused);
+    let second = Refusing::new(&third, refused);
+    let first = Refusing::new(&second, refused);
+    let done = is_done(rt, alloc, &first, job)?;
+    assert!(rt;
+        first.asked() <= refused.saturating_add(3),
+        "growth {refused}"
+    );
+    Ok(done)
+}
+
+// The number of allocations of the job: memory runs out with each of them failing, alone or with all
+// after it, and the job is done once none fails.
+fn growths_of(rt: &impl Abort, alloc: Global, job: Job<'_>) -> Result<u64, Fail> {
+    for number in 0..MOST_GROWTHS {
+        let heap = Refusing::new(alloc, number);
+        let done = is_done(rt, alloc, &heap, job)?;
+        assert_eq!(rt; done, heap.asked() <= number, "growth {number}");
+        assert_eq!(rt;
+            is_done_from_there(rt, alloc, number, job)?,
+            done,
+            "growth {number}"
+        );
+        if done {
+            return Ok(number);
+        }
+    }
+    assert!(rt; false, "each of {MOST_GROWTHS} runs was refused a growth");
+    Ok(0)
+}
+
+#[test]
+fn refuses_each_growth_of_a_run(rt: HostRuntime) -> Result<(), Fail> {
+    let pair: [&[u32]; 2] = [&REFERS, &DEFINES];
+    let alone: [&[u32]; 1] = [&ASSEMBLED];
+    let image = Run::Image { bases: &BASES };
+    let linked = bytes_of(rt.alloc(), &LINKED)?;
+    let unstripped = bytes_of(rt.alloc(), &LINKED_ALONE)?;
+    let stripped = bytes_of(rt.alloc(), &STRIPPED)?;
+    let rows: [(&[&[u32]], Run<'_>, &[u8]); 6] = [
+        (&pair, Run::Link { strip: false }, &linked),
+        (&pair, Run::LinkToVec { strip: false }, &linked),
+        (&pair, image, REPORT.as_bytes()),
+        (&alone, Run::Link { strip: false }, &unstripped),
+        (&alone, Run::Link { strip: true }, &stripped),
+        (&alone, image, REPORT_ALONE.as_bytes()),
+    ];
+    for (objects, run, text) in rows {
+        let growths = growths_of(&rt, rt.alloc(), Job { objects, run, text })?;
+        // for each unit its hunks, and of a hunk its content and its sites; the hunks in order, the
+        // names, what references add, and the hunks of the load file
+        assert!(rt; 8 <= growths, "{run:?} met {growths} growths");
+    }
+    Ok(())
+}
+
+// Whether the job was done on this heap, and then the load file loaded with this report. If not,
+// memory ran out.
+fn is_loaded<A: Allocator + Copy>(
+    rt: &impl Abort,
+    alloc: Global,
+    heap: A,
+    job: Job<'_>,
+    report: &[u8],
+) -> Result<bool, Fail> {
+    if !is_done(rt, alloc, heap, job)? {
+        return Ok(false);
+    }
+    let mut reader = Pieces::new(job.text.to_vec(alloc)?, 4096, None);
+    let mut writer = Room::new(alloc, 4096, report.len(), false)?;
+    let got = load_run(heap, &mut reader, &BASES, &mut writer);
+    let done = is_whole(rt, got, writer.bytes(), report);
+    assert!(rt; done || writer.bytes().is_empty());
+    Ok(done)
+}
+
+#[test]
+fn refuses_each_growth_of_a_link_and_a_load(rt: HostRuntime) -> Result<(), Fail> {
+    let text = bytes_of(rt.alloc(), &LINKED)?;
+    let job = Job {
+        objects: &[&REFERS, &DEFINES],
+        run: Run::Link { strip: false },
+        text: &text,
+    };
+    for number in 0..MOST_GROWTHS {
+        let heap = Refusing::new(rt.alloc(), number);
+        let done = is_loaded(&rt, rt.alloc(), &heap, job, REPORT.as_bytes())?;
+        assert_eq!(rt; done, heap.asked() <= number, "growth {number}");
+        if done {
+            return Ok(());
+        }
+    }
+    assert!(rt; false, "each of {MOST_GROWTHS} runs was refused a growth");
+    Ok(())
+}
