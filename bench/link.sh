@@ -1,0 +1,44 @@
+#!/usr/bin/env bash
+# Measures linking: its time compared with `cat` and with that of half the work, and its memory compared with the
+# size of its inputs; and the report of `amihunk image`, compared with `xxd`. It makes its own inputs: a program
+# of many files, one of many names, and one of 60 MB. It prints for each figure what is allowed and what was
+# reached. Times are the best of five runs. It ends with status 1 where a figure is missed. It needs the
+# toolchain, python3 and xxd on the PATH, and 2 GB for temporary files.
+set -eu
+. "$(dirname "$0")/common.sh"
+
+make_program() { # NAME KIND COUNT
+    python3 "$benches/object_files.py" "$folder/$1" "$2" "$3"
+}
+
+bytes_in() { # of the files in FOLDER
+    cat "$1"/* | wc -c
+}
+
+cd "$folder"
+
+# Beside `cat`, what other linkers need for the same programs: many, a quarter of GNU ld's time; symbols, mold's
+# time; big, GNU ld's time.
+for row in "many 5000 8" "symbols 100 20" "big 15728640 9"; do
+    read -r kind count allowed <<< "$row"
+    make_program "$kind" "$kind" "$count"
+    make_program "$kind.half" "$kind" "$((count / 2))"
+    files=("$kind"/*)
+    size="$(bytes_in "$kind")"
+    cat_time="$(best copy cat "${files[@]}")"
+    echo "$kind: ${#files[@]} files of $size bytes; cat takes $cat_time us; both write a file"
+    link="$(best /dev/null "$amihunk" link --out "$kind.linked" "${files[@]}")"
+    half="$(best /dev/null "$amihunk" link --out half.linked "$kind.half"/*)"
+    figure "link of $kind ($link us) by cat" "$allowed" "$(ratio "$link" "$cat_time")" times
+    figure "the same by half the work ($half us)" 2.2 "$(ratio "$link" "$half")" times
+    kib="$(peak "$amihunk" link --out "$kind.linked" "${files[@]}")"
+    figure "memory of the same by the inputs" 2.5 "$(ratio "$((1024 * kib))" "$size")" times
+    rm -r copy half.linked "$kind.half"
+done
+
+echo "the report of 60 MB with a million relocations; both write a file"
+image="$(best out "$amihunk" image --at 10000000,100 big/*)"
+xxd="$(best out xxd -c 16 big.linked)"
+rm out
+figure "amihunk image ($image us) by xxd -c 16 ($xxd us)" 0.3 "$(ratio "$image" "$xxd")" times
+exit "$missed"

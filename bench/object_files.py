@@ -1,0 +1,119 @@
+#!/usr/bin/env python3
+"""Writes the object files of a made program: object_files.py FOLDER KIND COUNT
+
+`many` is COUNT files of three hunks each. A file defines eight names, refers 24 times to names of others,
+mostly of the files that follow it, and relocates 32 longwords.
+`symbols` is COUNT files of one hunk each. A file defines 2,000 names and refers to 2,000 of others.
+`big` is a file of one hunk of DATA with COUNT longwords and a relocation for every 62 bytes, and a small file
+that refers to it.
+
+The files are FOLDER/00000.o and so on. Their contents repeat in no short pattern, and sites stand at any offset.
+The same arguments make the same files.
+"""
+import array
+import pathlib
+import random
+import sys
+
+UNIT, NAME, CODE, DATA, BSS = 0x3E7, 0x3E8, 0x3E9, 0x3EA, 0x3EB
+RELOC32, EXT, END = 0x3EC, 0x3EF, 0x3F2
+DEFINITION, REFERENCE = 1 << 24, 129 << 24
+
+
+def longwords(numbers):
+    words = array.array("I", numbers)
+    if sys.byteorder == "little":
+        words.byteswap()
+    return words.tobytes()
+
+
+def text(name):
+    return name.encode() + bytes(-len(name) % 4)
+
+
+def titled(first, name, *rest):
+    """An entry or a block that is this number, with the length of a name, and the name."""
+    padded = text(name)
+    if first in (UNIT, NAME):
+        head = [first, len(padded) // 4]
+    else:
+        head = [first | len(padded) // 4]
+    return longwords(head) + padded + longwords(rest)
+
+
+def relocations(groups):
+    """For each hunk number the offsets at which its base is added."""
+    parts = [longwords([len(offsets), number]) + longwords(offsets) for number, offsets in groups.items()]
+    return longwords([RELOC32]) + b"".join(parts) + longwords([0])
+
+
+def externals(definitions, references):
+    parts = [titled(DEFINITION, name, offset) for name, offset in definitions]
+    parts += [titled(REFERENCE, name, len(offsets), *offsets) for name, offsets in references.items()]
+    return longwords([EXT]) + b"".join(parts) + longwords([0])
+
+
+def content(kind, data):
+    return longwords([kind, len(data) // 4]) + data
+
+
+def many(dice, count):
+    for number in range(count):
+        references, own, data = {}, {}, {}
+        for place in range(48):
+            offset = 24 * place + dice.randrange(4)
+            if place % 2 == 1:
+                own.setdefault(dice.randrange(3), []).append(offset)
+                continue
+            near = dice.random() < 0.7
+            other = number + 1 + dice.randrange(min(50, count)) if near else dice.randrange(count)
+            name = "module%d_function_%d" % (other % count, dice.randrange(8))
+            references.setdefault(name, []).append(offset)
+        for offset in range(0, 64, 8):
+            data.setdefault(dice.randrange(3), []).append(offset)
+        names = [("module%d_function_%d" % (number, place), 8 * place) for place in range(8)]
+        yield b"".join([
+            titled(UNIT, "%d.o" % number),
+            titled(NAME, ".text"), content(CODE, dice.randbytes(1200 + 4 * dice.randrange(400))),
+            relocations(own), externals(names[:6], references), longwords([END]),
+            titled(NAME, ".data"), content(DATA, dice.randbytes(256)),
+            relocations(data), externals(names[6:], {}), longwords([END]),
+            titled(NAME, ".bss"), longwords([BSS, 32, END]),
+        ])
+
+
+def symbols(dice, count):
+    name = "a_rather_long_prefix_of_names_%d_%d"
+    for number in range(count):
+        names = [(name % (number, place), 4 * place) for place in range(2000)]
+        others = [(number + 1 + dice.randrange(max(count - 1, 1))) % count for _ in names]
+        references = {name % (other, place): [4 * place] for place, other in enumerate(others)}
+        yield b"".join([
+            titled(UNIT, "%d.o" % number),
+            content(CODE, dice.randbytes(8000)), externals(names, references), longwords([END]),
+        ])
+
+
+def big(dice, count):
+    sites = range(0, 4 * count - 3, 62)
+    yield b"".join([
+        titled(UNIT, "table.o"),
+        content(DATA, dice.randbytes(4 * count)),
+        relocations({0: sites}), externals([("table", 0)], {}), longwords([END]),
+    ])
+    yield b"".join([
+        titled(UNIT, "small.o"),
+        content(CODE, dice.randbytes(64)), externals([], {"table": [8]}), longwords([END]),
+    ])
+
+
+def main():
+    folder, kind, count = sys.argv[1:]
+    makers = {"many": many, "symbols": symbols, "big": big}
+    path = pathlib.Path(folder)
+    path.mkdir(parents=True)
+    for number, file in enumerate(makers[kind](random.Random(7), int(count))):
+        (path / ("%05d.o" % number)).write_bytes(file)
+
+
+main()
