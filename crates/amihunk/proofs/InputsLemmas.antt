@@ -23,3 +23,6 @@ OfInputs-readers files left failed ended olds news Holds count same holds =
       count_is = omega (arith, count, same, length-inputs_of left failed ended olds news, length-map files name);
       holds = holds;
     }
+
+pub OfInputs-weaker : (files : List (List ℕ)) (Holds Weaker : List Input → Type 0) → ((inputs : List Input) → Holds inputs → Weaker inputs) → OfInputs files Holds → OfInputs files Weaker
+OfInputs-weaker files Holds Weaker weaker of = record { inputs = of.inputs; count_is = of.count_is; holds = weaker of.inputs of.holds }

@@ -16,3 +16,4 @@ pub mod CommandLineImageLemmas
 pub mod CommandLineLinkLemmas
 pub mod ImageLemmas
 pub mod InputsLemmas
+pub mod LinkLemmas

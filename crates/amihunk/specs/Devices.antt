@@ -5,6 +5,7 @@ use Rattle.std.specs.Prelude.{◌≡◌, List, Option, ℕ, ⊤}
 use Rattle.hunk_words.specs.Streams.{HasRead}
 use Rattle.hunk_tool.specs.Load.{Ends}
 use Rattle.hunk_tool.specs.declared.tool_fault.ToolFault.{ToolFault}
+use Rattle.hunk_tool.specs.declared.tool_fault.ToolFault.TheVariants.{OutOfMemory}
 use Rattle.amihunk.specs.declared.failure.Failure.{Failure}
 use Rattle.amihunk.specs.declared.failure.Failure.TheVariants.{Printing, Tool}
 
@@ -38,3 +39,9 @@ pub record StoppedBy (Holds : Ends → ToolFault Global → Type 0) (fault : Too
   pub left : Option (List ℕ)
   pub taken : Option (List ℕ)
   pub stopped : Stopped Holds left taken fault
+
+-- why a load file was not written in full: a write failed, or out of memory
+abbrev pub IsCutShort : Failure → Type 0
+IsCutShort Printing = ⊤
+IsCutShort (Tool fault) = fault ≡ OutOfMemory 0
+IsCutShort _ = ⊥

@@ -3,11 +3,15 @@
 ghost use Rattle.std.specs.Prelude.{◌≡◌, IfOk, IfErr};
 ghost use Rattle.std.specs.Io.Buffered.{writer_contents};
 ghost use Rattle.std.specs.Io.KnownBytes.{Appends, Keeps};
+ghost use Rattle.hunk_words.specs.Name.{bytes_of};
 ghost use Rattle.hunk_words.specs.Watched.{inner_of};
+ghost use Rattle.hunk_loadfile.specs.WrittenForm.{written_form};
+ghost use Rattle.amihunk.specs.Devices.{IsCutShort};
 
 use crate::failure::Failure;
+use hunk_loadfile::{LoadFile, write_load};
 use hunk_tool::ToolFault;
-use hunk_words::{Watched, write_all};
+use hunk_words::{Watched, WriteFault};
 use std::alloc::Global;
 use std::fs;
 use std::io::{BufWriter, Write};
@@ -60,15 +64,20 @@ pub fn flushed<'a, O: Write + Drop>(writer: Watched<BufWriter<O>>) -> Result<O, 
     flush(output)
 }
 
-/// Writes `bytes` to `output`, and returns it, flushed.
-pub fn write_bytes<'a, O: Write + Drop>(output: O, bytes: &[u8]) -> Result<O, Failure<'a>>
-    ensures ok { IfOk result (λ after. Appends (O.contents output) (O.contents after) bytes.now) }
-    ensures err { IfErr result (λ failure. failure ≡ Failure.Printing) }
+/// Writes a load file to `output` through a buffer, and returns `output`, flushed.
+pub fn write_file<'a, O: Write + Drop>(
+    alloc: Global,
+    output: O,
+    file: &LoadFile,
+) -> Result<O, Failure<'a>>
+    ensures ok { IfOk result (λ after. Appends (O.contents output) (O.contents after) (bytes_of (written_form file.now))) }
+    ensures err { IfErr result IsCutShort }
 {
-    let mut writer = Watched::new(output);
-    match write_all(&mut writer, 0, bytes) {
-        Ok(_) => flush(writer.into_inner()),
-        Err(_) => Err(Failure::Printing),
+    let mut writer = buffered(alloc, output)?;
+    match write_load(alloc, file, &mut writer) {
+        Ok(()) => flushed(writer),
+        Err(WriteFault::Device { .. }) => Err(Failure::Printing),
+        Err(WriteFault::OutOfMemory { .. }) => Err(Failure::out_of_memory()),
     }
 }
 

@@ -42,7 +42,7 @@ pub use counters::{LoadCounter, ObjectCounter};
 pub use fault_line::{write_fault, write_line};
 pub use hunk_loader::PlaceFault;
 pub use image::image_run;
-pub use link::{link_run, link_to_vec};
+pub use link::{link_inputs, link_run, link_to_vec};
 pub use load::load_run;
 pub use phrase::Phrase;
 pub use show::show_run;

@@ -64,12 +64,14 @@ pub fn link_to_vec<A: Allocator + Copy, R: Source>(
     Ok(written_bytes(alloc, &file)?)
 }
 
-/// Reads every input in order, to its end, as an object file, and links all their units.
+/// Reads every input in order, to its end, as an object file, and links all their units. The load
+/// file that it returns has a written form of at most 2^28 longwords. With `strip`, symbols and debug
+/// blocks are left out.
 ///
 /// # Errors
 ///
 /// As [`link_to_vec`].
-pub(crate) fn link_inputs<A: Allocator + Copy, R: Source>(
+pub fn link_inputs<A: Allocator + Copy, R: Source>(
     alloc: A,
     inputs: &mut [R],
     strip: bool,
