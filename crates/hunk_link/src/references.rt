@@ -21,7 +21,9 @@ pub(crate) fn resolve<A: Allocator + Copy>(
     ensures defined { OnOk result (AllDefined table.now (references_of hunks.now)) }
     ensures undefined { IfErr result (IsUndefined table.now (references_of hunks.now)) }
 {
-    let mut addends = Vec::new(alloc);
+    let counts = hunks.iter().map(|ranked| ranked.hunk.references().len());
+    let count = counts.fold(0, usize::saturating_add);
+    let mut addends = Vec::with_capacity(alloc, count)?;
     for ranked in hunks {
         resolve_hunk(alloc, &mut addends, ranked, table)?;
     }

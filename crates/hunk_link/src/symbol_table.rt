@@ -38,13 +38,13 @@ impl<'a, A: Allocator + Copy> Model for SymbolTable<'a, A> {
 }
 
 impl<'a, A: Allocator + Copy> SymbolTable<'a, A> {
-    /// A table without names. Does not allocate.
-    fn new(alloc: A) -> Self
-        ensures { result ≡ [] }
+    /// A table without names, with memory for `count` of them.
+    fn with_capacity(alloc: A, count: usize) -> Result<Self, AllocError>
+        ensures { IfOk result (λ table. table ≡ []) }
     {
-        SymbolTable {
-            entries: IndexMap::with_hasher(alloc, BuildHasherDefault::new()),
-        }
+        let hasher = BuildHasherDefault::new();
+        let entries = IndexMap::with_capacity_and_hasher(alloc, count, hasher)?;
+        Ok(SymbolTable { entries })
     }
 
     /// What a name stands for.
@@ -100,7 +100,9 @@ pub(crate) fn symbol_table<'a, A: Allocator + Copy>(
     ensures once { OnOk result (DefinedOnce (definitions_of hunks.now)) }
     ensures twice { IfErr result (IsDuplicate (definitions_of hunks.now)) }
 {
-    let mut table = SymbolTable::new(alloc);
+    let counts = hunks.iter().map(|ranked| ranked.hunk.definitions().len());
+    let count = counts.fold(0, usize::saturating_add);
+    let mut table = SymbolTable::with_capacity(alloc, count)?;
     for ranked in hunks {
         table.add_definitions(ranked)?;
     }

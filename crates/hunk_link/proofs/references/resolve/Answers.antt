@@ -26,13 +26,13 @@ IsUndefined-next table left own rest references _ next so_far undefined = undefi
 
 pub loop-ranked-init : goal.loop-ranked-init
 loop-ranked-init g c = record {
-  value = c.new-addends.ensures.items;
+  value = c.in_ok-addends.ensures.items;
   defined = obeyed_before-start (AllDefined c.args.table.now) _ _ refl (All-nil (IsDefined c.args.table.now));
 }
 
 pub returns-in_err-resolve_hunk-clause-undefined : goal.returns-in_err-resolve_hunk-clause-undefined
 returns-in_err-resolve_hunk-clause-undefined g c =
-    let p = err_from_is_err_and c.from_residual.result c.from_residual.ensures.1 in
+    let p = err_from_is_err_and c.from_residual-in_err-resolve_hunk.result c.from_residual-in_err-resolve_hunk.ensures.1 in
     let next = all_items-next references_in _ _ c.ranked-item.result c.loop-ranked-test.true c.ranked-item.is in
     rw (p.1, p.2) (IsUndefined-next c.args.table.now _ (items_of references_in c.ranked-item.result) _ _ c.in_err-resolve_hunk.field-0.0 next c.loop-ranked.invariant.defined c.in_err-resolve_hunk.ensures.undefined)
 

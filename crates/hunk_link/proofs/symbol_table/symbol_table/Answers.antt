@@ -8,12 +8,12 @@ use Rattle.hunk_link.proofs.SymbolTableLemmas.{IsDuplicate-front, IsTableOf}
 use Rattle.hunk_link.proofs.symbol_table.symbol_table.Goals as goal
 
 pub loop-ranked-init : goal.loop-ranked-init
-loop-ranked-init g c = record { entries_are = c.new-table.ensures; once = λ i j d before within. absurd (omega arith) }
+loop-ranked-init g c = record { entries_are = c.in_ok-table.ensures; once = λ i j d before within. absurd (omega arith) }
 
 pub returns-in_err-add_definitions-clause-twice : goal.returns-in_err-add_definitions-clause-twice
 returns-in_err-add_definitions-clause-twice g c =
     let so_far = c.loop-ranked.invariant in
-    let p = err_from_is_err_and c.from_residual.result c.from_residual.ensures.1 in
+    let p = err_from_is_err_and c.from_residual-in_err-add_definitions.result c.from_residual-in_err-add_definitions.ensures.1 in
     let whole = all_items-around definitions_in _ _ c.ranked-item.result c.loop-ranked-test.true c.ranked-item.is in
     rw (p.1, p.2) (IsDuplicate-front _ _ _ c.in_err-add_definitions.field-0.0 whole (c.in_err-add_definitions.ensures.twice _ so_far.entries_are so_far.once))
 
