@@ -14,7 +14,7 @@ use Rattle.hunk_words.specs.Taker.{context_of}
 use Rattle.hunk_words.specs.Values.{Adds as FileAdds, Definition as FileDefinition, Hunk, HunkTables, Part, empty, with_tables, one_site}
 use Rattle.hunk_words.specs.EventValue.{Receiver as ToldReceiver, EventValue, initial_object, on_last, step, value_of_events, word_to}
 use Rattle.hunk_words.specs.EventValue.Receiver.{nothing_more, to_unit_name, to_content, to_debug}
-use Rattle.hunk_words.specs.SiteContext.{SiteContext, context_with, initial_context}
+use Rattle.hunk_words.specs.SiteContext.{SiteContext, context_after, context_with, initial_context}
 use Rattle.hunk_words.specs.declared.event.Event.{Event}
 use Rattle.hunk_words.specs.declared.event.Event.TheVariants.{Unit as UnitBegins, Word, HunkEnd}
 use Rattle.hunk_words.specs.declared.event.FileKind.TheVariants.{Object}
@@ -302,3 +302,64 @@ StandsFor-bytes (u ∷ us) b told is h =
     let rest = StandsFor-bytes us next (told ++ Word u ∷ []) is (takes-next {E = AllocError} b next (Ok tt) (Word u) told (Steps-word b u is) h) in
     subst (λ p. StandsFor (record b { hunk = record b.hunk { partial = p } }) (told ++ word_events (u ∷ us))) (hunk_with_bytes-more b.hunk.partial u (bytes_of us))
     (subst (λ es. StandsFor (record b { hunk = record b.hunk { partial = hunk_with_bytes (hunk_with_word b.hunk.partial u) (bytes_of us) } }) es) (append_assoc told (Word u ∷ []) (word_events us)) rest)
+
+-- ---- a run of words of a name
+
+values-append : (built : EventValue) (es ds : List Event) → value_of_events built (es ++ ds) ≡ value_of_events (value_of_events built es) ds
+values-append built [] ds = refl
+values-append built (e ∷ es) ds = values-append (step built e) es ds
+
+context-append : (context : SiteContext) (es ds : List Event) → context_after Object context (es ++ ds) ≡ context_after Object (context_after Object context es) ds
+context-append context [] ds = refl
+context-append context (e ∷ es) ds = context-append (context_with Object context e) es ds
+
+-- words say nothing of sites
+context-words : (context : SiteContext) (us : List ℕ) → context_after Object context (word_events us) ≡ context
+context-words context [] = refl
+context-words context (u ∷ us) = context-words context us
+
+-- a word goes to the name that is read
+word-named : (named : Named) (words : List ℕ) (told : EventValue) (u : ℕ) → told.receiver ≡ receiver_of named words → step told (Word u) ≡ record told { receiver = receiver_of named (words ++ u ∷ []) }
+word-named Symbol words told u is = ap (λ goes. word_to goes told u) is
+word-named Offset words told u is = ap (λ goes. word_to goes told u) is
+word-named Number words told u is = ap (λ goes. word_to goes told u) is
+word-named Reference words told u is = ap (λ goes. word_to goes told u) is
+
+words-named : (us : List ℕ) (named : Named) (words : List ℕ) (told : EventValue) → told.receiver ≡ receiver_of named words
+    → value_of_events told (word_events us) ≡ record told { receiver = receiver_of named (words ++ us) }
+words-named [] named words told is = ap (λ goes. record told { receiver = goes }) (is ∙ ap (receiver_of named) (sym (append-nil words)))
+words-named (u ∷ us) named words told is =
+    ap (λ built. value_of_events built (word_events us)) (word-named named words told u is)
+    ∙ words-named us named (words ++ u ∷ []) (record told { receiver = receiver_of named (words ++ u ∷ []) }) refl
+    ∙ ap (λ ws. record told { receiver = receiver_of named ws }) (append_assoc words (u ∷ []) us)
+
+-- The name that is read takes words.
+pub StandsFor-name : {A : Type 0} (us : List ℕ) (b : UnitBuilder A) (named : Named) (old new : OpenName A) (told : List Event) → b.receiver ≡ Receiving.Name named old
+    → ((words : List ℕ) → Opens old words → Opens new (words ++ us)) → StandsFor b told → StandsFor (record b { receiver = Receiving.Name named new }) (told ++ word_events us)
+StandsFor-name us b named old new told is takes h =
+    let built = value_of_events initial_object told in
+    let limit = (context_of Object told).position.limit in
+    let so_far = subst (λ r. Receives r built.receiver) is h.receiver in
+    let words = so_far.words ++ us in
+    let elsewhere : goes_to_content built.receiver ≡ false = ap goes_to_content so_far.goes_there ∙ named-elsewhere named so_far.words in
+    let value = values-append initial_object told (word_events us) ∙ words-named us named so_far.words built so_far.goes_there in
+    let context = context-append initial_context told (word_events us) ∙ context-words (context_of Object told) us in
+    subst (λ t. Holds (record b { receiver = Receiving.Name named new }) t (context_of Object (told ++ word_events us))) (sym value)
+    (subst (Holds (record b { receiver = Receiving.Name named new }) (record built { receiver = receiver_of named words })) (sym context) (record {
+      units = h.units;
+      room = h.room;
+      hunk = subst (λ in_content. Shows b.hunk limit (context_of Object told).seen in_content built.hunk) (elsewhere ∙ sym (named-elsewhere named words)) h.hunk;
+      receiver = record { words = words; goes_there = refl; opens = takes so_far.words so_far.opens };
+    }))
+
+-- The name that is read takes nothing.
+pub StandsFor-name_kept : {A : Type 0} (b : UnitBuilder A) (named : Named) (old new : OpenName A) (told : List Event) → b.receiver ≡ Receiving.Name named old
+    → ((words : List ℕ) → Opens old words → Opens new words) → StandsFor b told → StandsFor (record b { receiver = Receiving.Name named new }) told
+StandsFor-name_kept b named old new told is keeps h =
+    let so_far = subst (λ r. Receives r (value_of_events initial_object told).receiver) is h.receiver in
+    record {
+      units = h.units;
+      room = h.room;
+      hunk = h.hunk;
+      receiver = record { words = so_far.words; goes_there = so_far.goes_there; opens = keeps so_far.words so_far.opens };
+    }

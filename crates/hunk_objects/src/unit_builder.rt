@@ -262,13 +262,14 @@ impl<A: Allocator + Copy> Taker for UnitBuilder<A> {
         }
     }
 
-    // Content is most of a file, so the bytes of a run of it are copied at once.
+    // Content is most of a file, and names are most of one with many symbols, so the bytes of a run of
+    // either are copied at once.
     fn take_words(&mut self, bytes: &[u8]) -> Result<bool, AllocError> {
-        match &self.receiver {
-            Receiver::Hunk => {}
-            _ => return Ok(false),
+        match &mut self.receiver {
+            Receiver::Hunk => self.hunk.add_bytes(bytes)?,
+            Receiver::Name(_, name) => name.push_bytes(bytes)?,
+            Receiver::UnitName | Receiver::HunkName | Receiver::Debug => return Ok(false),
         }
-        self.hunk.add_bytes(bytes)?;
         Ok(true)
     }
 

@@ -132,6 +132,10 @@ name_of-goes_on words items long front i within bytes stop so_far whole =
     ∙ ap (λ (t : List ℕ). items ++ (t ++ name_of (drop (i + 1) words))) (sym cut)
     ∙ sym (append_assoc items front (name_of (drop (i + 1) words)))
 
+-- what stands before the first zero byte of bytes are name bytes
+pub before_zero-name : (bs : List ℕ) → All (λ b. b < 256) bs → All IsNameByte (before_first (λ b. b == 0) bs)
+before_zero-name bs typed = All-from_recursion IsNameByte (before_zero bs) (before_zero-bytes bs (recursion_from_All (λ b. b < 256) bs typed))
+
 -- each byte of a name that longwords hold is a name byte
 pub name_of-bytes : (ws : List ℕ) → All IsNameByte (name_of ws)
 name_of-bytes ws = All-from_recursion IsNameByte (name_of ws) (before_zero-bytes (bytes_of ws) (AreBytes-bytes_of ws))

@@ -9,6 +9,9 @@ use crate::sites::{SiteRefusal, Sites};
 use std::alloc::{AllocError, Allocator, Global};
 use std::marker::Model;
 
+/// The bytes of a longword.
+const LONGWORD: u64 = 4;
+
 /// The current hunk of a reader: its sites, its content so far, and whether the next word is
 /// content.
 ///
@@ -114,6 +117,9 @@ impl<T: Copy, A: Allocator + Copy> PartialHunk<T, A> {
         if bytes.len() as u64 > room {
             return Err(AllocError);
         }
+        // The last longword of a run comes by itself, and should not make the content grow once more.
+        let wanted = (bytes.len() as u64).saturating_add(LONGWORD).min(room);
+        self.content.reserve(wanted as usize)?;
         self.content.extend_from_slice(bytes)
     }
 

@@ -1,11 +1,14 @@
 //! A name whose longwords come one after another.
 ghost use Rattle.std.specs.Prelude.{◌≡◌, ℕ, List, [], ◌∷◌, ◌++◌, length, OnOk, OnErr};
 ghost use Rattle.std.specs.List.{All};
-ghost use Rattle.hunk_words.specs.Name.{IsNameByte, name_of};
+ghost use Rattle.hunk_words.specs.Name.{IsNameByte, bytes_of, name_of};
 
 use super::{Name, until_zero};
 use crate::longwords::big_endian;
 use std::alloc::{AllocError, Allocator, Global};
+
+/// The bytes of a longword.
+const LONGWORD: usize = 4;
 
 /// A name whose longwords come one after another. After its first zero byte it does not allocate.
 #[derive(Debug, Drop)]
@@ -37,13 +40,35 @@ impl<A: Allocator + Copy> OpenName<A> {
         ensures takes { (words : List ℕ) → Opens self.old words → OnOk result (Opens self.new (words ++ word ∷ [])) }
         ensures refuses { (words : List ℕ) → Opens self.old words → OnErr result (Opens self.new words) }
     {
+        self.append(&big_endian(word), 0)
+    }
+
+    /// Takes the next longwords at once, as their bytes. It allocates for one longword more, since the
+    /// last longword of a name comes by itself.
+    ///
+    /// # Errors
+    ///
+    /// [`AllocError`] only if an allocation failed; then the name is as it was.
+    pub fn push_bytes(&mut self, bytes: &[u8]) -> Result<(), AllocError>
+        ensures takes { (words more : List ℕ) → bytes_of more ≡ bytes.now → Opens self.old words → OnOk result (Opens self.new (words ++ more)) }
+        ensures refuses { (words : List ℕ) → Opens self.old words → OnErr result (Opens self.new words) }
+    {
+        self.append(bytes, LONGWORD)
+    }
+
+    /// Takes the bytes of the next longwords, up to the first zero byte, with memory for `spare` bytes
+    /// more.
+    fn append(&mut self, bytes: &[u8], spare: usize) -> Result<(), AllocError>
+        ensures takes { (words more : List ℕ) → bytes_of more ≡ bytes.now → Opens self.old words → OnOk result (Opens self.new (words ++ more)) }
+        ensures refuses { (words : List ℕ) → Opens self.old words → OnErr result (Opens self.new words) }
+    {
         if self.ended {
             return Ok(());
         }
-        let longword = big_endian(word);
-        let front = until_zero(&longword);
+        let front = until_zero(bytes);
+        self.bytes.reserve(front.len().saturating_add(spare))?;
         self.bytes.extend_from_slice(front)?;
-        self.ended = front.len() < longword.len();
+        self.ended = front.len() < bytes.len();
         Ok(())
     }
 
