@@ -25,7 +25,7 @@ pub struct Defined {
 /// The names that hunks define, in the order of their definitions. The names stay in their hunks.
 #[derive(Drop)]
 pub(crate) struct SymbolTable<'a, A: Allocator + Copy = Global> {
-    entries: IndexMap<&'a Name<A>, Defined, BuildHasherDefault<FoldHasher>, A>,
+    entries: IndexMap<&'a [u8], Defined, BuildHasherDefault<FoldHasher>, A>,
 }
 
 impl<'a, A: Allocator + Copy> Model for SymbolTable<'a, A> {
@@ -51,7 +51,7 @@ impl<'a, A: Allocator + Copy> SymbolTable<'a, A> {
     pub(crate) fn get(&self, name: &Name<A>) -> Option<Defined>
         ensures { result ≡ look_up self.now name.now }
     {
-        self.entries.get(&name).copied()
+        self.entries.get(&name.bytes()).copied()
     }
 
     /// Adds a name, or returns false if it is there.
@@ -59,7 +59,7 @@ impl<'a, A: Allocator + Copy> SymbolTable<'a, A> {
         ensures added { result ≡ Ok true → (look_up self.old name.now ≡ None) × (self.new ≡ self.old ++ (name.now, defined) ∷ []) }
         ensures there { result ≡ Ok false → look_up self.old name.now ≢ None }
     {
-        match self.entries.insert(name, defined) {
+        match self.entries.insert(name.bytes(), defined) {
             Ok(before) => Ok(before.is_none()),
             Err(_) => Err(AllocError),
         }

@@ -10,27 +10,29 @@ none_from_is_none (Some x) told = cc
 
 pub returns-clause-added : goal.returns-clause-added
 returns-clause-added g c =
-    let name = c.args.name.now in
+    let key = c.bytes.result in
+    let same = c.bytes.ensures.value in
     let m = c.self.inside.entries in
     elim c.match-insert.branch [
       | in-Ok w ↦ λ added.
           let was_none : w.is_none.result ≡ true = cc in
           let before : w.in-Ok.before ≡ None = none_from_is_none w.in-Ok.before (w.is_none.ensures ∙ ap not was_none) in
           let absent = sym w.in-Ok.ensures.old ∙ before in (
-            sym (ap (λ table. look_up table name) c.self.view_is) ∙ look_up-seen m.entries name ∙ absent,
-            ap table_seen w.in-Ok.ensures.entries ∙ table_seen-insert m c.args.name c.args.defined absent ∙ ap (λ table. table ++ (name, c.args.defined) ∷ []) c.self.view_is,
+            ap (look_up c.args.self.now) (sym same) ∙ sym (ap (λ table. look_up table key.now) c.self.view_is) ∙ look_up-seen m.entries key.now ∙ absent,
+            ap table_seen w.in-Ok.ensures.entries ∙ table_seen-insert m key c.args.defined absent ∙ ap (λ table. table ++ (key.now, c.args.defined) ∷ []) c.self.view_is
+            ∙ ap (λ name. c.args.self.now ++ (name, c.args.defined) ∷ []) same,
           )
       | in-Err w ↦ λ added. cc
     ]
 
 pub returns-clause-there : goal.returns-clause-there
 returns-clause-there g c =
-    let name = c.args.name.now in
+    let key = c.bytes.result in
     let m = c.self.inside.entries in
     elim c.match-insert.branch [
       | in-Ok w ↦ λ there absent.
           let was_some : w.is_none.result ≡ false = cc in
-          let is : w.in-Ok.before ≡ None = w.in-Ok.ensures.old ∙ sym (look_up-seen m.entries name) ∙ ap (λ table. look_up table name) c.self.view_is ∙ absent in
+          let is : w.in-Ok.before ≡ None = w.in-Ok.ensures.old ∙ sym (look_up-seen m.entries key.now) ∙ ap (λ table. look_up table key.now) c.self.view_is ∙ ap (look_up c.args.self.now) c.bytes.ensures.value ∙ absent in
           true≢false (sym (w.is_none.ensures ∙ ap not was_some) ∙ ap is_some is)
       | in-Err w ↦ λ there absent. cc
     ]

@@ -5,5 +5,5 @@ use Rattle.hunk_link.proofs.symbol_table.SymbolTable.get.Goals as goal
 
 pub returns : goal.returns
 returns g c =
-    let name = c.args.name.now in
-    c.copied.ensures ∙ c.get.ensures.value ∙ sym (look_up-seen c.self.inside.entries.entries name) ∙ ap (λ table. look_up table name) c.self.view_is
+    let key = c.bytes.result.now in
+    c.copied.ensures ∙ c.get.ensures.value ∙ sym (look_up-seen c.self.inside.entries.entries key) ∙ ap (λ table. look_up table key) c.self.view_is ∙ ap (look_up c.args.self.now) c.bytes.ensures.value
