@@ -1,5 +1,5 @@
 -- Hunks that are loaded one after another.
-use Rattle.std.proofs.Common.{◌≡◌, ℕ, ◌+◌, ◌-◌, ◌<◌, ◌≤◌, List, [], ◌∷◌, ◌++◌, length, map, drop, replicate, slice_index, get_or, Vec, sym, ap, ◌∙◌, arith}
+use Rattle.std.proofs.Common.{◌≡◌, ℕ, ◌+◌, ◌-◌, ◌<◌, ◌≤◌, List, [], ◌∷◌, ◌++◌, length, map, drop, replicate, slice_index, Vec, sym, ap, ◌∙◌, arith}
 use Rattle.std.specs.List.{zip}
 use Rattle.std.proofs.lemmas.List.{append-nil, append_assoc, drop_all, drop_more, length-append, length-replicate, map-append}
 use Rattle.hunk_words.specs.Sites.{StandFrom}
@@ -7,7 +7,7 @@ use Rattle.hunk_loadfile.specs.LoadHunk.{FileHunk}
 use Rattle.hunk_loadfile.specs.Patching.{patched_bytes}
 use Rattle.hunk_loadfile.proofs.PatchingLemmas.{patched_bytes-filled}
 use Rattle.hunk_loader.specs.Image.{hunks_of}
-use Rattle.hunk_loader.specs.Loading.{loaded, loaded_bytes}
+use Rattle.hunk_loader.specs.Loading.{loaded_bytes}
 
 -- content that was padded with zeros, and then patched
 pub patched_bytes-size : (bases content buffer patched : List ℕ) (limit size : ℕ) (sites : List (ℕ × ℕ)) → length content ≤ size → StandFrom 0 limit sites
@@ -25,26 +25,26 @@ patched_bytes-size bases content buffer patched limit size sites fits apart fill
 abbrev pub loaded_from : List ℕ → List ℕ → List FileHunk → List (ℕ × List ℕ)
 loaded_from all bases hunks = map (λ placed. (placed.0, loaded_bytes all placed.1)) (zip bases hunks)
 
-pub loaded_from-none : {A : Type 0} (bases : List ℕ) (hunks : List FileHunk) (made : List (ℕ × Vec ℕ A)) (count : ℕ) → length bases ≤ count → length hunks ≤ count
-    → hunks_of made ++ loaded_from bases (drop count bases) (drop count hunks) ≡ loaded hunks bases → hunks_of made ≡ loaded hunks bases
-loaded_from-none bases hunks made count all_bases all_hunks is =
+-- no base is left
+pub loaded_from-none : {A : Type 0} (bases : List ℕ) (all : List (ℕ × List ℕ)) (left : List FileHunk) (made : List (ℕ × Vec ℕ A)) (count : ℕ) → length bases ≤ count
+    → hunks_of made ++ loaded_from bases (drop count bases) left ≡ all → hunks_of made ≡ all
+loaded_from-none bases all left made count all_bases is =
     sym (append-nil (hunks_of made))
-    ∙ ap (λ bs. hunks_of made ++ loaded_from bases bs []) (sym (drop_all count bases all_bases))
-    ∙ ap (λ hs. hunks_of made ++ loaded_from bases (drop count bases) hs) (sym (drop_all count hunks all_hunks))
+    ∙ ap (λ bs. hunks_of made ++ loaded_from bases bs left) (sym (drop_all count bases all_bases))
     ∙ is
 
-pub loaded_from-more : {A : Type 0} (bases : List ℕ) (hunks : List FileHunk) (made : List (ℕ × Vec ℕ A)) (base : ℕ) (hunk : FileHunk) (bytes : Vec ℕ A) (i : ℕ) → i < length bases → i < length hunks
-    → slice_index bases i ≡ base → get_or hunks i hunk ≡ hunk → bytes.items ≡ loaded_bytes bases hunk
-    → hunks_of made ++ loaded_from bases (drop i bases) (drop i hunks) ≡ loaded hunks bases
-    → hunks_of (made ++ (base, bytes) ∷ []) ++ loaded_from bases (drop (i + 1) bases) (drop (i + 1) hunks) ≡ loaded hunks bases
-loaded_from-more {A = A} bases hunks made base hunk bytes i is_base is_hunk at_base at_hunk is_bytes is =
+-- one more hunk
+pub loaded_from-more : {A : Type 0} (bases : List ℕ) (all : List (ℕ × List ℕ)) (left rest : List FileHunk) (made : List (ℕ × Vec ℕ A)) (base : ℕ) (hunk : FileHunk) (bytes : Vec ℕ A) (i : ℕ) → i < length bases
+    → slice_index bases i ≡ base → left ≡ hunk ∷ rest → bytes.items ≡ loaded_bytes bases hunk
+    → hunks_of made ++ loaded_from bases (drop i bases) left ≡ all
+    → hunks_of (made ++ (base, bytes) ∷ []) ++ loaded_from bases (drop (i + 1) bases) rest ≡ all
+loaded_from-more {A = A} bases all left rest made base hunk bytes i is_base at_base shown is_bytes is =
     let bases_left : drop i bases ≡ base ∷ drop (i + 1) bases = drop_more bases i 0 is_base ∙ ap (λ b. b ∷ drop (i + 1) bases) at_base in
-    let hunks_left : drop i hunks ≡ hunk ∷ drop (i + 1) hunks = drop_more hunks i hunk is_hunk ∙ ap (λ h. h ∷ drop (i + 1) hunks) at_hunk in
-    let rest : List (ℕ × List ℕ) = loaded_from bases (drop (i + 1) bases) (drop (i + 1) hunks) in
+    let others : List (ℕ × List ℕ) = loaded_from bases (drop (i + 1) bases) rest in
     let one : List (ℕ × Vec ℕ A) = (base, bytes) ∷ [] in
-    ap (λ l. l ++ rest) (map-append (λ h. (h.0, h.1.items)) made one)
-    ∙ append_assoc (hunks_of made) (hunks_of one) rest
-    ∙ ap (λ b. hunks_of made ++ ((base, b) ∷ rest)) is_bytes
-    ∙ ap (λ hs. hunks_of made ++ loaded_from bases (base ∷ drop (i + 1) bases) hs) (sym hunks_left)
-    ∙ ap (λ bs. hunks_of made ++ loaded_from bases bs (drop i hunks)) (sym bases_left)
+    ap (λ l. l ++ others) (map-append (λ h. (h.0, h.1.items)) made one)
+    ∙ append_assoc (hunks_of made) (hunks_of one) others
+    ∙ ap (λ b. hunks_of made ++ ((base, b) ∷ others)) is_bytes
+    ∙ ap (λ hs. hunks_of made ++ loaded_from bases (base ∷ drop (i + 1) bases) hs) (sym shown)
+    ∙ ap (λ bs. hunks_of made ++ loaded_from bases bs left) (sym bases_left)
     ∙ is

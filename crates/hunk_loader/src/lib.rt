@@ -28,6 +28,6 @@ pub mod sizes;
 pub use image::Image;
 pub use image_loader::ImageLoader;
 pub use image_reader::{ImageFault, read_image};
-pub use loading::{LoadRefusal, load};
+pub use loading::{LoadRefusal, load, load_file};
 pub use places::{PlaceFault, check_places, check_sizes};
 pub use sizes::Sizes;

@@ -61,4 +61,12 @@ impl<A: Allocator + Copy> LoadFile<A> {
     {
         &self.hunks
     }
+
+    /// The hunks, in order, moved out of the file. Does not allocate.
+    pub fn into_hunks(self) -> Vec<LoadHunk<A>, A>
+        ensures value { result.items ≡ self }
+        ensures valid { IsLoadFile self }
+    {
+        self.hunks
+    }
 }

@@ -3,7 +3,7 @@ use Rattle.std.proofs.Common.{◌≡◌, ◌≤◌, ◌++◌, drop, length, vec_
 use Rattle.hunk_loader.specs.Image.{hunks_of}
 use Rattle.hunk_loader.specs.Loading.{loaded}
 use Rattle.hunk_loader.proofs.LoadingLemmas.{loaded_from}
-use Rattle.hunk_loader.proofs.loading.load_hunks.Given as goal
+use Rattle.hunk_loader.proofs.loading.copied_hunks.Given as goal
 
 abbrev pub invariant-loop-number : goal.invariant-loop-number
 invariant-loop-number g l = record {
