@@ -1,15 +1,17 @@
 -- What holds of bytes to whose longwords numbers are added.
 use Rattle.std.proofs.Common.{◌≡◌, ℕ, ◌+◌, ◌-◌, ◌%◌, ◌^◌, ◌<◌, ◌≤◌, true, false, inl, inr, List, [], ◌∷◌, ◌++◌, length, map, replicate, take, drop, zero, suc, add-zero, append-nil, length-take, length-drop, slice_index, None, refl, sym, ap, subst, ◌∙◌, zero-add, arith}
-use Rattle.std.specs.List.{All, range_with_len}
+use Rattle.std.specs.List.{All, AllByRecursion, range_with_len}
 use Rattle.std.proofs.lemmas.Bool.{cases_lt}
 use Rattle.std.proofs.lemmas.Bool.Decides.{nat_tests}
-use Rattle.std.proofs.lemmas.List.{ext_get_or, get_or_past, get_or_append_left, get_or-append_right, get_or-take, get_or-drop, drop_all, drop-drop, length-append, length-take-le}
+use Rattle.std.proofs.lemmas.List.{ext_get_or, get_or_past, get_or_append_left, get_or-append_right, get_or-take, get_or-drop, drop_all, drop-drop, length-append, length-take-le, take-append-drop}
+use Rattle.std.proofs.lemmas.List.Elements.{All-from_get_or, recursion_from_All}
 use Rattle.std.proofs.lemmas.List.FromFn.{get_or-map-range_with_len, length-map-range_with_len}
 use Rattle.std.proofs.Math.Path.{fun_ext}
 use borrow.Rule.Slice.PartMut.{put_mid}
-use Rattle.byteorder.specs.Endian.{big_bytes, big_from}
+use Rattle.byteorder.specs.Endian.{big_bytes, big_from, big_number}
 use Rattle.byteorder.specs.Numbers.{big_from-take}
 use Rattle.hunk_words.specs.Sites.{StandFrom}
+use Rattle.hunk_words.proofs.NameLemmas.{big_bytes-of_four}
 use Rattle.hunk_loadfile.specs.Patching.{holds, site_over, patched, patched_in, patched_bytes, sum_at}
 
 -- ---- which bytes a site holds
@@ -142,6 +144,29 @@ put_mid-added bytes written offset addend read count four fits is_read is_writte
     let longword : read ≡ big_from offset 4 bytes = is_read ∙ ap (λ c. big_from 0 4 (take c (drop offset bytes))) four ∙ big_from-take 0 4 4 (drop offset bytes) (omega arith) ∙ big_from-drop 4 0 offset bytes ∙ ap (λ o. big_from o 4 bytes) (add-zero offset) in
     let is : written ≡ big_bytes 4 (sum_at {T = ℕ} bytes (λ a. a) (offset, addend)) = whole ∙ ap (λ r. big_bytes 4 ((r + addend) % 2 ^ 32)) longword in
     ap (λ c. put_mid offset c bytes written) four ∙ put_mid-site bytes offset addend written (ap length is) is fits
+
+-- four bytes are those of their longword, to which nothing is added
+four-unchanged : (xs : List ℕ) → length xs ≡ 4 → AllByRecursion (λ b. b < 256) xs → xs ≡ big_bytes 4 ((big_from 0 4 xs + 0) % 2 ^ 32) ++ drop 4 xs
+four-unchanged [] four h = absurd (omega (arith, four))
+four-unchanged (a ∷ []) four h = absurd (omega (arith, four))
+four-unchanged (a ∷ b ∷ []) four h = absurd (omega (arith, four))
+four-unchanged (a ∷ b ∷ c ∷ []) four h = absurd (omega (arith, four))
+four-unchanged (a ∷ b ∷ c ∷ d ∷ []) four h =
+    let n : ℕ = big_number 4 (a ∷ b ∷ c ∷ d ∷ []) in
+    let same : (n + 0) % 2 ^ 32 ≡ n = omega (arith, h.0, h.1.0, h.1.1.0, h.1.1.1.0) in
+    sym (append-nil (big_bytes 4 ((n + 0) % 2 ^ 32)) ∙ ap (big_bytes 4) same ∙ big_bytes-of_four a b c d [] h.0 h.1.0 h.1.1.0 h.1.1.1.0)
+four-unchanged (a ∷ b ∷ c ∷ d ∷ e ∷ xs) four h = absurd (omega (arith, four))
+
+-- Where nothing is added, the bytes stay as they are.
+pub patched_bytes-unchanged : (bytes : List ℕ) (offset : ℕ) → ((i : ℕ) → slice_index bytes i < 256) → offset + 4 ≤ length bytes
+    → bytes ≡ patched_bytes (length bytes) bytes ((offset, 0) ∷ []) (λ a. a)
+patched_bytes-unchanged bytes offset typed fits =
+    let four : List ℕ = take 4 (drop offset bytes) in
+    let count : length four ≡ 4 = length-take-le 4 (drop offset bytes) (omega (arith, length-drop offset bytes)) in
+    let each : All (λ b. b < 256) four = All-from_get_or (λ b. b < 256) four 0 (λ i within.
+    subst (λ b. b < 256) (sym (get_or-take 4 (drop offset bytes) i 0 (omega (arith, count)) ∙ get_or-drop offset bytes i 0)) (typed (offset + i))) in
+    let whole : put_mid offset 4 bytes four ≡ bytes = ap (λ rest. take offset bytes ++ rest) (take-append-drop 4 (drop offset bytes)) ∙ take-append-drop offset bytes in
+    sym whole ∙ put_mid-added bytes four offset 0 (big_from 0 4 four) 4 refl fits refl (four-unchanged four count (recursion_from_All (λ b. b < 256) four each))
 
 -- ---- several sites, one after another
 
