@@ -8,7 +8,7 @@ ghost use Rattle.hunk_tool.specs.Inputs.{HaveRead, inputs_of};
 use crate::link::link_inputs;
 use crate::report::write_report;
 use crate::tool_fault::ToolFault;
-use hunk_loader::{LoadRefusal, load};
+use hunk_loader::{LoadRefusal, load_file};
 use hunk_words::{Sink, Source};
 use std::alloc::Allocator;
 
@@ -42,7 +42,10 @@ pub fn image_run<A: Allocator + Copy, R: Source, W: Sink>(
     ensures writable { IfErr result (IsOfInputs (length inputs.old)) }
 {
     let file = link_inputs(alloc, inputs, true)?;
-    match load(alloc, &file, bases) {
+    // What a report requires of the image follows from the rules for load files, which `hunks`
+    // states for this one.
+    let _hunks = file.hunks();
+    match load_file(alloc, file, bases) {
         Ok(image) => Ok(write_report(image.hunks(), writer)?),
         Err(LoadRefusal::Place(fault)) => Err(ToolFault::Place(fault)),
         Err(LoadRefusal::OutOfMemory) => Err(ToolFault::OutOfMemory { written: 0 }),

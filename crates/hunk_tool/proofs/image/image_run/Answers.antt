@@ -1,9 +1,8 @@
 -- Each exit of the run, and the report of what the units define.
-use Rattle.std.proofs.Common.{Err, refl, ap, subst, ◌∙◌}
+use Rattle.std.proofs.Common.{Err, refl, ap, ◌∙◌}
 use Rattle.std.proofs.KnownBytes.{Keeps-refl}
 use Rattle.std.proofs.lemmas.Result.{err_from_is_err_and}
 use Rattle.hunk_words.specs.Name.{bytes_of}
-use Rattle.hunk_loadfile.specs.Rules.{IsLoadFile}
 use Rattle.hunk_loadfile.specs.WrittenForm.{written_form}
 use Rattle.hunk_loader.specs.Image.{hunks_of}
 use Rattle.hunk_tool.proofs.ImageLemmas.{HaveRead-imaged, HaveRead-not_placed, IsImageFault-unlinked, IsImageFault-written, LoadsAs-written}
@@ -19,12 +18,12 @@ returns-in_err-file-clause-err g c =
 pub write_report-requires-clause-few : goal.write_report-requires-clause-few
 write_report-requires-clause-few g c =
     few-loaded c.args.bases.now (bytes_of (written_form c.in_ok-file.file)) c.hunks.result.now _ c.hunks.ensures
-    (LoadsAs-written c.in_ok-file.file c.args.bases.now _ (subst IsLoadFile c.file.view_is c.file.invariant) c.in_ok-file.ensures.short (c.in-Ok.ensures.placed refl) c.in-Ok.ensures.image)
+    (LoadsAs-written c.in_ok-file.file c.args.bases.now _ c.hunks-hunks.ensures.valid c.in_ok-file.ensures.short (c.in-Ok.ensures.placed refl) c.in-Ok.ensures.image)
 
 pub write_report-requires-clause-inside : goal.write_report-requires-clause-inside
 write_report-requires-clause-inside g c =
     ends-loaded c.args.bases.now (bytes_of (written_form c.in_ok-file.file)) (hunks_of c.hunks.result.now)
-    (LoadsAs-written c.in_ok-file.file c.args.bases.now _ (subst IsLoadFile c.file.view_is c.file.invariant) c.in_ok-file.ensures.short (c.in-Ok.ensures.placed refl) (c.hunks.ensures ∙ c.in-Ok.ensures.image))
+    (LoadsAs-written c.in_ok-file.file c.args.bases.now _ c.hunks-hunks.ensures.valid c.in_ok-file.ensures.short (c.in-Ok.ensures.placed refl) (c.hunks.ensures ∙ c.in-Ok.ensures.image))
 
 pub returns-in_err-write_report-in-Ok-clause-err : goal.returns-in_err-write_report-in-Ok-clause-err
 returns-in_err-write_report-in-Ok-clause-err g c =
@@ -34,8 +33,8 @@ returns-in_err-write_report-in-Ok-clause-err g c =
     c.in_ok-file.ensures.linked (c.in-Ok.ensures.placed refl) (c.hunks.ensures ∙ c.in-Ok.ensures.image)
     c.in_err-write_report-in-Ok.ensures.device c.in_err-write_report-in-Ok.ensures.wrote)
 
-pub returns-in-Ok-clause-ok : goal.returns-in-Ok-clause-ok
-returns-in-Ok-clause-ok g c =
+pub returns-in_ok-write_report-in-Ok-clause-ok : goal.returns-in_ok-write_report-in-Ok-clause-ok
+returns-in_ok-write_report-in-Ok-clause-ok g c =
     HaveRead-imaged _ c.args.bases.now c.in_ok-file.file (hunks_of c.hunks.result.now) _ _
     c.in_ok-file.ensures.linked (c.in-Ok.ensures.placed refl) (c.hunks.ensures ∙ c.in-Ok.ensures.image) c.in_ok-write_report-in-Ok.ensures.wrote.0
 
