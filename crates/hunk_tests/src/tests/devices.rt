@@ -1,7 +1,7 @@
 //! Readers and writers that fail.
 
 use super::files::{BASE, FILE, REPORT, bytes_of};
-use crate::Refusing;
+use failing_allocator::Refusing;
 use hunk_loadfile::read_load;
 use hunk_tool::{ToolFault, load_run};
 use hunk_words::{Pieces, ReadFault, Room, Sink, Source, Watched};

@@ -5,7 +5,7 @@ use super::loaded::has_bytes;
 use super::values::{SCATTERED_HUNKS, has_hunks};
 use super::words::{SCATTERED, WRITTEN};
 use super::written::file_of;
-use crate::Refusing;
+use failing_allocator::Refusing;
 use hunk_loader::{ImageFault, LoadRefusal, load, read_image};
 use hunk_loadfile::{read_load, write_load};
 use hunk_tool::{ToolFault, load_run};

@@ -3,7 +3,7 @@
 use super::decoders::{Judge, answers_again};
 use super::files::{BASE, FILE, bytes_of};
 use super::words::{PAST_CONTENT, SCATTERED};
-use crate::Refusing;
+use failing_allocator::Refusing;
 use hunk_loader::{ImageLoader, LoadRefusal};
 use hunk_loadfile::LoadDecoder;
 use hunk_tool::{LoadCounter, ObjectCounter};

@@ -1,7 +1,7 @@
 //! Allocations that fail, each in turn.
 
 use super::files::{BASE, FILE, REPORT, bytes_of};
-use crate::Refusing;
+use failing_allocator::Refusing;
 use hunk_tool::{BasesFault, ToolFault, load_run, parse_bases};
 use hunk_words::{Pieces, Room};
 use std::alloc::Global;

@@ -1,6 +1,6 @@
 //! Allocations of a map of sites that fail, each in turn.
 
-use crate::Refusing;
+use failing_allocator::Refusing;
 use hunk_words::{SiteRefusal, Sites};
 use std::alloc::{Allocator, Global};
 use std::process::Abort;

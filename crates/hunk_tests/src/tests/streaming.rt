@@ -2,7 +2,7 @@
 
 use super::decoders::Judge;
 use super::files::{BASE, CHUNKS, FILE, REPORT, ROOM, bytes_of};
-use crate::Refusing;
+use failing_allocator::Refusing;
 use hunk_loader::{ImageLoader, LoadRefusal, PlaceFault, load};
 use hunk_loadfile::LoadDecoder;
 use hunk_tool::load_run;

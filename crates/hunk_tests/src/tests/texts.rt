@@ -2,7 +2,7 @@
 
 use super::files::{CHUNKS, ROOM, bytes_of};
 use super::words::{ASSEMBLED, LINKED_ALONE, TWO_NAMES};
-use crate::Refusing;
+use failing_allocator::Refusing;
 use hunk_tool::{ToolFault, check_run, show_run};
 use hunk_words::{Pieces, Room, Sink, Source};
 use std::alloc::{Allocator, Global};

@@ -7,7 +7,7 @@ use super::words::{
     ADDRESS, ASSEMBLED, CHIP, DEFINES, DEFINES_LONGER, IN_BSS, MEETS, PAST_CONTENT, REFERS,
     TWO_NAMES,
 };
-use crate::Refusing;
+use failing_allocator::Refusing;
 use hunk_loader::LoadRefusal;
 use hunk_objects::{Adds, Definition, HunkKind, Memory, ObjectDecoder, hunk_total, read_object};
 use hunk_words::FileKind::Object;

@@ -4,7 +4,7 @@ use super::files::{FILE, ROOM, bytes_of};
 use super::growths::growths_of_reading;
 use super::load_words::{THREE_HUNKS, TWO_HUNKS, ZEROS};
 use super::words::{BEHIND_CONTENT, LINKED, LINKED_ALONE, SCATTERED, SHORT, WRITTEN};
-use crate::Refusing;
+use failing_allocator::Refusing;
 use hunk_loadfile::{LoadFile, read_load, write_load};
 use hunk_words::{Pieces, Room, Sink, WriteFault};
 use std::alloc::{Allocator, Global};

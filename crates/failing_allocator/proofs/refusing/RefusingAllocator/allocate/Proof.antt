@@ -37,15 +37,15 @@ use denote.Triple.Table.{entered, cited}
 use denote.Triple.Walked.{Stays, stay_dropped, walk_of, ends_at, walked, Goes-dropped, walk_Meets}
 use Rattle.std.proofs.alloc.Calls.{Al, α, seen, token, Answer, answer_val, got, Answer-typed, Answer-Ok, Answer-err, takes_key, Takes, at_takes, Answered, Takes-goes, Takes-gives, answers}
 use Rattle.std.proofs.alloc.Shapes.{after}
-use Rattle.hunk_tests.proofs.RefusingSteps.{Asks, at_asks, Asks-goes, Asks-gives}
-use Rattle.hunk_tests.proofs.refusing.Growths.refuses_next.Symbol as asking
-use Rattle.hunk_tests.proofs.refusing.Growths.refuses_next.Met as asked
-use Rattle.hunk_tests.specs.declared.refusing.Growths.{Growths}
-use Rattle.hunk_tests.specs.contracts.refusing.Refusing as refusing
-use Rattle.hunk_tests.specs.contracts.refusing.RefusingAllocator.allocate as f
-use Rattle.hunk_tests.specs.contracts.refusing.RefusingAllocator.allocate.Key as key
-use Rattle.hunk_tests.proofs.refusing.RefusingAllocator.allocate.Statement.{statement}
-use Rattle.hunk_tests.proofs.refusing.RefusingAllocator.allocate.Code as code
+use Rattle.failing_allocator.proofs.RefusingSteps.{Asks, at_asks, Asks-goes, Asks-gives}
+use Rattle.failing_allocator.proofs.refusing.Growths.refuses_next.Symbol as asking
+use Rattle.failing_allocator.proofs.refusing.Growths.refuses_next.Met as asked
+use Rattle.failing_allocator.specs.declared.refusing.Growths.{Growths}
+use Rattle.failing_allocator.specs.contracts.refusing.Refusing as refusing
+use Rattle.failing_allocator.specs.contracts.refusing.RefusingAllocator.allocate as f
+use Rattle.failing_allocator.specs.contracts.refusing.RefusingAllocator.allocate.Key as key
+use Rattle.failing_allocator.proofs.refusing.RefusingAllocator.allocate.Statement.{statement}
+use Rattle.failing_allocator.proofs.refusing.RefusingAllocator.allocate.Code as code
 
 module _ (Z : Al) where
   abbrev args : Args
@@ -153,5 +153,5 @@ allocate_spec 𝓤 𝓛 𝓜 𝓡 wired row laws ghosts dict drops met _ =
     (walk_Meets 𝓛 (ended Z) (stayed Z) (Goes-dropped 𝓛 2 (self Z) yes (λ κs x w. refl), (number, (number, tt))) c (WpFn 𝓤 𝓛.H 𝓣.C 𝓣.Λ (here Z)) (WpFn-mono 𝓤 𝓛.H 𝓛.laws 𝓣 (here Z))
     (walked 𝓛 (ended Z) (stayed Z) c (WpFn 𝓤 𝓛.H 𝓣.C 𝓣.Λ (here Z)) (λ κs. (shr_vals, (uint_vals w64, (uint_vals w64, tt)))) (λ κs. ((λ r vs s. s.0), (uint_Tells w64, (uint_Tells w64, tt))))
     (λ κs qs bounds a τ are. walk Z 𝓛 𝓜.mem 𝓡.returns 𝓣 (met.allocate drops)
-    (cited 𝓤 𝓛.H _ 𝓜 𝓡 𝓡.env asking.name (𝓡.env asking.name) refl (asked.met 𝓤 𝓛 𝓜 𝓡 (code.calls-hunk_tests::refusing::Growths::refuses_next 𝓡.env wired)))
+    (cited 𝓤 𝓛.H _ 𝓜 𝓡 𝓡.env asking.name (𝓡.env asking.name) refl (asked.met 𝓤 𝓛 𝓜 𝓡 (code.calls-failing_allocator::refusing::Growths::refuses_next 𝓡.env wired)))
     κs.0 κs.1.0 qs.0 qs.1.0 bounds.0 a.0 a.1.0 a.1.1.0 τ are.1.0.1 are.1.1.0.1)))

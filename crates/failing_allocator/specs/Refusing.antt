@@ -1,6 +1,6 @@
 -- The state of an allocator that fails one allocation.
 use Rattle.std.specs.Prelude.{◌≡◌, ℕ}
-use Rattle.hunk_tests.specs.declared.refusing.Refusing.{Refusing}
+use Rattle.failing_allocator.specs.declared.refusing.Refusing.{Refusing}
 
 -- the allocator inside
 abbrev pub inner_of : {B : Type 0} → Refusing B → B

@@ -16,9 +16,9 @@ use denote.Builtin.{bool}
 use denote.Steps.{nothing, only}
 use denote.Triple.Statement.{Contract}
 use denote.Triple.Spec.{triple_of}
-use Rattle.hunk_tests.specs.declared.refusing.Growths.{Growths}
-use Rattle.hunk_tests.specs.contracts.refusing.Growths as growths
-use Rattle.hunk_tests.specs.contracts.refusing.Growths.refuses_next as f
+use Rattle.failing_allocator.specs.declared.refusing.Growths.{Growths}
+use Rattle.failing_allocator.specs.contracts.refusing.Growths as growths
+use Rattle.failing_allocator.specs.contracts.refusing.Growths.refuses_next as f
 
 -- a `&` to the counts at a place
 abbrev pub lent : Lft → ℕ × ℕ → Growths → Fml

@@ -29,7 +29,7 @@ pub struct Refusing<B: Allocator> {
 }
 
 impl<B: Allocator> Refusing<B> {
-    ghost use Rattle.hunk_tests.specs.Refusing.{RefusesOne};
+    ghost use Rattle.failing_allocator.specs.Refusing.{RefusesOne};
 
     /// An allocator over `inner` that fails allocation number `refused`, from 0.
     pub fn new(inner: B, refused: u64) -> Refusing<B>
@@ -60,7 +60,7 @@ impl<B: Allocator> Drop for Refusing<B> {
 }
 
 unsafe impl<B: Allocator> Allocator for Refusing<B> {
-    ghost use Rattle.hunk_tests.specs.Refusing.{inner_of};
+    ghost use Rattle.failing_allocator.specs.Refusing.{inner_of};
 
     ghost dealloc_token = { λ heap ty ptr. B.dealloc_token (inner_of heap) ty ptr };
 
