@@ -1,6 +1,6 @@
-//! Tests that cross the crates.
+//! Tests that cross the crates which decode, read, write and load files.
 //!
-//! - `tests`: files from bytes to report, and the errors that they cause.
+//! - `tests`: files from bytes to values and memory, and the errors that they cause.
 #![tactic(auto)]
 
 #[cfg(test)]

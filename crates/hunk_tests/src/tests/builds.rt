@@ -118,42 +118,47 @@ fn is_built(
     Ok(())
 }
 
+// A hunk without bytes.
+const BARE: Plan = Plan {
+    size: 0,
+    content: 0,
+    limit: 0,
+    target: None,
+    ..GOOD
+};
+
+const LARGER: Plan = Plan {
+    size: 0x0100_0001,
+    ..LARGE
+};
+
+// Hunks, and the first rule that they break.
+const LISTS: [(&[Plan], Option<BuildFault>); 20] = [
+    (&[GOOD], None),
+    (&[BARE], None),
+    (&[GOOD, ZEROS, GOOD], None),
+    (&[GOOD, ZEROS, FAR, GOOD], None),
+    (&[LARGE], None),
+    (&[BARE, LARGE, BARE], None),
+    (&[], Some(BuildFault::HunkCount)),
+    (&[LARGER], Some(BuildFault::TooLarge)),
+    (&[LARGE, GOOD], Some(BuildFault::TooLarge)),
+    (&[UNEVEN, WIDE, LARGE], Some(BuildFault::TooLarge)),
+    (&[UNEVEN], Some(BuildFault::Content(0))),
+    (&[GOOD, LONG], Some(BuildFault::Content(1))),
+    (&[GOOD, STORED, UNEVEN], Some(BuildFault::Content(1))),
+    (&[FAR, WIDE, UNEVEN], Some(BuildFault::Content(2))),
+    (&[TIGHT], Some(BuildFault::SiteLimit(0))),
+    (&[GOOD, WIDE, TIGHT], Some(BuildFault::SiteLimit(1))),
+    (&[FAR, GOOD, TIGHT], Some(BuildFault::SiteLimit(2))),
+    (&[FAR], Some(BuildFault::Target(0))),
+    (&[GOOD, GOOD, FAR], Some(BuildFault::Target(2))),
+    (&[GOOD, FAR, FAR], Some(BuildFault::Target(1))),
+];
+
 #[test]
 fn tells_the_first_rule_and_the_lowest_hunk(rt: HostRuntime) -> Result<(), Fail> {
-    let bare = Plan {
-        size: 0,
-        content: 0,
-        limit: 0,
-        target: None,
-        ..GOOD
-    };
-    let larger = Plan {
-        size: 0x0100_0001,
-        ..LARGE
-    };
-    let rows: [(&[Plan], Option<BuildFault>); 20] = [
-        (&[GOOD], None),
-        (&[bare], None),
-        (&[GOOD, ZEROS, GOOD], None),
-        (&[GOOD, ZEROS, FAR, GOOD], None),
-        (&[LARGE], None),
-        (&[bare, LARGE, bare], None),
-        (&[], Some(BuildFault::HunkCount)),
-        (&[larger], Some(BuildFault::TooLarge)),
-        (&[LARGE, GOOD], Some(BuildFault::TooLarge)),
-        (&[UNEVEN, WIDE, LARGE], Some(BuildFault::TooLarge)),
-        (&[UNEVEN], Some(BuildFault::Content(0))),
-        (&[GOOD, LONG], Some(BuildFault::Content(1))),
-        (&[GOOD, STORED, UNEVEN], Some(BuildFault::Content(1))),
-        (&[FAR, WIDE, UNEVEN], Some(BuildFault::Content(2))),
-        (&[TIGHT], Some(BuildFault::SiteLimit(0))),
-        (&[GOOD, WIDE, TIGHT], Some(BuildFault::SiteLimit(1))),
-        (&[FAR, GOOD, TIGHT], Some(BuildFault::SiteLimit(2))),
-        (&[FAR], Some(BuildFault::Target(0))),
-        (&[GOOD, GOOD, FAR], Some(BuildFault::Target(2))),
-        (&[GOOD, FAR, FAR], Some(BuildFault::Target(1))),
-    ];
-    for (plans, fault) in rows {
+    for (plans, fault) in LISTS {
         is_built(&rt, rt.alloc(), plans, fault)?;
     }
     Ok(())

@@ -1,16 +1,35 @@
 //! Load files as values, as they are read.
 
-use super::files::{CHUNKS, FILE, bytes_of};
-use super::load_words::{THREE_HUNKS, TWO_HUNKS, ZEROS};
 use super::values::{EMPTY, Hunk, SCATTERED_HUNKS, has_hunks};
-use super::words::{SCATTERED, SHORT, WRITTEN};
 use hunk_loadfile::{HunkKind, LoadDecoder, Memory, read_load};
-use hunk_words::Pieces;
+use hunk_samples::load_words::{THREE_HUNKS, TWO_HUNKS, ZEROS};
+use hunk_samples::words::{SCATTERED, SHORT, WRITTEN};
+use hunk_samples::{CHUNKS, FILE, bytes_of};
+use hunk_words::{Pieces, ReadFault, Source};
 use std::alloc::Global;
 use std::process::Abort;
 use std::test::Fail;
 
-// These bytes are the file of these hunks, in any pieces and from a reader.
+// These bytes are the file of these hunks, in pieces of this size and from a reader.
+fn is_decoded_by(
+    rt: &impl Abort,
+    alloc: Global,
+    bytes: &[u8],
+    chunk: usize,
+    wanted: &[Hunk<'_>],
+) -> Result<(), Fail> {
+    let mut decoder = LoadDecoder::new(alloc);
+    assert!(rt; 1 <= chunk);
+    for piece in bytes.chunks(chunk) {
+        assert_eq!(rt; decoder.feed(piece), Ok(()));
+    }
+    has_hunks(rt, &decoder.finish()?, wanted);
+    let mut reader = Pieces::new(bytes.to_vec(alloc)?, chunk, None);
+    has_hunks(rt, &read_load(alloc, &mut reader)?, wanted);
+    Ok(())
+}
+
+// The same in pieces of each size.
 fn is_decoded(
     rt: &impl Abort,
     alloc: Global,
@@ -19,14 +38,7 @@ fn is_decoded(
 ) -> Result<(), Fail> {
     let bytes = bytes_of(alloc, words, &[])?;
     for chunk in CHUNKS {
-        let mut decoder = LoadDecoder::new(alloc);
-        assert!(rt; 1 <= chunk);
-        for piece in bytes.chunks(chunk) {
-            assert_eq!(rt; decoder.feed(piece), Ok(()));
-        }
-        has_hunks(rt, &decoder.finish()?, wanted);
-        let mut reader = Pieces::new(bytes.clone()?, chunk, None);
-        has_hunks(rt, &read_load(alloc, &mut reader)?, wanted);
+        is_decoded_by(rt, alloc, &bytes, chunk, wanted)?;
     }
     Ok(())
 }
@@ -38,74 +50,117 @@ fn reads_a_file_that_is_not_in_written_form(rt: HostRuntime) -> Result<(), Fail>
     is_decoded(&rt, rt.alloc(), &WRITTEN, &SCATTERED_HUNKS)
 }
 
+// The hunk with relocations in 16-bit words.
+const SHORT_HUNK: Hunk<'static> = Hunk {
+    size: 2,
+    content: &[0, 0, 0, 4, 0, 0, 0, 0],
+    sites: &[(0, 0), (4, 0)],
+    ..EMPTY
+};
+
+// The hunks of the example.
+const EXAMPLE_HUNKS: [Hunk<'static>; 2] = [
+    Hunk {
+        size: 4,
+        content: &[
+            0x20, 0x7C, 0, 0, 0, 0, 0x4E, 0xB9, 0, 0, 0, 0x0E, 0x4E, 0x75, 0x4E, 0x75,
+        ],
+        sites: &[(2, 1), (8, 0)],
+        symbols: &[(b"main", 0), (b"sub", 14)],
+        debugs: &[&[0x6C69_6E65, 0x0001_0002]],
+        ..EMPTY
+    },
+    Hunk {
+        kind: HunkKind::Data,
+        memory: Memory::Chip,
+        size: 2,
+        content: b"hunk",
+        debugs: &[&[]],
+        ..EMPTY
+    },
+];
+
 #[test]
 fn reads_relocations_in_words(rt: HostRuntime) -> Result<(), Fail> {
-    let hunk = Hunk {
-        size: 2,
-        content: &[0, 0, 0, 4, 0, 0, 0, 0],
-        sites: &[(0, 0), (4, 0)],
-        ..EMPTY
-    };
-    is_decoded(&rt, rt.alloc(), &SHORT, &[hunk])?;
-    let hunks = [
-        Hunk {
-            size: 4,
-            content: &[
-                0x20, 0x7C, 0, 0, 0, 0, 0x4E, 0xB9, 0, 0, 0, 0x0E, 0x4E, 0x75, 0x4E, 0x75,
-            ],
-            sites: &[(2, 1), (8, 0)],
-            symbols: &[(b"main", 0), (b"sub", 14)],
-            debugs: &[&[0x6C69_6E65, 0x0001_0002]],
-            ..EMPTY
-        },
-        Hunk {
-            kind: HunkKind::Data,
-            memory: Memory::Chip,
-            size: 2,
-            content: b"hunk",
-            debugs: &[&[]],
-            ..EMPTY
-        },
-    ];
-    is_decoded(&rt, rt.alloc(), &TWO_HUNKS, &hunks)
+    is_decoded(&rt, rt.alloc(), &SHORT, &[SHORT_HUNK])?;
+    is_decoded(&rt, rt.alloc(), &TWO_HUNKS, &EXAMPLE_HUNKS)
 }
+
+// The hunk of the file of most tests.
+const CODE_HUNK: Hunk<'static> = Hunk {
+    size: 1,
+    content: &[0x4E, 0x75, 0x4E, 0x71],
+    ..EMPTY
+};
+
+// The same as data in fast memory.
+const DATA_HUNK: Hunk<'static> = Hunk {
+    kind: HunkKind::Data,
+    memory: Memory::Fast,
+    ..CODE_HUNK
+};
+
+const ZEROS_HUNK: Hunk<'static> = Hunk {
+    kind: HunkKind::Bss,
+    size: 5,
+    ..EMPTY
+};
+
+// Code, an address and zeros.
+const THREE: [Hunk<'static>; 3] = [
+    Hunk {
+        size: 2,
+        content: &[0x4E, 0x71, 0x4E, 0x71, 0x4E, 0x75, 0x4E, 0x71],
+        ..EMPTY
+    },
+    Hunk {
+        size: 1,
+        content: &[0, 0, 0, 8],
+        sites: &[(0, 2)],
+        ..EMPTY
+    },
+    Hunk {
+        size: 4,
+        ..ZEROS_HUNK
+    },
+];
 
 #[test]
 fn reads_each_kind_and_memory(rt: HostRuntime) -> Result<(), Fail> {
-    let code = Hunk {
-        size: 1,
-        content: &[0x4E, 0x75, 0x4E, 0x71],
-        ..EMPTY
-    };
-    is_decoded(&rt, rt.alloc(), &FILE, &[code])?;
+    is_decoded(&rt, rt.alloc(), &FILE, &[CODE_HUNK])?;
     let mut fast = FILE;
     fast[5] = 0x8000_0001;
     fast[6] = 0x4000_03EA;
-    let data = Hunk {
-        kind: HunkKind::Data,
-        memory: Memory::Fast,
-        ..code
-    };
-    is_decoded(&rt, rt.alloc(), &fast, &[data])?;
-    let zeros = Hunk {
-        kind: HunkKind::Bss,
-        size: 5,
-        ..EMPTY
-    };
-    is_decoded(&rt, rt.alloc(), &ZEROS, &[zeros])?;
-    let hunks = [
-        Hunk {
-            size: 2,
-            content: &[0x4E, 0x71, 0x4E, 0x71, 0x4E, 0x75, 0x4E, 0x71],
-            ..EMPTY
-        },
-        Hunk {
-            size: 1,
-            content: &[0, 0, 0, 8],
-            sites: &[(0, 2)],
-            ..EMPTY
-        },
-        Hunk { size: 4, ..zeros },
-    ];
-    is_decoded(&rt, rt.alloc(), &THREE_HUNKS, &hunks)
+    is_decoded(&rt, rt.alloc(), &fast, &[DATA_HUNK])?;
+    is_decoded(&rt, rt.alloc(), &ZEROS, &[ZEROS_HUNK])?;
+    is_decoded(&rt, rt.alloc(), &THREE_HUNKS, &THREE)
+}
+
+// Reads the file, at most `chunk` bytes per read. The read with this number fails, if it comes.
+fn fails_to_read(
+    rt: &impl Abort,
+    alloc: Global,
+    chunk: usize,
+    number: u64,
+    fails: bool,
+) -> Result<(), Fail> {
+    assert!(rt; 1 <= chunk);
+    let mut reader = Pieces::new(bytes_of(alloc, &FILE, &[])?, chunk, Some(number));
+    let got = read_load(alloc, &mut reader).err();
+    let wanted = fails.then_some(ReadFault::Device);
+    assert_eq!(rt; got, wanted, "read {number} of {chunk}");
+    assert_eq!(rt; Source::failed(&reader), fails, "read {number} of {chunk}");
+    assert_eq!(rt; Source::ended(&reader), !fails, "read {number} of {chunk}");
+    Ok(())
+}
+
+// Each read fails in turn, including the one that would report the end.
+#[test]
+fn tells_a_read_of_a_load_file_that_failed(rt: HostRuntime) -> Result<(), Fail> {
+    for (chunk, reads) in [(64, 2), (1, 41), (3, 15), (5, 9)] {
+        for number in 0..=reads {
+            fails_to_read(&rt, rt.alloc(), chunk, number, number < reads)?;
+        }
+    }
+    Ok(())
 }

@@ -1,14 +1,13 @@
 //! Calls on load files with each of their allocations failing in turn.
 
-use super::files::{ROOM, bytes_of};
 use super::loaded::has_bytes;
 use super::values::{SCATTERED_HUNKS, has_hunks};
-use super::words::{SCATTERED, WRITTEN};
 use super::written::file_of;
 use failing_allocator::Refusing;
 use hunk_loader::{ImageFault, LoadRefusal, load, read_image};
 use hunk_loadfile::{read_load, write_load};
-use hunk_tool::{ToolFault, load_run};
+use hunk_samples::words::{SCATTERED, WRITTEN};
+use hunk_samples::{ROOM, bytes_of};
 use hunk_words::{Pieces, ReadFault, Refusal, Room, WriteFault};
 use std::alloc::Global;
 use std::process::Abort;
@@ -20,10 +19,6 @@ const MOST_GROWTHS: u64 = 64;
 // Where the hunks are loaded.
 const BASES: [u32; 2] = [0x0000_1000, 0x0000_2000];
 
-// Their report there.
-const TEXT: &str = "hunk 0 at 00001000 size 12\n00001000 000020000000100000002004\n\
-                    hunk 1 at 00002000 size 4\n00002000 00000000\n";
-
 // Their bytes there.
 const MEMORY: [&[u8]; 2] = [&[0, 0, 0x20, 0, 0, 0, 0x10, 0, 0, 0, 0x20, 4], &[0; 4]];
 
@@ -34,7 +29,6 @@ enum Call {
     Image,
     Load,
     Write,
-    Run,
 }
 
 /// The number of allocations to read the file.
@@ -110,29 +104,11 @@ fn is_written(rt: &impl Abort, alloc: Global, bytes: &[u8], refused: u64) -> Res
     Ok(true)
 }
 
-fn is_run(rt: &impl Abort, alloc: Global, bytes: &[u8], refused: u64) -> Result<bool, Fail> {
-    let heap = Refusing::new(alloc, refused);
-    let mut reader = Pieces::new(bytes.to_vec(alloc)?, ROOM, None);
-    let mut writer = Room::new(alloc, ROOM, ROOM, false)?;
-    match load_run(&heap, &mut reader, &BASES, &mut writer) {
-        Ok(()) => assert_eq!(rt; writer.bytes(), TEXT.as_bytes()),
-        Err(fault) => {
-            let out_of_memory = matches!(&fault, ToolFault::OutOfMemory { written: 0 });
-            assert!(rt; out_of_memory, "growth {refused}");
-            assert_eq!(rt; writer.bytes(), b"".as_slice());
-            assert!(rt; refused < heap.asked(), "growth {refused}");
-            return Ok(false);
-        }
-    }
-    assert!(rt; heap.asked() <= refused, "growth {refused}");
-    Ok(true)
-}
-
 // The number of allocations of the call: it runs out of memory with each of them failing, and
 // succeeds once none fails. The allocations to read the file that is loaded or written come before.
 fn growths_of(rt: &impl Abort, alloc: Global, call: Call, bytes: &[u8]) -> Result<u64, Fail> {
     let before = match call {
-        Call::Read | Call::Image | Call::Run => 0,
+        Call::Read | Call::Image => 0,
         Call::Load | Call::Write => growths_of_reading(alloc, bytes)?,
     };
     for number in 0..MOST_GROWTHS {
@@ -142,7 +118,6 @@ fn growths_of(rt: &impl Abort, alloc: Global, call: Call, bytes: &[u8]) -> Resul
             Call::Image => is_image(rt, alloc, bytes, refused)?,
             Call::Load => is_loaded(rt, alloc, bytes, refused)?,
             Call::Write => is_written(rt, alloc, bytes, refused)?,
-            Call::Run => is_run(rt, alloc, bytes, refused)?,
         };
         if done {
             return Ok(number);
@@ -164,8 +139,6 @@ fn refuses_each_growth_of_a_call(rt: HostRuntime) -> Result<(), Fail> {
         (Call::Load, 3),
         // the sites of the first hunk
         (Call::Write, 1),
-        // the bases, the sizes, the hunks and the bytes of each
-        (Call::Run, 5),
     ];
     for (call, least) in rows {
         let growths = growths_of(&rt, rt.alloc(), call, &bytes)?;

@@ -63,8 +63,8 @@ fn are_debugs<A: Allocator + Copy>(rt: &impl Abort, debugs: &[Vec<u32, A>], want
     }
 }
 
-// The names of a hunk, and its sites, are the expected ones.
-fn has_links<A: Allocator + Copy>(rt: &impl Abort, hunk: &UnitHunk<A>, wanted: &Hunk<'_>) {
+// The sites of a hunk are the expected ones.
+fn has_sites<A: Allocator + Copy>(rt: &impl Abort, hunk: &UnitHunk<A>, wanted: &Hunk<'_>) {
     assert_eq!(rt;
         hunk.sites().walk().count(),
         wanted.sites.len(),
@@ -73,20 +73,24 @@ fn has_links<A: Allocator + Copy>(rt: &impl Abort, hunk: &UnitHunk<A>, wanted: &
     for ((offset, adds), (at, other)) in hunk.sites().walk().zip(wanted.sites) {
         assert_eq!(rt; (offset, *adds), (*at, *other), "{wanted:?}");
     }
-    assert_eq!(rt;
-        hunk.references().len(),
-        wanted.references.len(),
-        "{wanted:?}"
-    );
-    for (name, bytes) in hunk.references().iter().zip(wanted.references) {
+}
+
+// The names that a hunk refers to are the expected ones.
+fn are_references<A: Allocator + Copy>(rt: &impl Abort, references: &[Name<A>], wanted: &Hunk<'_>) {
+    assert_eq!(rt; references.len(), wanted.references.len(), "{wanted:?}");
+    for (name, bytes) in references.iter().zip(wanted.references) {
         assert_eq!(rt; name.bytes(), *bytes, "{wanted:?}");
     }
-    assert_eq!(rt;
-        hunk.definitions().len(),
-        wanted.definitions.len(),
-        "{wanted:?}"
-    );
-    for ((name, definition), (bytes, other)) in hunk.definitions().iter().zip(wanted.definitions) {
+}
+
+// The names that a hunk defines are the expected ones.
+fn are_definitions<A: Allocator + Copy>(
+    rt: &impl Abort,
+    definitions: &[(Name<A>, Definition)],
+    wanted: &Hunk<'_>,
+) {
+    assert_eq!(rt; definitions.len(), wanted.definitions.len(), "{wanted:?}");
+    for ((name, definition), (bytes, other)) in definitions.iter().zip(wanted.definitions) {
         assert_eq!(rt; name.bytes(), *bytes, "{wanted:?}");
         assert_eq!(rt; *definition, *other, "{wanted:?}");
     }
@@ -104,7 +108,9 @@ fn is_hunk<A: Allocator + Copy>(rt: &impl Abort, hunk: &UnitHunk<A>, wanted: &Hu
         wanted.content.len() as u64,
         "{wanted:?}"
     );
-    has_links(rt, hunk, wanted);
+    has_sites(rt, hunk, wanted);
+    are_references(rt, hunk.references(), wanted);
+    are_definitions(rt, hunk.definitions(), wanted);
     are_symbols(rt, hunk.symbols(), wanted);
     are_debugs(rt, hunk.debugs(), wanted);
 }

@@ -1,20 +1,11 @@
 //! Program units, as they are read.
 
-use super::decoders::{Answer, Judge, answers_again, is_judged};
-use super::files::{CHUNKS, ROOM, bytes_of};
 use super::unit_values::{EMPTY, Hunk, Unit, are_units, is_copied};
-use super::words::{
-    ADDRESS, ASSEMBLED, CHIP, DEFINES, DEFINES_LONGER, IN_BSS, MEETS, PAST_CONTENT, REFERS,
-    TWO_NAMES,
-};
 use failing_allocator::Refusing;
-use hunk_loader::LoadRefusal;
 use hunk_objects::{Adds, Definition, HunkKind, Memory, ObjectDecoder, hunk_total, read_object};
-use hunk_words::FileKind::Object;
-use hunk_words::Reason::{
-    BothMemoryBits, SiteOutside, SiteOverlap, SymbolKind, UnexpectedEnd, UnsupportedExt, WrongStart,
-};
-use hunk_words::{Fault, Pieces, ReadFault, Refusal, Source};
+use hunk_samples::words::{ADDRESS, ASSEMBLED, CHIP, DEFINES, DEFINES_LONGER, REFERS, TWO_NAMES};
+use hunk_samples::{CHUNKS, LATER_PIECES, ROOM, bytes_of};
+use hunk_words::{Fault, Pieces, ReadFault, Reason, Refusal, Source};
 use linked_list_allocator::LocalHeap;
 use std::alloc::{Allocator, Global};
 use std::process::Abort;
@@ -165,7 +156,26 @@ const ASSEMBLED_UNIT: Unit<'static> = Unit {
     hunks: &ASSEMBLED_HUNKS,
 };
 
-// These bytes are the file of these units, in any pieces and from a reader.
+// These bytes are the file of these units, in pieces of this size and from a reader.
+fn is_decoded_by(
+    rt: &impl Abort,
+    alloc: Global,
+    bytes: &[u8],
+    chunk: usize,
+    wanted: &[Unit<'_>],
+) -> Result<(), Fail> {
+    let mut decoder = ObjectDecoder::new(alloc);
+    assert!(rt; 1 <= chunk);
+    for piece in bytes.chunks(chunk) {
+        assert_eq!(rt; decoder.feed(piece), Ok(()));
+    }
+    are_units(rt, &decoder.finish()?, wanted);
+    let mut reader = Pieces::new(bytes.to_vec(alloc)?, chunk, None);
+    are_units(rt, &read_object(alloc, &mut reader)?, wanted);
+    Ok(())
+}
+
+// The same in pieces of each size.
 fn is_decoded(
     rt: &impl Abort,
     alloc: Global,
@@ -174,14 +184,7 @@ fn is_decoded(
 ) -> Result<(), Fail> {
     let bytes = bytes_of(alloc, words, &[])?;
     for chunk in CHUNKS {
-        let mut decoder = ObjectDecoder::new(alloc);
-        assert!(rt; 1 <= chunk);
-        for piece in bytes.chunks(chunk) {
-            assert_eq!(rt; decoder.feed(piece), Ok(()));
-        }
-        are_units(rt, &decoder.finish()?, wanted);
-        let mut reader = Pieces::new(bytes.clone()?, chunk, None);
-        are_units(rt, &read_object(alloc, &mut reader)?, wanted);
+        is_decoded_by(rt, alloc, &bytes, chunk, wanted)?;
     }
     Ok(())
 }
@@ -250,27 +253,13 @@ fn copies_symbols_and_debug_blocks(rt: HostRuntime) -> Result<(), Fail> {
     Ok(())
 }
 
-#[test]
-fn rejects_other_object_files(rt: HostRuntime) -> Result<(), Fail> {
-    let rows: [(&[u32], usize, u32, Answer); 10] = [
-        (&REFERS, 0, 0x0000_03F3, Some((0, WrongStart))),
-        (&MEETS, 0, 0x0000_03E7, Some((15, SiteOverlap(4)))),
-        (&PAST_CONTENT, 9, 4, Some((10, UnexpectedEnd))),
-        (&PAST_CONTENT, 9, 5, Some((9, SiteOutside(5)))),
-        (&IN_BSS, 0, 0x0000_03E7, Some((7, SiteOutside(0)))),
-        (&IN_BSS, 5, 0xFFFF_FFFF, Some((7, SiteOutside(0)))),
-        (&CHIP, 2, 0xC000_03EA, Some((2, BothMemoryBits))),
-        (&DEFINES, 7, 0x8200_0001, Some((7, UnsupportedExt(130)))),
-        (&DEFINES, 7, 1, Some((7, UnsupportedExt(0)))),
-        (&ASSEMBLED, 21, 0x0100_0001, Some((21, SymbolKind(1)))),
-    ];
-    for (words, place, word, answer) in rows {
-        let mut other = words.to_vec(rt.alloc())?;
-        *other.get_mut(place).ok_or("no such place")? = word;
-        let bytes = bytes_of(rt.alloc(), &other, &[])?;
-        is_judged(&rt, rt.alloc(), Object, &bytes, answer)?;
+// After an error, every later call returns the same error.
+fn answers_again<A: Allocator + Copy>(rt: &impl Abort, begun: ObjectDecoder<A>, refusal: Refusal) {
+    let mut decoder = begun;
+    for piece in LATER_PIECES {
+        assert_eq!(rt; decoder.feed(piece), Err(refusal));
     }
-    Ok(())
+    assert_eq!(rt; decoder.finish().err(), Some(refusal));
 }
 
 // Whether a decoder took the file with an allocation failing. If not, it returns that error again.
@@ -282,10 +271,10 @@ fn is_taken<A: Allocator + Copy>(
 ) -> Result<bool, Fail> {
     let mut decoder = ObjectDecoder::new(alloc);
     for piece in bytes.chunks(5) {
-        match decoder.judge(piece) {
+        match decoder.feed(piece) {
             Ok(()) => {}
             Err(refusal) => {
-                assert_eq!(rt; refusal, LoadRefusal::OutOfMemory);
+                assert_eq!(rt; refusal, Refusal::OutOfMemory);
                 answers_again(rt, decoder, refusal);
                 return Ok(false);
             }
@@ -347,23 +336,30 @@ fn refuses_each_growth_of_an_object_file(rt: HostRuntime) -> Result<(), Fail> {
     refuses_each_growth_of(&rt, rt.alloc(), &REFERS, &[REFERS_UNIT], 6)
 }
 
+// Reads the file, at most `chunk` bytes per read. The read with this number fails, if it comes.
+fn fails_to_read(
+    rt: &impl Abort,
+    alloc: Global,
+    chunk: usize,
+    number: u64,
+    fails: bool,
+) -> Result<(), Fail> {
+    assert!(rt; 1 <= chunk);
+    let mut reader = Pieces::new(bytes_of(alloc, &REFERS, &[])?, chunk, Some(number));
+    let got = read_object(alloc, &mut reader).err();
+    let wanted = fails.then_some(ReadFault::Device);
+    assert_eq!(rt; got, wanted, "read {number} of {chunk}");
+    assert_eq!(rt; Source::failed(&reader), fails, "read {number} of {chunk}");
+    assert_eq!(rt; Source::ended(&reader), !fails, "read {number} of {chunk}");
+    Ok(())
+}
+
 // Each read fails in turn, including the one that would report the end.
 #[test]
 fn tells_a_read_of_an_object_file_that_failed(rt: HostRuntime) -> Result<(), Fail> {
-    let bytes = bytes_of(rt.alloc(), &REFERS, &[])?;
     for (chunk, reads) in [(64, 2), (1, 53), (3, 19), (5, 12)] {
-        assert!(rt; 1 <= chunk);
         for number in 0..=reads {
-            let mut reader = Pieces::new(bytes.clone()?, chunk, Some(number));
-            let got = read_object(rt.alloc(), &mut reader).err();
-            let fails = number < reads;
-            assert_eq!(rt;
-                got,
-                fails.then_some(ReadFault::Device),
-                "read {number} of {chunk}"
-            );
-            assert_eq!(rt; Source::failed(&reader), fails, "read {number} of {chunk}");
-            assert_eq!(rt; Source::ended(&reader), !fails, "read {number} of {chunk}");
+            fails_to_read(&rt, rt.alloc(), chunk, number, number < reads)?;
         }
     }
     Ok(())
@@ -376,7 +372,7 @@ fn allocates_for_what_has_come(rt: HostRuntime) -> Result<(), Fail> {
     assert_eq!(rt; bytes.len(), 20);
     let early = Refusal::Fault(Fault {
         place: 5,
-        reason: UnexpectedEnd,
+        reason: Reason::UnexpectedEnd,
     });
     let heap = Refusing::new(rt.alloc(), u64::MAX);
     let mut reader = Pieces::new(bytes.clone()?, ROOM, None);

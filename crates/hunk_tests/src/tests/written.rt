@@ -1,11 +1,11 @@
 //! Load files that are written: their bytes, and writers that fail.
 
-use super::files::{FILE, ROOM, bytes_of};
 use super::growths::growths_of_reading;
-use super::load_words::{THREE_HUNKS, TWO_HUNKS, ZEROS};
-use super::words::{BEHIND_CONTENT, LINKED, LINKED_ALONE, SCATTERED, SHORT, WRITTEN};
 use failing_allocator::Refusing;
 use hunk_loadfile::{LoadFile, read_load, write_load};
+use hunk_samples::load_words::{THREE_HUNKS, TWO_HUNKS, ZEROS};
+use hunk_samples::words::{BEHIND_CONTENT, LINKED, LINKED_ALONE, SCATTERED, SHORT, WRITTEN};
+use hunk_samples::{CHUNKS, FILE, ROOM, bytes_of};
 use hunk_words::{Pieces, Room, Sink, WriteFault};
 use std::alloc::{Allocator, Global};
 use std::process::Abort;
@@ -20,54 +20,96 @@ pub(crate) fn file_of<A: Allocator + Copy>(alloc: A, bytes: Vec<u8>) -> Result<L
     Ok(read_load(alloc, &mut reader)?)
 }
 
+// The file of most tests, with memory bits that are ignored.
+const IGNORED_BITS: [u32; 10] = [
+    0x3F3,
+    0,
+    1,
+    0,
+    0,
+    0x8000_0001,
+    0xC000_03EA,
+    0xC000_0001,
+    0x4E75_4E71,
+    0x3F2,
+];
+
+// The same as it is written.
+const FAST_DATA: [u32; 10] = [0x3F3, 0, 1, 0, 0, 0x8000_0001, 0x3EA, 1, 0x4E75_4E71, 0x3F2];
+
+// Relocations in longwords in place of 16-bit words.
+const LONGER: [u32; 17] = [
+    0x3F3, 0, 1, 0, 0, 2, 0x3E9, 2, 4, 0, 0x3EC, 2, 0, 0, 4, 0, 0x3F2,
+];
+
+const EXAMPLE: [u32; 40] = [
+    0x3F3, 0, 2, 0, 1, 4, 0x40000002, //
+    0x3E9, 4, 0x207C0000, 0x00004EB9, 0x0000000E, 0x4E754E75, //
+    0x3EC, 1, 0, 8, 1, 1, 2, 0, //
+    0x3F0, 1, 0x6D61696E, 0, 1, 0x73756200, 0x0E, 0, //
+    0x3F1, 2, 0x6C696E65, 0x00010002, 0x3F2, //
+    0x3EA, 1, 0x68756E6B, 0x3F1, 0, 0x3F2,
+];
+
+// Load files, and each as it is written.
+const FILES: [(&[u32], &[u32]); 11] = [
+    (&FILE, &FILE),
+    (&IGNORED_BITS, &FAST_DATA),
+    (&BEHIND_CONTENT, &BEHIND_CONTENT),
+    (&LINKED, &LINKED),
+    (&LINKED_ALONE, &LINKED_ALONE),
+    (&SCATTERED, &WRITTEN),
+    (&WRITTEN, &WRITTEN),
+    (&ZEROS, &ZEROS),
+    (&THREE_HUNKS, &THREE_HUNKS),
+    (&SHORT, &LONGER),
+    (&TWO_HUNKS, &EXAMPLE),
+];
+
+// The file is written as this text, at most `most` bytes per write.
+fn writes(
+    rt: &impl Abort,
+    alloc: Global,
+    file: &LoadFile,
+    most: usize,
+    text: &[u8],
+) -> Result<(), Fail> {
+    assert!(rt; 1 <= most);
+    let mut writer = Room::new(alloc, most, ROOM, false)?;
+    assert_eq!(rt; write_load(alloc, file, &mut writer), Ok(()));
+    assert_eq!(rt; writer.bytes(), text, "{most} a write");
+    assert!(rt; !Sink::failed(&writer));
+    Ok(())
+}
+
 #[test]
 fn writes_files(rt: HostRuntime) -> Result<(), Fail> {
-    let mut other = FILE;
-    other[5] = 0x8000_0001;
-    other[6] = 0xC000_03EA;
-    other[7] = 0xC000_0001;
-    let mut fast = FILE;
-    fast[5] = 0x8000_0001;
-    fast[6] = 0x0000_03EA;
-    let longer = [
-        0x3F3, 0, 1, 0, 0, 2, 0x3E9, 2, 4, 0, 0x3EC, 2, 0, 0, 4, 0, 0x3F2,
-    ];
-    let example = [
-        0x3F3, 0, 2, 0, 1, 4, 0x40000002, //
-        0x3E9, 4, 0x207C0000, 0x00004EB9, 0x0000000E, 0x4E754E75, //
-        0x3EC, 1, 0, 8, 1, 1, 2, 0, //
-        0x3F0, 1, 0x6D61696E, 0, 1, 0x73756200, 0x0E, 0, //
-        0x3F1, 2, 0x6C696E65, 0x00010002, 0x3F2, //
-        0x3EA, 1, 0x68756E6B, 0x3F1, 0, 0x3F2,
-    ];
-    let rows: [(&[u32], &[u32]); 11] = [
-        (&FILE, &FILE),
-        (&other, &fast),
-        (&BEHIND_CONTENT, &BEHIND_CONTENT),
-        (&LINKED, &LINKED),
-        (&LINKED_ALONE, &LINKED_ALONE),
-        (&SCATTERED, &WRITTEN),
-        (&WRITTEN, &WRITTEN),
-        (&ZEROS, &ZEROS),
-        (&THREE_HUNKS, &THREE_HUNKS),
-        (&SHORT, &longer),
-        (&TWO_HUNKS, &example),
-    ];
-    for (words, wanted) in rows {
+    for (words, wanted) in FILES {
         let file = file_of(rt.alloc(), bytes_of(rt.alloc(), words, &[])?)?;
         let text = bytes_of(rt.alloc(), wanted, &[])?;
-        for most in [ROOM, 1, 3, 5] {
-            assert!(rt; 1 <= most);
-            let mut writer = Room::new(rt.alloc(), most, ROOM, false)?;
-            assert_eq!(rt; write_load(rt.alloc(), &file, &mut writer), Ok(()));
-            assert_eq!(rt;
-                writer.bytes(),
-                text.as_slice(),
-                "{words:?}, {most} a write"
-            );
-            assert!(rt; !Sink::failed(&writer));
+        for most in CHUNKS {
+            writes(&rt, rt.alloc(), &file, most, &text)?;
         }
     }
+    Ok(())
+}
+
+// Writes the file into a writer that takes this many bytes, at most `most` per write.
+fn fails_to_write(
+    rt: &impl Abort,
+    alloc: Global,
+    file: &LoadFile,
+    text: &[u8],
+    room: usize,
+    (most, zero): (usize, bool),
+) -> Result<(), Fail> {
+    assert!(rt; 1 <= most);
+    let mut writer = Room::new(alloc, most, room, zero)?;
+    let got = write_load(alloc, file, &mut writer);
+    let written = room as u64;
+    assert_eq!(rt; got, Err(WriteFault::Device { written }), "room for {room}");
+    assert_eq!(rt; Some(writer.bytes()), text.get(..room), "room for {room}");
+    assert!(rt; Sink::failed(&writer));
     Ok(())
 }
 
@@ -78,14 +120,8 @@ fn tells_what_a_writer_took_of_a_file(rt: HostRuntime) -> Result<(), Fail> {
     let file = file_of(rt.alloc(), text.clone()?)?;
     assert_eq!(rt; text.len(), 88);
     for room in 0..88 {
-        for (most, zero) in [(ROOM, false), (ROOM, true), (1, false), (7, true)] {
-            assert!(rt; 1 <= most);
-            let mut writer = Room::new(rt.alloc(), most, room, zero)?;
-            let got = write_load(rt.alloc(), &file, &mut writer);
-            let written = room as u64;
-            assert_eq!(rt; got, Err(WriteFault::Device { written }), "room for {room}");
-            assert_eq!(rt; writer.bytes(), &text[..room], "room for {room}");
-            assert!(rt; Sink::failed(&writer));
+        for way in [(ROOM, false), (ROOM, true), (1, false), (7, true)] {
+            fails_to_write(&rt, rt.alloc(), &file, &text, room, way)?;
         }
     }
     Ok(())

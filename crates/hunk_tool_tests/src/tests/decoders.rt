@@ -1,10 +1,10 @@
 //! What checks the bytes of a file: where it rejects them, why, and when.
 
-use super::files::{BASE, CHUNKS, ROOM};
 use super::texts::Text;
 use hunk_loader::{ImageLoader, LoadRefusal, PlaceFault};
 use hunk_loadfile::{LoadDecoder, read_load};
 use hunk_objects::{ObjectDecoder, read_object};
+use hunk_samples::{BASE, CHUNKS, LATER_PIECES, ROOM};
 use hunk_tool::{LoadCounter, ObjectCounter, ToolFault, load_run};
 use hunk_words::FileKind::{Load, Object};
 use hunk_words::{Decoder, Fault, FileKind, Pieces, ReadFault, Reason, Refusal, Room, Taker};
@@ -202,8 +202,30 @@ fn is_told_load(bytes: &[u8]) -> bool {
     }
 }
 
-// A text about the file has this result, if the first four bytes tell a file of this kind. Nothing
-// is written of bytes that are rejected.
+// A text about the file has this result. Nothing is written of bytes that are rejected.
+fn is_text_so(
+    rt: &impl Abort,
+    alloc: Global,
+    text: Text,
+    bytes: &[u8],
+    chunk: usize,
+    answer: Answer,
+) -> Result<(), Fail> {
+    let wanted = match fault_of(answer) {
+        Some(fault) => Err(ToolFault::Input { file: 0, fault }),
+        None => Ok(()),
+    };
+    assert!(rt; 1 <= chunk);
+    let mut reader = Pieces::new(bytes.to_vec(alloc)?, chunk, None);
+    let mut writer = Room::new(alloc, ROOM, ROOM, false)?;
+    let got = text.run(alloc, &mut reader, &mut writer);
+    assert_eq!(rt; got, wanted, "{text:?} of {bytes:?} by {chunk}");
+    let nothing = writer.bytes().is_empty();
+    assert_eq!(rt; nothing, got.is_err(), "{text:?} of {bytes:?} by {chunk}");
+    Ok(())
+}
+
+// Both texts about the file have this result, if the first four bytes tell a file of this kind.
 fn is_told_so(
     rt: &impl Abort,
     alloc: Global,
@@ -215,23 +237,8 @@ fn is_told_so(
     if is_told_load(bytes) != (kind == Load) {
         return Ok(());
     }
-    let wanted = match fault_of(answer) {
-        Some(fault) => Err(ToolFault::Input { file: 0, fault }),
-        None => Ok(()),
-    };
-    assert!(rt; 1 <= chunk);
-    for text in [Text::Check, Text::Show] {
-        let mut reader = Pieces::new(bytes.to_vec(alloc)?, chunk, None);
-        let mut writer = Room::new(alloc, ROOM, ROOM, false)?;
-        let got = text.run(alloc, &mut reader, &mut writer);
-        assert_eq!(rt; got, wanted, "{text:?} of {bytes:?} by {chunk}");
-        assert_eq!(rt;
-            writer.bytes().is_empty(),
-            got.is_err(),
-            "{text:?} of {bytes:?} by {chunk}"
-        );
-    }
-    Ok(())
+    is_text_so(rt, alloc, Text::Check, bytes, chunk, answer)?;
+    is_text_so(rt, alloc, Text::Show, bytes, chunk, answer)
 }
 
 // Everything that reads an object file has this result for these bytes.
@@ -291,8 +298,7 @@ pub(crate) fn is_judged(
 /// After an error, every later call returns the same error.
 pub(crate) fn answers_again<J: Judge>(rt: &impl Abort, begun: J, refusal: LoadRefusal) {
     let mut judge = begun;
-    let pieces: [&[u8]; 4] = [&[], &[0], &[0, 0, 3, 0xF2], &[0, 0, 3, 0xE7, 0, 0, 0, 0]];
-    for piece in pieces {
+    for piece in LATER_PIECES {
         assert_eq!(rt; judge.judge(piece), Err(refusal));
     }
     assert_eq!(rt; judge.close(), Err(refusal));

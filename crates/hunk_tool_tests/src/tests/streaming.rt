@@ -1,10 +1,10 @@
 //! What `ImageLoader` allocates, and which of two errors it returns.
 
 use super::decoders::Judge;
-use super::files::{BASE, CHUNKS, FILE, REPORT, ROOM, bytes_of};
 use failing_allocator::Refusing;
 use hunk_loader::{ImageLoader, LoadRefusal, PlaceFault, load};
 use hunk_loadfile::LoadDecoder;
+use hunk_samples::{BASE, CHUNKS, FILE, REPORT, ROOM, bytes_of};
 use hunk_tool::load_run;
 use hunk_words::{Fault, Pieces, Reason, Room};
 use std::alloc::Global;
@@ -87,28 +87,37 @@ fn keeps_no_debug_block(rt: HostRuntime) -> Result<(), Fail> {
     Ok(())
 }
 
-// Decoding the whole file and then loading it rejects the same addresses for the same reason.
+// In pieces of this size, the addresses are rejected for this reason by `ImageLoader`, and by
+// decoding the whole file and then loading it.
+fn is_refused(
+    rt: &impl Abort,
+    alloc: Global,
+    bytes: &[u8],
+    chunk: usize,
+    bases: &[u32],
+    fault: PlaceFault,
+) -> Result<(), Fail> {
+    assert!(rt; 1 <= chunk);
+    let want = Some(LoadRefusal::Place(fault));
+    let mut loader = ImageLoader::new(alloc, bases)?;
+    let mut decoder = LoadDecoder::new(alloc);
+    for piece in bytes.chunks(chunk) {
+        assert_eq!(rt; loader.feed(piece), Ok(()));
+        assert_eq!(rt; decoder.feed(piece), Ok(()));
+    }
+    assert_eq!(rt; loader.finish().err(), want, "{bases:?}");
+    let file = decoder.finish()?;
+    assert_eq!(rt; load(alloc, &file, bases).err(), want, "{bases:?}");
+    Ok(())
+}
+
 #[test]
 fn refuses_addresses_in_both_ways(rt: HostRuntime) -> Result<(), Fail> {
     let bytes = bytes_of(rt.alloc(), &FILE, &[])?;
-    let rows: [(&[u32], PlaceFault); 2] = [
-        (&[], PlaceFault::WrongCount),
-        (&[0xFFFF_FFFE], PlaceFault::PastEnd(0)),
-    ];
-    for (bases, fault) in rows {
-        let want = Some(LoadRefusal::Place(fault));
-        for chunk in CHUNKS {
-            assert!(rt; 1 <= chunk);
-            let mut loader = ImageLoader::new(rt.alloc(), bases)?;
-            let mut decoder = LoadDecoder::new(rt.alloc());
-            for piece in bytes.chunks(chunk) {
-                assert_eq!(rt; loader.feed(piece), Ok(()));
-                assert_eq!(rt; decoder.feed(piece), Ok(()));
-            }
-            assert_eq!(rt; loader.finish().err(), want, "{bases:?}");
-            let file = decoder.finish()?;
-            assert_eq!(rt; load(rt.alloc(), &file, bases).err(), want, "{bases:?}");
-        }
+    let past = PlaceFault::PastEnd(0);
+    for chunk in CHUNKS {
+        is_refused(&rt, rt.alloc(), &bytes, chunk, &[], PlaceFault::WrongCount)?;
+        is_refused(&rt, rt.alloc(), &bytes, chunk, &[0xFFFF_FFFE], past)?;
     }
     Ok(())
 }

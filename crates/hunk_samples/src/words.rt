@@ -1,7 +1,7 @@
 //! The longwords of object files and load files, and of their prefixes.
 
 /// An object file whose hunk refers to `foo`.
-pub(crate) const REFERS: [u32; 13] = [
+pub const REFERS: [u32; 13] = [
     0x0000_03E7,
     0,
     0x0000_03E9,
@@ -18,7 +18,7 @@ pub(crate) const REFERS: [u32; 13] = [
 ];
 
 /// An object file whose hunk defines `foo`.
-pub(crate) const DEFINES: [u32; 12] = [
+pub const DEFINES: [u32; 12] = [
     0x0000_03E7,
     0,
     0x0000_03E9,
@@ -34,7 +34,7 @@ pub(crate) const DEFINES: [u32; 12] = [
 ];
 
 /// The same with a longword after the name.
-pub(crate) const DEFINES_LONGER: [u32; 13] = [
+pub const DEFINES_LONGER: [u32; 13] = [
     0x0000_03E7,
     0,
     0x0000_03E9,
@@ -51,7 +51,7 @@ pub(crate) const DEFINES_LONGER: [u32; 13] = [
 ];
 
 /// The two of them, linked.
-pub(crate) const LINKED: [u32; 22] = [
+pub const LINKED: [u32; 22] = [
     0x0000_03F3,
     0,
     2,
@@ -77,7 +77,7 @@ pub(crate) const LINKED: [u32; 22] = [
 ];
 
 /// An object file whose first hunk has the address of its second one.
-pub(crate) const ADDRESS: [u32; 14] = [
+pub const ADDRESS: [u32; 14] = [
     0x0000_03E7,
     0,
     0x0000_03E9,
@@ -95,7 +95,7 @@ pub(crate) const ADDRESS: [u32; 14] = [
 ];
 
 /// A reference at the offset of a relocation.
-pub(crate) const MEETS: [u32; 16] = [
+pub const MEETS: [u32; 16] = [
     0x0000_03E7,
     0,
     0x0000_03E9,
@@ -115,7 +115,7 @@ pub(crate) const MEETS: [u32; 16] = [
 ];
 
 /// A relocation whose last byte is the first one after the content.
-pub(crate) const PAST_CONTENT: [u32; 10] = [
+pub const PAST_CONTENT: [u32; 10] = [
     0x0000_03E7,
     0,
     0x0000_03E9,
@@ -129,10 +129,10 @@ pub(crate) const PAST_CONTENT: [u32; 10] = [
 ];
 
 /// A relocation of memory that has no content.
-pub(crate) const IN_BSS: [u32; 8] = [0x0000_03E7, 0, 0x0000_03EB, 4, 0x0000_03EC, 1, 0, 0];
+pub const IN_BSS: [u32; 8] = [0x0000_03E7, 0, 0x0000_03EB, 4, 0x0000_03EC, 1, 0, 0];
 
 /// A load file with a site after its content, but inside its hunk.
-pub(crate) const BEHIND_CONTENT: [u32; 15] = [
+pub const BEHIND_CONTENT: [u32; 15] = [
     0x0000_03F3,
     0,
     1,
@@ -151,13 +151,13 @@ pub(crate) const BEHIND_CONTENT: [u32; 15] = [
 ];
 
 /// An object file with data in chip memory.
-pub(crate) const CHIP: [u32; 6] = [0x0000_03E7, 0, 0x4000_03EA, 1, 0, 0x0000_03F2];
+pub const CHIP: [u32; 6] = [0x0000_03E7, 0, 0x4000_03EA, 1, 0, 0x0000_03F2];
 
 /// A header of 2^24 longwords and one more.
-pub(crate) const TOO_LARGE: [u32; 7] = [0x0000_03F3, 0, 2, 0, 1, 0x00FF_FFFF, 2];
+pub const TOO_LARGE: [u32; 7] = [0x0000_03F3, 0, 2, 0, 1, 0x00FF_FFFF, 2];
 
 /// An object file as an assembler writes it.
-pub(crate) const ASSEMBLED: [u32; 32] = [
+pub const ASSEMBLED: [u32; 32] = [
     0x0000_03E7,
     1,
     0x7465_7374,
@@ -193,7 +193,7 @@ pub(crate) const ASSEMBLED: [u32; 32] = [
 ];
 
 /// The same, linked.
-pub(crate) const LINKED_ALONE: [u32; 28] = [
+pub const LINKED_ALONE: [u32; 28] = [
     0x0000_03F3,
     0,
     2,
@@ -225,7 +225,7 @@ pub(crate) const LINKED_ALONE: [u32; 28] = [
 ];
 
 /// A load file with a name, a debug block before relocations, and two lists of them.
-pub(crate) const SCATTERED: [u32; 41] = [
+pub const SCATTERED: [u32; 41] = [
     0x0000_03F3,
     0,
     2,
@@ -270,7 +270,7 @@ pub(crate) const SCATTERED: [u32; 41] = [
 ];
 
 /// The same as the linker writes it.
-pub(crate) const WRITTEN: [u32; 33] = [
+pub const WRITTEN: [u32; 33] = [
     0x0000_03F3,
     0,
     2,
@@ -307,7 +307,7 @@ pub(crate) const WRITTEN: [u32; 33] = [
 ];
 
 /// An object file whose hunk refers to `x`, to `y` at no offset, and to `x` again.
-pub(crate) const TWO_NAMES: [u32; 27] = [
+pub const TWO_NAMES: [u32; 27] = [
     0x0000_03E7,
     1,
     0x5500_0000,
@@ -338,7 +338,7 @@ pub(crate) const TWO_NAMES: [u32; 27] = [
 ];
 
 /// A load file with relocations in 16-bit words.
-pub(crate) const SHORT: [u32; 15] = [
+pub const SHORT: [u32; 15] = [
     0x0000_03F3,
     0,
     1,

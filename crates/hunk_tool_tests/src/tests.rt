@@ -1,0 +1,25 @@
+//! Files from bytes to reports and texts, by public calls only.
+//!
+//! - `decoders`: what checks the bytes of a file.
+//! - `devices`: readers and writers that fail.
+//! - `endless`: a reader that never ends.
+//! - `files`: the bytes of files, and what loading them writes.
+//! - `kept`: errors that are returned again.
+//! - `memory`: allocations that fail.
+//! - `refusals`: addresses that are rejected.
+//! - `reports`: files that are loaded.
+//! - `streaming`: what `ImageLoader` allocates.
+//! - `texts`: the texts that are written about files.
+//! - `vectors`: files of both kinds through everything that reads them.
+
+mod decoders;
+mod devices;
+mod endless;
+mod files;
+mod kept;
+mod memory;
+mod refusals;
+mod reports;
+mod streaming;
+mod texts;
+mod vectors;

@@ -1,0 +1,141 @@
+//! Readers and writers that fail.
+
+use failing_allocator::Refusing;
+use hunk_samples::{BASE, FILE, REPORT, bytes_of};
+use hunk_tool::{ToolFault, load_run};
+use hunk_words::{Pieces, Room, Sink, Source, Watched};
+use std::alloc::Global;
+use std::io;
+use std::io::{ErrorKind, Read};
+use std::process::Abort;
+use std::test::Fail;
+
+// Runs the file, at most `chunk` bytes per read, with this read failing.
+fn fails_to_read(
+    rt: &impl Abort,
+    alloc: Global,
+    bytes: &[u8],
+    chunk: usize,
+    number: u64,
+) -> Result<(), Fail> {
+    assert!(rt; 1 <= chunk);
+    let mut reader = Pieces::new(bytes.to_vec(alloc)?, chunk, Some(number));
+    let mut writer = Room::new(alloc, 64, 64, false)?;
+    let got = load_run(alloc, &mut reader, &[BASE], &mut writer);
+    let fault = ToolFault::InputDevice { file: 0 };
+    assert_eq!(rt; got, Err(fault), "read {number} of {chunk}");
+    assert!(rt; writer.bytes().is_empty(), "read {number} of {chunk}");
+    assert!(rt; Source::failed(&reader));
+    Ok(())
+}
+
+// The same where the read that would fail never comes.
+fn reads_all(
+    rt: &impl Abort,
+    alloc: Global,
+    bytes: &[u8],
+    chunk: usize,
+    number: u64,
+) -> Result<(), Fail> {
+    assert!(rt; 1 <= chunk);
+    let mut reader = Pieces::new(bytes.to_vec(alloc)?, chunk, Some(number));
+    let mut writer = Room::new(alloc, 64, 64, false)?;
+    let got = load_run(alloc, &mut reader, &[BASE], &mut writer);
+    assert_eq!(rt; got, Ok(()), "read {number} of {chunk}");
+    assert_eq!(rt; writer.bytes(), REPORT.as_bytes());
+    assert!(rt; !Source::failed(&reader));
+    Ok(())
+}
+
+// Each read of a run fails in turn, including the one that would report the end.
+#[test]
+fn tells_a_read_that_failed(rt: HostRuntime) -> Result<(), Fail> {
+    let bytes = bytes_of(rt.alloc(), &FILE, &[])?;
+    for (chunk, reads) in [(64, 2), (1, 41), (3, 15), (5, 9)] {
+        for number in 0..reads {
+            fails_to_read(&rt, rt.alloc(), &bytes, chunk, number)?;
+        }
+        reads_all(&rt, rt.alloc(), &bytes, chunk, reads)?;
+    }
+    Ok(())
+}
+
+// Runs the file into a writer that takes this many bytes, at most `most` per write.
+fn fails_to_write(
+    rt: &impl Abort,
+    alloc: Global,
+    bytes: &[u8],
+    room: usize,
+    most: usize,
+    zero: bool,
+) -> Result<(), Fail> {
+    assert!(rt; 1 <= most);
+    let mut reader = Pieces::new(bytes.to_vec(alloc)?, 64, None);
+    let mut writer = Room::new(alloc, most, room, zero)?;
+    let got = load_run(alloc, &mut reader, &[BASE], &mut writer);
+    let written = room as u64;
+    assert_eq!(rt; got, Err(ToolFault::Output { written }), "room for {room}");
+    let taken = REPORT.as_bytes().get(..room);
+    assert_eq!(rt; Some(writer.bytes()), taken, "room for {room}");
+    assert!(rt; Sink::failed(&writer));
+    Ok(())
+}
+
+// A writer with room for each prefix of the report.
+#[test]
+fn tells_what_a_writer_took(rt: HostRuntime) -> Result<(), Fail> {
+    let bytes = bytes_of(rt.alloc(), &FILE, &[])?;
+    assert_eq!(rt; REPORT.len(), 44);
+    for room in 0..44 {
+        for (most, zero) in [(64, false), (64, true), (1, false), (7, true)] {
+            fails_to_write(&rt, rt.alloc(), &bytes, room, most, zero)?;
+        }
+    }
+    Ok(())
+}
+
+// A reader that fails.
+#[derive(Drop)]
+struct Broken;
+
+impl Read for Broken {
+    fn read(&mut self, _buffer: &mut [u8]) -> io::Result<usize> {
+        Err(ErrorKind::Other.into())
+    }
+}
+
+#[test]
+fn watches_readers_and_writers_of_std(rt: HostRuntime) -> Result<(), Fail> {
+    let bytes = bytes_of(rt.alloc(), &FILE, &[])?;
+    let mut reader = Watched::new(bytes.as_slice());
+    let mut writer = Watched::new(Vec::new(rt.alloc()));
+    let got = load_run(rt.alloc(), &mut reader, &[BASE], &mut writer);
+    assert_eq!(rt; got, Ok(()));
+    assert!(rt; Source::ended(&reader) && !Source::failed(&reader));
+    assert!(rt; !Sink::failed(&writer));
+    assert_eq!(rt; writer.into_inner().as_slice(), REPORT.as_bytes());
+    Ok(())
+}
+
+#[test]
+fn watches_a_writer_of_std_that_fails(rt: HostRuntime) -> Result<(), Fail> {
+    let bytes = bytes_of(rt.alloc(), &FILE, &[])?;
+    let heap = Refusing::new(rt.alloc(), 0);
+    let mut reader = Watched::new(bytes.as_slice());
+    let mut writer = Watched::new(Vec::new(&heap));
+    let got = load_run(rt.alloc(), &mut reader, &[BASE], &mut writer);
+    assert_eq!(rt; got, Err(ToolFault::Output { written: 0 }));
+    assert!(rt; Sink::failed(&writer));
+    Ok(())
+}
+
+#[test]
+fn watches_a_reader_of_std_that_fails(rt: HostRuntime) -> Result<(), Fail> {
+    let mut reader = Watched::new(Broken);
+    let mut writer = Room::new(rt.alloc(), 64, 64, false)?;
+    let got = load_run(rt.alloc(), &mut reader, &[BASE], &mut writer);
+    assert_eq!(rt; got, Err(ToolFault::InputDevice { file: 0 }));
+    assert!(rt; Source::failed(&reader) && !Source::ended(&reader));
+    assert!(rt; writer.bytes().is_empty());
+    Ok(())
+}

@@ -1,0 +1,44 @@
+//! The bytes of files, and what loading them writes.
+
+use hunk_samples::{CHUNKS, ROOM, bytes_of};
+use hunk_tool::{ToolFault, load_run};
+use hunk_words::{Pieces, Room};
+use std::alloc::Global;
+use std::process::Abort;
+use std::test::Fail;
+
+/// The bytes of a file with another longword at this place.
+pub(crate) fn with_word(
+    alloc: Global,
+    words: &[u32],
+    place: usize,
+    word: u32,
+) -> Result<Vec<u8>, Fail> {
+    let mut other = words.to_vec(alloc)?;
+    *other.get_mut(place).ok_or("no such place")? = word;
+    Ok(bytes_of(alloc, &other, &[])?)
+}
+
+/// Loads these bytes in pieces of each size, and compares the result and the text that was written.
+pub(crate) fn loads_to(
+    rt: &impl Abort,
+    alloc: Global,
+    bytes: &[u8],
+    bases: &[u32],
+    answer: Result<(), ToolFault>,
+    text: &str,
+) -> Result<(), Fail> {
+    for chunk in CHUNKS {
+        assert!(rt; 1 <= chunk);
+        let mut reader = Pieces::new(bytes.to_vec(alloc)?, chunk, None);
+        let mut writer = Room::new(alloc, chunk, ROOM, false)?;
+        let got = load_run(alloc, &mut reader, bases, &mut writer);
+        assert_eq!(rt; got, answer, "{bytes:?}, {chunk} a read");
+        assert_eq!(rt;
+            writer.bytes(),
+            text.as_bytes(),
+            "{bytes:?}, {chunk} a read"
+        );
+    }
+    Ok(())
+}

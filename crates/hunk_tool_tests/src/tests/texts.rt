@@ -1,0 +1,283 @@
+//! The texts that are written about files: what they are, and what stops them.
+
+use failing_allocator::Refusing;
+use hunk_samples::words::{ASSEMBLED, LINKED_ALONE, TWO_NAMES};
+use hunk_samples::{CHUNKS, ROOM, bytes_of};
+use hunk_tool::{ToolFault, check_run, show_run};
+use hunk_words::{Pieces, Room, Sink, Source};
+use std::alloc::{Allocator, Global};
+use std::process::Abort;
+use std::test::Fail;
+
+// More allocations than a run of the tests makes.
+const MOST_GROWTHS: u64 = 128;
+
+// An object file of one unit without hunks, whose name has a quote, a backslash and a byte that is
+// not ASCII.
+const QUOTED: [u32; 3] = [0x0000_03E7, 1, 0x4122_5CFF];
+
+// What is written of it.
+const QUOTED_TEXT: &str = "object file: 1 units, 0 hunks\nunit 0 \"A\\x22\\x5c\\xff\"\n";
+
+const ASSEMBLED_TEXT: &str = "object file: 1 units, 2 hunks\n\
+                              unit 0 \"test\"\n\
+                              hunk 0 code any 2 longwords \"CODE\"\n  \
+                              00000002 adds hunk 1\n  \
+                              define \"main\" at 00000000\n  \
+                              symbol \"loop\" 00000006\n  \
+                              debug 1\n\
+                              hunk 1 bss chip 2 longwords \"\"\n";
+
+const LINKED_TEXT: &str = "load file: 2 hunks\n\
+                           hunk 0 code any 2 longwords, 2 stored\n  \
+                           00000002 adds hunk 1\n  \
+                           symbol \"loop\" 00000006\n  \
+                           debug 1\n\
+                           hunk 1 bss chip 2 longwords, 0 stored\n";
+
+const TWO_NAMES_TEXT: &str = "object file: 1 units, 1 hunks\n\
+                              unit 0 \"U\"\n\
+                              hunk 0 code any 3 longwords \"\"\n  \
+                              00000000 adds \"x\"\n  \
+                              00000004 adds hunk 0\n  \
+                              00000008 adds \"x\"\n";
+
+/// A text about a file.
+#[derive(Clone, Copy, Debug)]
+pub(crate) enum Text {
+    /// The line of what it is.
+    Check,
+    /// The listing of what is in it.
+    Show,
+}
+
+impl Text {
+    /// Reads a file, and writes the text.
+    pub(crate) fn run<A: Allocator + Copy, R: Source, W: Sink>(
+        self,
+        alloc: A,
+        reader: &mut R,
+        writer: &mut W,
+    ) -> Result<(), ToolFault<A>> {
+        match self {
+            Text::Check => check_run(alloc, reader, writer),
+            Text::Show => show_run(alloc, reader, writer),
+        }
+    }
+
+    // What is written of a file with this listing: all of it, or its first line.
+    fn of(self, listing: &str) -> Result<&str, Fail> {
+        match self {
+            Text::Check => {
+                let end = listing.find('\n').ok_or("no line")?;
+                Ok(listing.get(..=end).ok_or("no line")?)
+            }
+            Text::Show => Ok(listing),
+        }
+    }
+}
+
+// Files, and their listings.
+const LISTINGS: [(&[u32], &str); 4] = [
+    (&QUOTED, QUOTED_TEXT),
+    (&ASSEMBLED, ASSEMBLED_TEXT),
+    (&LINKED_ALONE, LINKED_TEXT),
+    (&TWO_NAMES, TWO_NAMES_TEXT),
+];
+
+// The text is written of these bytes, at most `chunk` bytes per read and per write.
+fn writes(
+    rt: &impl Abort,
+    alloc: Global,
+    text: Text,
+    bytes: &[u8],
+    chunk: usize,
+    wanted: &str,
+) -> Result<(), Fail> {
+    assert!(rt; 1 <= chunk);
+    let mut reader = Pieces::new(bytes.to_vec(alloc)?, chunk, None);
+    let mut writer = Room::new(alloc, chunk, ROOM, false)?;
+    assert_eq!(rt; text.run(alloc, &mut reader, &mut writer), Ok(()));
+    assert_eq!(rt; writer.bytes(), wanted.as_bytes(), "{text:?} by {chunk}");
+    Ok(())
+}
+
+// Both texts are written of this file.
+fn writes_both(
+    rt: &impl Abort,
+    alloc: Global,
+    bytes: &[u8],
+    chunk: usize,
+    listing: &str,
+) -> Result<(), Fail> {
+    for text in [Text::Check, Text::Show] {
+        writes(rt, alloc, text, bytes, chunk, text.of(listing)?)?;
+    }
+    Ok(())
+}
+
+#[test]
+fn writes_what_is_in_a_file(rt: HostRuntime) -> Result<(), Fail> {
+    for (words, listing) in LISTINGS {
+        let bytes = bytes_of(rt.alloc(), words, &[])?;
+        for chunk in CHUNKS {
+            writes_both(&rt, rt.alloc(), &bytes, chunk, listing)?;
+        }
+    }
+    Ok(())
+}
+
+// Whether the text was written with this allocation failing. If not, memory ran out, and nothing
+// was written.
+fn is_written(
+    rt: &impl Abort,
+    alloc: Global,
+    text: Text,
+    bytes: &[u8],
+    wanted: &str,
+    refused: u64,
+) -> Result<bool, Fail> {
+    let heap = Refusing::new(alloc, refused);
+    let mut reader = Pieces::new(bytes.to_vec(alloc)?, 5, None);
+    let mut writer = Room::new(alloc, ROOM, ROOM, false)?;
+    let got = text.run(&heap, &mut reader, &mut writer);
+    if heap.asked() <= refused {
+        assert!(rt; got.is_ok(), "growth {refused}");
+        assert_eq!(rt; writer.bytes(), wanted.as_bytes());
+        return Ok(true);
+    }
+    let out_of_memory = matches!(&got, Err(ToolFault::OutOfMemory { written: 0 }));
+    assert!(rt; out_of_memory, "growth {refused}");
+    assert!(rt; writer.bytes().is_empty(), "growth {refused}");
+    Ok(false)
+}
+
+// The number of allocations: the run is out of memory with each of them failing, and succeeds once
+// none fails.
+fn growths_of(
+    rt: &impl Abort,
+    alloc: Global,
+    text: Text,
+    bytes: &[u8],
+    wanted: &str,
+) -> Result<u64, Fail> {
+    for refused in 0..MOST_GROWTHS {
+        if is_written(rt, alloc, text, bytes, wanted, refused)? {
+            return Ok(refused);
+        }
+    }
+    assert!(rt; false, "each of {MOST_GROWTHS} runs was refused a growth");
+    Ok(0)
+}
+
+// Texts of files, and the fewest allocations of each.
+const GROWTHS: [(Text, &[u32], &str, u64); 4] = [
+    // the sites of the first hunk
+    (Text::Check, &ASSEMBLED, ASSEMBLED_TEXT, 1),
+    // the sizes in the header, and the sites
+    (Text::Check, &LINKED_ALONE, LINKED_TEXT, 2),
+    // units, hunks, three names, content, sites, a definition, symbols, and debug blocks
+    (Text::Show, &ASSEMBLED, ASSEMBLED_TEXT, 10),
+    // sizes, hunks, content, sites, symbols, a name, debug blocks, and one of them
+    (Text::Show, &LINKED_ALONE, LINKED_TEXT, 8),
+];
+
+#[test]
+fn refuses_each_growth_of_a_text(rt: HostRuntime) -> Result<(), Fail> {
+    for (text, words, listing, least) in GROWTHS {
+        let bytes = bytes_of(rt.alloc(), words, &[])?;
+        let growths = growths_of(&rt, rt.alloc(), text, &bytes, text.of(listing)?)?;
+        assert!(rt; least <= growths, "{text:?} met {growths} growths");
+    }
+    Ok(())
+}
+
+// Runs the text over a file, at most `chunk` bytes per read. The read with this number fails, if it
+// comes.
+fn fails_to_read(
+    rt: &impl Abort,
+    alloc: Global,
+    text: Text,
+    chunk: usize,
+    number: u64,
+    wanted: Result<(), ToolFault>,
+) -> Result<(), Fail> {
+    assert!(rt; 1 <= chunk);
+    let bytes = bytes_of(alloc, &ASSEMBLED, &[])?;
+    let mut reader = Pieces::new(bytes, chunk, Some(number));
+    let mut writer = Room::new(alloc, ROOM, ROOM, false)?;
+    let got = text.run(alloc, &mut reader, &mut writer);
+    assert_eq!(rt; got, wanted, "{text:?}, read {number} of {chunk}");
+    let nothing = writer.bytes().is_empty();
+    assert_eq!(rt; nothing, got.is_err(), "read {number} of {chunk}");
+    Ok(())
+}
+
+// Each of so many reads fails in turn, including the one that would report the end.
+fn fails_to_read_each(
+    rt: &impl Abort,
+    alloc: Global,
+    text: Text,
+    chunk: usize,
+    reads: u64,
+) -> Result<(), Fail> {
+    for number in 0..reads {
+        let fault = ToolFault::InputDevice { file: 0 };
+        fails_to_read(rt, alloc, text, chunk, number, Err(fault))?;
+    }
+    fails_to_read(rt, alloc, text, chunk, reads, Ok(()))
+}
+
+#[test]
+fn tells_a_read_that_failed_before_a_text(rt: HostRuntime) -> Result<(), Fail> {
+    for (chunk, reads) in [(64, 3), (1, 129), (3, 44), (5, 27)] {
+        for text in [Text::Check, Text::Show] {
+            fails_to_read_each(&rt, rt.alloc(), text, chunk, reads)?;
+        }
+    }
+    Ok(())
+}
+
+// Runs the text into a writer that takes this many bytes.
+fn fails_to_write(
+    rt: &impl Abort,
+    alloc: Global,
+    (text, bytes): (Text, &[u8]),
+    wanted: &[u8],
+    room: usize,
+    zero: bool,
+) -> Result<(), Fail> {
+    let mut reader = Pieces::new(bytes.to_vec(alloc)?, 64, None);
+    let mut writer = Room::new(alloc, 7, room, zero)?;
+    let got = text.run(alloc, &mut reader, &mut writer);
+    let written = room as u64;
+    assert_eq!(rt; got, Err(ToolFault::Output { written }), "room for {room}");
+    assert_eq!(rt; Some(writer.bytes()), wanted.get(..room), "room for {room}");
+    Ok(())
+}
+
+// A writer with room for each prefix of the text.
+fn fails_to_write_each(
+    rt: &impl Abort,
+    alloc: Global,
+    text: Text,
+    words: &[u32],
+    listing: &str,
+) -> Result<(), Fail> {
+    let bytes = bytes_of(alloc, words, &[])?;
+    let wanted = text.of(listing)?.as_bytes();
+    for room in 0..wanted.len() {
+        fails_to_write(rt, alloc, (text, &bytes), wanted, room, false)?;
+        fails_to_write(rt, alloc, (text, &bytes), wanted, room, true)?;
+    }
+    Ok(())
+}
+
+#[test]
+fn tells_what_a_writer_took_of_a_text(rt: HostRuntime) -> Result<(), Fail> {
+    for text in [Text::Check, Text::Show] {
+        fails_to_write_each(&rt, rt.alloc(), text, &ASSEMBLED, ASSEMBLED_TEXT)?;
+        fails_to_write_each(&rt, rt.alloc(), text, &LINKED_ALONE, LINKED_TEXT)?;
+    }
+    Ok(())
+}
