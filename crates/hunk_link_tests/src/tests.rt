@@ -7,6 +7,7 @@
 //! - `files`: units that link.
 //! - `growths`: allocations that fail.
 //! - `limits`: as many hunks as a link may have, and as large ones.
+//! - `loads`: allocations of loading that fail.
 //! - `made_places`: places made at random.
 //! - `made_plans`: units made at random.
 //! - `memory`: allocations of runs that fail.
@@ -28,6 +29,7 @@ mod dice;
 mod files;
 mod growths;
 mod limits;
+mod loads;
 mod made_places;
 mod made_plans;
 mod memory;
