@@ -20,7 +20,7 @@ returns-clause-added g c =
           let absent = sym w.in-Ok.ensures.old ∙ before in (
             ap (look_up c.args.self.now) (sym same) ∙ sym (ap (λ table. look_up table key.now) c.self.view_is) ∙ look_up-seen m.entries key.now ∙ absent,
             ap table_seen w.in-Ok.ensures.entries ∙ table_seen-insert m key c.args.defined absent ∙ ap (λ table. table ++ (key.now, c.args.defined) ∷ []) c.self.view_is
-            ∙ ap (λ name. c.args.self.now ++ (name, c.args.defined) ∷ []) same,
+                ∙ ap (λ name. c.args.self.now ++ (name, c.args.defined) ∷ []) same,
           )
       | in-Err w ↦ λ added. cc
     ]
