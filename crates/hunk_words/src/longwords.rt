@@ -4,6 +4,9 @@ ghost use Rattle.byteorder.specs.Endian.{big_bytes};
 
 use byteorder::{BigEndian, ByteOrder};
 
+/// The number of bytes of a longword.
+pub(crate) const LONGWORD: usize = 4;
+
 /// The four bytes of a longword, the most significant one first.
 #[inline(always)]
 pub(crate) fn big_endian(word: u32) -> [u8; 4]

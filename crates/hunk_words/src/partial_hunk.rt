@@ -4,13 +4,10 @@ ghost use Rattle.hunk_words.specs.PartialHunk.{HoldsSites, begun_hunk, filled_hu
 ghost use Rattle.hunk_words.specs.Sites.{AreApart};
 ghost use Rattle.hunk_words.specs.Taker.{JudgesSite};
 
-use crate::longwords::big_endian;
+use crate::longwords::{LONGWORD, big_endian};
 use crate::sites::{SiteRefusal, Sites};
 use std::alloc::{AllocError, Allocator, Global};
 use std::marker::Model;
-
-/// The bytes of a longword.
-const LONGWORD: u64 = 4;
 
 /// The current hunk of a reader: its sites, its content so far, and whether the next word is
 /// content.
@@ -118,7 +115,7 @@ impl<T: Copy, A: Allocator + Copy> PartialHunk<T, A> {
             return Err(AllocError);
         }
         // The last longword of a run comes by itself, and should not make the content grow once more.
-        let wanted = (bytes.len() as u64).saturating_add(LONGWORD).min(room);
+        let wanted = (bytes.len().saturating_add(LONGWORD) as u64).min(room);
         self.content.reserve(wanted as usize)?;
         self.content.extend_from_slice(bytes)
     }

@@ -4,11 +4,8 @@ ghost use Rattle.std.specs.List.{All};
 ghost use Rattle.hunk_words.specs.Name.{IsNameByte, bytes_of, name_of};
 
 use super::{Name, until_zero};
-use crate::longwords::big_endian;
+use crate::longwords::{LONGWORD, big_endian};
 use std::alloc::{AllocError, Allocator, Global};
-
-/// The bytes of a longword.
-const LONGWORD: usize = 4;
 
 /// A name whose longwords come one after another. After its first zero byte it does not allocate.
 #[derive(Debug, Drop)]
