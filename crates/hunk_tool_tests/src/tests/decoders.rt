@@ -24,59 +24,36 @@ pub(crate) trait Judge: Drop {
     fn close(self) -> Result<(), LoadRefusal>;
 }
 
-// A refusal of bytes, as a refusal to load them.
-fn refusal_of(refusal: Refusal) -> LoadRefusal {
-    match refusal {
-        Refusal::Fault(fault) => LoadRefusal::File(fault),
-        Refusal::OutOfMemory => LoadRefusal::OutOfMemory,
-    }
-}
-
 impl<T: Taker> Judge for Decoder<T> {
     fn judge(&mut self, piece: &[u8]) -> Result<(), LoadRefusal> {
-        match self.feed(piece) {
-            Ok(()) => Ok(()),
-            Err(refusal) => Err(refusal_of(refusal)),
-        }
+        Ok(self.feed(piece)?)
     }
 
     fn close(self) -> Result<(), LoadRefusal> {
-        match self.finish() {
-            Ok(_) => Ok(()),
-            Err(refusal) => Err(refusal_of(refusal)),
-        }
+        self.finish()?;
+        Ok(())
     }
 }
 
 impl<A: Allocator + Copy> Judge for ObjectDecoder<A> {
     fn judge(&mut self, piece: &[u8]) -> Result<(), LoadRefusal> {
-        match self.feed(piece) {
-            Ok(()) => Ok(()),
-            Err(refusal) => Err(refusal_of(refusal)),
-        }
+        Ok(self.feed(piece)?)
     }
 
     fn close(self) -> Result<(), LoadRefusal> {
-        match self.finish() {
-            Ok(_) => Ok(()),
-            Err(refusal) => Err(refusal_of(refusal)),
-        }
+        self.finish()?;
+        Ok(())
     }
 }
 
 impl<A: Allocator + Copy> Judge for LoadDecoder<A> {
     fn judge(&mut self, piece: &[u8]) -> Result<(), LoadRefusal> {
-        match self.feed(piece) {
-            Ok(()) => Ok(()),
-            Err(refusal) => Err(refusal_of(refusal)),
-        }
+        Ok(self.feed(piece)?)
     }
 
     fn close(self) -> Result<(), LoadRefusal> {
-        match self.finish() {
-            Ok(_) => Ok(()),
-            Err(refusal) => Err(refusal_of(refusal)),
-        }
+        self.finish()?;
+        Ok(())
     }
 }
 
@@ -86,10 +63,8 @@ impl<A: Allocator + Copy> Judge for ImageLoader<A> {
     }
 
     fn close(self) -> Result<(), LoadRefusal> {
-        match self.finish() {
-            Ok(_) => Ok(()),
-            Err(refusal) => Err(refusal),
-        }
+        self.finish()?;
+        Ok(())
     }
 }
 

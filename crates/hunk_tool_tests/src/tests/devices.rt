@@ -10,40 +10,23 @@ use std::io::{ErrorKind, Read};
 use std::process::Abort;
 use std::test::Fail;
 
-// Runs the file, at most `chunk` bytes per read, with this read failing.
-fn fails_to_read(
+// Runs the file, at most `chunk` bytes per read. The read with this number fails, if it comes.
+fn reads(
     rt: &impl Abort,
     alloc: Global,
     bytes: &[u8],
     chunk: usize,
     number: u64,
+    wanted: Result<(), ToolFault>,
 ) -> Result<(), Fail> {
     assert!(rt; 1 <= chunk);
     let mut reader = Pieces::new(bytes.to_vec(alloc)?, chunk, Some(number));
     let mut writer = Room::new(alloc, 64, 64, false)?;
     let got = load_run(alloc, &mut reader, &[BASE], &mut writer);
-    let fault = ToolFault::InputDevice { file: 0 };
-    assert_eq!(rt; got, Err(fault), "read {number} of {chunk}");
-    assert!(rt; writer.bytes().is_empty(), "read {number} of {chunk}");
-    assert!(rt; Source::failed(&reader));
-    Ok(())
-}
-
-// The same where the read that would fail never comes.
-fn reads_all(
-    rt: &impl Abort,
-    alloc: Global,
-    bytes: &[u8],
-    chunk: usize,
-    number: u64,
-) -> Result<(), Fail> {
-    assert!(rt; 1 <= chunk);
-    let mut reader = Pieces::new(bytes.to_vec(alloc)?, chunk, Some(number));
-    let mut writer = Room::new(alloc, 64, 64, false)?;
-    let got = load_run(alloc, &mut reader, &[BASE], &mut writer);
-    assert_eq!(rt; got, Ok(()), "read {number} of {chunk}");
-    assert_eq!(rt; writer.bytes(), REPORT.as_bytes());
-    assert!(rt; !Source::failed(&reader));
+    let text = if wanted.is_ok() { REPORT } else { "" };
+    assert_eq!(rt; Source::failed(&reader), wanted.is_err());
+    assert_eq!(rt; got, wanted, "read {number} of {chunk}");
+    assert_eq!(rt; writer.bytes(), text.as_bytes(), "read {number} of {chunk}");
     Ok(())
 }
 
@@ -51,11 +34,12 @@ fn reads_all(
 #[test]
 fn tells_a_read_that_failed(rt: HostRuntime) -> Result<(), Fail> {
     let bytes = bytes_of(rt.alloc(), &FILE, &[])?;
-    for (chunk, reads) in [(64, 2), (1, 41), (3, 15), (5, 9)] {
-        for number in 0..reads {
-            fails_to_read(&rt, rt.alloc(), &bytes, chunk, number)?;
+    for (chunk, count) in [(64, 2), (1, 41), (3, 15), (5, 9)] {
+        for number in 0..count {
+            let fault = ToolFault::InputDevice { file: 0 };
+            reads(&rt, rt.alloc(), &bytes, chunk, number, Err(fault))?;
         }
-        reads_all(&rt, rt.alloc(), &bytes, chunk, reads)?;
+        reads(&rt, rt.alloc(), &bytes, chunk, count, Ok(()))?;
     }
     Ok(())
 }

@@ -5,15 +5,35 @@ use hunk_samples::words::SCATTERED;
 use hunk_samples::{BASE, FILE, REPORT, bytes_of};
 use hunk_tool::{BasesFault, ToolFault, load_run, parse_bases};
 use hunk_words::{Pieces, Room};
-use std::alloc::Global;
+use std::alloc::{Allocator, Global};
 use std::process::Abort;
 use std::test::Fail;
 
 // More allocations than a call of the tests makes.
 const MOST_GROWTHS: u64 = 64;
 
-// Whether the run wrote the report with this allocation failing. If not, memory ran out, and nothing
-// was written.
+/// Whether a run wrote its text, since the allocation that was to fail never came. If it came, memory
+/// ran out, and nothing was written.
+pub(crate) fn is_done<A: Allocator + Copy>(
+    rt: &impl Abort,
+    heap: &Refusing<Global>,
+    refused: u64,
+    got: &Result<(), ToolFault<A>>,
+    written: &[u8],
+    text: &str,
+) -> bool {
+    if heap.asked() <= refused {
+        assert!(rt; got.is_ok(), "growth {refused}");
+        assert_eq!(rt; written, text.as_bytes());
+        return true;
+    }
+    let out_of_memory = matches!(got, Err(ToolFault::OutOfMemory { written: 0 }));
+    assert!(rt; out_of_memory, "growth {refused}");
+    assert!(rt; written.is_empty(), "growth {refused}");
+    false
+}
+
+// Whether the run wrote the report with this allocation failing.
 fn is_run(
     rt: &impl Abort,
     alloc: Global,
@@ -26,15 +46,7 @@ fn is_run(
     let mut reader = Pieces::new(bytes.to_vec(alloc)?, 64, None);
     let mut writer = Room::new(alloc, 64, 256, false)?;
     let got = load_run(&heap, &mut reader, bases, &mut writer);
-    if heap.asked() <= refused {
-        assert!(rt; got.is_ok(), "growth {refused}");
-        assert_eq!(rt; writer.bytes(), text.as_bytes());
-        return Ok(true);
-    }
-    let out_of_memory = matches!(&got, Err(ToolFault::OutOfMemory { written: 0 }));
-    assert!(rt; out_of_memory, "growth {refused}");
-    assert!(rt; writer.bytes().is_empty(), "growth {refused}");
-    Ok(false)
+    Ok(is_done(rt, &heap, refused, &got, writer.bytes(), text))
 }
 
 // The number of allocations: the run is out of memory with each of them failing, and succeeds once

@@ -1,5 +1,6 @@
 //! The texts that are written about files: what they are, and what stops them.
 
+use super::memory::is_done;
 use failing_allocator::Refusing;
 use hunk_samples::words::{ASSEMBLED, LINKED_ALONE, TWO_NAMES};
 use hunk_samples::{CHUNKS, ROOM, bytes_of};
@@ -127,8 +128,7 @@ fn writes_what_is_in_a_file(rt: HostRuntime) -> Result<(), Fail> {
     Ok(())
 }
 
-// Whether the text was written with this allocation failing. If not, memory ran out, and nothing
-// was written.
+// Whether the text was written with this allocation failing.
 fn is_written(
     rt: &impl Abort,
     alloc: Global,
@@ -141,15 +141,7 @@ fn is_written(
     let mut reader = Pieces::new(bytes.to_vec(alloc)?, 5, None);
     let mut writer = Room::new(alloc, ROOM, ROOM, false)?;
     let got = text.run(&heap, &mut reader, &mut writer);
-    if heap.asked() <= refused {
-        assert!(rt; got.is_ok(), "growth {refused}");
-        assert_eq!(rt; writer.bytes(), wanted.as_bytes());
-        return Ok(true);
-    }
-    let out_of_memory = matches!(&got, Err(ToolFault::OutOfMemory { written: 0 }));
-    assert!(rt; out_of_memory, "growth {refused}");
-    assert!(rt; writer.bytes().is_empty(), "growth {refused}");
-    Ok(false)
+    Ok(is_done(rt, &heap, refused, &got, writer.bytes(), wanted))
 }
 
 // The number of allocations: the run is out of memory with each of them failing, and succeeds once
