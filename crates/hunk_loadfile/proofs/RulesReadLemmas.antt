@@ -11,7 +11,7 @@ use Rattle.std.proofs.lemmas.List.{length-map, length-take}
 use Rattle.std.proofs.lemmas.List.Elements.{All-from_recursion}
 use Rattle.std.proofs.lemmas.List.Sums.{sum_by-cons}
 use Rattle.hunk_words.specs.Files.{IsFileOf}
-use Rattle.hunk_words.specs.Name.{bytes_of, longword_count, name_of}
+use Rattle.hunk_words.specs.Name.{bytes_of, longword_count, most_name, name_of}
 use Rattle.hunk_words.specs.SiteContext.{Has, SameSites}
 use Rattle.hunk_words.specs.SiteRules.{all_apart, apart}
 use Rattle.hunk_words.specs.Sites.{Meets, SharesByte, StandFrom}
@@ -30,7 +30,6 @@ use Rattle.hunk_words.proofs.TakerLemmas.{SameSites-more, SameSites-none}
 use Rattle.hunk_loadfile.specs.LoadFile.{IsLoad, file_hunk, load_hunk_value, load_value, with_sites}
 use Rattle.hunk_loadfile.specs.LoadHunk.{FileHunk}
 use Rattle.hunk_loadfile.specs.Rules.{IsLoadFile, IsLoadHunk, IsLongword, IsTypedSymbol, carried_longwords, carried_by, most_content, size_of, symbol_longwords}
-use Rattle.hunk_objects.specs.UnitHunk.{most_name}
 use Rattle.hunk_loadfile.proofs.LongwordWriterLemmas.{length-bytes_of}
 use Rattle.hunk_loadfile.proofs.LoadFileSpellingLemmas.{ContentFits, HunkFits, SitesFit, SymbolFits, hunks-fit, long_count, long_count-le, sizes-fit, symbol_count, told_count, value_of}
 

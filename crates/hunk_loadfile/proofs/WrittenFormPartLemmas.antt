@@ -6,7 +6,7 @@ use Rattle.std.proofs.lemmas.Bool.{cond-true, eq-eqb, le-leb, lt-ltb}
 use Rattle.std.proofs.lemmas.List.{length-map}
 use Rattle.std.proofs.lemmas.List.Elements.{recursion_from_All}
 use Rattle.std.proofs.lemmas.List.Sums.{count_by-le-length, length-filter, sum_by-cons}
-use Rattle.hunk_words.specs.Name.{name_words}
+use Rattle.hunk_words.specs.Name.{most_name, name_words}
 use Rattle.hunk_words.specs.Kinds.{Kind, Field, field, low, type_of, entry_type}
 use Rattle.hunk_words.specs.FaultTable.{Passes, AllPass, reject_unless, may_follow, begins_in_load, refused_type, knows_short}
 use Rattle.hunk_words.specs.Kinds.Within.{in_load}
@@ -26,7 +26,6 @@ use Rattle.hunk_words.proofs.NameLemmas.{length-name_words, name_words-lt}
 use Rattle.hunk_words.proofs.SpellingBitLemmas.{type_longword-low, type_longword-type}
 use Rattle.hunk_words.proofs.KindsTypeLemmas.{type-reloc, type-symbol, type-debug, type-end}
 use Rattle.hunk_loadfile.specs.Rules.{IsLongword, IsTypedSymbol, debug_longwords}
-use Rattle.hunk_objects.specs.UnitHunk.{most_name}
 use Rattle.hunk_loadfile.specs.WrittenForm.{debug_words, group_words, groups_words, offsets_to, site_words, symbol_words, symbols_words}
 use Rattle.hunk_loadfile.proofs.WrittenFormTree.{debug_trees, group_tree, group_trees, site_trees, symbol_of, symbol_trees}
 use Rattle.hunk_loadfile.proofs.WrittenFormSiteLemmas.{AreFree, IsClear, clear-behind, clear-start, free-offsets}

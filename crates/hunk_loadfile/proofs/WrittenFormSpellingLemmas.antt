@@ -26,7 +26,7 @@ use Rattle.hunk_words.specs.declared.kinds.Memory.{Memory}
 use Rattle.hunk_words.specs.declared.kinds.Memory.TheVariants.{Any, Chip, Fast}
 use Rattle.hunk_loadfile.specs.LoadHunk.{FileHunk}
 use Rattle.hunk_loadfile.specs.Rules.{IsLoadFile, IsLoadHunk, IsLongword, IsTypedSymbol, carried_longwords, carried_by, size_of}
-use Rattle.hunk_objects.specs.UnitHunk.{most_name}
+use Rattle.hunk_words.specs.Name.{most_name}
 use Rattle.hunk_loadfile.specs.WrittenForm.{content_words, debug_words, hunk_words, memory_bits, site_words, size_word, symbols_words, written_form}
 use Rattle.hunk_loadfile.proofs.LoadHunkLemmas.{most_content-le}
 use Rattle.hunk_loadfile.proofs.WrittenFormTree.{body_tree, content_tree, debug_trees, file_tree, hunk_tree, site_trees, symbol_trees}

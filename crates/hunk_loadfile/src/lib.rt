@@ -29,7 +29,7 @@ mod relocation_writer;
 pub mod rules;
 pub mod written_form;
 
-pub use hunk_objects::{HunkKind, Memory};
+pub use hunk_words::{HunkKind, Memory};
 pub use load_decoder::{LoadDecoder, read_load};
 pub use load_file::LoadFile;
 pub use load_hunk::LoadHunk;

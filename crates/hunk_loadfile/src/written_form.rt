@@ -62,6 +62,3 @@ impl Sink for Discarding {
         false
     }
 }
-
-#[cfg(test)]
-mod tests;

@@ -1,11 +1,11 @@
 -- The hunks of program units, as contracts see them: records of what their readers return.
-use Rattle.std.specs.Prelude.{◌≡◌, ℕ, ◌-◌, ◌^◌, ◌<◌, ◌≤◌, List, [], ◌∷◌, length, map}
+use Rattle.std.specs.Prelude.{◌≡◌, ℕ, ◌<◌, ◌≤◌, List, [], ◌∷◌, length, map}
 use Rattle.std.specs.BTreeMap.{insert_entry}
 use Rattle.std.specs.List.{All}
 use Rattle.std.specs.Map.{values_of}
 use Rattle.std.specs.Ordering.{nat_cmp}
 use Rattle.hunk_words.specs.Kinds.{memory_of}
-use Rattle.hunk_words.specs.Name.{bytes_of, name_of}
+use Rattle.hunk_words.specs.Name.{bytes_of, most_name, name_of}
 use Rattle.hunk_words.specs.SiteContext.{content_limit}
 use Rattle.hunk_words.specs.Sites.{AreApart, SiteMap}
 use Rattle.hunk_words.specs.Values.{Adds as FileAdds, Definition as FileDefinition, Hunk}
@@ -43,10 +43,6 @@ content_bytes kind size = content_limit Object 0 kind size
 abbrev pub IsAmong : ℕ → Adds → Type 0
 IsAmong count (adds.Hunk h) = Unit {0}
 IsAmong count (adds.Reference i) = i < count
-
--- the bytes of a name whose longwords can be counted in 24 bits
-abbrev pub most_name : ℕ
-most_name = 2 ^ 26 - 4
 
 -- Its content is whole, its sites lie inside it and are disjoint, each reference of a site is one of
 -- its references, and a symbol's name is no longer than a file can have it.

@@ -48,7 +48,8 @@ impl<A: Allocator + Copy> Model for OpenHunk<A> {
     ghost use Rattle.std.specs.List.{All};
     ghost use Rattle.std.specs.Map.{values_of};
     ghost use Rattle.hunk_objects.specs.OpenHunk.{UnitHunkSoFar};
-    ghost use Rattle.hunk_objects.specs.UnitHunk.{IsAmong, most_name};
+    ghost use Rattle.hunk_words.specs.Name.{most_name};
+    ghost use Rattle.hunk_objects.specs.UnitHunk.{IsAmong};
 
     ghost Value = { UnitHunkSoFar A };
 

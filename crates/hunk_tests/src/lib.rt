@@ -1,6 +1,6 @@
-//! Tests that cross the crates which decode, read, write and load files.
+//! Tests of load files: from bytes to values and memory, and back.
 //!
-//! - `tests`: files from bytes to values and memory, and the errors that they cause.
+//! - `tests`: files that are decoded, built, written and loaded, and the errors that they cause.
 #![tactic(auto)]
 
 #[cfg(test)]

@@ -1,12 +1,12 @@
-//! Files from bytes to values and memory, by public calls only.
+//! Load files from bytes to values and memory, by public calls only.
 //!
 //! - `builds`: hunks that make a load file, and hunks that don't.
 //! - `decoded`: load files as values.
 //! - `growths`: allocations that fail in the calls on load files.
 //! - `loaded`: load files in memory.
-//! - `sites`: sites that are added while allocations fail.
-//! - `units`: program units, as they are read.
-//! - `unit_values`: the expected units of an object file.
+//! - `loading`: load files that are made of hunks, in memory.
+//! - `parts`: each part of a load file, as it is written.
+//! - `places`: addresses of hunks.
 //! - `values`: the expected hunks of a load file.
 //! - `written`: load files that are written.
 
@@ -14,8 +14,8 @@ mod builds;
 mod decoded;
 mod growths;
 mod loaded;
-mod sites;
-mod unit_values;
-mod units;
+mod loading;
+mod parts;
+mod places;
 mod values;
 mod written;

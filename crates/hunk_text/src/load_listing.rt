@@ -100,6 +100,3 @@ fn write_sites<A: Allocator + Copy, W: Sink>(
     }
     Ok(written)
 }
-
-#[cfg(test)]
-mod tests;

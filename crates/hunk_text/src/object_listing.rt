@@ -248,6 +248,3 @@ fn definition_parts(definition: Definition) -> (&'static [u8], u32)
         Definition::Absolute(number) => (b" as ", number),
     }
 }
-
-#[cfg(test)]
-mod tests;

@@ -175,28 +175,3 @@ fn put_digits(place: &mut [u8], bytes: &[u8])
     // There are two places for each byte, so this can't fail.
     let _ = hex::encode_to_slice(bytes, place);
 }
-
-#[cfg(test)]
-mod tests {
-    use super::*;
-    use hunk_words::Room;
-
-    #[test]
-    fn prints_each_hunk(rt: HostRuntime) {
-        let mut room = Room::new(rt.alloc(), 7, 200, false).expect(&rt, "room");
-        let hunks = [
-            (
-                0x1_0000,
-                vec![in rt.alloc(); 0x4E, 0x75, 0x4E, 0x71].expect(&rt, "bytes"),
-            ),
-            (0x2_0000, Vec::new(rt.alloc())),
-            (0xFFFF_FFEC, vec![in rt.alloc(); 0; 20].expect(&rt, "bytes")),
-        ];
-        let text = "hunk 0 at 00010000 size 4\n00010000 4e754e71\n\
-            hunk 1 at 00020000 size 0\n\
-            hunk 2 at ffffffec size 20\n\
-            ffffffec 00000000000000000000000000000000\nfffffffc 00000000\n";
-        assert_eq!(rt; write_report(&hunks, &mut room), Ok(()));
-        assert_eq!(rt; room.bytes(), text.as_bytes());
-    }
-}

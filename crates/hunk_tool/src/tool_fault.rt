@@ -108,28 +108,3 @@ pub fn status_of<A: Allocator + Copy>(fault: &ToolFault<A>) -> u8
         ToolFault::OutOfMemory { .. } => 4,
     }
 }
-
-#[cfg(test)]
-mod tests {
-    use super::*;
-    use hunk_words::Reason;
-
-    #[test]
-    fn has_a_status_for_each_fault(rt: HostRuntime) {
-        let fault = Fault {
-            place: 9,
-            reason: Reason::UnexpectedEnd,
-        };
-        let rows: [(ToolFault, u8); 6] = [
-            (ToolFault::Input { file: 2, fault }, 1),
-            (ToolFault::Link(LinkRefusal::NoHunks), 1),
-            (ToolFault::Place(PlaceFault::WrongCount), 1),
-            (ToolFault::InputDevice { file: 0 }, 3),
-            (ToolFault::Output { written: 10 }, 3),
-            (ToolFault::OutOfMemory { written: 0 }, 4),
-        ];
-        for (fault, status) in rows {
-            assert_eq!(rt; status_of(&fault), status, "{fault:?}");
-        }
-    }
-}

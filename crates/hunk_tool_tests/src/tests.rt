@@ -1,8 +1,10 @@
 //! Files from bytes to reports and texts, by public calls only.
 //!
+//! - `bases`: lists of addresses.
 //! - `decoders`: what checks the bytes of a file.
 //! - `devices`: readers and writers that fail.
 //! - `endless`: a reader that never ends.
+//! - `faults`: the lines and statuses of errors.
 //! - `files`: the bytes of files, and what loading them writes.
 //! - `kept`: errors that are returned again.
 //! - `memory`: allocations that fail.
@@ -12,9 +14,11 @@
 //! - `texts`: the texts that are written about files.
 //! - `vectors`: files of both kinds through everything that reads them.
 
+mod bases;
 mod decoders;
 mod devices;
 mod endless;
+mod faults;
 mod files;
 mod kept;
 mod memory;

@@ -1,5 +1,5 @@
 -- Names in longwords: the bytes before the first zero byte, or all of them if there is none.
-use Rattle.std.specs.Prelude.{◌≡◌, ℕ, ◌+◌, ◌*◌, ◌/◌, ◌<◌, ◌==◌, List, ◌∷◌, ◌++◌, length, drop, map, max, replicate, ◌⊎◌}
+use Rattle.std.specs.Prelude.{◌≡◌, ℕ, ◌+◌, ◌*◌, ◌/◌, ◌-◌, ◌^◌, ◌<◌, ◌==◌, List, ◌∷◌, ◌++◌, length, drop, map, max, replicate, ◌⊎◌}
 use Rattle.std.specs.List.{All, flat_map, before_first, range_with_len}
 use Rattle.byteorder.specs.Endian.{big_bytes, big_number}
 
@@ -19,6 +19,10 @@ pub record Names (n ws : List ℕ) : Type 0 where
 -- the name that longwords hold
 abbrev pub name_of : List ℕ → List ℕ
 name_of ws = before_first (λ b. b == 0) (bytes_of ws)
+
+-- the bytes of a name whose longwords can be counted in 24 bits
+abbrev pub most_name : ℕ
+most_name = 2 ^ 26 - 4
 
 -- the number of longwords that a name of this many bytes takes: the fewest, and at least one
 abbrev pub longword_count : ℕ → ℕ

@@ -156,6 +156,3 @@ impl<'a, T, A: Allocator + Copy> Iterator for Walk<'a, T, A> {
         }
     }
 }
-
-#[cfg(test)]
-mod tests;

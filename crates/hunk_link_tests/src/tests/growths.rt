@@ -2,8 +2,8 @@
 
 use super::answers::{is_file, units_of};
 use super::words::{ASSEMBLED, DEFINES, LINKED, LINKED_ALONE, REFERS};
-use failing_allocator::Refusing;
 use hunk_link::{LinkRefusal, link, link_units};
+use hunk_test_support::Refusing;
 use std::alloc::Global;
 use std::process::Abort;
 use std::test::Fail;

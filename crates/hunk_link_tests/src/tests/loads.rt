@@ -1,9 +1,9 @@
 //! Both calls that load a load file, with each of their allocations failing in turn.
 
 use super::answers::bytes_of;
-use failing_allocator::Refusing;
 use hunk_loader::{Image, LoadRefusal, load, load_file};
 use hunk_loadfile::{LoadFile, read_load};
+use hunk_test_support::Refusing;
 use hunk_words::Pieces;
 use std::alloc::{Allocator, Global};
 use std::process::Abort;

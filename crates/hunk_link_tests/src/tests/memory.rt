@@ -6,7 +6,7 @@ use super::runs::{Run, inputs_of};
 use super::words::{
     ASSEMBLED, DEFINES, LINKED, LINKED_ALONE, REFERS, REPORT, REPORT_ALONE, STRIPPED,
 };
-use failing_allocator::Refusing;
+use hunk_test_support::Refusing;
 use hunk_tool::{ToolFault, load_run, status_of};
 use hunk_words::{Pieces, Room};
 use std::alloc::{Allocator, Global};

@@ -2,9 +2,9 @@
 
 use super::values::{EMPTY, Hunk, SCATTERED_HUNKS, has_hunks};
 use hunk_loadfile::{HunkKind, LoadDecoder, Memory, read_load};
-use hunk_samples::load_words::{THREE_HUNKS, TWO_HUNKS, ZEROS};
-use hunk_samples::words::{SCATTERED, SHORT, WRITTEN};
-use hunk_samples::{CHUNKS, FILE, bytes_of};
+use hunk_test_support::load_words::{THREE_HUNKS, TWO_HUNKS, ZEROS};
+use hunk_test_support::words::{SCATTERED, SHORT, WRITTEN};
+use hunk_test_support::{CHUNKS, FILE, bytes_of};
 use hunk_words::{Pieces, ReadFault, Source};
 use std::alloc::Global;
 use std::process::Abort;

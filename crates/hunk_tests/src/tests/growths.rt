@@ -3,11 +3,10 @@
 use super::loaded::has_bytes;
 use super::values::{SCATTERED_HUNKS, has_hunks};
 use super::written::file_of;
-use failing_allocator::Refusing;
 use hunk_loader::{ImageFault, LoadRefusal, load, read_image};
 use hunk_loadfile::{read_load, write_load};
-use hunk_samples::words::{SCATTERED, WRITTEN};
-use hunk_samples::{ROOM, bytes_of};
+use hunk_test_support::words::{SCATTERED, WRITTEN};
+use hunk_test_support::{ROOM, Refusing, bytes_of};
 use hunk_words::{Pieces, ReadFault, Refusal, Room, WriteFault};
 use std::alloc::Global;
 use std::process::Abort;

@@ -1,10 +1,10 @@
-//! Load files in memory: by `ImageLoader`, and by decoding whole and then loading.
+//! Load files in memory: by `ImageLoader`, by `read_image`, and by decoding whole and then loading.
 
-use hunk_loader::{Image, ImageLoader, load};
+use hunk_loader::{Image, ImageLoader, load, read_image};
 use hunk_loadfile::{LoadDecoder, read_load};
-use hunk_samples::load_words::{EVEN_WORDS, NO_WORDS, THREE_HUNKS, TWO_HUNKS, ZEROS};
-use hunk_samples::words::{BEHIND_CONTENT, LINKED, LINKED_ALONE, SCATTERED, SHORT, WRITTEN};
-use hunk_samples::{BASE, CHUNKS, FILE, bytes_of};
+use hunk_test_support::load_words::{EVEN_WORDS, NO_WORDS, THREE_HUNKS, TWO_HUNKS, ZEROS};
+use hunk_test_support::words::{BEHIND_CONTENT, LINKED, LINKED_ALONE, SCATTERED, SHORT, WRITTEN};
+use hunk_test_support::{BASE, CHUNKS, FILE, bytes_of};
 use hunk_words::Pieces;
 use std::alloc::{Allocator, Global};
 use std::process::Abort;
@@ -80,6 +80,19 @@ fn read(
     Ok(load(alloc, &file, bases)?)
 }
 
+// The image of the bytes of a reader, without a file in between.
+fn image_of(
+    rt: &impl Abort,
+    alloc: Global,
+    bytes: &[u8],
+    bases: &[u32],
+    chunk: usize,
+) -> Result<Image, Fail> {
+    assert!(rt; 1 <= chunk);
+    let mut reader = Pieces::new(bytes.to_vec(alloc)?, chunk, None);
+    Ok(read_image(alloc, &mut reader, bases)?)
+}
+
 // In each way and in any pieces, these bytes are loaded to these hunks.
 fn is_loaded(
     rt: &impl Abort,
@@ -94,6 +107,8 @@ fn is_loaded(
         let image = decoded(rt, alloc, bytes, bases, chunk)?;
         has_bytes(rt, &image, bases, wanted);
         let image = read(rt, alloc, bytes, bases, chunk)?;
+        has_bytes(rt, &image, bases, wanted);
+        let image = image_of(rt, alloc, bytes, bases, chunk)?;
         has_bytes(rt, &image, bases, wanted);
     }
     Ok(())

@@ -1,11 +1,10 @@
 //! Load files that are written: their bytes, and writers that fail.
 
 use super::growths::growths_of_reading;
-use failing_allocator::Refusing;
 use hunk_loadfile::{LoadFile, read_load, write_load};
-use hunk_samples::load_words::{THREE_HUNKS, TWO_HUNKS, ZEROS};
-use hunk_samples::words::{BEHIND_CONTENT, LINKED, LINKED_ALONE, SCATTERED, SHORT, WRITTEN};
-use hunk_samples::{CHUNKS, FILE, ROOM, bytes_of};
+use hunk_test_support::load_words::{THREE_HUNKS, TWO_HUNKS, ZEROS};
+use hunk_test_support::words::{BEHIND_CONTENT, LINKED, LINKED_ALONE, SCATTERED, SHORT, WRITTEN};
+use hunk_test_support::{CHUNKS, FILE, ROOM, Refusing, bytes_of};
 use hunk_words::{Pieces, Room, Sink, WriteFault};
 use std::alloc::{Allocator, Global};
 use std::process::Abort;
@@ -172,17 +171,18 @@ fn writes_hunk_by_hunk(rt: HostRuntime) -> Result<(), Fail> {
     is_written_up_to(&rt, rt.alloc(), &THREE_HUNKS, 64, 1)
 }
 
-// A hundred sites that name four hunks in turn. They need memory, and so does sorting them.
+// Sites that name four hunks in turn, more of each hunk than are written at once. They need memory,
+// and so does sorting them.
 #[test]
 fn sorts_before_it_writes_relocations(rt: HostRuntime) -> Result<(), Fail> {
-    let mut words = [0x3F3, 0, 4, 0, 3, 100, 0, 0, 0, 0x3E9, 100].to_vec(rt.alloc())?;
-    for _ in 0..100 {
+    let mut words = [0x3F3, 0, 4, 0, 3, 1200, 0, 0, 0, 0x3E9, 1200].to_vec(rt.alloc())?;
+    for _ in 0..1200 {
         words.push(0)?;
     }
     words.push(0x3EC)?;
     for target in 0..4 {
-        words.extend_from_slice(&[25, target])?;
-        for site in 0..25 {
+        words.extend_from_slice(&[300, target])?;
+        for site in 0..300 {
             words.push(16 * site + 4 * target)?;
         }
     }
@@ -190,5 +190,5 @@ fn sorts_before_it_writes_relocations(rt: HostRuntime) -> Result<(), Fail> {
     for _ in 0..3 {
         words.extend_from_slice(&[0x3EB, 0, 0x3F2])?;
     }
-    is_written_up_to(&rt, rt.alloc(), &words, 444, 2)
+    is_written_up_to(&rt, rt.alloc(), &words, 4844, 2)
 }

@@ -4,7 +4,7 @@ use super::texts::Text;
 use hunk_loader::{ImageLoader, LoadRefusal, PlaceFault};
 use hunk_loadfile::{LoadDecoder, read_load};
 use hunk_objects::{ObjectDecoder, read_object};
-use hunk_samples::{BASE, CHUNKS, LATER_PIECES, ROOM};
+use hunk_test_support::{BASE, CHUNKS, LATER_PIECES, ROOM};
 use hunk_tool::{LoadCounter, ObjectCounter, ToolFault, load_run};
 use hunk_words::FileKind::{Load, Object};
 use hunk_words::{Decoder, Fault, FileKind, Pieces, ReadFault, Reason, Refusal, Room, Taker};

@@ -1,7 +1,6 @@
 //! Readers and writers that fail.
 
-use failing_allocator::Refusing;
-use hunk_samples::{BASE, FILE, REPORT, bytes_of};
+use hunk_test_support::{BASE, FILE, REPORT, Refusing, bytes_of};
 use hunk_tool::{ToolFault, load_run};
 use hunk_words::{Pieces, Room, Sink, Source, Watched};
 use std::alloc::Global;

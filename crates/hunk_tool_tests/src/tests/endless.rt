@@ -1,6 +1,6 @@
 //! A reader that never ends.
 
-use hunk_samples::{BASE, FILE, bytes_of};
+use hunk_test_support::{BASE, FILE, bytes_of};
 use hunk_tool::{ToolFault, load_run};
 use hunk_words::{DeviceFault, Fault, Reason, Room, Source};
 use std::test::Fail;

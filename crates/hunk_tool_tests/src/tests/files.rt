@@ -1,6 +1,6 @@
 //! The bytes of files, and what loading them writes.
 
-use hunk_samples::{CHUNKS, ROOM, bytes_of};
+use hunk_test_support::{CHUNKS, ROOM, bytes_of};
 use hunk_tool::{ToolFault, load_run};
 use hunk_words::{Pieces, Room};
 use std::alloc::Global;

@@ -1,11 +1,10 @@
 //! What decoders and loaders keep: errors that are returned again, and allocations that fail.
 
 use super::decoders::{Judge, answers_again};
-use failing_allocator::Refusing;
 use hunk_loader::{ImageLoader, LoadRefusal};
 use hunk_loadfile::LoadDecoder;
-use hunk_samples::words::{PAST_CONTENT, SCATTERED};
-use hunk_samples::{BASE, FILE, bytes_of};
+use hunk_test_support::words::{PAST_CONTENT, SCATTERED};
+use hunk_test_support::{BASE, FILE, Refusing, bytes_of};
 use hunk_tool::{LoadCounter, ObjectCounter};
 use hunk_words::{CoreState, Decoder, Fault, Reason, Splitter};
 use std::alloc::Global;

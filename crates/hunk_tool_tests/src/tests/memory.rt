@@ -1,8 +1,7 @@
 //! Allocations that fail, each in turn.
 
-use failing_allocator::Refusing;
-use hunk_samples::words::SCATTERED;
-use hunk_samples::{BASE, FILE, REPORT, bytes_of};
+use hunk_test_support::words::SCATTERED;
+use hunk_test_support::{BASE, FILE, REPORT, Refusing, bytes_of};
 use hunk_tool::{BasesFault, ToolFault, load_run, parse_bases};
 use hunk_words::{Pieces, Room};
 use std::alloc::{Allocator, Global};

@@ -2,7 +2,7 @@
 
 use super::files::loads_to;
 use hunk_loader::PlaceFault;
-use hunk_samples::{BASE, FILE, bytes_of};
+use hunk_test_support::{BASE, FILE, bytes_of};
 use hunk_tool::ToolFault;
 use hunk_words::{Fault, Reason};
 use std::test::Fail;

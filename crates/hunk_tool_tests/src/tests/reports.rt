@@ -1,9 +1,9 @@
 //! Files that are loaded.
 
 use super::files::{loads_to, with_word};
-use hunk_samples::load_words::{EVEN_WORDS, NO_WORDS, THREE_HUNKS, TWO_HUNKS, ZEROS};
-use hunk_samples::words::{BEHIND_CONTENT, LINKED, LINKED_ALONE, SCATTERED, SHORT, WRITTEN};
-use hunk_samples::{BASE, FILE, REPORT, bytes_of};
+use hunk_test_support::load_words::{EVEN_WORDS, NO_WORDS, THREE_HUNKS, TWO_HUNKS, ZEROS};
+use hunk_test_support::words::{BEHIND_CONTENT, LINKED, LINKED_ALONE, SCATTERED, SHORT, WRITTEN};
+use hunk_test_support::{BASE, FILE, REPORT, bytes_of};
 use std::alloc::Global;
 use std::process::Abort;
 use std::test::Fail;

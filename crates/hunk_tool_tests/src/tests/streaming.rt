@@ -1,10 +1,9 @@
 //! What `ImageLoader` allocates, and which of two errors it returns.
 
 use super::decoders::Judge;
-use failing_allocator::Refusing;
 use hunk_loader::{ImageLoader, LoadRefusal, PlaceFault, load};
 use hunk_loadfile::LoadDecoder;
-use hunk_samples::{BASE, CHUNKS, FILE, REPORT, ROOM, bytes_of};
+use hunk_test_support::{BASE, CHUNKS, FILE, REPORT, ROOM, Refusing, bytes_of};
 use hunk_tool::load_run;
 use hunk_words::{Fault, Pieces, Reason, Room};
 use std::alloc::Global;

@@ -1,9 +1,8 @@
 //! The texts that are written about files: what they are, and what stops them.
 
 use super::memory::is_done;
-use failing_allocator::Refusing;
-use hunk_samples::words::{ASSEMBLED, LINKED_ALONE, TWO_NAMES};
-use hunk_samples::{CHUNKS, ROOM, bytes_of};
+use hunk_test_support::words::{ASSEMBLED, LINKED_ALONE, TWO_NAMES};
+use hunk_test_support::{CHUNKS, ROOM, Refusing, bytes_of};
 use hunk_tool::{ToolFault, check_run, show_run};
 use hunk_words::{Pieces, Room, Sink, Source};
 use std::alloc::{Allocator, Global};
@@ -43,6 +42,30 @@ const TWO_NAMES_TEXT: &str = "object file: 1 units, 1 hunks\n\
                               00000004 adds hunk 0\n  \
                               00000008 adds \"x\"\n";
 
+// Two units. The code of the first refers to two names, the first of them at the higher offset, and
+// defines a number; the second has data in fast memory, and a quote in its name.
+const TWO_UNITS: [u32; 28] = [
+    0x3E7, 0, 0x3E9, 3, 0x4EB90000, 0, 0x4E750000, //
+    0x3EF, 0x81000001, 0x62617200, 1, 6, 0x81000001, 0x71757800, 1, 0, //
+    0x02000001, 0x666F6F00, 0xDEADBEEF, 0, 0x3F2, //
+    0x3E7, 1, 0x41220000, 0x800003EA, 1, 7, 0x3F2,
+];
+
+const TWO_UNITS_TEXT: &str = "object file: 2 units, 2 hunks\n\
+                              unit 0 \"\"\n\
+                              hunk 0 code any 3 longwords \"\"\n  \
+                              00000000 adds \"qux\"\n  \
+                              00000006 adds \"bar\"\n  \
+                              define \"foo\" as deadbeef\n\
+                              unit 1 \"A\\x22\"\n\
+                              hunk 0 data fast 1 longwords \"\"\n";
+
+// The file of most tests. The upper two bits of its first longword are ignored.
+const MARKED: [u32; 10] = [0xC00003F3, 0, 1, 0, 0, 1, 0x3E9, 1, 0x4E754E71, 0x3F2];
+
+const MARKED_TEXT: &str = "load file: 1 hunks\n\
+                           hunk 0 code any 1 longwords, 1 stored\n";
+
 /// A text about a file.
 #[derive(Clone, Copy, Debug)]
 pub(crate) enum Text {
@@ -79,8 +102,10 @@ impl Text {
 }
 
 // Files, and their listings.
-const LISTINGS: [(&[u32], &str); 4] = [
+const LISTINGS: [(&[u32], &str); 6] = [
     (&QUOTED, QUOTED_TEXT),
+    (&TWO_UNITS, TWO_UNITS_TEXT),
+    (&MARKED, MARKED_TEXT),
     (&ASSEMBLED, ASSEMBLED_TEXT),
     (&LINKED_ALONE, LINKED_TEXT),
     (&TWO_NAMES, TWO_NAMES_TEXT),
@@ -124,6 +149,52 @@ fn writes_what_is_in_a_file(rt: HostRuntime) -> Result<(), Fail> {
         for chunk in CHUNKS {
             writes_both(&rt, rt.alloc(), &bytes, chunk, listing)?;
         }
+    }
+    Ok(())
+}
+
+// Names of units, and each in quotes: the ends of what is plain, and names that are written in
+// several pieces.
+const NAMES: [(&[u8], &str); 4] = [
+    (b"_main: ~!", "_main: ~!"),
+    (&[31, 32, 126, 127, 255], "\\x1f ~\\x7f\\xff"),
+    (
+        b"_a_name_of_more_than_sixty-four_bytes_that_a_compiler_may_have_written",
+        "_a_name_of_more_than_sixty-four_bytes_that_a_compiler_may_have_written",
+    ),
+    (
+        &[0xA9; 66],
+        "\\xa9\\xa9\\xa9\\xa9\\xa9\\xa9\\xa9\\xa9\\xa9\\xa9\\xa9\
+         \\xa9\\xa9\\xa9\\xa9\\xa9\\xa9\\xa9\\xa9\\xa9\\xa9\\xa9\
+         \\xa9\\xa9\\xa9\\xa9\\xa9\\xa9\\xa9\\xa9\\xa9\\xa9\\xa9\
+         \\xa9\\xa9\\xa9\\xa9\\xa9\\xa9\\xa9\\xa9\\xa9\\xa9\\xa9\
+         \\xa9\\xa9\\xa9\\xa9\\xa9\\xa9\\xa9\\xa9\\xa9\\xa9\\xa9\
+         \\xa9\\xa9\\xa9\\xa9\\xa9\\xa9\\xa9\\xa9\\xa9\\xa9\\xa9",
+    ),
+];
+
+// An object file of one unit with this name and without hunks.
+fn unit_of(alloc: Global, name: &[u8]) -> Result<Vec<u8>, Fail> {
+    let count = u32::try_from(name.len().div_ceil(4))?;
+    let mut bytes = bytes_of(alloc, &[0x0000_03E7, count], name)?;
+    let zeros: &[u8] = match name.len() % 4 {
+        0 => &[],
+        1 => &[0, 0, 0],
+        2 => &[0, 0],
+        _ => &[0],
+    };
+    bytes.extend_from_slice(zeros)?;
+    Ok(bytes)
+}
+
+#[test]
+fn quotes_names(rt: HostRuntime) -> Result<(), Fail> {
+    for (name, quoted) in NAMES {
+        let bytes = unit_of(rt.alloc(), name)?;
+        let listing = format!(in rt.alloc();
+            "object file: 1 units, 0 hunks\nunit 0 \"{quoted}\"\n"
+        )?;
+        writes_both(&rt, rt.alloc(), &bytes, 64, &listing)?;
     }
     Ok(())
 }

@@ -2,11 +2,11 @@
 
 use super::decoders::{Answer, is_judged};
 use super::files::with_word;
-use hunk_samples::words::{
+use hunk_test_support::words::{
     ADDRESS, ASSEMBLED, BEHIND_CONTENT, CHIP, DEFINES, DEFINES_LONGER, IN_BSS, LINKED,
     LINKED_ALONE, MEETS, PAST_CONTENT, REFERS, SCATTERED, SHORT, TOO_LARGE, TWO_NAMES, WRITTEN,
 };
-use hunk_samples::{FILE, bytes_of};
+use hunk_test_support::{FILE, bytes_of};
 use hunk_words::FileKind::{Load, Object};
 use hunk_words::Reason::{
     BothMemoryBits, ContentTooLong, HunkTable, MisplacedType, NoSuchHunk, PartialLongword,

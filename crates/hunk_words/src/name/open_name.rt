@@ -84,34 +84,3 @@ impl<A: Allocator + Copy> OpenName<A> {
         Name { bytes: self.bytes }
     }
 }
-
-#[cfg(test)]
-mod tests {
-    use super::*;
-    use std::test::Fail;
-
-    #[test]
-    fn takes_longwords_at_once_and_one_by_one(rt: HostRuntime) -> Result<(), Fail> {
-        let mut name = OpenName::new(rt.alloc());
-        name.push_bytes(b"module12_fun")?;
-        name.push(0x6374_696F)?;
-        name.push_bytes(b"n_4\0ignored.")?;
-        name.push_bytes(b"as well.")?;
-        name.push(0x7468_6973)?;
-        assert_eq!(rt; name.len(), 19);
-        assert_eq!(rt; name.close().bytes(), b"module12_function_4".as_slice());
-        Ok(())
-    }
-
-    #[test]
-    fn allocates_once_for_a_run_and_the_longword_after_it(rt: HostRuntime) -> Result<(), Fail> {
-        let mut name = OpenName::new(rt.alloc());
-        name.push_bytes(b"_start_of_")?;
-        let capacity = name.bytes.capacity();
-        name.push(0x7061_6765)?;
-        assert_eq!(rt; capacity, 14);
-        assert_eq!(rt; name.bytes.capacity(), 14);
-        assert_eq!(rt; name.close().bytes(), b"_start_of_page".as_slice());
-        Ok(())
-    }
-}

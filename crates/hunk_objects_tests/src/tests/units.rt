@@ -1,0 +1,388 @@
+//! Program units, as they are read.
+
+use super::unit_values::{EMPTY, Hunk, Unit, are_units, is_copied};
+use hunk_objects::{Adds, Definition, HunkKind, Memory, ObjectDecoder, hunk_total, read_object};
+use hunk_test_support::words::{
+    ADDRESS, ASSEMBLED, CHIP, DEFINES, DEFINES_LONGER, REFERS, TWO_NAMES,
+};
+use hunk_test_support::{CHUNKS, LATER_PIECES, ROOM, Refusing, bytes_of};
+use hunk_words::{Fault, Pieces, ReadFault, Reason, Refusal, Source};
+use linked_list_allocator::LocalHeap;
+use std::alloc::{Allocator, Global};
+use std::process::Abort;
+use std::test::Fail;
+
+// More allocations than an object file of the tests needs.
+const MOST_GROWTHS: u64 = 128;
+
+// Bytes of memory, far fewer than a small file can announce.
+const BUDGET: usize = 65_536;
+
+// A unit that announces 2^30 - 1 longwords of code, and has one of them.
+const ANNOUNCES: [u32; 5] = [0x0000_03E7, 0, 0x0000_03E9, 0x3FFF_FFFF, 0x4E71_4E71];
+
+// The hunk that refers to `foo`.
+const REFERS_HUNK: Hunk<'static> = Hunk {
+    size: 2,
+    content: &[0x4E, 0xB9, 0, 0, 0, 0, 0x4E, 0x75],
+    sites: &[(2, Adds::Reference(0))],
+    references: &[b"foo"],
+    ..EMPTY
+};
+
+// The hunk that defines `foo`.
+const DEFINES_HUNK: Hunk<'static> = Hunk {
+    size: 2,
+    content: &[0x4E, 0x71, 0x4E, 0x71, 0x4E, 0x75, 0x4E, 0x71],
+    definitions: &[(b"foo", Definition::At(4))],
+    ..EMPTY
+};
+
+// The same with a number in place of the offset.
+const NUMBER_HUNK: Hunk<'static> = Hunk {
+    definitions: &[(b"foo", Definition::Absolute(0xFFFF_FFFF))],
+    ..DEFINES_HUNK
+};
+
+// The hunk with two references to `x`.
+const TWO_NAMES_HUNK: Hunk<'static> = Hunk {
+    size: 3,
+    content: &[0; 12],
+    sites: &[
+        (0, Adds::Reference(1)),
+        (4, Adds::Hunk(0)),
+        (8, Adds::Reference(0)),
+    ],
+    references: &[b"x", b"x"],
+    ..EMPTY
+};
+
+const CHIP_HUNK: Hunk<'static> = Hunk {
+    kind: HunkKind::Data,
+    memory: Memory::Chip,
+    size: 1,
+    content: &[0; 4],
+    ..EMPTY
+};
+
+// The hunk that has the address of hunk 1.
+const ADDRESS_HUNK: Hunk<'static> = Hunk {
+    size: 1,
+    content: &[0, 0, 0, 8],
+    sites: &[(0, Adds::Hunk(1))],
+    ..EMPTY
+};
+
+// The same with a hunk that its unit does not have.
+const BEYOND_HUNK: Hunk<'static> = Hunk {
+    sites: &[(0, Adds::Hunk(2))],
+    ..ADDRESS_HUNK
+};
+
+// Zeros after the hunk that has their address.
+const ZEROS_HUNK: Hunk<'static> = Hunk {
+    kind: HunkKind::Bss,
+    size: 4,
+    ..EMPTY
+};
+
+// The hunks that an assembler wrote.
+const ASSEMBLED_HUNKS: [Hunk<'static>; 2] = [
+    Hunk {
+        name: b"CODE",
+        size: 2,
+        content: &[0x4E, 0xB9, 0, 0, 0, 0, 0x4E, 0x75],
+        sites: &[(2, Adds::Hunk(1))],
+        definitions: &[(b"main", Definition::At(0))],
+        symbols: &[(b"loop", 6)],
+        debugs: &[&[0x1234_5678]],
+        ..EMPTY
+    },
+    Hunk {
+        kind: HunkKind::Bss,
+        memory: Memory::Chip,
+        size: 2,
+        ..EMPTY
+    },
+];
+
+const EMPTY_UNIT: Unit<'static> = Unit {
+    name: b"",
+    hunks: &[],
+};
+
+const REFERS_UNIT: Unit<'static> = Unit {
+    name: b"",
+    hunks: &[REFERS_HUNK],
+};
+
+const DEFINES_UNIT: Unit<'static> = Unit {
+    name: b"",
+    hunks: &[DEFINES_HUNK],
+};
+
+const NUMBER_UNIT: Unit<'static> = Unit {
+    name: b"",
+    hunks: &[NUMBER_HUNK],
+};
+
+const TWO_NAMES_UNIT: Unit<'static> = Unit {
+    name: b"U",
+    hunks: &[TWO_NAMES_HUNK],
+};
+
+const CHIP_UNIT: Unit<'static> = Unit {
+    name: b"",
+    hunks: &[CHIP_HUNK],
+};
+
+const ADDRESS_UNIT: Unit<'static> = Unit {
+    name: b"",
+    hunks: &[ADDRESS_HUNK, ZEROS_HUNK],
+};
+
+const BEYOND_UNIT: Unit<'static> = Unit {
+    name: b"",
+    hunks: &[BEYOND_HUNK, ZEROS_HUNK],
+};
+
+// Two equal hunks.
+const TWICE_UNIT: Unit<'static> = Unit {
+    name: b"",
+    hunks: &[REFERS_HUNK, REFERS_HUNK],
+};
+
+const ASSEMBLED_UNIT: Unit<'static> = Unit {
+    name: b"test",
+    hunks: &ASSEMBLED_HUNKS,
+};
+
+// These bytes are the file of these units, in pieces of this size and from a reader.
+fn is_decoded_by(
+    rt: &impl Abort,
+    alloc: Global,
+    bytes: &[u8],
+    chunk: usize,
+    wanted: &[Unit<'_>],
+) -> Result<(), Fail> {
+    let mut decoder = ObjectDecoder::new(alloc);
+    assert!(rt; 1 <= chunk);
+    for piece in bytes.chunks(chunk) {
+        assert_eq!(rt; decoder.feed(piece), Ok(()));
+    }
+    are_units(rt, &decoder.finish()?, wanted);
+    let mut reader = Pieces::new(bytes.to_vec(alloc)?, chunk, None);
+    are_units(rt, &read_object(alloc, &mut reader)?, wanted);
+    Ok(())
+}
+
+// The same in pieces of each size.
+fn is_decoded(
+    rt: &impl Abort,
+    alloc: Global,
+    words: &[u32],
+    wanted: &[Unit<'_>],
+) -> Result<(), Fail> {
+    let bytes = bytes_of(alloc, words, &[])?;
+    for chunk in CHUNKS {
+        is_decoded_by(rt, alloc, &bytes, chunk, wanted)?;
+    }
+    Ok(())
+}
+
+#[test]
+fn decodes_references_and_definitions(rt: HostRuntime) -> Result<(), Fail> {
+    is_decoded(&rt, rt.alloc(), &REFERS, &[REFERS_UNIT])?;
+    is_decoded(&rt, rt.alloc(), &DEFINES, &[DEFINES_UNIT])?;
+    is_decoded(&rt, rt.alloc(), &DEFINES_LONGER, &[DEFINES_UNIT])?;
+    // a number in place of an offset
+    let mut number = DEFINES;
+    number[7] = 0x0200_0001;
+    number[9] = 0xFFFF_FFFF;
+    is_decoded(&rt, rt.alloc(), &number, &[NUMBER_UNIT])
+}
+
+// Two references to one name, and a third one without offsets, which is dropped.
+#[test]
+fn keeps_each_reference_with_offsets(rt: HostRuntime) -> Result<(), Fail> {
+    is_decoded(&rt, rt.alloc(), &TWO_NAMES, &[TWO_NAMES_UNIT])
+}
+
+#[test]
+fn decodes_what_an_assembler_writes(rt: HostRuntime) -> Result<(), Fail> {
+    is_decoded(&rt, rt.alloc(), &ASSEMBLED, &[ASSEMBLED_UNIT])
+}
+
+// A relocation may name a hunk that its unit does not have.
+#[test]
+fn decodes_hunks_of_each_kind(rt: HostRuntime) -> Result<(), Fail> {
+    is_decoded(&rt, rt.alloc(), &CHIP, &[CHIP_UNIT])?;
+    is_decoded(&rt, rt.alloc(), &ADDRESS, &[ADDRESS_UNIT])?;
+    let mut beyond = ADDRESS;
+    beyond[7] = 2;
+    is_decoded(&rt, rt.alloc(), &beyond, &[BEYOND_UNIT])
+}
+
+// References are numbered hunk by hunk, and units follow one another.
+#[test]
+fn decodes_units_in_order(rt: HostRuntime) -> Result<(), Fail> {
+    is_decoded(&rt, rt.alloc(), &[0x0000_03E7, 0], &[EMPTY_UNIT])?;
+    let mut words = REFERS.to_vec(rt.alloc())?;
+    words.extend_from_slice(&REFERS[2..])?;
+    words.extend_from_slice(&[0x0000_03E7, 0])?;
+    words.extend_from_slice(&ASSEMBLED)?;
+    is_decoded(
+        &rt,
+        rt.alloc(),
+        &words,
+        &[TWICE_UNIT, EMPTY_UNIT, ASSEMBLED_UNIT],
+    )
+}
+
+#[test]
+fn copies_symbols_and_debug_blocks(rt: HostRuntime) -> Result<(), Fail> {
+    let bytes = bytes_of(rt.alloc(), &ASSEMBLED, &[])?;
+    let mut reader = Pieces::new(bytes, ROOM, None);
+    let units = read_object(rt.alloc(), &mut reader)?;
+    for unit in &units {
+        for (hunk, wanted) in unit.hunks().iter().zip(&ASSEMBLED_HUNKS) {
+            let symbols = hunk.copy_symbols(rt.alloc())?;
+            let debugs = hunk.copy_debugs(rt.alloc())?;
+            is_copied(&rt, &symbols, &debugs, wanted);
+        }
+    }
+    Ok(())
+}
+
+// After an error, every later call returns the same error.
+fn answers_again<A: Allocator + Copy>(rt: &impl Abort, begun: ObjectDecoder<A>, refusal: Refusal) {
+    let mut decoder = begun;
+    for piece in LATER_PIECES {
+        assert_eq!(rt; decoder.feed(piece), Err(refusal));
+    }
+    assert_eq!(rt; decoder.finish().err(), Some(refusal));
+}
+
+// Whether a decoder took the file with an allocation failing. If not, it returns that error again.
+fn is_taken<A: Allocator + Copy>(
+    rt: &impl Abort,
+    alloc: A,
+    bytes: &[u8],
+    wanted: &[Unit<'_>],
+) -> Result<bool, Fail> {
+    let mut decoder = ObjectDecoder::new(alloc);
+    for piece in bytes.chunks(5) {
+        match decoder.feed(piece) {
+            Ok(()) => {}
+            Err(refusal) => {
+                assert_eq!(rt; refusal, Refusal::OutOfMemory);
+                answers_again(rt, decoder, refusal);
+                return Ok(false);
+            }
+        }
+    }
+    are_units(rt, &decoder.finish()?, wanted);
+    Ok(true)
+}
+
+// The same for a reader.
+fn is_read<A: Allocator + Copy>(
+    rt: &impl Abort,
+    alloc: A,
+    bytes: Vec<u8>,
+    wanted: &[Unit<'_>],
+) -> bool {
+    let mut reader = Pieces::new(bytes, ROOM, None);
+    match read_object(alloc, &mut reader) {
+        Ok(units) => {
+            are_units(rt, &units, wanted);
+            true
+        }
+        Err(fault) => {
+            assert_eq!(rt; fault, ReadFault::Refused(Refusal::OutOfMemory));
+            false
+        }
+    }
+}
+
+// A file is decoded and read with each of its allocations failing in turn, until none fails.
+fn refuses_each_growth_of(
+    rt: &impl Abort,
+    alloc: Global,
+    words: &[u32],
+    wanted: &[Unit<'_>],
+    least: u64,
+) -> Result<(), Fail> {
+    let bytes = bytes_of(alloc, words, &[])?;
+    let mut ended = [false, false];
+    for number in 0..MOST_GROWTHS {
+        let heap = Refusing::new(alloc, number);
+        let taken = is_taken(rt, &heap, &bytes, wanted)?;
+        assert_eq!(rt; taken, heap.asked() <= number, "growth {number}");
+        assert!(rt; !taken || least <= number, "{number} growths");
+        let heap = Refusing::new(alloc, number);
+        let read = is_read(rt, &heap, bytes.clone()?, wanted);
+        assert_eq!(rt; read, heap.asked() <= number, "growth {number}");
+        ended = [taken, read];
+    }
+    assert_eq!(rt; ended, [true, true]);
+    Ok(())
+}
+
+#[test]
+fn refuses_each_growth_of_an_object_file(rt: HostRuntime) -> Result<(), Fail> {
+    // units, hunks, three names, content, sites, a definition, symbols, and debug blocks
+    refuses_each_growth_of(&rt, rt.alloc(), &ASSEMBLED, &[ASSEMBLED_UNIT], 10)?;
+    // units, hunks, content, sites, references, and a name
+    refuses_each_growth_of(&rt, rt.alloc(), &REFERS, &[REFERS_UNIT], 6)
+}
+
+// Reads the file, at most `chunk` bytes per read. The read with this number fails, if it comes.
+fn fails_to_read(
+    rt: &impl Abort,
+    alloc: Global,
+    chunk: usize,
+    number: u64,
+    fails: bool,
+) -> Result<(), Fail> {
+    assert!(rt; 1 <= chunk);
+    let mut reader = Pieces::new(bytes_of(alloc, &REFERS, &[])?, chunk, Some(number));
+    let got = read_object(alloc, &mut reader).err();
+    let wanted = fails.then_some(ReadFault::Device);
+    assert_eq!(rt; got, wanted, "read {number} of {chunk}");
+    assert_eq!(rt; Source::failed(&reader), fails, "read {number} of {chunk}");
+    assert_eq!(rt; Source::ended(&reader), !fails, "read {number} of {chunk}");
+    Ok(())
+}
+
+// Each read fails in turn, including the one that would report the end.
+#[test]
+fn tells_a_read_of_an_object_file_that_failed(rt: HostRuntime) -> Result<(), Fail> {
+    for (chunk, reads) in [(64, 2), (1, 53), (3, 19), (5, 12)] {
+        for number in 0..=reads {
+            fails_to_read(&rt, rt.alloc(), chunk, number, number < reads)?;
+        }
+    }
+    Ok(())
+}
+
+// A number in the file reserves no memory.
+#[test]
+fn allocates_for_what_has_come(rt: HostRuntime) -> Result<(), Fail> {
+    let bytes = bytes_of(rt.alloc(), &ANNOUNCES, &[])?;
+    assert_eq!(rt; bytes.len(), 20);
+    let early = Refusal::Fault(Fault {
+        place: 5,
+        reason: Reason::UnexpectedEnd,
+    });
+    let heap = Refusing::new(rt.alloc(), u64::MAX);
+    let mut reader = Pieces::new(bytes.clone()?, ROOM, None);
+    let got = read_object(&heap, &mut reader).err();
+    assert_eq!(rt; got, Some(ReadFault::Refused(early)));
+    assert!(rt; heap.asked() <= 4, "{} growths", heap.asked());
+    let small = LocalHeap::new(rt.alloc(), BUDGET)?;
+    let mut decoder = ObjectDecoder::new(&small);
+    assert_eq!(rt; decoder.feed(&bytes), Ok(()));
+    assert_eq!(rt; decoder.finish().err(), Some(early));
+    Ok(())
+}

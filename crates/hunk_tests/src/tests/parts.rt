@@ -1,0 +1,116 @@
+//! Each part of a load file, as it is written.
+
+use hunk_loadfile::{
+    HunkKind, LoadFile, LoadHunk, Memory, write_load, written_bytes, written_length,
+};
+use hunk_words::{Name, Room, Sites, Watched, WriteFault};
+use std::alloc::Global;
+use std::test::Fail;
+
+// The longwords of the file of two hunks below: the header, the first hunk's data, its sites
+// by target, its four symbols and its two debug blocks, and the second hunk.
+const FILE: [&[u32]; 12] = [
+    &[1011, 0, 2, 0, 1, 0x8000_0003, 0x4000_0005],
+    &[1002, 3, 0x4E71_0000, 0x0000_0001, 0x0000_4E75],
+    &[1004, 1, 0, 8, 2, 1, 0, 4, 0],
+    &[1008, 1, 0x4100_0000, 4],
+    &[1, 0, 8],
+    &[2, 0x6D61_696E, 0x5F31_0000, 12],
+    &[1, 0x666F_6F64, 0],
+    &[0],
+    &[1009, 2, 0xDEAD_BEEF, 7],
+    &[1009, 0],
+    &[1010],
+    &[1003, 5, 1010],
+];
+
+fn symbol(alloc: Global, words: &[u32], value: u32) -> Result<(Name, u32), Fail> {
+    Ok((Name::from_words(alloc, words)?, value))
+}
+
+fn file(alloc: Global) -> Result<LoadFile, Fail> {
+    let mut sites = Sites::new(alloc, 12);
+    for (offset, target) in [(4, 1), (8, 0), (0, 1)] {
+        sites.try_add(offset, target)?;
+    }
+    let mut symbols = Vec::new(alloc);
+    symbols.push(symbol(alloc, &[0x4100_0000], 4)?)?;
+    symbols.push(symbol(alloc, &[], 8)?)?;
+    symbols.push(symbol(alloc, &[0x6D61_696E, 0x5F31_0000], 12)?)?;
+    symbols.push(symbol(alloc, &[0x666F_6F64], 0)?)?;
+    let mut debugs = Vec::new(alloc);
+    debugs.push(Vec::from_slice(alloc, &[0xDEAD_BEEF, 7])?)?;
+    debugs.push(Vec::new(alloc))?;
+    let content = [0x4E, 0x71, 0, 0, 0, 0, 0, 1, 0, 0, 0x4E, 0x75];
+    let mut hunks = Vec::new(alloc);
+    hunks.push(LoadHunk {
+        kind: HunkKind::Data,
+        memory: Memory::Fast,
+        size: 3,
+        content: Vec::from_slice(alloc, &content)?,
+        sites,
+        symbols,
+        debugs,
+    })?;
+    hunks.push(LoadHunk {
+        kind: HunkKind::Bss,
+        memory: Memory::Chip,
+        size: 5,
+        content: Vec::new(alloc),
+        sites: Sites::new(alloc, 20),
+        symbols: Vec::new(alloc),
+        debugs: Vec::new(alloc),
+    })?;
+    Ok(LoadFile::new(hunks)?)
+}
+
+fn bytes(alloc: Global) -> Result<Vec<u8>, Fail> {
+    let mut bytes = Vec::new(alloc);
+    for row in FILE {
+        for word in row {
+            bytes.extend_from_slice(&word.to_be_bytes())?;
+        }
+    }
+    Ok(bytes)
+}
+
+#[test]
+fn writes_each_part_of_a_file(rt: HostRuntime) -> Result<(), Fail> {
+    let want = bytes(rt.alloc())?;
+    let mut writer = Watched::new(Vec::new(rt.alloc()));
+    assert_eq!(rt;
+        write_load(rt.alloc(), &file(rt.alloc())?, &mut writer),
+        Ok(())
+    );
+    assert_eq!(rt; writer.into_inner().as_slice(), want.as_slice());
+    Ok(())
+}
+
+#[test]
+fn writes_a_file_into_memory_that_holds_it_exactly(rt: HostRuntime) -> Result<(), Fail> {
+    let file = file(rt.alloc())?;
+    let want = bytes(rt.alloc())?;
+    let length = want.len() as u64;
+    assert_eq!(rt; written_length(rt.alloc(), &file), Ok(length));
+    let text = written_bytes(rt.alloc(), &file)?;
+    assert_eq!(rt; text.as_slice(), want.as_slice());
+    assert_eq!(rt; text.capacity(), want.len());
+    Ok(())
+}
+
+#[test]
+fn tells_how_much_a_device_took(rt: HostRuntime) -> Result<(), Fail> {
+    let file = file(rt.alloc())?;
+    let want = bytes(rt.alloc())?;
+    for zero in [false, true] {
+        for room in 0..want.len() {
+            let mut writer = Room::new(rt.alloc(), 3, room, zero)?;
+            let fault = WriteFault::Device {
+                written: room as u64,
+            };
+            assert_eq!(rt; write_load(rt.alloc(), &file, &mut writer), Err(fault));
+            assert_eq!(rt; writer.bytes(), &want[..room]);
+        }
+    }
+    Ok(())
+}

@@ -1,0 +1,76 @@
+//! Names: their bytes, their longwords, their order and their hashes.
+
+use hunk_test_support::Refusing;
+use hunk_words::{Name, OpenName};
+use std::collections::{BTreeSet, HashSet};
+use std::test::Fail;
+
+#[test]
+fn ends_a_name_at_the_first_zero_byte(rt: HostRuntime) -> Result<(), Fail> {
+    let name = Name::from_words(rt.alloc(), &[0x4100_4242, 0x4343_4343])?;
+    assert_eq!(rt; name.bytes(), b"A".as_slice());
+    assert_eq!(rt;
+        name.words(rt.alloc())?.as_slice(),
+        [0x4100_0000].as_slice()
+    );
+    Ok(())
+}
+
+#[test]
+fn writes_whole_longwords(rt: HostRuntime) -> Result<(), Fail> {
+    let empty = Name::from_words(rt.alloc(), &[])?;
+    assert_eq!(rt; empty.words(rt.alloc())?.as_slice(), [0].as_slice());
+    let main = Name::from_words(rt.alloc(), &[0x6D61_696E, 0])?;
+    assert_eq!(rt;
+        main.words(rt.alloc())?.as_slice(),
+        [0x6D61_696E].as_slice()
+    );
+    let start = Name::from_words(rt.alloc(), &[0x5F73_7461, 0x7274_0000])?;
+    assert_eq!(rt; start.bytes(), b"_start".as_slice());
+    Ok(())
+}
+
+#[test]
+fn compares_by_bytes(rt: HostRuntime) -> Result<(), Fail> {
+    let foo = Name::from_words(rt.alloc(), &[0x666F_6F00])?;
+    let food = Name::from_words(rt.alloc(), &[0x666F_6F64])?;
+    let copy = foo.copy(rt.alloc())?;
+    assert!(rt; foo == copy && foo != food && foo < food);
+    let mut names = BTreeSet::new(rt.alloc());
+    assert!(rt; names.insert(food)? && names.insert(foo)? && !names.insert(copy)?);
+    Ok(())
+}
+
+#[test]
+fn hashes_equal_names_alike(rt: HostRuntime) -> Result<(), Fail> {
+    let mut names = HashSet::new(rt.alloc());
+    names.insert(Name::from_words(rt.alloc(), &[0x666F_6F00])?)?;
+    assert!(rt; names.contains(&Name::from_words(rt.alloc(), &[0x666F_6F00, 1])?));
+    assert!(rt; !names.contains(&Name::from_words(rt.alloc(), &[0x6261_7200])?));
+    Ok(())
+}
+
+#[test]
+fn takes_longwords_at_once_and_one_by_one(rt: HostRuntime) -> Result<(), Fail> {
+    let mut name = OpenName::new(rt.alloc());
+    name.push_bytes(b"module12_fun")?;
+    name.push(0x6374_696F)?;
+    name.push_bytes(b"n_4\0ignored.")?;
+    name.push_bytes(b"as well.")?;
+    name.push(0x7468_6973)?;
+    assert_eq!(rt; name.len(), 19);
+    assert_eq!(rt; name.close().bytes(), b"module12_function_4".as_slice());
+    Ok(())
+}
+
+#[test]
+fn allocates_once_for_a_run_and_the_longword_after_it(rt: HostRuntime) -> Result<(), Fail> {
+    let heap = Refusing::new(rt.alloc(), u64::MAX);
+    let mut name = OpenName::new(&heap);
+    name.push_bytes(b"_start_of_")?;
+    assert_eq!(rt; heap.asked(), 1);
+    name.push(0x7061_6765)?;
+    assert_eq!(rt; heap.asked(), 1);
+    assert_eq!(rt; name.close().bytes(), b"_start_of_page".as_slice());
+    Ok(())
+}

@@ -1,0 +1,59 @@
+//! Allocations of a map of sites that fail, each in turn.
+
+use hunk_test_support::Refusing;
+use hunk_words::{SiteRefusal, Sites};
+use std::alloc::{Allocator, Global};
+use std::process::Abort;
+use std::test::Fail;
+
+// More allocations than the sites ask for.
+const MOST_ALLOCATIONS: u64 = 64;
+
+// Sites of four pages of 4,096 bytes: a page after the others, one before, sites that fill its first blocks, and one
+// that ends in the page after its own.
+const OFFSETS: [u32; 9] = [8192, 0, 4, 8, 12, 16, 8188, 4093, 36000];
+
+// Whether the map has these sites alone. The target of each is its offset.
+fn has_sites<A: Allocator + Copy>(sites: &Sites<u32, A>, offsets: &[u32]) -> bool {
+    let all = offsets
+        .iter()
+        .all(|offset| sites.get(*offset) == Some(offset));
+    all && sites.walk().count() == offsets.len()
+}
+
+// Adds the sites while one allocation fails. The call that fails leaves the sites as they were, and the
+// next one adds the site. Returns how many allocations were asked for.
+fn allocations_of_adding(rt: &impl Abort, alloc: Global, refused: u64) -> Result<u64, Fail> {
+    let heap = Refusing::new(alloc, refused);
+    let mut sites = Sites::new(&heap, 36004);
+    assert_eq!(rt; heap.asked(), 0);
+    for (number, offset) in OFFSETS.iter().enumerate() {
+        let before = &OFFSETS[..number];
+        match sites.try_add(*offset, *offset) {
+            Ok(()) => {}
+            Err(refusal) => {
+                assert_eq!(rt; refusal, SiteRefusal::OutOfMemory);
+                assert!(rt; has_sites(&sites, before), "allocation {refused}");
+                assert_eq!(rt; sites.try_add(*offset, *offset), Ok(()));
+            }
+        }
+    }
+    assert!(rt; has_sites(&sites, &OFFSETS), "allocation {refused}");
+    Ok(heap.asked())
+}
+
+#[test]
+fn adds_sites_with_each_allocation_refused(rt: HostRuntime) -> Result<(), Fail> {
+    for refused in 0..MOST_ALLOCATIONS {
+        if allocations_of_adding(&rt, rt.alloc(), refused)? <= refused {
+            // the directory twice, its four pages, and two more blocks of the first page
+            assert!(rt; 7 <= refused, "{refused} allocations");
+            return Ok(());
+        }
+    }
+    assert!(rt;
+        false,
+        "each of {MOST_ALLOCATIONS} runs had an allocation that failed"
+    );
+    Ok(())
+}
