@@ -23,16 +23,16 @@ make_file() { # NAME OPTIONS..: those of hunk_file.py
     python3 "$benches/hunk_file.py" "$folder/$name" "$@"
 }
 
-best() { # the microseconds of COMMAND, which writes to OUT: OUT COMMAND..
-    local out="$1" least=0 start took
+took() { # the microseconds of COMMAND, which writes to OUT: OUT COMMAND..
+    local out="$1" start
     shift
-    for _ in 1 2 3 4 5; do
-        start="${EPOCHREALTIME/./}"
-        "$@" > "$out"
-        took=$((${EPOCHREALTIME/./} - start))
-        if [ "$least" = 0 ] || [ "$took" -lt "$least" ]; then least="$took"; fi
-    done
-    echo "$least"
+    start="${EPOCHREALTIME/./}"
+    "$@" > "$out"
+    echo $((${EPOCHREALTIME/./} - start))
+}
+
+best() { # the least microseconds of five runs: OUT COMMAND..
+    for _ in 1 2 3 4 5; do took "$@"; done | sort -n | sed -n 1p
 }
 
 peak() { # the most memory of COMMAND, in KiB: COMMAND..

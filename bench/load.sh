@@ -15,19 +15,35 @@ make_file half --longwords "$((longwords / 2))" --sites "$((sites / 2))"
 make_file debug --longwords "$longwords" --debug 400000000
 cd "$folder"
 
-cat_time="$(best /dev/null cat plain)"
-echo "60 MB; cat takes $cat_time us"
+# The inputs take turns, so that each figure compares times of the same few seconds.
+measure() { # the least microseconds of five rounds, in `least`: HOW INPUT..
+    local how="$1" input now
+    shift
+    least=()
+    for _ in 1 2 3 4 5; do
+        for input in "$@"; do
+            if [ "$input" = cat ]; then
+                now="$(took /dev/null cat plain)"
+            else
+                now="$(took /dev/null "$bench" "$how-file" "$input")"
+            fi
+            if [ "$now" -lt "${least[$input]:-$((now + 1))}" ]; then least[$input]="$now"; fi
+        done
+    done
+}
+
+declare -A least
+echo "60 MB"
 for how in decode load; do
-    plain="$(best /dev/null "$bench" "$how-file" plain)"
-    figure "$how without relocations ($plain us) by cat" 6 "$(ratio "$plain" "$cat_time")" times
+    measure "$how" cat plain rising targets falling random half
+    plain="${least[plain]}"
+    figure "$how without relocations ($plain us) by cat (${least[cat]} us)" 6 "$(ratio "$plain" "${least[cat]}")" times
     for row in "rising 1.5" "targets 1.7" "falling 2" "random 4"; do
         read -r order allowed <<< "$row"
-        time="$(best /dev/null "$bench" "$how-file" "$order")"
+        time="${least[$order]}"
         figure "$how with $sites, $order ($time us), by the same without" "$allowed" "$(ratio "$time" "$plain")" times
     done
-    rising="$(best /dev/null "$bench" "$how-file" rising)"
-    half="$(best /dev/null "$bench" "$how-file" half)"
-    figure "$how ($rising us) by half the work ($half us)" 2.2 "$(ratio "$rising" "$half")" times
+    figure "$how (${least[rising]} us) by half the work (${least[half]} us)" 2.2 "$(ratio "${least[rising]}" "${least[half]}")" times
 done
 
 echo "the report of 60 MB with $sites relocations; both write a file"

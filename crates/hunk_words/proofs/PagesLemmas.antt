@@ -175,6 +175,13 @@ insert-pages offset place number target pages within free is_number inside =
           ∙ all_sites-set 0 number offset target pages within inside low high,
     )
 
+-- a place that is free in a page stays free where empty pages were appended
+pub IsFreePlace-extended : {T : Type 0} (offset place number : ℕ) (page : List (ℕ × T)) (old pages : List (List (ℕ × T)))
+    → AppendsEmptyPages old pages → IsFreePlace (page_at old (offset / 4096)) offset place → number ≡ offset / 4096 → number < length pages → page ≡ get_or pages number page
+    → IsFreePlace page offset place
+IsFreePlace-extended offset place number page old pages extends free is_number inside read =
+    rw (get_or_read pages number page inside read [] ∙ AppendsEmptyPages-page_at number old pages extends ∙ ap (page_at old) is_number) free
+
 -- the same where there was room for it, and nothing where there was none, in pages to which empty ones were appended
 pub insert-extended : {T : Type 0} (ok : Bool) (offset place number : ℕ) (target : T) (page new : List (ℕ × T)) (old pages : List (List (ℕ × T)))
     → LieInPages 0 old → AppendsEmptyPages old pages → IsFreePlace (page_at old (offset / 4096)) offset place → number ≡ offset / 4096 → number < length pages

@@ -13,8 +13,7 @@ use std::slice;
 /// How many bytes a site has.
 pub const SITE_BYTES: u32 = 4;
 
-// How many sites the first allocation of a page has room for. Later ones double it, so that a page
-// never takes the memory of more than three times its sites.
+// How many sites the first allocation of a page has room for at least. Later ones double it.
 const FIRST_SITES: usize = 3;
 
 // Inserts a site at its place. In most files sites come by rising offset, so most are the last one.
@@ -97,13 +96,20 @@ impl<T: Copy, A: Allocator + Copy> Page<T, A> {
         Some(place)
     }
 
-    /// Inserts a site at its place. If the allocation fails, the page stays as it was.
-    pub fn insert(&mut self, place: usize, offset: u32, target: T) -> Result<(), AllocError>
+    /// Inserts a site at its place. The first allocation has room for `room` sites, and for three at
+    /// least. If an allocation fails, the page stays as it was.
+    pub fn insert(
+        &mut self,
+        place: usize,
+        offset: u32,
+        target: T,
+        room: usize,
+    ) -> Result<(), AllocError>
         requires { IsFreePlace self.old offset place }
         ensures { self.new ≡ (if is_ok result then insert self.old place (offset, target) else self.old) }
     {
         if self.sites.capacity() == 0 {
-            self.sites.reserve_exact(FIRST_SITES)?;
+            self.sites.reserve_exact(FIRST_SITES.max(room))?;
         }
         put(&mut self.sites, place, (offset, target))
     }

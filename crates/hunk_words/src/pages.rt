@@ -81,6 +81,16 @@ fn grow_to<T: Copy, A: Allocator + Copy>(
     Ok(())
 }
 
+// How many sites the first allocation of a page has room for: one more than the page before has, since
+// most files spread their sites evenly. Where this room counts as memory of the page before, no page has
+// memory for more than three times its sites.
+fn room_of<T: Copy, A: Allocator + Copy>(pages: &[Page<T, A>], number: usize) -> usize {
+    match pages.get(number.wrapping_sub(1)) {
+        Some(before) => before.iter().len().saturating_add(1),
+        None => 0,
+    }
+}
+
 /// Inserts a site at its place in its page. If an allocation fails, the sites stay as they were.
 pub fn insert<T: Copy, A: Allocator + Copy>(
     pages: &mut Vec<Page<T, A>, A>,
@@ -95,7 +105,8 @@ pub fn insert<T: Copy, A: Allocator + Copy>(
 {
     let number = page_number(u64::from(offset));
     grow_to(pages, number)?;
-    pages[number].insert(place, offset, target)
+    let room = room_of(pages, number);
+    pages[number].insert(place, offset, target, room)
 }
 
 /// The target of the site at an offset.

@@ -1,6 +1,6 @@
 use Rattle.std.proofs.Common.{arith, is_ok}
 use Rattle.std.proofs.lemmas.Result.{err_from_is_err_and}
-use Rattle.hunk_words.proofs.PagesLemmas.{AppendsEmptyPages-LieInPages, AppendsEmptyPages-all_sites, insert-extended}
+use Rattle.hunk_words.proofs.PagesLemmas.{AppendsEmptyPages-LieInPages, AppendsEmptyPages-all_sites, IsFreePlace-extended, insert-extended}
 use Rattle.hunk_words.proofs.pages.insert.Goals as goal
 
 pub returns-in_err-grow_to-clause-in_pages : goal.returns-in_err-grow_to-clause-in_pages
@@ -10,6 +10,10 @@ pub returns-in_err-grow_to-clause-inserted : goal.returns-in_err-grow_to-clause-
 returns-in_err-grow_to-clause-inserted g c =
     let error = err_from_is_err_and c.from_residual.result c.from_residual.ensures.1 in
     rw error.1 (AppendsEmptyPages-all_sites c.args.pages.now.items c.grow_to.new.pages.items c.grow_to.ensures.extends)
+
+pub insert-requires : goal.insert-requires
+insert-requires g c = IsFreePlace-extended c.args.offset c.args.place c.page_number-number.result c.index_mut.result.now c.args.pages.now.items c.grow_to.new.pages.items
+    c.grow_to.ensures.extends c.requires.free (omega arith) (omega (arith, c.in_ok-grow_to.ensures.reached)) c.index_mut.ensures.value
 
 pub returns-clause-in_pages : goal.returns-clause-in_pages
 returns-clause-in_pages g c =
