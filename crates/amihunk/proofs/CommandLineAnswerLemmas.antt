@@ -8,8 +8,8 @@ use Rattle.clap.specs.Walk.{texts}
 use Rattle.clap.specs.Words.{IsAmong, Text, fault_of, subcommand_of}
 use Rattle.clap.specs.declared.error.ErrorKind.{ErrorKind}
 use Rattle.clap.specs.declared.error.ErrorKind.TheVariants as error
-use Rattle.amihunk.specs.declared.command_line.Request.{Request}
-use Rattle.amihunk.specs.declared.command_line.Request.TheVariants.{Link, Load, Image, Check, Show, Help, Refused, OutOfMemory}
+use Rattle.hunk_commands.specs.declared.request.Request.{Request}
+use Rattle.hunk_commands.specs.declared.request.Request.TheVariants.{Link, Load, Image, Check, Show, Help, Refused, OutOfMemory}
 use Rattle.amihunk.specs.CommandLine.{Answers, AsksCheck, AsksImage, AsksLink, AsksLoad, AsksShow, IsAskedBy, IsCalled, IsImage, IsLink, IsLoad, IsNoFlag, Says, Met, command_line, file_line, image_line, link_line, load_line}
 use Rattle.amihunk.proofs.CommandLineValueLemmas.{IsCalled-same, IsImage-same, IsLink-same, IsLoad-same, names_apart}
 use Rattle.amihunk.proofs.CommandLineFileLemmas.{calls-check, calls-show, fault_of-file_line, is_called-file_line}

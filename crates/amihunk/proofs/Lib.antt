@@ -5,8 +5,6 @@ pub mod CommandLineFileLemmas
 pub mod ProgramLemmas
 pub mod CommandLineRowLemmas
 pub mod CommandLineLoadLemmas
-pub mod DevicesLemmas
-pub mod FailureLemmas
 pub mod CommandLineValueLemmas
 pub mod CommandLineUseLemmas
 pub mod CommandLineSubcommandLemmas
@@ -14,6 +12,3 @@ pub mod CommandLineOptionLemmas
 pub mod CommandLineFilesLemmas
 pub mod CommandLineImageLemmas
 pub mod CommandLineLinkLemmas
-pub mod ImageLemmas
-pub mod InputsLemmas
-pub mod LinkLemmas

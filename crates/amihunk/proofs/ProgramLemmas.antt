@@ -1,42 +1,15 @@
 -- The status after the plain forms, and where memory ran out.
 use Rattle.std.proofs.Common.{◌≡◌, ◌∙◌, ◌∷◌, [], ap, Bool, inl, inr, List, Option, refl, subst, ℕ}
-use Rattle.hunk_tool.specs.declared.tool_fault.ToolFault.TheVariants as tool_fault
-use Rattle.amihunk.specs.Program.{Ends, EndsImage, EndsLink, EndsLoad, EndsText, IsFailed}
+use Rattle.hunk_commands.specs.Request.{Ends, EndsImage, EndsLink, EndsLoad, EndsText}
 use Rattle.amihunk.specs.CommandLine.{AsksCheck, AsksImage, AsksLink, AsksLoad, AsksShow}
-use Rattle.amihunk.specs.Failure.{failure_line, status_of, TellsLine}
-use Rattle.amihunk.specs.Image.{IsImageFailure}
-use Rattle.amihunk.specs.Link.{IsLinkFailure}
-use Rattle.amihunk.specs.Load.{IsLoadFailure}
-use Rattle.amihunk.specs.Text.{IsTextFailure}
-use Rattle.amihunk.specs.declared.failure.Failure.{Failure}
-use Rattle.amihunk.specs.declared.failure.Failure.TheVariants.{Tool}
-use Rattle.amihunk.specs.declared.text.Text.TheVariants.{Line, Listing}
-use Rattle.amihunk.specs.declared.command_line.Request.{Request}
-use Rattle.amihunk.specs.declared.command_line.Request.TheVariants.{Load, Link, Image, Check, Show, Help, Refused, OutOfMemory}
-
--- the failure that memory ran out was told
-pub out_of_memory_told : {W : Type 0} (taken : W → Option (List ℕ)) (failed : W → Bool) (old new : W) (names : List (List ℕ)) (failure : Failure) (status : ℕ)
-    → failure ≡ Tool (tool_fault.OutOfMemory 0) → status ≡ status_of failure → TellsLine taken failed old new (failure_line names failure)
-    → (status ≡ 4) × TellsLine taken failed old new (failure_line [] (Tool (tool_fault.OutOfMemory 0)))
-out_of_memory_told taken failed old new names failure status is ends told =
-    (ends ∙ ap status_of is, subst (λ f. TellsLine taken failed old new (failure_line names f)) is told)
-
--- a request for some files was not begun, since memory ran out
-pub not_begun : {W : Type 0} (taken : W → Option (List ℕ)) (failed : W → Bool) (old new : W) (Why : Failure → Type 0) (files : List (List ℕ)) (status : ℕ)
-    → Why (Tool (tool_fault.OutOfMemory 0)) → (status ≡ 4) × TellsLine taken failed old new (failure_line [] (Tool (tool_fault.OutOfMemory 0)))
-    → IsFailed taken failed old new Why files status
-not_begun taken failed old new Why files status why told =
-    record { failure = Tool (tool_fault.OutOfMemory 0); why = why; status_is = told.0; line = told.1 }
-
--- a request for some files was not done, and its failure was told with their names
-pub is_failed : {W : Type 0} (taken : W → Option (List ℕ)) (failed : W → Bool) (old new : W) (Why : Failure → Type 0) (files names : List (List ℕ)) (failure : Failure) (status : ℕ)
-    → names ≡ files → Why failure → status ≡ status_of failure → TellsLine taken failed old new (failure_line names failure) → IsFailed taken failed old new Why files status
-is_failed taken failed old new Why files names failure status same why status_is told = record {
-  failure = failure;
-  why = why;
-  status_is = status_is;
-  line = subst (λ x. TellsLine taken failed old new (failure_line x failure)) same told;
-}
+use Rattle.hunk_commands.specs.Image.{IsImageFailure}
+use Rattle.hunk_commands.specs.Link.{IsLinkFailure}
+use Rattle.hunk_commands.specs.Load.{IsLoadFailure}
+use Rattle.hunk_commands.specs.Text.{IsTextFailure}
+use Rattle.hunk_commands.specs.declared.text.Text.TheVariants.{Line, Listing}
+use Rattle.hunk_commands.specs.declared.request.Request.{Request}
+use Rattle.hunk_commands.specs.declared.request.Request.TheVariants.{Load, Link, Image, Check, Show, Help, Refused, OutOfMemory}
+use Rattle.hunk_commands.proofs.RequestLemmas.{not_begun}
 
 pub ends_link : {W : Type 0} (taken : W → Option (List ℕ)) (failed : W → Bool) (old new : W) (out : List ℕ) (strip : Bool) (files : List (List ℕ)) (request : Request) (status : ℕ)
     → AsksLink out strip files request → Ends taken failed old new request status → EndsLink taken failed old new out strip files status

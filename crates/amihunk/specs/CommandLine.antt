@@ -9,8 +9,8 @@ use Rattle.clap.specs.Words.{new_app, new_rule, one_of, subcommand_of, with_rule
 use Rattle.clap.specs.declared.builder.action.ArgAction.TheVariants.{SetTrue}
 use Rattle.clap.specs.declared.error.ErrorKind.{ErrorKind}
 use Rattle.clap.specs.declared.error.ErrorKind.TheVariants as error
-use Rattle.amihunk.specs.declared.command_line.Request.{Request}
-use Rattle.amihunk.specs.declared.command_line.Request.TheVariants.{Link, Load, Image, Check, Show, Help, Refused, OutOfMemory}
+use Rattle.hunk_commands.specs.declared.request.Request.{Request}
+use Rattle.hunk_commands.specs.declared.request.Request.TheVariants.{Link, Load, Image, Check, Show, Help, Refused, OutOfMemory}
 
 -- `--NAME VALUE`, which is required
 abbrev pub option_rule : Text → Rule

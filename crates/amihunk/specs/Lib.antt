@@ -1,10 +1,2 @@
 pub mod Program
-pub mod Failure
-pub mod Devices
-pub mod Inputs
-pub mod Bases
-pub mod Load
-pub mod Link
-pub mod Image
-pub mod Text
 pub mod CommandLine

@@ -1,58 +1,8 @@
 -- The exit status that ends the program, and the line on standard error.
-use Rattle.std.specs.Prelude.{◌≡◌, ◌⊎◌, ◌∷◌, [], ℕ, List, Bool, Option}
-use Rattle.clap.specs.Walk.{texts}
-use Rattle.hunk_tool.specs.declared.tool_fault.ToolFault.TheVariants as tool_fault
-use Rattle.amihunk.specs.Failure.{failure_line, status_of, TellsLine}
-use Rattle.amihunk.specs.Load.{IsLoadFailure, IsLoaded}
-use Rattle.amihunk.specs.Link.{IsLinkFailure, IsMade}
-use Rattle.amihunk.specs.Image.{AreImaged, IsImageFailure}
-use Rattle.amihunk.specs.Text.{IsTextFailure, IsTold}
+use Rattle.std.specs.Prelude.{ℕ, List, Bool, Option}
+use Rattle.hunk_commands.specs.Request.{Ends}
+use Rattle.hunk_commands.specs.declared.request.Request.{Request}
 use Rattle.amihunk.specs.CommandLine.{IsAskedBy}
-use Rattle.amihunk.specs.declared.failure.Failure.{Failure}
-use Rattle.amihunk.specs.declared.failure.Failure.TheVariants.{Tool}
-use Rattle.amihunk.specs.declared.text.Text.{Text}
-use Rattle.amihunk.specs.declared.text.Text.TheVariants.{Line, Listing}
-use Rattle.amihunk.specs.declared.command_line.Request.{Request}
-use Rattle.amihunk.specs.declared.command_line.Request.TheVariants.{Load, Link, Image, Check, Show, Help, Refused, OutOfMemory}
-
--- a request for some files was not done, for a reason of which this holds; the status is that of the
--- failure, and its line went to the writer, or a write to it failed
-pub record IsFailed {W : Type 0} (taken : W → Option (List ℕ)) (failed : W → Bool) (old new : W) (Why : Failure → Type 0) (files : List (List ℕ)) (status : ℕ) : Type 0 where
-  pub failure : Failure
-  pub why : Why failure
-  pub status_is : status ≡ status_of failure
-  pub line : TellsLine taken failed old new (failure_line files failure)
-
--- the status after `load`
-abbrev pub EndsLoad : {W : Type 0} (taken : W → Option (List ℕ)) (failed : W → Bool) (old new : W) (list file : List ℕ) → ℕ → Type 0
-EndsLoad taken failed old new list file status =
-    ((status ≡ 0) × IsLoaded list) ⊎ IsFailed taken failed old new (IsLoadFailure list file) (file ∷ []) status
-
--- the status after `link`
-abbrev pub EndsLink : {W : Type 0} (taken : W → Option (List ℕ)) (failed : W → Bool) (old new : W) (out : List ℕ) (strip : Bool) (files : List (List ℕ)) → ℕ → Type 0
-EndsLink taken failed old new out strip files status =
-    ((status ≡ 0) × IsMade strip files) ⊎ IsFailed taken failed old new (IsLinkFailure strip files out) files status
-
--- the status after `image`
-abbrev pub EndsImage : {W : Type 0} (taken : W → Option (List ℕ)) (failed : W → Bool) (old new : W) (list : List ℕ) (files : List (List ℕ)) → ℕ → Type 0
-EndsImage taken failed old new list files status =
-    ((status ≡ 0) × AreImaged list files) ⊎ IsFailed taken failed old new (IsImageFailure list files) files status
-
--- the status after a text about FILE
-abbrev pub EndsText : {W : Type 0} (taken : W → Option (List ℕ)) (failed : W → Bool) (old new : W) (text : Text) (file : List ℕ) → ℕ → Type 0
-EndsText taken failed old new text file status =
-    ((status ≡ 0) × IsTold text) ⊎ IsFailed taken failed old new (IsTextFailure text file) (file ∷ []) status
-
--- the status after a request
-abbrev pub Ends : {W : Type 0} (taken : W → Option (List ℕ)) (failed : W → Bool) (old new : W) → Request → ℕ → Type 0
-Ends taken failed old new (Load list file) status = EndsLoad taken failed old new list.now file.now status
-Ends taken failed old new (Link out strip files) status = EndsLink taken failed old new out.now strip (texts files.items) status
-Ends taken failed old new (Image list files) status = EndsImage taken failed old new list.now (texts files.items) status
-Ends taken failed old new (Check file) status = EndsText taken failed old new Line file.now status
-Ends taken failed old new (Show file) status = EndsText taken failed old new Listing file.now status
-Ends taken failed old new (Help text) status = (status ≡ 0) ⊎ (status ≡ 3)
-Ends taken failed old new (Refused text) status = status ≡ 2
-Ends taken failed old new OutOfMemory status = (status ≡ 4) × TellsLine taken failed old new (failure_line [] (Tool (tool_fault.OutOfMemory 0)))
 
 -- the status after a command line: that of the request that its arguments make
 pub record EndsLine {W : Type 0} (taken : W → Option (List ℕ)) (failed : W → Bool) (old new : W) (words : List (List ℕ)) (status : ℕ) : Type 0 where

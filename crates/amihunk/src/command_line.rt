@@ -11,54 +11,9 @@ ghost use Rattle.amihunk.specs.CommandLine.{load_line, load_shape, option_rule};
 
 use clap::error::ErrorKind;
 use clap::{Arg, ArgAction, ArgMatches, Command, Error};
+use hunk_commands::Request;
 use std::alloc::{AllocError, Global};
 use std::convert::AsStr;
-
-/// What the arguments of the command line ask for.
-#[derive(Debug, Drop)]
-pub enum Request<'a> {
-    /// `link --out OUT [--strip] FILE...`: the load file of the object files FILE..., written to
-    /// OUT.
-    Link {
-        /// The argument OUT.
-        out: &'a str,
-        /// Whether `--strip` is given.
-        strip: bool,
-        /// The arguments FILE..., in the order given, of which there is at least one.
-        files: Vec<&'a str>,
-    },
-    /// `load --at LIST FILE`: the report of FILE, loaded at the addresses in LIST.
-    Load {
-        /// The argument LIST, not yet parsed.
-        list: &'a str,
-        /// The argument FILE.
-        file: &'a str,
-    },
-    /// `image --at LIST FILE...`: the report of the memory that the object files FILE... define at
-    /// the addresses in LIST.
-    Image {
-        /// The argument LIST, not yet parsed.
-        list: &'a str,
-        /// The arguments FILE..., in the order given, of which there is at least one.
-        files: Vec<&'a str>,
-    },
-    /// `check FILE`: one line about FILE.
-    Check {
-        /// The argument FILE.
-        file: &'a str,
-    },
-    /// `show FILE`: a listing of FILE.
-    Show {
-        /// The argument FILE.
-        file: &'a str,
-    },
-    /// Help, and its text.
-    Help(String),
-    /// Arguments that `clap` rejects, and what it says about them.
-    Refused(String),
-    /// Memory ran out while the arguments were read.
-    OutOfMemory,
-}
 
 /// Reads the arguments of a command line, the first of which is the program's name.
 pub fn read_words<'a, S: AsStr>(alloc: Global, words: &'a [S]) -> Request<'a>

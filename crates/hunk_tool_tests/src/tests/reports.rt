@@ -107,9 +107,39 @@ fn loads_hunks_of_other_sizes(rt: HostRuntime) -> Result<(), Fail> {
 const SCATTERED_REPORT: &str = "hunk 0 at 00001000 size 12\n00001000 000020000000100000002004\n\
                                 hunk 1 at 00002000 size 4\n00002000 00000000\n";
 
+// An empty hunk between two others, the first of which adds the address of the last.
+const EMPTY_BETWEEN: [u32; 26] = [
+    0x3F3,
+    0,
+    3,
+    0,
+    2,
+    1,
+    0,
+    1, //
+    0x3E9,
+    1,
+    0,
+    0x3EC,
+    1,
+    2,
+    0,
+    0,
+    0x3F2, //
+    0x3EB,
+    0,
+    0x3F2, //
+    0x3EA,
+    1,
+    0x1234_5678,
+    0x3F1,
+    0,
+    0x3F2,
+];
+
 // Load files, the addresses of their hunks, and the report. The last file is the repository's
 // example.
-const REPORTS: [(&[u32], &[u32], &str); 12] = [
+const REPORTS: [(&[u32], &[u32], &str); 13] = [
     (&FILE, &[BASE], REPORT),
     (
         &BEHIND_CONTENT,
@@ -158,6 +188,13 @@ const REPORTS: [(&[u32], &[u32], &str); 12] = [
         "hunk 0 at 00001000 size 8\n00001000 4e714e714e754e71\n\
          hunk 1 at 00002000 size 4\n00002000 00003008\n\
          hunk 2 at 00003000 size 16\n00003000 00000000000000000000000000000000\n",
+    ),
+    (
+        &EMPTY_BETWEEN,
+        &[0x1000, 0x2000, 0x3000],
+        "hunk 0 at 00001000 size 4\n00001000 00003000\n\
+         hunk 1 at 00002000 size 0\n\
+         hunk 2 at 00003000 size 4\n00003000 12345678\n",
     ),
     (
         &TWO_HUNKS,

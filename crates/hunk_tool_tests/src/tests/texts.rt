@@ -60,6 +60,14 @@ const TWO_UNITS_TEXT: &str = "object file: 2 units, 2 hunks\n\
                               unit 1 \"A\\x22\"\n\
                               hunk 0 data fast 1 longwords \"\"\n";
 
+// A unit with an empty hunk, and then one without hunks.
+const EMPTY_UNITS: [u32; 7] = [0x3E7, 0, 0x3EB, 0, 0x3F2, 0x3E7, 0];
+
+const EMPTY_UNITS_TEXT: &str = "object file: 2 units, 1 hunks\n\
+                                unit 0 \"\"\n\
+                                hunk 0 bss any 0 longwords \"\"\n\
+                                unit 1 \"\"\n";
+
 // The file of most tests. The upper two bits of its first longword are ignored.
 const MARKED: [u32; 10] = [0xC00003F3, 0, 1, 0, 0, 1, 0x3E9, 1, 0x4E754E71, 0x3F2];
 
@@ -102,9 +110,10 @@ impl Text {
 }
 
 // Files, and their listings.
-const LISTINGS: [(&[u32], &str); 6] = [
+const LISTINGS: [(&[u32], &str); 7] = [
     (&QUOTED, QUOTED_TEXT),
     (&TWO_UNITS, TWO_UNITS_TEXT),
+    (&EMPTY_UNITS, EMPTY_UNITS_TEXT),
     (&MARKED, MARKED_TEXT),
     (&ASSEMBLED, ASSEMBLED_TEXT),
     (&LINKED_ALONE, LINKED_TEXT),

@@ -1,0 +1,17 @@
+//! Files, standard outputs and standard errors, by public calls only.
+//!
+//! - `failures`: the line of each failure, and its status.
+//! - `images`: the report of object files.
+//! - `inputs`: files that are open at once.
+//! - `links`: the load file of object files.
+//! - `loads`: the report of a load file.
+//! - `requests`: the status of each request, and the line of its failure.
+//! - `texts`: the texts about a file.
+
+mod failures;
+mod images;
+mod inputs;
+mod links;
+mod loads;
+mod requests;
+mod texts;

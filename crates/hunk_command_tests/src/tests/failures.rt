@@ -1,0 +1,50 @@
+//! The line of each failure, and its status.
+ghost use Rattle.hunk_commands.specs.Failure.{IsOfFiles};
+
+use hunk_commands::{Failure, report_failure};
+use hunk_tool::ToolFault;
+use hunk_words::{Room, Watched};
+use std::alloc::Global;
+use std::process::Abort;
+use std::test::Fail;
+
+// The failure of a request for the file `x` is told in this line.
+fn is_told(
+    rt: &impl Abort,
+    alloc: Global,
+    failure: &Failure<'_>,
+    line: &str,
+    status: u8,
+) -> Result<(), Fail>
+    requires { IsOfFiles 1 failure.now }
+{
+    let files = [String::from_str(alloc, "x")?];
+    let mut errors = Watched::new(Vec::new(alloc));
+    assert_eq!(rt; report_failure(&mut errors, &files, failure), status);
+    assert_eq!(rt; errors.into_inner().as_slice(), line.as_bytes());
+    Ok(())
+}
+
+#[test]
+fn tells_each_failure_in_a_line(rt: HostRuntime) -> Result<(), Fail> {
+    let alloc = rt.alloc();
+    let part = "amihunk: --at: part 1 is not 1 to 8 hexadecimal digits\n";
+    is_told(&rt, alloc, &Failure::BadNumber(1), part, 2)?;
+    let opening = "amihunk: x: cannot be opened\n";
+    is_told(&rt, alloc, &Failure::Opening("x"), opening, 3)?;
+    let printing = "amihunk: output: write failed\n";
+    is_told(&rt, alloc, &Failure::Printing, printing, 3)?;
+    let unread = Failure::Tool(ToolFault::InputDevice { file: 0 });
+    is_told(&rt, alloc, &unread, "amihunk: x: read failed\n", 3)?;
+    let memory = "amihunk: out of memory\n";
+    is_told(&rt, alloc, &Failure::out_of_memory(), memory, 4)
+}
+
+#[test]
+fn ends_with_the_status_where_no_line_was_written(rt: HostRuntime) -> Result<(), Fail> {
+    let mut errors = Room::new(rt.alloc(), 8, 10, false)?;
+    let failure = Failure::out_of_memory();
+    assert_eq!(rt; report_failure(&mut errors, &[], &failure), 4);
+    assert_eq!(rt; errors.bytes(), b"amihunk: o".as_slice());
+    Ok(())
+}

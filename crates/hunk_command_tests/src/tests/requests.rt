@@ -1,0 +1,72 @@
+//! The status of each request, and the line of its failure.
+
+use crate::fake_files::{FakeFiles, Log};
+use hunk_commands::{Request, answer};
+use hunk_words::Watched;
+use std::alloc::Global;
+use std::process::Abort;
+use std::test::Fail;
+
+// `link --out OUT FILE...` ends with this status and this line.
+fn link_ends<'a>(
+    rt: &impl Abort,
+    alloc: Global,
+    out: &'a str,
+    files: &[&'a str],
+    status: u8,
+    line: &str,
+) -> Result<(), Fail> {
+    let log = Log::new(alloc);
+    let system = FakeFiles {
+        openings: 40,
+        log: &log,
+    };
+    let request = Request::Link {
+        out,
+        strip: false,
+        files: files.to_vec(alloc)?,
+    };
+    let mut errors = Watched::new(Vec::new(alloc));
+    assert_eq!(rt; answer(&(system, alloc), &mut errors, request), status);
+    assert_eq!(rt; errors.into_inner().as_slice(), line.as_bytes());
+    Ok(())
+}
+
+#[test]
+fn tells_how_a_link_ended(rt: HostRuntime) -> Result<(), Fail> {
+    let alloc = rt.alloc();
+    let linked = ["caller", "callee"];
+    link_ends(&rt, alloc, "out", &linked, 0, "")?;
+    let undefined = "amihunk: link: unit 0 hunk 0: \"foo\" not defined\n";
+    link_ends(&rt, alloc, "out", &["caller"], 1, undefined)?;
+    let missing = "amihunk: x: cannot be opened\n";
+    link_ends(&rt, alloc, "out", &["caller", "x"], 3, missing)?;
+    let unread = "amihunk: directory: read failed\n";
+    link_ends(&rt, alloc, "out", &["callee", "directory"], 3, unread)?;
+    let uncreated = "amihunk: directory: cannot be opened\n";
+    link_ends(&rt, alloc, "directory", &linked, 3, uncreated)?;
+    let unwritten = "amihunk: output: write failed\n";
+    link_ends(&rt, alloc, "full", &linked, 3, unwritten)
+}
+
+#[test]
+fn tells_why_there_is_no_image(rt: HostRuntime) -> Result<(), Fail> {
+    let lists = [
+        (
+            "0,x",
+            2,
+            "amihunk: --at: part 1 is not 1 to 8 hexadecimal digits\n",
+        ),
+        ("0", 3, "amihunk: no-such-file: cannot be opened\n"),
+    ];
+    for (list, status, line) in lists {
+        let request = Request::Image {
+            list,
+            files: ["no-such-file"].to_vec(rt.alloc())?,
+        };
+        let mut errors = Watched::new(Vec::new(rt.alloc()));
+        assert_eq!(rt; answer(&rt, &mut errors, request), status);
+        assert_eq!(rt; errors.into_inner().as_slice(), line.as_bytes());
+    }
+    Ok(())
+}

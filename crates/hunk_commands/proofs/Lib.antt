@@ -1,0 +1,6 @@
+pub mod DevicesLemmas
+pub mod FailureLemmas
+pub mod ImageLemmas
+pub mod InputsLemmas
+pub mod LinkLemmas
+pub mod RequestLemmas

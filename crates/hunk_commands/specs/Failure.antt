@@ -1,0 +1,45 @@
+-- The exit status of the program for each failure, and the line that tells it.
+use Rattle.std.specs.declared.alloc.Global.{Global}
+use Rattle.std.specs.Prelude.{◌≡◌, ◌⊎◌, ◌++◌, ℕ, List, Bool, Option, ⊤, codes, decimal}
+use Rattle.std.specs.Io.KnownBytes.{Appends}
+use Rattle.hunk_words.specs.Streams.{WriteStopped}
+use Rattle.hunk_words.specs.declared.fault.WriteFault.TheVariants.{Device}
+use Rattle.hunk_tool.specs.FaultLine.{fault_line, IsOfInputs}
+use Rattle.hunk_tool.specs.declared.tool_fault.ToolFault.TheVariants.{Output}
+use Rattle.hunk_tool.specs.ToolFault.{status}
+use Rattle.hunk_commands.specs.declared.failure.Failure.{Failure}
+use Rattle.hunk_commands.specs.declared.failure.Failure.TheVariants.{BadNumber, Opening, Printing, Tool}
+
+-- 2 if the list of addresses is rejected, 3 if a file cannot be opened or a write failed, and
+-- otherwise the status of what `hunk_tool` returned
+abbrev pub status_of : Failure → ℕ
+status_of (BadNumber index) = 2
+status_of (Opening file) = 3
+status_of Printing = 3
+status_of (Tool fault) = status fault
+
+-- what `hunk_tool` returned refers to at most n files
+abbrev pub IsOfFiles : ℕ → Failure → Type 0
+IsOfFiles n (Tool fault) = IsOfInputs n fault
+IsOfFiles n _ = ⊤
+
+-- the line for a part of a list of addresses that is not a number
+abbrev pub bad_number_line : ℕ → List ℕ
+bad_number_line index =
+    codes "amihunk: --at: part " ++ decimal index ++ codes " is not 1 to 8 hexadecimal digits\n"
+
+-- the line for a file that cannot be opened
+abbrev pub opening_line : List ℕ → List ℕ
+opening_line file = codes "amihunk: " ++ file ++ codes ": cannot be opened\n"
+
+-- the line that reports the failure, if the files have these names
+abbrev pub failure_line : List (List ℕ) → Failure → List ℕ
+failure_line names (BadNumber index) = bad_number_line index
+failure_line names (Opening file) = opening_line file.now
+failure_line names Printing = fault_line {A = Global} names (Output 0)
+failure_line names (Tool fault) = fault_line names fault
+
+-- The line was appended, and no write failed; or a write failed, and exactly the first bytes of the line were appended.
+abbrev pub TellsLine : {W : Type 0} (taken : W → Option (List ℕ)) (failed : W → Bool) (old new : W) (line : List ℕ) → Type 0
+TellsLine taken failed old new line =
+    (Appends (taken old) (taken new) line × (failed new ≡ failed old)) ⊎ ((written : ℕ) × WriteStopped taken failed old new line 0 (Device written))

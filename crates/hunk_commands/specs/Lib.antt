@@ -1,0 +1,9 @@
+pub mod Request
+pub mod Failure
+pub mod Devices
+pub mod Inputs
+pub mod Bases
+pub mod Load
+pub mod Link
+pub mod Image
+pub mod Text

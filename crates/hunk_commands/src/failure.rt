@@ -1,0 +1,105 @@
+//! Why a request failed: the line that reports it, and the exit status.
+ghost use Rattle.std.specs.Prelude.{◌≡◌, length, map, IfErr};
+ghost use Rattle.std.specs.String.{string_bytes};
+ghost use Rattle.hunk_words.specs.Streams.{IsDevice, WroteAll};
+ghost use Rattle.hunk_commands.specs.Failure.{bad_number_line, failure_line, opening_line};
+ghost use Rattle.hunk_commands.specs.Failure.{status_of, IsOfFiles, TellsLine};
+
+use hunk_tool::{Phrase, ToolFault, status_of, write_fault, write_line};
+use hunk_words::{Sink, WriteFault};
+
+/// The exit status of a request that was done, or of help that was asked for.
+pub const DONE: u8 = 0;
+
+/// The exit status if the command line, or the list of addresses, is rejected.
+pub const COMMAND_LINE: u8 = 2;
+
+/// The exit status if a file cannot be opened, or a read or a write failed.
+pub const DEVICE: u8 = 3;
+
+/// Why a request failed.
+#[derive(Debug, Drop, PartialEq, Eq)]
+pub enum Failure<'a> {
+    /// The index, from 0, of the first part of the list of addresses that is not a number.
+    BadNumber(usize),
+    /// The file with this name cannot be opened, or cannot be created.
+    Opening(&'a str),
+    /// The output did not take everything that was written to it.
+    Printing,
+    /// What `hunk_tool` returned.
+    Tool(ToolFault),
+}
+
+impl<'a> Failure<'a> {
+    /// Out of memory, before anything was written.
+    pub fn out_of_memory() -> Failure<'a>
+        ensures { result ≡ Failure.Tool (ToolFault.OutOfMemory 0) }
+    {
+        Failure::Tool(ToolFault::OutOfMemory { written: 0 })
+    }
+
+    /// The exit status of the program.
+    pub fn status(&self) -> u8
+        ensures { result ≡ status_of self.now }
+    {
+        match self {
+            Failure::BadNumber(_) => COMMAND_LINE,
+            Failure::Opening(_) | Failure::Printing => DEVICE,
+            Failure::Tool(fault) => status_of(fault),
+        }
+    }
+}
+
+/// Writes the line of a failure to `errors`, and returns the exit status. `files` are the names of
+/// the files that an engine's answer counts.
+///
+/// The line is appended to `errors`, or a write failed: then it has taken the first bytes of the
+/// line, and nothing more is written.
+pub fn report_failure<W: Sink>(errors: &mut W, files: &[String], failure: &Failure<'_>) -> u8
+    requires { IsOfFiles (length files.now) failure.now }
+    ensures status { result ≡ status_of failure.now }
+    ensures line { TellsLine W.taken W.failed errors.old errors.new (failure_line (map string_bytes files.now) failure.now) }
+{
+    let _ = write_failure(files, failure, errors);
+    failure.status()
+}
+
+/// Writes the line of a failure.
+fn write_failure<W: Sink>(
+    files: &[String],
+    failure: &Failure<'_>,
+    errors: &mut W,
+) -> Result<(), WriteFault>
+    requires { IsOfFiles (length files.now) failure.now }
+    ensures wrote { WroteAll W.taken W.failed errors.old errors.new (failure_line (map string_bytes files.now) failure.now) result }
+    ensures device { IfErr result IsDevice }
+{
+    match failure {
+        Failure::BadNumber(index) => write_bad_number(*index, errors),
+        Failure::Opening(file) => write_opening(file, errors),
+        Failure::Printing => {
+            let output: ToolFault = ToolFault::Output { written: 0 };
+            write_fault(files, &output, errors)
+        }
+        Failure::Tool(fault) => write_fault(files, fault, errors),
+    }
+}
+
+/// Writes the line for a part of a list of addresses that is no number.
+fn write_bad_number<W: Sink>(index: usize, errors: &mut W) -> Result<(), WriteFault>
+    ensures wrote { WroteAll W.taken W.failed errors.old errors.new (bad_number_line index) result }
+    ensures device { IfErr result IsDevice }
+{
+    let after = " is not 1 to 8 hexadecimal digits";
+    let part = Phrase::decimal("--at: part ", index as u64, after);
+    write_line(b"", &part, &Phrase::plain(""), errors)
+}
+
+/// Writes the line for a file that cannot be opened.
+fn write_opening<W: Sink>(file: &str, errors: &mut W) -> Result<(), WriteFault>
+    ensures wrote { WroteAll W.taken W.failed errors.old errors.new (opening_line file.now) result }
+    ensures device { IfErr result IsDevice }
+{
+    let reason = Phrase::plain(": cannot be opened");
+    write_line(file.as_bytes(), &reason, &Phrase::plain(""), errors)
+}

@@ -1,0 +1,28 @@
+//! What the program `amihunk` does for each of its commands: with the files of any file system, and any standard
+//! output.
+//!
+//! - `request`: what a command line asks for, and doing it.
+//! - `failure`: why a command failed, the line that reports it, and the exit status.
+//! - `devices`: the file that a command reads, and the output that it writes.
+//! - `inputs`: the files that a command reads, if there are several.
+//! - `bases`: the list of addresses that a command is given.
+//! - `load`: the command `load`.
+//! - `link`: the command `link`.
+//! - `image`: the command `image`.
+//! - `text`: the commands that print a text about a file.
+#![tactic(auto)]
+
+mod bases;
+mod devices;
+mod failure;
+pub mod image;
+mod inputs;
+pub mod link;
+pub mod load;
+mod request;
+mod text;
+
+pub use failure::{COMMAND_LINE, DEVICE, DONE, Failure, report_failure};
+pub use inputs::{Input, open_inputs};
+pub use request::{Request, answer};
+pub use text::{Text, print_text, print_text_to};

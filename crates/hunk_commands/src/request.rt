@@ -1,0 +1,172 @@
+//! What a command line asks for, and doing it.
+ghost use Rattle.std.specs.Prelude.{◌≡◌, IfOk, map, string_bytes};
+ghost use Rattle.hunk_commands.specs.Inputs.{file_names};
+ghost use Rattle.hunk_commands.specs.Request.{Ends, EndsImage, EndsLink, EndsLoad, EndsText};
+
+use crate::failure::{COMMAND_LINE, DONE, Failure, report_failure};
+use crate::image::image;
+use crate::link::link;
+use crate::load::load;
+use crate::text::{Text, print_text};
+use hunk_words::{Sink, write_all};
+use std::alloc::{AllocError, Global};
+use std::rt::Files;
+
+/// What the arguments of a command line ask for.
+#[derive(Debug, Drop)]
+pub enum Request<'a> {
+    /// `link --out OUT [--strip] FILE...`: the load file of the object files FILE..., written to
+    /// OUT.
+    Link {
+        /// The argument OUT.
+        out: &'a str,
+        /// Whether `--strip` is given.
+        strip: bool,
+        /// The arguments FILE..., in the order given, of which there is at least one.
+        files: Vec<&'a str>,
+    },
+    /// `load --at LIST FILE`: the report of FILE, loaded at the addresses in LIST.
+    Load {
+        /// The argument LIST, not yet parsed.
+        list: &'a str,
+        /// The argument FILE.
+        file: &'a str,
+    },
+    /// `image --at LIST FILE...`: the report of the memory that the object files FILE... define at
+    /// the addresses in LIST.
+    Image {
+        /// The argument LIST, not yet parsed.
+        list: &'a str,
+        /// The arguments FILE..., in the order given, of which there is at least one.
+        files: Vec<&'a str>,
+    },
+    /// `check FILE`: one line about FILE.
+    Check {
+        /// The argument FILE.
+        file: &'a str,
+    },
+    /// `show FILE`: a listing of FILE.
+    Show {
+        /// The argument FILE.
+        file: &'a str,
+    },
+    /// Help, and its text.
+    Help(String),
+    /// Arguments that `clap` rejects, and what it says about them.
+    Refused(String),
+    /// Memory ran out while the arguments were read.
+    OutOfMemory,
+}
+
+/// Does what was asked for, and returns the exit status: 0 where it was done, and else that of the failure, whose line
+/// is appended to `errors`, or a write to it failed.
+pub fn answer<R: Files + Print + AllocGlobal, W: Sink>(
+    rt: &R,
+    errors: &mut W,
+    request: Request<'_>,
+) -> u8
+    ensures { Ends W.taken W.failed errors.old errors.new request.entry result }
+{
+    match request {
+        Request::Link { out, strip, files } => {
+            answer_link(rt, errors, out, strip, files.as_slice())
+        }
+        Request::Load { list, file } => answer_load(rt, errors, list, file),
+        Request::Image { list, files } => answer_image(rt, errors, list, files.as_slice()),
+        Request::Check { file } => answer_text(rt, errors, Text::Line, file),
+        Request::Show { file } => answer_text(rt, errors, Text::Listing, file),
+        Request::Help(text) => match rt.print(text) {
+            Ok(()) => DONE,
+            Err(_) => report_failure(errors, &[], &Failure::Printing),
+        },
+        Request::Refused(text) => {
+            let _ = write_all(errors, 0, text.as_bytes());
+            COMMAND_LINE
+        }
+        Request::OutOfMemory => report_failure(errors, &[], &Failure::out_of_memory()),
+    }
+}
+
+/// Does `load --at LIST FILE`, and returns the exit status.
+fn answer_load<R: Files + Print + AllocGlobal, W: Sink>(
+    rt: &R,
+    errors: &mut W,
+    list: &str,
+    file: &str,
+) -> u8
+    ensures { EndsLoad W.taken W.failed errors.old errors.new list.now file.now result }
+{
+    let Ok(name) = String::from_str(rt.alloc(), file) else {
+        return report_failure(errors, &[], &Failure::out_of_memory());
+    };
+    match load(rt, list, file) {
+        Ok(()) => DONE,
+        Err(failure) => report_failure(errors, &[name], &failure),
+    }
+}
+
+/// Does `link --out OUT [--strip] FILE...`, and returns the exit status.
+fn answer_link<R: Files + AllocGlobal, W: Sink>(
+    rt: &R,
+    errors: &mut W,
+    out: &str,
+    strip: bool,
+    files: &[&str],
+) -> u8
+    ensures { EndsLink W.taken W.failed errors.old errors.new out.now strip (file_names files.now) result }
+{
+    let Ok(names) = names_of(rt.alloc(), files) else {
+        return report_failure(errors, &[], &Failure::out_of_memory());
+    };
+    match link(rt, out, strip, files) {
+        Ok(()) => DONE,
+        Err(failure) => report_failure(errors, names.as_slice(), &failure),
+    }
+}
+
+/// Does `image --at LIST FILE...`, and returns the exit status.
+fn answer_image<R: Files + Print + AllocGlobal, W: Sink>(
+    rt: &R,
+    errors: &mut W,
+    list: &str,
+    files: &[&str],
+) -> u8
+    ensures { EndsImage W.taken W.failed errors.old errors.new list.now (file_names files.now) result }
+{
+    let Ok(names) = names_of(rt.alloc(), files) else {
+        return report_failure(errors, &[], &Failure::out_of_memory());
+    };
+    match image(rt, list, files) {
+        Ok(()) => DONE,
+        Err(failure) => report_failure(errors, names.as_slice(), &failure),
+    }
+}
+
+/// Copies of the names of files.
+fn names_of(alloc: Global, files: &[&str]) -> Result<Vec<String>, AllocError>
+    ensures { IfOk result (λ names. map string_bytes names.items ≡ file_names files.now) }
+{
+    let mut names = Vec::with_capacity(alloc, files.len())?;
+    for file in files {
+        names.push(String::from_str(alloc, file)?)?;
+    }
+    Ok(names)
+}
+
+/// Does a request for a text about FILE, and returns the exit status.
+fn answer_text<R: Files + Print + AllocGlobal, W: Sink>(
+    rt: &R,
+    errors: &mut W,
+    text: Text,
+    file: &str,
+) -> u8
+    ensures { EndsText W.taken W.failed errors.old errors.new text file.now result }
+{
+    let Ok(name) = String::from_str(rt.alloc(), file) else {
+        return report_failure(errors, &[], &Failure::out_of_memory());
+    };
+    match print_text(rt, text, file) {
+        Ok(()) => DONE,
+        Err(failure) => report_failure(errors, &[name], &failure),
+    }
+}

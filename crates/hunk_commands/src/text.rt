@@ -1,0 +1,77 @@
+//! The requests that print a text about a file.
+ghost use Rattle.std.specs.Prelude.{IfOk, IfErr, IsTrue, OnOk};
+ghost use Rattle.hunk_words.specs.Streams.{HasRead};
+ghost use Rattle.hunk_tool.specs.FileText.{IsTextFault, IsWritten};
+ghost use Rattle.hunk_tool.specs.Load.{ends_of};
+ghost use Rattle.hunk_commands.specs.Devices.{IsPrintFailure, Prints};
+ghost use Rattle.hunk_commands.specs.Text.{IsTextFailure, IsTold, text_of};
+
+use crate::devices::{buffered, flushed, open};
+use crate::failure::Failure;
+use hunk_tool::{ToolFault, check_run, show_run};
+use hunk_words::{Sink, Source, Watched};
+use std::alloc::Global;
+use std::io;
+use std::io::{Read, Write};
+use std::rt::Files;
+
+/// A text about a file.
+#[derive(Clone, Copy, Debug, PartialEq, Eq)]
+pub enum Text {
+    /// One line: the kind of the file, and how many units and hunks it has.
+    Line,
+    /// A listing of its units and hunks, and of what is in them.
+    Listing,
+}
+
+/// Reads the file named `file`, and prints the text about it.
+pub fn print_text<'a, R: Files + Print + AllocGlobal>(
+    rt: &R,
+    text: Text,
+    file: &'a str,
+) -> Result<(), Failure<'a>>
+    ensures ok { OnOk result (IsTold text) }
+    ensures err { IfErr result (IsTextFailure text file.entry.now) }
+{
+    let input = open(rt, file)?;
+    print_text_to(rt.alloc(), text, input, io::writer(rt))?;
+    Ok(())
+}
+
+/// Writes the text about the file that is read from `input`, through a buffer, and returns
+/// `output`, flushed.
+pub fn print_text_to<'a, I: Read + Drop, O: Write + Drop>(
+    alloc: Global,
+    text: Text,
+    input: I,
+    output: O,
+) -> Result<O, Failure<'a>>
+    ensures ok { IfOk result (λ after.
+        Prints (IsWritten (text_of text)) (I.remaining input) (O.contents output) (O.contents after)) }
+    ensures err { IfErr result (IsPrintFailure (IsTextFault (text_of text)) (I.remaining input) (O.contents output)) }
+{
+    let mut reader = Watched::new(input);
+    let mut writer = buffered(alloc, output)?;
+    match write_text(alloc, text, &mut reader, &mut writer) {
+        Ok(()) => flushed(writer),
+        Err(fault) => Err(Failure::Tool(fault)),
+    }
+}
+
+/// Writes the text about the file that is read from `reader`.
+fn write_text<R: Source, W: Sink>(
+    alloc: Global,
+    text: Text,
+    reader: &mut R,
+    writer: &mut W,
+) -> Result<(), ToolFault>
+    ensures ok { OnOk result (HasRead (R.left reader.old) (R.left reader.new) (IsWritten (text_of text) (W.taken writer.old) (W.taken writer.new))) }
+    ensures err { IfErr result (IsTextFault (text_of text) (ends_of
+        (R.left reader.old) (R.left reader.new) (R.failed reader.new) (R.ended reader.new)
+        (W.taken writer.old) (W.taken writer.new) (W.failed writer.new))) }
+{
+    match text {
+        Text::Line => check_run(alloc, reader, writer),
+        Text::Listing => show_run(alloc, reader, writer),
+    }
+}
