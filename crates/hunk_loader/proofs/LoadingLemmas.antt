@@ -1,13 +1,16 @@
 -- Hunks that are loaded one after another.
-use Rattle.std.proofs.Common.{◌≡◌, ℕ, ◌+◌, ◌-◌, ◌<◌, ◌≤◌, List, [], ◌∷◌, ◌++◌, length, map, drop, replicate, slice_index, Vec, sym, ap, ◌∙◌, arith}
+use Rattle.std.proofs.Common.{◌≡◌, ℕ, ◌+◌, ◌-◌, ◌*◌, ◌<◌, ◌≤◌, List, [], ◌∷◌, ◌++◌, length, map, drop, replicate, slice_index, Vec, refl, sym, ap, ◌∙◌, arith}
 use Rattle.std.specs.List.{zip}
 use Rattle.std.proofs.lemmas.List.{append-nil, append_assoc, drop_all, drop_more, length-append, length-replicate, map-append}
 use Rattle.hunk_words.specs.Sites.{StandFrom}
 use Rattle.hunk_loadfile.specs.LoadHunk.{FileHunk}
 use Rattle.hunk_loadfile.specs.Patching.{patched_bytes}
+use Rattle.hunk_loadfile.specs.Trimming.{trimmed}
 use Rattle.hunk_loadfile.proofs.PatchingLemmas.{patched_bytes-filled}
+use Rattle.hunk_loadfile.proofs.TrimmingLemmas.{patched_bytes-trimmed}
 use Rattle.hunk_loader.specs.Image.{hunks_of}
 use Rattle.hunk_loader.specs.Loading.{loaded_bytes}
+use Rattle.hunk_loader.specs.Sizes.{sizes_of}
 
 -- content that was padded with zeros, and then patched
 pub patched_bytes-size : (bases content buffer patched : List ℕ) (limit size : ℕ) (sites : List (ℕ × ℕ)) → length content ≤ size → StandFrom 0 limit sites
@@ -48,3 +51,16 @@ loaded_from-more {A = A} bases all left rest made base hunk bytes i is_base at_b
     ∙ ap (λ hs. hunks_of made ++ loaded_from bases (base ∷ drop (i + 1) bases) hs) (sym shown)
     ∙ ap (λ bs. hunks_of made ++ loaded_from bases bs left) (sym bases_left)
     ∙ is
+
+-- ---- trimmed hunks
+
+pub loaded-trimmed : (all bases : List ℕ) (hunks : List FileHunk) → loaded_from all bases (trimmed hunks) ≡ loaded_from all bases hunks
+loaded-trimmed all [] hunks = refl
+loaded-trimmed all (base ∷ bases) [] = refl
+loaded-trimmed all (base ∷ bases) (hunk ∷ hunks) =
+    ap (λ bytes. (base, bytes) ∷ loaded_from all bases (trimmed hunks)) (patched_bytes-trimmed (4 * hunk.size) hunk.content hunk.sites.entries (slice_index all))
+    ∙ ap (λ others. (base, loaded_bytes all hunk) ∷ others) (loaded-trimmed all bases hunks)
+
+pub sizes_of-trimmed : (hunks : List FileHunk) → sizes_of (trimmed hunks) ≡ sizes_of hunks
+sizes_of-trimmed [] = refl
+sizes_of-trimmed (hunk ∷ hunks) = ap (λ sizes. hunk.size ∷ sizes) (sizes_of-trimmed hunks)

@@ -2,6 +2,7 @@
 use Rattle.std.specs.Prelude.{◌≡◌, ◌⊎◌, ℕ, ◌+◌, ◌*◌, ◌^◌, ◌<◌, List, Some, None, slice_get, slice_index, EachIndex}
 use Rattle.hunk_loadfile.specs.LoadHunk.{FileHunk}
 use Rattle.hunk_loadfile.specs.Patching.{patched}
+use Rattle.hunk_loadfile.specs.Trimming.{trimmed}
 use Rattle.hunk_loader.specs.Image.{memory_map}
 use Rattle.hunk_loader.specs.Loading.{loaded}
 use Rattle.hunk_loader.specs.Places.{Placed, Takes, IsFirstRefusal}
@@ -19,6 +20,14 @@ abbrev pub NothingElseIsLoaded : Type 0
 NothingElseIsLoaded =
     (hunks : List FileHunk) (bases : List ℕ) (address : ℕ) → ((number : ℕ) → ¬ Takes (sizes_of hunks) bases number address)
     → memory_map (loaded hunks bases) address ≡ None
+
+-- Trimming changes no byte in memory, whatever the bases are,
+abbrev pub TrimmedIsLoaded : Type 0
+TrimmedIsLoaded = (hunks : List FileHunk) (bases : List ℕ) → loaded (trimmed hunks) bases ≡ loaded hunks bases
+
+-- and no size, so the same bases are allowed.
+abbrev pub TrimmedHasSizes : Type 0
+TrimmedHasSizes = (hunks : List FileHunk) → sizes_of (trimmed hunks) ≡ sizes_of hunks
 
 -- Hunks are placed at addresses, or there is a first fault.
 abbrev pub PlacedOrRefused : Type 0

@@ -1,12 +1,19 @@
 //! Laws about the definitions of loading, each a function without a body.
 
-ghost use Rattle.hunk_loader.specs.Laws.{HunkIsLoaded, NothingElseIsLoaded, PlacedOrRefused};
+ghost use Rattle.hunk_loader.specs.Laws.{HunkIsLoaded, NothingElseIsLoaded, PlacedOrRefused, TrimmedHasSizes, TrimmedIsLoaded};
 
 /// The memory of a load file whose hunks are placed: each byte of each hunk at its address, and
 /// nothing else.
 pub fn memory_is_loaded()
     ensures bytes { HunkIsLoaded }
     ensures nothing_else { NothingElseIsLoaded }
+{}
+
+/// A trimmed load file is the same in memory: each byte, and where its hunks can be placed. See
+/// [`LoadFile::trimmed`](hunk_loadfile::LoadFile::trimmed).
+pub fn trimmed_is_loaded()
+    ensures memory { TrimmedIsLoaded }
+    ensures sizes { TrimmedHasSizes }
 {}
 
 /// Hunks are placed at addresses, or there is a first fault, as

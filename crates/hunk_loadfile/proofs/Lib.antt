@@ -1,6 +1,7 @@
 pub mod LoadHunkLemmas
 pub mod PatchingLemmas
 pub mod RulesLemmas
+pub mod TrimmingLemmas
 pub mod PatchingTwiceLemmas
 pub mod LoadFileLemmas
 pub mod WrittenFormLengthLemmas

@@ -1,5 +1,5 @@
--- Laws about load files, their written form and patching.
-use Rattle.std.specs.Prelude.{◌≡◌, ℕ, ◌+◌, ◌≤◌, List, length, Option, Some, None}
+-- Laws about load files, their written form, trimming and patching.
+use Rattle.std.specs.Prelude.{◌≡◌, ℕ, ◌+◌, ◌*◌, ◌<◌, ◌≤◌, List, length, Option, Some, None}
 use Rattle.std.specs.List.{All, filter_map}
 use Rattle.std.specs.Option.{option_map}
 use Rattle.hunk_words.specs.Event.{events}
@@ -10,8 +10,9 @@ use Rattle.hunk_words.specs.Trees.{LoadTree}
 use Rattle.hunk_loadfile.specs.LoadFile.{IsLoad, load_value}
 use Rattle.hunk_loadfile.specs.LoadHunk.{FileHunk}
 use Rattle.hunk_loadfile.specs.Partial.{partial}
-use Rattle.hunk_loadfile.specs.Patching.{patched_bytes}
+use Rattle.hunk_loadfile.specs.Patching.{byte_or_zero, patched_bytes, site_over}
 use Rattle.hunk_loadfile.specs.Rules.{IsLoadFile, IsTyped, build_fault, carried_longwords, most_carried}
+use Rattle.hunk_loadfile.specs.Trimming.{trimmed_hunk}
 use Rattle.hunk_loadfile.specs.WrittenForm.{written_form}
 
 -- ---- load files
@@ -38,6 +39,21 @@ AcceptedIsShort = (hunks : List FileHunk) → All IsTyped hunks → build_fault 
 -- After the events of a whole file the partial load file is that file.
 abbrev pub WholeIsPartial : Type 0
 WholeIsPartial = (t : LoadTree) → LoadFits t → partial (events (load_spelling t)) ≡ load_value t
+
+-- ---- trimming
+
+-- from this byte on, the content is zeros that no site includes
+abbrev pub IsZeroFrom : FileHunk → ℕ → Type 0
+IsZeroFrom hunk place =
+    (i : ℕ) → place ≤ i → i < length hunk.content → (byte_or_zero hunk.content i ≡ 0) × (site_over hunk.sites.entries i ≡ None)
+
+-- Trimming cuts only zeros that no site includes,
+abbrev pub OnlyZerosAreTrimmed : Type 0
+OnlyZerosAreTrimmed = (hunk : FileHunk) → IsZeroFrom hunk (length (trimmed_hunk hunk).content)
+
+-- and no beginning of the content in whole longwords that has all other bytes is shorter.
+abbrev pub TrimmedIsShortest : Type 0
+TrimmedIsShortest = (hunk : FileHunk) (longwords : ℕ) → IsZeroFrom hunk (4 * longwords) → length (trimmed_hunk hunk).content ≤ 4 * longwords
 
 -- ---- patching
 

@@ -4,6 +4,7 @@ pub mod Laws
 pub mod Partial
 pub mod Patching
 pub mod Rules
+pub mod Trimming
 pub mod WrittenForm
 pub mod OpenHunk
 pub mod LoadBuilder

@@ -1,5 +1,5 @@
-//! Laws about load files, their written form and patching, each a function without a body.
-ghost use Rattle.hunk_loadfile.specs.Laws.{AcceptedIsShort, OneLoad, PatchedTwice, WholeIsPartial, WrittenIsLoad, WrittenIsShort};
+//! Laws about load files, their written form, trimming and patching, each a function without a body.
+ghost use Rattle.hunk_loadfile.specs.Laws.{AcceptedIsShort, OneLoad, OnlyZerosAreTrimmed, PatchedTwice, TrimmedIsShortest, WholeIsPartial, WrittenIsLoad, WrittenIsShort};
 
 /// Decoding is unambiguous: no longwords are the load files of two values.
 pub fn longwords_tell_load_file()
@@ -26,6 +26,13 @@ pub fn written_is_read_back()
 /// After the events of a whole load file the partial load file is that file.
 pub fn events_tell_files()
     ensures { WholeIsPartial }
+{}
+
+/// [`LoadFile::trimmed`](crate::LoadFile::trimmed) cuts each content to its shortest beginning, in
+/// whole longwords, after which there are only zeros that no site includes.
+pub fn trimmed_is_shortest()
+    ensures zeros { OnlyZerosAreTrimmed }
+    ensures shortest { TrimmedIsShortest }
 {}
 
 /// Adding numbers at sites twice, the second time only at some of them, is adding their sums once.

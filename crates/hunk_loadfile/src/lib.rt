@@ -12,7 +12,8 @@
 //! - `debug_writer`: writes the symbols and debug blocks of a hunk.
 //! - `longword_writer`: writes bytes and longwords of a text.
 //! - `patching`: adding numbers to the longwords at sites.
-//! - `laws`: laws about load files, their written form and patching.
+//! - `trimming`: cutting the zeros at the end of contents.
+//! - `laws`: laws about load files, their written form, trimming and patching.
 #![tactic(auto)]
 
 mod debug_writer;
@@ -27,6 +28,7 @@ mod open_hunk;
 pub mod patching;
 mod relocation_writer;
 pub mod rules;
+mod trimming;
 pub mod written_form;
 
 pub use hunk_words::{HunkKind, Memory};

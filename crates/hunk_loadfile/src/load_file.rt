@@ -1,9 +1,11 @@
 //! A load file, made of hunks.
 ghost use Rattle.std.specs.Prelude.{◌≡◌, IfOk, IfErr};
 ghost use Rattle.hunk_loadfile.specs.Rules.{IsLoadFile, build_fault};
+ghost use Rattle.hunk_loadfile.specs.Trimming.{trimmed};
 
 use crate::load_hunk::LoadHunk;
 use crate::rules::{BuildRefusal, build_fault};
+use crate::trimming::trim;
 use std::alloc::{Allocator, Global};
 use std::marker::Model;
 
@@ -68,5 +70,16 @@ impl<A: Allocator + Copy> LoadFile<A> {
         ensures valid { IsLoadFile self }
     {
         self.hunks
+    }
+
+    /// The file with the zero longwords at the end of each content cut off. A longword with a byte of
+    /// a site stays, and so do all longwords before it. The sizes of the hunks stay, so memory is the
+    /// same. Does not allocate.
+    pub fn trimmed(self) -> Self
+        ensures { result ≡ trimmed self }
+    {
+        let mut hunks = self.into_hunks();
+        trim(&mut hunks);
+        Self::of_hunks(hunks)
     }
 }

@@ -7,6 +7,7 @@
 //! - `loading`: load files that are made of hunks, in memory.
 //! - `parts`: each part of a load file, as it is written.
 //! - `places`: addresses of hunks.
+//! - `trimmed`: load files without the zeros at the end of contents.
 //! - `values`: the expected hunks of a load file.
 //! - `written`: load files that are written.
 
@@ -17,5 +18,6 @@ mod loaded;
 mod loading;
 mod parts;
 mod places;
+mod trimmed;
 mod values;
 mod written;

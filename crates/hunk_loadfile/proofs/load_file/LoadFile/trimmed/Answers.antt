@@ -1,0 +1,14 @@
+use Rattle.std.proofs.Common.{◌≡◌, ◌++◌, ◌∙◌, List, length, take, drop, ap, subst, sym}
+use Rattle.std.proofs.lemmas.List.{take_at}
+use Rattle.hunk_loadfile.specs.LoadHunk.{FileHunk}
+use Rattle.hunk_loadfile.specs.Rules.{IsLoadFile}
+use Rattle.hunk_loadfile.specs.Trimming.{trimmed}
+use Rattle.hunk_loadfile.proofs.TrimmingLemmas.{IsLoadFile-trimmed}
+use Rattle.hunk_loadfile.proofs.load_file.LoadFile.trimmed.Goals as goal
+
+pub of_hunks-requires : goal.of_hunks-requires
+of_hunks-requires g c =
+    let new : List FileHunk = c.trim.new.hunks in
+    let made = c.into_hunks-hunks in
+    let whole : take made.result.len (new ++ drop (length new) made.result.items) ≡ new = take_at new (drop (length new) made.result.items) made.result.len (c.trim.auto.hunks ∙ c.deref_mut.ensures.len) in
+    subst IsLoadFile (sym (whole ∙ c.trim.ensures ∙ ap trimmed (c.deref_mut.ensures.value ∙ made.ensures.value))) (IsLoadFile-trimmed c.args.self made.ensures.valid)
