@@ -1,5 +1,6 @@
 -- What the arguments of a command line ask for.
-use Rattle.std.proofs.Common.{◌≡◌, ◌<◌, ◌≤◌, All, Bool, true, false, List, [], ◌⊎◌, arith, codes, IfOk, inl, inr, length, Err, Ok, refl, Result, subst, sym}
+use Rattle.std.proofs.Common.{◌≡◌, ◌<◌, ◌≤◌, All, List, [], ◌⊎◌, arith, codes, IfOk, inl, inr, length, Err, Ok, refl, Result, subst, sym}
+use Rattle.std.proofs.lemmas.List.{length-append}
 use Rattle.std.specs.Prelude.{⊤}
 use Rattle.std.specs.Result.{result_unwrap_or}
 use Rattle.std.specs.declared.alloc.AllocError.{AllocError}
@@ -8,9 +9,10 @@ use Rattle.clap.specs.Walk.{texts}
 use Rattle.clap.specs.Words.{IsAmong, Text, fault_of, subcommand_of}
 use Rattle.clap.specs.declared.error.ErrorKind.{ErrorKind}
 use Rattle.clap.specs.declared.error.ErrorKind.TheVariants as error
+use Rattle.hunk_tool.specs.declared.link_options.LinkOptions.{LinkOptions}
 use Rattle.hunk_commands.specs.declared.request.Request.{Request}
 use Rattle.hunk_commands.specs.declared.request.Request.TheVariants.{Link, Load, Image, Check, Show, Help, Refused, OutOfMemory}
-use Rattle.amihunk.specs.CommandLine.{Answers, AsksCheck, AsksImage, AsksLink, AsksLoad, AsksShow, IsAskedBy, IsCalled, IsImage, IsLink, IsLoad, IsNoFlag, Says, Met, command_line, file_line, image_line, link_line, load_line}
+use Rattle.amihunk.specs.CommandLine.{Answers, AsksCheck, AsksImage, AsksLink, AsksLoad, AsksShow, IsAskedBy, IsCalled, IsImage, IsLink, IsLoad, IsNoFlag, Says, Met, command_line, file_line, image_line, link_line, load_line, option_words}
 use Rattle.amihunk.proofs.CommandLineValueLemmas.{IsCalled-same, IsImage-same, IsLink-same, IsLoad-same, names_apart}
 use Rattle.amihunk.proofs.CommandLineFileLemmas.{calls-check, calls-show, fault_of-file_line, is_called-file_line}
 use Rattle.amihunk.proofs.CommandLineImageLemmas.{fault_of-image_line, is_image-image_line}
@@ -26,7 +28,7 @@ IsNoAnswer _ = ⊤
 -- what one of the kinds of error asks for is what the arguments ask for
 pub asked_by_kind : (words : List Text) (request : Request) (k : ErrorKind) → (k ≡ error.OutOfMemory) ⊎ IsAmong k (fault_of command_line words)
     → Answers k request → IsAskedBy words request
-asked_by_kind words (Link out strip files) k has answers = absurd answers
+asked_by_kind words (Link out options files) k has answers = absurd answers
 asked_by_kind words (Load list file) k has answers = absurd answers
 asked_by_kind words (Image list files) k has answers = absurd answers
 asked_by_kind words (Check file) k has answers = absurd answers
@@ -40,7 +42,7 @@ asked_by_kind words OutOfMemory k has answers = tt
 -- the request that matches what was found is what arguments ask for with which nothing is wrong
 asked_by_met : (words : List Text) (met : Met) (request : Request) → fault_of command_line words ≡ []
     → met ≡ subcommand_of command_line words → Says met request → IsAskedBy words request
-asked_by_met words met (Link out strip files) quiet is link = (quiet, subst (λ m. IsLink m out.now strip (texts files.items)) is link)
+asked_by_met words met (Link out options files) quiet is link = (quiet, subst (λ m. IsLink m out.now options (texts files.items)) is link)
 asked_by_met words met (Load list file) quiet is load = (quiet, subst (λ m. IsLoad m list.now file.now) is load)
 asked_by_met words met (Image list files) quiet is image = (quiet, subst (λ m. IsImage m list.now (texts files.items)) is image)
 asked_by_met words met (Check file) quiet is check = (quiet, subst (λ m. IsCalled m (codes "check") file.now) is check)
@@ -57,7 +59,7 @@ asked_by_result words met (Err e) request quiet is says same = subst (IsAskedBy 
 
 -- arguments with which nothing is wrong ask neither for help nor are they rejected
 asks_no_help : (words : List Text) (request : Request) → fault_of command_line words ≡ [] → IsAskedBy words request → IsNoAnswer request
-asks_no_help words (Link out strip files) quiet asked = tt
+asks_no_help words (Link out options files) quiet asked = tt
 asks_no_help words (Load list file) quiet asked = tt
 asks_no_help words (Image list files) quiet asked = tt
 asks_no_help words (Check file) quiet asked = tt
@@ -66,17 +68,17 @@ asks_no_help words (Help text) quiet asked = subst (λ kinds. IsAmong error.Disp
 asks_no_help words (Refused text) quiet asked = subst (λ kinds. IsAmong asked.kind kinds) quiet asked.among
 asks_no_help words OutOfMemory quiet asked = tt
 
--- what arguments that are `link` with this OUT, a strip or none, and these files ask for
-asks_link : (words : List Text) (out : Text) (strip : Bool) (files : List Text) → fault_of command_line words ≡ [] → IsLink (subcommand_of command_line words) out strip files
-    → (request : Request) → IsAskedBy words request → AsksLink out strip files request
-asks_link words out strip files quiet is (Link o s fs) asked = IsLink-same _ o.now out s strip (texts fs.items) files asked.1 is
-asks_link words out strip files quiet is (Load l f) asked = absurd (names_apart _ (codes "load") (codes "link") _ _ asked.1.of_file.called is.of_files.called refl)
-asks_link words out strip files quiet is (Image l fs) asked = absurd (names_apart _ (codes "image") (codes "link") _ _ asked.1.of_files.called is.of_files.called refl)
-asks_link words out strip files quiet is (Check f) asked = absurd (names_apart _ (codes "check") (codes "link") _ _ asked.1.called is.of_files.called refl)
-asks_link words out strip files quiet is (Show f) asked = absurd (names_apart _ (codes "show") (codes "link") _ _ asked.1.called is.of_files.called refl)
-asks_link words out strip files quiet is (Help text) asked = asks_no_help words (Help text) quiet asked
-asks_link words out strip files quiet is (Refused text) asked = asks_no_help words (Refused text) quiet asked
-asks_link words out strip files quiet is OutOfMemory asked = tt
+-- what arguments that are `link` with this OUT, these options, and these files ask for
+asks_link : (words : List Text) (out : Text) (options : LinkOptions) (files : List Text) → fault_of command_line words ≡ [] → IsLink (subcommand_of command_line words) out options files
+    → (request : Request) → IsAskedBy words request → AsksLink out options files request
+asks_link words out options files quiet is (Link o s fs) asked = IsLink-same _ o.now out s options (texts fs.items) files asked.1 is
+asks_link words out options files quiet is (Load l f) asked = absurd (names_apart _ (codes "load") (codes "link") _ _ asked.1.of_file.called is.of_files.called refl)
+asks_link words out options files quiet is (Image l fs) asked = absurd (names_apart _ (codes "image") (codes "link") _ _ asked.1.of_files.called is.of_files.called refl)
+asks_link words out options files quiet is (Check f) asked = absurd (names_apart _ (codes "check") (codes "link") _ _ asked.1.called is.of_files.called refl)
+asks_link words out options files quiet is (Show f) asked = absurd (names_apart _ (codes "show") (codes "link") _ _ asked.1.called is.of_files.called refl)
+asks_link words out options files quiet is (Help text) asked = asks_no_help words (Help text) quiet asked
+asks_link words out options files quiet is (Refused text) asked = asks_no_help words (Refused text) quiet asked
+asks_link words out options files quiet is OutOfMemory asked = tt
 
 -- what arguments that are `load` with this LIST and this FILE ask for
 asks_load : (words : List Text) (list file : Text) → fault_of command_line words ≡ [] → IsLoad (subcommand_of command_line words) list file
@@ -128,17 +130,16 @@ asks_show words file quiet is OutOfMemory asked = tt
 
 -- the same, of the plain forms; there are at most 2 ^ 64 - 1 words
 
-line_fits : (program : Text) (strip : Bool) (out : Text) (files : List Text) → length (link_line program strip out files) ≤ usize_max → length files ≤ usize_max
-line_fits program true out files fits = omega (arith, fits)
-line_fits program false out files fits = omega (arith, fits)
+line_fits : (program : Text) (options : LinkOptions) (out : Text) (files : List Text) → length (link_line program options out files) ≤ usize_max → length files ≤ usize_max
+line_fits program options out files fits = omega (arith, fits, length-append (option_words options) files)
 
 pub asks_link_where : (words : List Text) (request : Request) → length words ≤ usize_max → IsAskedBy words request
-    → (program : Text) (strip : Bool) (out : Text) (files : List Text) → words ≡ link_line program strip out files
-    → IsNoFlag out → 0 < length files → All IsNoFlag files → AsksLink out strip files request
-asks_link_where words request fits asked program strip out files is_line plain_out some plain_files =
-    let files_fit = line_fits program strip out files (subst (λ w. length w ≤ usize_max) is_line fits) in
-    asks_link (link_line program strip out files) out strip files (fault_of-link_line program strip out plain_out files some plain_files files_fit)
-    (is_link-link_line program strip out plain_out files some plain_files) request (subst (λ w. IsAskedBy w request) is_line asked)
+    → (program : Text) (options : LinkOptions) (out : Text) (files : List Text) → words ≡ link_line program options out files
+    → IsNoFlag out → 0 < length files → All IsNoFlag files → AsksLink out options files request
+asks_link_where words request fits asked program options out files is_line plain_out some plain_files =
+    let files_fit = line_fits program options out files (subst (λ w. length w ≤ usize_max) is_line fits) in
+    asks_link (link_line program options out files) out options files (fault_of-link_line program options out plain_out files some plain_files files_fit)
+    (is_link-link_line program options out plain_out files some plain_files) request (subst (λ w. IsAskedBy w request) is_line asked)
 
 pub asks_load_where : (words : List Text) (request : Request) → IsAskedBy words request → (program list file : Text)
     → words ≡ load_line program list file → IsNoFlag list → IsNoFlag file → AsksLoad list file request

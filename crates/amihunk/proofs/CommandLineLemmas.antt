@@ -4,13 +4,13 @@ use Rattle.std.specs.Prelude.{⊤, find}
 use Rattle.std.specs.Option.{option_map, option_map_or}
 use Rattle.clap.specs.Words.{App, Row, Text, built, fault_of, subcommand_of, with_subcommand}
 use Rattle.clap.specs.Walk.{answers_to, finished, nothing_held, rows_after, settled, walk, walk_from}
-use Rattle.clap.specs.Simple.{Shape, entered, label_of, names_of, rows_at}
+use Rattle.clap.specs.Simple.{Shape, entered, filled, label_of, names_of, rows_at}
 use Rattle.clap.specs.Takes.{is_given}
 use Rattle.clap.specs.Faults.{check_fault, defaults_fault, entered_fault, level_fault, settle_fault, walk_fault}
 use Rattle.clap.specs.Kinds.{check_kinds}
-use Rattle.amihunk.proofs.CommandLineUseLemmas.{AllDefaulting, Filled, filled-defaults, IsDefaulted, flag_read, has_row-defaults, or_else-nil, value_given, values_given}
+use Rattle.amihunk.proofs.CommandLineUseLemmas.{AllDefaulting, Filled, HasDefault, IsDefaulted, IsFilling, filled-defaults, flag_read, has_row-defaults, is_flag, or_else-nil, value_given, values_given}
 use Rattle.amihunk.proofs.CommandLineRowLemmas.{AllFilling, filled-settled, filled-walk}
-use Rattle.amihunk.specs.CommandLine.{IsCalled, IsWhole, bare_shape, command_line, file_shape, image_shape, link_shape, load_shape}
+use Rattle.amihunk.specs.CommandLine.{IsCalled, IsFlag, IsWhole, bare_shape, command_line, file_shape, flag_rule, image_shape, link_shape, load_shape}
 use Rattle.amihunk.specs.CommandLine.IsWhole.{link, load, image, check, show}
 
 -- ---- one level
@@ -73,21 +73,33 @@ both_given false b e = cc
 
 -- `link`
 
+flag_filling : (name : Text) → IsFilling false (filled (flag_rule name))
+flag_filling name = inr (inr (record { action_is = refl; range_is = refl; missing_is = refl; reading_is = refl }, refl))
+
 link_filling : AllFilling false built_link.rules
 link_filling = (
   inr (inl (inl refl, (omega arith, refl))),
   (
-    inr (inr (record { action_is = refl; range_is = refl; missing_is = refl; reading_is = refl }, refl)),
-    (inr (inl (inr refl, (omega arith, refl))), (inl refl, tt)),
+    flag_filling (codes "strip"),
+    (flag_filling (codes "short"), (flag_filling (codes "trim"), (inr (inl (inr refl, (omega arith, refl))), (inl refl, tt)))),
   ),
 )
 
 link_defaults : AllDefaulting built_link.rules
-link_defaults = (inl refl, (inr (refl, refl), (inl refl, (inl refl, tt))))
+link_defaults = (inl refl, (inr (refl, refl), (inr (refl, refl), (inr (refl, refl), (inl refl, (inl refl, tt))))))
 
--- `--strip` has a row, by its default
+-- a flag has a row, by its default
+flag_default : (name : Text) → HasDefault name (filled (flag_rule name))
+flag_default name = record { id_is = refl; first = codes "false"; others = []; defaults_are = refl }
+
 strip_defaulted : IsDefaulted (codes "strip") built_link.rules
-strip_defaulted = inr (inl (record { id_is = refl; first = codes "false"; others = []; defaults_are = refl }))
+strip_defaulted = inr (inl (flag_default (codes "strip")))
+
+short_defaulted : IsDefaulted (codes "short") built_link.rules
+short_defaulted = inr (inr (inl (flag_default (codes "short"))))
+
+trim_defaulted : IsDefaulted (codes "trim") built_link.rules
+trim_defaulted = inr (inr (inr (inl (flag_default (codes "trim")))))
 
 sound_link : IsSound built_link
 sound_link words e =
@@ -97,12 +109,18 @@ sound_link words e =
     let out = value_given (codes "out") rows right.filled given.0 in
     let files = values_given (codes "file") rows right.filled given.1 in
     let end = (walk built_link.rules [] nothing_held words).held in
-    let flag = flag_read rows right.filled (has_row-defaults (codes "strip") built_link.rules (settled built_link.rules end).rows strip_defaulted) in
-    link out.0 flag.0 files.0 (record {
+    let settled_rows = (settled built_link.rules end).rows in
+    let read : (name : Text) → is_flag name ≡ true → IsDefaulted name built_link.rules → (given : Bool) × IsFlag rows name given =
+    λ name is defaulted. flag_read name rows is right.filled (has_row-defaults name built_link.rules settled_rows defaulted) in
+    let strip = read (codes "strip") refl strip_defaulted in
+    let short = read (codes "short") refl short_defaulted in
+    let trim = read (codes "trim") refl trim_defaulted in
+    link out.0 (record { strip = strip.0; short = short.0; trim = trim.0 }) files.0 (record {
       of_files = record { rows = rows; called = refl; files_are = files.2; some = files.1 };
       out_is = out.1;
-      strip_is = flag.1.given_is;
-      flag_is = flag.1.read_is;
+      strip_is = strip.1;
+      short_is = short.1;
+      trim_is = trim.1;
     })
 
 -- `load`

@@ -8,7 +8,7 @@ use Rattle.std.proofs.lemmas.Slice.Eq.{bytes_eq-Decides}
 use Rattle.clap.specs.Facts.{explicit_source, unwrap_or_range}
 use Rattle.clap.specs.Kinds.{Kinds, or_else, range_kinds}
 use Rattle.clap.specs.Values.{bool_text}
-use Rattle.clap.specs.Walk.{Row, Rule, Text, action_of, all_of, at_row, default_rows, first_of, has_row, more_values, most_values, one_of, reading_by, row_text, used, values_or_missing, with_default, with_values, without}
+use Rattle.clap.specs.Walk.{Row, Rule, Text, action_of, all_of, at_row, default_rows, first_of, has_row, more_values, most_values, reading_by, row_text, used, values_or_missing, with_default, with_values, without}
 use Rattle.clap.specs.Takes.{is_given}
 use Rattle.clap.specs.Faults.{action_fault, repeat_fault, set_fault, use_fault, values_fault}
 use Rattle.clap.specs.declared.ArgAction.TheVariants.{Append, Help, Set, SetTrue}
@@ -18,6 +18,7 @@ use Rattle.clap.specs.declared.builder.value_parser.Reading.TheVariants.{AsWritt
 use Rattle.clap.specs.declared.parser.matches.ValueSource.{ValueSource}
 use Rattle.clap.specs.declared.parser.matches.ValueSource.TheVariants.{CommandLine, DefaultValue}
 use Rattle.clap.specs.declared.error.ErrorKind.TheVariants.{ArgumentConflict}
+use Rattle.amihunk.specs.CommandLine.{IsFlag}
 
 -- the row of a flag that was given, or that has its default
 pub record IsFlagRow (r : Row) (given : Bool) : Type 0 where
@@ -25,17 +26,21 @@ pub record IsFlagRow (r : Row) (given : Bool) : Type 0 where
   pub source_is : explicit_source r.source ≡ given
   pub reading_is : r.reading ≡ AsWritten
 
--- the row has a value, and if it is that of `--strip`, it is the row of a flag
+-- the names of the flags
+abbrev pub is_flag : Text → Bool
+is_flag id = bytes_eq id (codes "strip") || (bytes_eq id (codes "short") || bytes_eq id (codes "trim"))
+
+-- the row has a value, and if it is that of a flag, it is the row of one
 abbrev pub IsFilledRow : Row → Type 0
-IsFilledRow r = (1 ≤ length r.values) × (bytes_eq r.id (codes "strip") ≡ true → (given : Bool) × IsFlagRow r given)
+IsFilledRow r = (1 ≤ length r.values) × (is_flag r.id ≡ true → (given : Bool) × IsFlagRow r given)
 
 abbrev pub Filled : List Row → Type 0
 Filled [] = ⊤
 Filled (r ∷ rs) = IsFilledRow r × Filled rs
 
--- the argument takes at least one value, and is not `--strip`
+-- the argument takes at least one value, and is no flag
 abbrev pub IsValued : Rule → Type 0
-IsValued a = (1 ≤ (unwrap_or_range a.range).start_inclusive) × (bytes_eq a.id (codes "strip") ≡ false)
+IsValued a = (1 ≤ (unwrap_or_range a.range).start_inclusive) × (is_flag a.id ≡ false)
 
 -- the argument is a flag, which takes no value
 pub record IsSwitch (a : Rule) : Type 0 where
@@ -77,20 +82,20 @@ filled-at_row id change missing changed none (r ∷ rs) h = go (bytes_eq r.id id
     go true same rest = filled-append (change r) rs (changed r same h.0.0) h.1
     go false same rest = (h.0, rest)
 
--- a row that the id does not name is a row of another argument than `--strip`
-not_strip : (id r : Text) → bytes_eq id (codes "strip") ≡ false → bytes_eq r id ≡ true → bytes_eq r (codes "strip") ≡ true → ⊥
-not_strip id r other same strip =
+-- a row that the id names is no row of a flag, if the id is that of none
+no_flag : (id r : Text) → is_flag id ≡ false → bytes_eq r id ≡ true → is_flag r ≡ true → ⊥
+no_flag id r other same flag =
     let at : r ≡ id = (bytes_eq-Decides r id).0 same in
-    let both : bytes_eq id (codes "strip") ≡ true = subst (λ x. bytes_eq x (codes "strip") ≡ true) at strip in
+    let both : true ≡ false = sym (subst (λ x. is_flag x ≡ true) at flag) ∙ other in
     cc
 
-filled-with_values : (id : Text) (how : Reading) (source : ValueSource) (values : List Text) (rows : List Row) → bytes_eq id (codes "strip") ≡ false
+filled-with_values : (id : Text) (how : Reading) (source : ValueSource) (values : List Text) (rows : List Row) → is_flag id ≡ false
     → 1 ≤ length values → Filled rows → Filled (with_values id how source values rows)
 filled-with_values id how source values rows other some h =
     let first : Row = record { id = id; values = values; count = None; source = Some source; reading = how } in
-    let named : bytes_eq id (codes "strip") ≡ true → (given : Bool) × IsFlagRow first given = λ e. cc in
+    let named : is_flag id ≡ true → (given : Bool) × IsFlagRow first given = λ e. let both : true ≡ false = sym e ∙ other in cc in
     let more : (r : Row) → bytes_eq r.id id ≡ true → 1 ≤ length r.values → Filled (more_values source values r) =
-    λ r same full. ((rw length-append (omega arith), λ e. absurd (not_strip id r.id other same e)), tt) in
+    λ r same full. ((rw length-append (omega arith), λ e. absurd (no_flag id r.id other same e)), tt) in
     filled-at_row id (more_values source values) (first ∷ []) more ((some, named), tt) rows h
 
 filled-without : (id : Text) (rows : List Row) → Filled rows → Filled (without id rows)
@@ -280,11 +285,6 @@ value_given id rows h given =
     let value = first_given row.0.values filled.0.0 in
     (value.0, ap (option_and_then (λ (r : Row). slice_get r.values 0)) row.1 ∙ value.1)
 
--- what is read of a flag says whether it was given
-pub record IsRead (rows : List Row) (given : Bool) : Type 0 where
-  pub given_is : is_given (codes "strip") rows ≡ given
-  pub read_is : one_of (codes "strip") rows ≡ Some (bool_text given)
-
 row_found : (id : Text) (rows : List Row) → has_row id rows ≡ true → (r : Row) × (find (λ x. bytes_eq x.id id) rows ≡ Some r)
 row_found id [] has = cc
 row_found id (x ∷ xs) has = go (bytes_eq x.id id) has (row_found id xs)
@@ -297,14 +297,16 @@ row_found id (x ∷ xs) has = go (bytes_eq x.id id) has (row_found id xs)
 flag_text : (r : Row) (given : Bool) → IsFlagRow r given → row_text r ≡ Some (bool_text given)
 flag_text r given flag = rw (flag.values_are, flag.reading_is) refl
 
-pub flag_read : (rows : List Row) → Filled rows → has_row (codes "strip") rows ≡ true → (given : Bool) × IsRead rows given
-flag_read rows h has =
-    let row = row_found (codes "strip") rows has in
-    let filled = find-filled (codes "strip") rows row.0 h row.1 in
-    let flag = filled.0.1 filled.1 in (
+-- what is read of a flag says whether it was given
+pub flag_read : (name : Text) (rows : List Row) → is_flag name ≡ true → Filled rows → has_row name rows ≡ true → (given : Bool) × IsFlag rows name given
+flag_read name rows is h has =
+    let row = row_found name rows has in
+    let filled = find-filled name rows row.0 h row.1 in
+    let named : is_flag row.0.id ≡ true = ap is_flag ((bytes_eq-Decides row.0.id name).0 filled.1) ∙ is in
+    let flag = filled.0.1 named in (
       flag.0,
       record {
         given_is = ap (λ (o : Option Row). option_map_or (λ (r : Row). explicit_source r.source) o false) row.1 ∙ flag.1.source_is;
-        read_is = ap (option_and_then row_text) row.1 ∙ flag_text row.0 flag.0 flag.1;
+        value_is = ap (option_and_then row_text) row.1 ∙ flag_text row.0 flag.0 flag.1;
       },
     )

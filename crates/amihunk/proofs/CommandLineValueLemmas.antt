@@ -7,7 +7,8 @@ use Rattle.std.specs.Option.{option_map_or}
 use Rattle.clap.specs.Takes.{is_given}
 use Rattle.clap.specs.Values.{bool_text}
 use Rattle.clap.specs.Words.{Row, Text, all_of, first_of, one_of}
-use Rattle.amihunk.specs.CommandLine.{IsCalled, IsCalledOn, IsImage, IsLink, IsLoad, IsWhole, Met}
+use Rattle.amihunk.specs.CommandLine.{IsCalled, IsCalledOn, IsFlag, IsImage, IsLink, IsLoad, IsWhole, Met}
+use Rattle.hunk_tool.specs.declared.link_options.LinkOptions.{LinkOptions}
 use Rattle.amihunk.specs.CommandLine.IsWhole.{link, load, image, check, show}
 
 name_met : Met → Text
@@ -38,12 +39,24 @@ IsCalledOn-same met a b xs ys h k =
     let values : Some xs ≡ Some ys = sym h.files_are ∙ (ap (all_of (codes "file")) same ∙ k.files_are) in
     cc
 
-pub IsLink-same : (met : Met) (a b : Text) (s t : Bool) (xs ys : List Text) → IsLink met a s xs → IsLink met b t ys → (a ≡ b) × (s ≡ t) × (xs ≡ ys)
+IsFlag-same : (name : Text) (rows other : List Row) (a b : Bool) → rows ≡ other → IsFlag rows name a → IsFlag other name b → a ≡ b
+IsFlag-same name rows other a b same h k = sym h.given_is ∙ (ap (is_given name) same ∙ k.given_is)
+
+options_same : (a b : LinkOptions) → a.strip ≡ b.strip → a.short ≡ b.short → a.trim ≡ b.trim → a ≡ b
+options_same a b strip short trim =
+    ap (λ x. record { strip = x; short = a.short; trim = a.trim }) strip
+    ∙ ap (λ x. record { strip = b.strip; short = x; trim = a.trim }) short
+    ∙ ap (λ x. record { strip = b.strip; short = b.short; trim = x }) trim
+
+pub IsLink-same : (met : Met) (a b : Text) (s t : LinkOptions) (xs ys : List Text) → IsLink met a s xs → IsLink met b t ys → (a ≡ b) × (s ≡ t) × (xs ≡ ys)
 IsLink-same met a b s t xs ys h k =
     let same = rows_same met (codes "link") (codes "link") h.of_files.rows k.of_files.rows h.of_files.called k.of_files.called in
     let outs : Some a ≡ Some b = sym h.out_is ∙ (ap (first_of (codes "out")) same ∙ k.out_is) in
-    let strips : s ≡ t = sym h.strip_is ∙ (ap (is_given (codes "strip")) same ∙ k.strip_is) in
-    (cc, strips, IsCalledOn-same met (codes "link") (codes "link") xs ys h.of_files k.of_files)
+    let options = options_same s t
+    (IsFlag-same (codes "strip") h.of_files.rows k.of_files.rows s.strip t.strip same h.strip_is k.strip_is)
+    (IsFlag-same (codes "short") h.of_files.rows k.of_files.rows s.short t.short same h.short_is k.short_is)
+    (IsFlag-same (codes "trim") h.of_files.rows k.of_files.rows s.trim t.trim same h.trim_is k.trim_is) in
+    (cc, options, IsCalledOn-same met (codes "link") (codes "link") xs ys h.of_files k.of_files)
 
 pub IsLoad-same : (met : Met) (a b c d : Text) → IsLoad met a b → IsLoad met c d → (a ≡ c) × (b ≡ d)
 IsLoad-same met a b c d h k =
@@ -68,34 +81,42 @@ called_on met name rows files xs called files_are h =
     let files_same : xs ≡ files = cc in
     record { rows = rows; called = called; files_are = files_are; some = subst (λ fs. 0 < length fs) files_same h.some }
 
--- the flag reads as `true` or `false`
-flag_same : (rows : List Row) (s strip : Bool) → one_of (codes "strip") rows ≡ Some (bool_text s) → (one_of (codes "strip") rows ≡ Some (codes "true") → strip ≡ true)
-    → (one_of (codes "strip") rows ≡ Some (codes "false") → strip ≡ false) → s ≡ strip
-flag_same rows true strip read on off = sym (on read)
-flag_same rows false strip read on off = sym (off read)
+-- the value of a flag that was read
+pub record Reads (rows : List Row) (name : Text) (given : Bool) : Type 0 where
+  pub on : one_of name rows ≡ Some (codes "true") → given ≡ true
+  pub off : one_of name rows ≡ Some (codes "false") → given ≡ false
 
-pub says_link : (met : Met) (rows : List Row) → IsWhole met → met ≡ Some (codes "link", rows) → (out : Text) (strip : Bool) (files : List Text)
-    → first_of (codes "out") rows ≡ Some out → (one_of (codes "strip") rows ≡ Some (codes "true") → strip ≡ true)
-    → (one_of (codes "strip") rows ≡ Some (codes "false") → strip ≡ false) → all_of (codes "file") rows ≡ Some files → IsLink met out strip files
+-- the flag reads as `true` or `false`
+flag_same : (rows : List Row) (name : Text) (s given : Bool) → one_of name rows ≡ Some (bool_text s) → Reads rows name given → s ≡ given
+flag_same rows name true given value reads = sym (reads.on value)
+flag_same rows name false given value reads = sym (reads.off value)
+
+says_flag : (found rows : List Row) (name : Text) (s given : Bool) → found ≡ rows → IsFlag found name s → Reads rows name given → IsFlag rows name given
+says_flag found rows name s given same is reads =
+    let value : one_of name rows ≡ Some (bool_text s) = ap (one_of name) (sym same) ∙ is.value_is in
+    let flags : s ≡ given = flag_same rows name s given value reads in
+    record { given_is = ap (is_given name) (sym same) ∙ is.given_is ∙ flags; value_is = value ∙ ap (λ b. Some (bool_text b)) flags }
+
+pub says_link : (met : Met) (rows : List Row) → IsWhole met → met ≡ Some (codes "link", rows) → (out : Text) (options : LinkOptions) (files : List Text)
+    → first_of (codes "out") rows ≡ Some out → Reads rows (codes "strip") options.strip → Reads rows (codes "short") options.short → Reads rows (codes "trim") options.trim
+    → all_of (codes "file") rows ≡ Some files → IsLink met out options files
 unfolding called_on
-says_link met rows (link o s fs is) called out strip files out_is on off files_are =
+says_link met rows (link o s fs is) called out options files out_is strip short trim files_are =
     let same = rows_same met (codes "link") (codes "link") is.of_files.rows rows is.of_files.called called in
-    let read : one_of (codes "strip") rows ≡ Some (bool_text s) = ap (one_of (codes "strip")) (sym same) ∙ is.flag_is in
-    let given : is_given (codes "strip") rows ≡ s = ap (is_given (codes "strip")) (sym same) ∙ is.strip_is in
-    let flags : s ≡ strip = flag_same rows s strip read on off in
     record {
       of_files = called_on met (codes "link") rows files fs called files_are is.of_files;
       out_is = out_is;
-      strip_is = given ∙ flags;
-      flag_is = read ∙ ap (λ b. Some (bool_text b)) flags;
+      strip_is = says_flag is.of_files.rows rows (codes "strip") s.strip options.strip same is.strip_is strip;
+      short_is = says_flag is.of_files.rows rows (codes "short") s.short options.short same is.short_is short;
+      trim_is = says_flag is.of_files.rows rows (codes "trim") s.trim options.trim same is.trim_is trim;
     }
-says_link met rows (load l f is) called out strip files out_is on off files_are =
+says_link met rows (load l f is) called out options files out_is strip short trim files_are =
     absurd (names_apart met (codes "load") (codes "link") is.of_file.rows rows is.of_file.called called refl)
-says_link met rows (image l fs is) called out strip files out_is on off files_are =
+says_link met rows (image l fs is) called out options files out_is strip short trim files_are =
     absurd (names_apart met (codes "image") (codes "link") is.of_files.rows rows is.of_files.called called refl)
-says_link met rows (check f is) called out strip files out_is on off files_are =
+says_link met rows (check f is) called out options files out_is strip short trim files_are =
     absurd (names_apart met (codes "check") (codes "link") is.rows rows is.called called refl)
-says_link met rows (show f is) called out strip files out_is on off files_are =
+says_link met rows (show f is) called out options files out_is strip short trim files_are =
     absurd (names_apart met (codes "show") (codes "link") is.rows rows is.called called refl)
 
 pub says_image : (met : Met) (rows : List Row) → IsWhole met → met ≡ Some (codes "image", rows) → (list : Text) (files : List Text)

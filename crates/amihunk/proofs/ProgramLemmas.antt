@@ -1,5 +1,5 @@
 -- The status after the plain forms, and where memory ran out.
-use Rattle.std.proofs.Common.{◌≡◌, ◌∙◌, ◌∷◌, [], ap, Bool, inl, inr, List, Option, refl, subst, ℕ}
+use Rattle.std.proofs.Common.{◌∷◌, [], Bool, inl, inr, List, Option, refl, subst, ℕ}
 use Rattle.hunk_commands.specs.Request.{Ends, EndsImage, EndsLink, EndsLoad, EndsText}
 use Rattle.amihunk.specs.CommandLine.{AsksCheck, AsksImage, AsksLink, AsksLoad, AsksShow}
 use Rattle.hunk_commands.specs.Image.{IsImageFailure}
@@ -7,29 +7,30 @@ use Rattle.hunk_commands.specs.Link.{IsLinkFailure}
 use Rattle.hunk_commands.specs.Load.{IsLoadFailure}
 use Rattle.hunk_commands.specs.Text.{IsTextFailure}
 use Rattle.hunk_commands.specs.declared.text.Text.TheVariants.{Line, Listing}
+use Rattle.hunk_tool.specs.declared.link_options.LinkOptions.{LinkOptions}
 use Rattle.hunk_commands.specs.declared.request.Request.{Request}
 use Rattle.hunk_commands.specs.declared.request.Request.TheVariants.{Load, Link, Image, Check, Show, Help, Refused, OutOfMemory}
 use Rattle.hunk_commands.proofs.RequestLemmas.{not_begun}
 
-pub ends_link : {W : Type 0} (taken : W → Option (List ℕ)) (failed : W → Bool) (old new : W) (out : List ℕ) (strip : Bool) (files : List (List ℕ)) (request : Request) (status : ℕ)
-    → AsksLink out strip files request → Ends taken failed old new request status → EndsLink taken failed old new out strip files status
-ends_link taken failed old new out strip files (Link o s fs) status asks ends =
-    subst (λ x. EndsLink taken failed old new x strip files status) asks.0
+pub ends_link : {W : Type 0} (taken : W → Option (List ℕ)) (failed : W → Bool) (old new : W) (out : List ℕ) (options : LinkOptions) (files : List (List ℕ)) (request : Request) (status : ℕ)
+    → AsksLink out options files request → Ends taken failed old new request status → EndsLink taken failed old new out options files status
+ends_link taken failed old new out options files (Link o s fs) status asks ends =
+    subst (λ x. EndsLink taken failed old new x options files status) asks.0
     (subst (λ y. EndsLink taken failed old new o.now y files status) asks.1 (subst (λ z. EndsLink taken failed old new o.now s z status) asks.2 ends))
-ends_link taken failed old new out strip files (Load l f) status asks ends = absurd asks
-ends_link taken failed old new out strip files (Image l fs) status asks ends = absurd asks
-ends_link taken failed old new out strip files (Check f) status asks ends = absurd asks
-ends_link taken failed old new out strip files (Show f) status asks ends = absurd asks
-ends_link taken failed old new out strip files (Help text) status asks ends = absurd asks
-ends_link taken failed old new out strip files (Refused text) status asks ends = absurd asks
-ends_link taken failed old new out strip files OutOfMemory status asks ends =
-    inr (not_begun taken failed old new (IsLinkFailure strip files out) files status (inl (inl refl)) ends)
+ends_link taken failed old new out options files (Load l f) status asks ends = absurd asks
+ends_link taken failed old new out options files (Image l fs) status asks ends = absurd asks
+ends_link taken failed old new out options files (Check f) status asks ends = absurd asks
+ends_link taken failed old new out options files (Show f) status asks ends = absurd asks
+ends_link taken failed old new out options files (Help text) status asks ends = absurd asks
+ends_link taken failed old new out options files (Refused text) status asks ends = absurd asks
+ends_link taken failed old new out options files OutOfMemory status asks ends =
+    inr (not_begun taken failed old new (IsLinkFailure options.strip files out) files status (inl (inl refl)) ends)
 
 pub ends_image : {W : Type 0} (taken : W → Option (List ℕ)) (failed : W → Bool) (old new : W) (list : List ℕ) (files : List (List ℕ)) (request : Request) (status : ℕ)
     → AsksImage list files request → Ends taken failed old new request status → EndsImage taken failed old new list files status
 ends_image taken failed old new list files (Image l fs) status asks ends =
     subst (λ x. EndsImage taken failed old new x files status) asks.0 (subst (λ y. EndsImage taken failed old new l.now y status) asks.1 ends)
-ends_image taken failed old new list files (Link out strip fs) status asks ends = absurd asks
+ends_image taken failed old new list files (Link out options fs) status asks ends = absurd asks
 ends_image taken failed old new list files (Load l f) status asks ends = absurd asks
 ends_image taken failed old new list files (Check f) status asks ends = absurd asks
 ends_image taken failed old new list files (Show f) status asks ends = absurd asks
@@ -44,7 +45,7 @@ ends_load taken failed old new list file (Load l f) status asks ends =
     subst (λ x. EndsLoad taken failed old new x file status) asks.0 (subst (λ y. EndsLoad taken failed old new l.now y status) asks.1 ends)
 ends_load taken failed old new list file (Check f) status asks ends = absurd asks
 ends_load taken failed old new list file (Show f) status asks ends = absurd asks
-ends_load taken failed old new list file (Link out strip files) status asks ends = absurd asks
+ends_load taken failed old new list file (Link out options files) status asks ends = absurd asks
 ends_load taken failed old new list file (Image l files) status asks ends = absurd asks
 ends_load taken failed old new list file (Help text) status asks ends = absurd asks
 ends_load taken failed old new list file (Refused text) status asks ends = absurd asks
@@ -56,7 +57,7 @@ pub ends_check : {W : Type 0} (taken : W → Option (List ℕ)) (failed : W → 
 ends_check taken failed old new file (Load l f) status asks ends = absurd asks
 ends_check taken failed old new file (Check f) status asks ends = subst (λ x. EndsText taken failed old new Line x status) asks ends
 ends_check taken failed old new file (Show f) status asks ends = absurd asks
-ends_check taken failed old new file (Link out strip files) status asks ends = absurd asks
+ends_check taken failed old new file (Link out options files) status asks ends = absurd asks
 ends_check taken failed old new file (Image l files) status asks ends = absurd asks
 ends_check taken failed old new file (Help text) status asks ends = absurd asks
 ends_check taken failed old new file (Refused text) status asks ends = absurd asks
@@ -68,7 +69,7 @@ pub ends_show : {W : Type 0} (taken : W → Option (List ℕ)) (failed : W → B
 ends_show taken failed old new file (Load l f) status asks ends = absurd asks
 ends_show taken failed old new file (Check f) status asks ends = absurd asks
 ends_show taken failed old new file (Show f) status asks ends = subst (λ x. EndsText taken failed old new Listing x status) asks ends
-ends_show taken failed old new file (Link out strip files) status asks ends = absurd asks
+ends_show taken failed old new file (Link out options files) status asks ends = absurd asks
 ends_show taken failed old new file (Image l files) status asks ends = absurd asks
 ends_show taken failed old new file (Help text) status asks ends = absurd asks
 ends_show taken failed old new file (Refused text) status asks ends = absurd asks

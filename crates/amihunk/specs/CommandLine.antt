@@ -1,5 +1,5 @@
 -- What the arguments of a command line ask for, as `clap` reads them.
-use Rattle.std.specs.Prelude.{◌≡◌, ◌≢◌, ◌<◌, ⊤, ◌∷◌, Bool, List, [], true, codes, if◌then◌else◌, length, Option, Some}
+use Rattle.std.specs.Prelude.{◌≡◌, ◌≢◌, ◌<◌, ⊤, ◌∷◌, ◌++◌, Bool, List, [], true, codes, if◌then◌else◌, length, Option, Some}
 use Rattle.clap.specs.Lexer.{usize_max}
 use Rattle.clap.specs.Takes.{is_given}
 use Rattle.clap.specs.Values.{bool_text}
@@ -9,6 +9,7 @@ use Rattle.clap.specs.Words.{new_app, new_rule, one_of, subcommand_of, with_rule
 use Rattle.clap.specs.declared.builder.action.ArgAction.TheVariants.{SetTrue}
 use Rattle.clap.specs.declared.error.ErrorKind.{ErrorKind}
 use Rattle.clap.specs.declared.error.ErrorKind.TheVariants as error
+use Rattle.hunk_tool.specs.declared.link_options.LinkOptions.{LinkOptions}
 use Rattle.hunk_commands.specs.declared.request.Request.{Request}
 use Rattle.hunk_commands.specs.declared.request.Request.TheVariants.{Link, Load, Image, Check, Show, Help, Refused, OutOfMemory}
 
@@ -16,9 +17,9 @@ use Rattle.hunk_commands.specs.declared.request.Request.TheVariants.{Link, Load,
 abbrev pub option_rule : Text → Rule
 option_rule name = record (new_rule name) { long = Some name; value_names = 1; required = true }
 
--- `--strip`
-abbrev pub strip_rule : Rule
-strip_rule = record (new_rule (codes "strip")) { long = Some (codes "strip"); action = Some SetTrue }
+-- the flag `--NAME`
+abbrev pub flag_rule : Text → Rule
+flag_rule name = record (new_rule name) { long = Some name; action = Some SetTrue }
 
 -- `FILE`, which is required
 abbrev pub file_rule : Rule
@@ -28,9 +29,11 @@ file_rule = record (new_rule (codes "file")) { value_names = 1; required = true 
 abbrev pub files_rule : Rule
 files_rule = record file_rule { range = Some (record { start_inclusive = 1; end_inclusive = usize_max }) }
 
--- `link --out OUT [--strip] FILE...`
+-- `link --out OUT [--strip] [--short] [--trim] FILE...`
 abbrev pub link_shape : Shape
-link_shape = (with_rule (with_rule (with_rule (new_app (codes "link")) (option_rule (codes "out"))) strip_rule) files_rule).top
+link_shape = (with_rule (with_rule (with_rule (with_rule (with_rule
+    (new_app (codes "link")) (option_rule (codes "out")))
+    (flag_rule (codes "strip"))) (flag_rule (codes "short"))) (flag_rule (codes "trim"))) files_rule).top
 
 -- `load --at LIST FILE`
 abbrev pub load_shape : Shape
@@ -73,13 +76,18 @@ pub record IsCalledOn (met : Met) (name : Text) (files : List Text) : Type 0 whe
   pub files_are : all_of (codes "file") rows ≡ Some files
   pub some : 0 < length files
 
--- the subcommand is `link`, with this OUT and these files; strip says whether `--strip` was given,
--- and is what `clap` reads of the flag
-pub record IsLink (met : Met) (out : Text) (strip : Bool) (files : List Text) : Type 0 where
+-- whether the flag `--NAME` was given, which is also what `clap` reads of it
+pub record IsFlag (rows : List Row) (name : Text) (given : Bool) : Type 0 where
+  pub given_is : is_given name rows ≡ given
+  pub value_is : one_of name rows ≡ Some (bool_text given)
+
+-- the subcommand is `link`, with this OUT, these flags and these files
+pub record IsLink (met : Met) (out : Text) (options : LinkOptions) (files : List Text) : Type 0 where
   pub of_files : IsCalledOn met (codes "link") files
   pub out_is : first_of (codes "out") of_files.rows ≡ Some out
-  pub strip_is : is_given (codes "strip") of_files.rows ≡ strip
-  pub flag_is : one_of (codes "strip") of_files.rows ≡ Some (bool_text strip)
+  pub strip_is : IsFlag of_files.rows (codes "strip") options.strip
+  pub short_is : IsFlag of_files.rows (codes "short") options.short
+  pub trim_is : IsFlag of_files.rows (codes "trim") options.trim
 
 -- the subcommand is `load`, with this LIST and this FILE
 pub record IsLoad (met : Met) (list file : Text) : Type 0 where
@@ -93,7 +101,7 @@ pub record IsImage (met : Met) (list : Text) (files : List Text) : Type 0 where
 
 -- the subcommand is one of the program's, with its required values
 pub data IsWhole (met : Met) : Type 0 where
-  link : (out : Text) (strip : Bool) (files : List Text) → IsLink met out strip files → IsWhole met
+  link : (out : Text) (options : LinkOptions) (files : List Text) → IsLink met out options files → IsWhole met
   load : (list file : Text) → IsLoad met list file → IsWhole met
   image : (list : Text) (files : List Text) → IsImage met list files → IsWhole met
   check : (file : Text) → IsCalled met (codes "check") file → IsWhole met
@@ -101,7 +109,7 @@ pub data IsWhole (met : Met) : Type 0 where
 
 -- the request matches what was found
 abbrev pub Says : Met → Request → Type 0
-Says met (Link out strip files) = IsLink met out.now strip (texts files.items)
+Says met (Link out options files) = IsLink met out.now options (texts files.items)
 Says met (Load list file) = IsLoad met list.now file.now
 Says met (Image list files) = IsImage met list.now (texts files.items)
 Says met (Check file) = IsCalled met (codes "check") file.now
@@ -110,7 +118,7 @@ Says met _ = ⊥
 
 -- the request for arguments that `clap` rejects with this kind of error
 abbrev pub Answers : ErrorKind → Request → Type 0
-Answers k (Link out strip files) = ⊥
+Answers k (Link out options files) = ⊥
 Answers k (Load list file) = ⊥
 Answers k (Image list files) = ⊥
 Answers k (Check file) = ⊥
@@ -128,8 +136,8 @@ pub record IsRefusedBy (kinds : Kinds) : Type 0 where
 -- what the arguments ask for: the subcommand that they name if nothing is wrong with them, help if
 -- they ask for it, a rejection if something is wrong; nothing is said if memory runs out
 abbrev pub IsAskedBy : List Text → Request → Type 0
-IsAskedBy words (Link out strip files) = (fault_of command_line words ≡ [])
-    × IsLink (subcommand_of command_line words) out.now strip (texts files.items)
+IsAskedBy words (Link out options files) = (fault_of command_line words ≡ [])
+    × IsLink (subcommand_of command_line words) out.now options (texts files.items)
 IsAskedBy words (Load list file) = (fault_of command_line words ≡ [])
     × IsLoad (subcommand_of command_line words) list.now file.now
 IsAskedBy words (Image list files) = (fault_of command_line words ≡ [])
@@ -155,10 +163,18 @@ abbrev pub IsNoFlag : Text → Type 0
 IsNoFlag [] = ⊤
 IsNoFlag (c ∷ rest) = c ≢ 45
 
--- the arguments `PROGRAM link --out OUT FILE...`, with `--strip` after OUT if strip is true
-abbrev pub link_line : Text → Bool → Text → List Text → List Text
-link_line program strip out files =
-    program ∷ codes "link" ∷ codes "--out" ∷ out ∷ (if strip then codes "--strip" ∷ files else files)
+-- the word, if it is given
+abbrev pub word_if : Bool → Text → List Text
+word_if given word = if given then word ∷ [] else []
+
+-- those of the words `--strip`, `--short` and `--trim` that are asked for, in this order
+abbrev pub option_words : LinkOptions → List Text
+option_words options =
+    word_if options.strip (codes "--strip") ++ (word_if options.short (codes "--short") ++ word_if options.trim (codes "--trim"))
+
+-- the arguments `PROGRAM link --out OUT [--strip] [--short] [--trim] FILE...`
+abbrev pub link_line : Text → LinkOptions → Text → List Text → List Text
+link_line program options out files = program ∷ codes "link" ∷ codes "--out" ∷ out ∷ (option_words options ++ files)
 
 -- the arguments `PROGRAM load --at LIST FILE`
 abbrev pub load_line : Text → Text → Text → List Text
@@ -172,12 +188,11 @@ image_line program list files = program ∷ codes "image" ∷ codes "--at" ∷ l
 abbrev pub file_line : Text → Text → Text → List Text
 file_line program name file = program ∷ name ∷ file ∷ []
 
--- the request is `link` with this OUT, with a strip or without, and with these files in this order;
--- or memory ran out
-abbrev pub AsksLink : Text → Bool → List Text → Request → Type 0
-AsksLink out strip files (Link o s fs) = (o.now ≡ out) × (s ≡ strip) × (texts fs.items ≡ files)
-AsksLink out strip files OutOfMemory = ⊤
-AsksLink out strip files _ = ⊥
+-- the request is `link` with this OUT, these options, and these files in this order; or memory ran out
+abbrev pub AsksLink : Text → LinkOptions → List Text → Request → Type 0
+AsksLink out options files (Link o s fs) = (o.now ≡ out) × (s ≡ options) × (texts fs.items ≡ files)
+AsksLink out options files OutOfMemory = ⊤
+AsksLink out options files _ = ⊥
 
 -- the request is `load` with this LIST and this FILE, or memory ran out
 abbrev pub AsksLoad : Text → Text → Request → Type 0

@@ -1,26 +1,28 @@
 //! The arguments of the command line, as `clap` reads them.
-ghost use Rattle.std.specs.Prelude.{◌≡◌, ◌<◌, ℕ, All, Bool, IfOk, List, Some, codes, false, is_some, length, map, true};
+ghost use Rattle.std.specs.Prelude.{◌≡◌, ◌<◌, ℕ, All, IfOk, List, Some, codes, false, is_some, length, map, true};
 ghost use Rattle.clap.specs.Walk.{texts};
 ghost use Rattle.clap.specs.Words.{FailsBy, all_of, app_of, fault_of, first_of, found_of, kind_of, rows_of};
 ghost use Rattle.clap.specs.Words.{rule_of, shape_of, subcommand_of, subcommand_rows_of};
 ghost use Rattle.clap.specs.declared.builder.command.Command.TheViews.{out-Command};
 ghost use Rattle.amihunk.specs.CommandLine.{Answers, AsksCheck, AsksImage, AsksLink, AsksLoad, AsksShow, IsAskedBy};
 ghost use Rattle.amihunk.specs.CommandLine.{IsNoFlag, IsRefusal, IsWhole, Says, command_line, file_line, file_rule};
-ghost use Rattle.amihunk.specs.CommandLine.{file_shape, files_rule, image_line, image_shape, link_line, link_shape};
+ghost use Rattle.amihunk.specs.CommandLine.{file_shape, files_rule, flag_rule, image_line, image_shape, link_line, link_shape};
 ghost use Rattle.amihunk.specs.CommandLine.{load_line, load_shape, option_rule};
+ghost use Rattle.hunk_tool.specs.declared.link_options.LinkOptions.{LinkOptions};
 
 use clap::error::ErrorKind;
 use clap::{Arg, ArgAction, ArgMatches, Command, Error};
 use hunk_commands::Request;
+use hunk_tool::LinkOptions;
 use std::alloc::{AllocError, Global};
 use std::convert::AsStr;
 
 /// Reads the arguments of a command line, the first of which is the program's name.
 pub fn read_words<'a, S: AsStr>(alloc: Global, words: &'a [S]) -> Request<'a>
     ensures answer { IsAskedBy (map S.text words.entry.now) result }
-    ensures link { (program : List ℕ) (strip : Bool) (out : List ℕ) (files : List (List ℕ))
-        → map S.text words.entry.now ≡ link_line program strip out files
-        → IsNoFlag out → 0 < length files → All IsNoFlag files → AsksLink out strip files result }
+    ensures link { (program : List ℕ) (options : LinkOptions) (out : List ℕ) (files : List (List ℕ))
+        → map S.text words.entry.now ≡ link_line program options out files
+        → IsNoFlag out → 0 < length files → All IsNoFlag files → AsksLink out options files result }
     ensures load { (program list file : List ℕ)
         → map S.text words.entry.now ≡ load_line program list file
         → IsNoFlag list → IsNoFlag file → AsksLoad list file result }
@@ -81,21 +83,38 @@ fn command<'a>(alloc: Global) -> Result<Command<'a>, AllocError>
         .subcommand(show_command(alloc)?)
 }
 
-/// The subcommand `link --out OUT [--strip] FILE...`.
+/// The subcommand `link --out OUT [--strip] [--short] [--trim] FILE...`.
 fn link_command<'a>(alloc: Global) -> Result<Command<'a>, AllocError>
     ensures shape { IfOk result (λ c. shape_of c ≡ link_shape) }
     ensures local { IfOk result (λ c. (out-Command c).has_globals ≡ false) }
 {
-    let strip = Arg::new(alloc, "strip")
-        .long("strip")
-        .action(ArgAction::SetTrue)
-        .help("Leaves out symbols and debug blocks");
     Command::new(alloc, "link")
         .about("Links object files, and writes the load file")
         .after_help(help::LINK)
         .arg(option_argument(alloc, "out", "OUT", "The load file to write"))?
-        .arg(strip)?
+        .arg(flag(alloc, "strip", "Leaves out symbols and debug blocks"))?
+        .arg(flag(
+            alloc,
+            "short",
+            "Writes the short form, with relocations in 16-bit lists where they fit",
+        ))?
+        .arg(flag(
+            alloc,
+            "trim",
+            "Leaves out zero longwords at the end of each hunk",
+        ))?
         .arg(files_argument(alloc))
+}
+
+/// The flag `--NAME`.
+fn flag<'a>(alloc: Global, name: &'a str, help: &'a str) -> Arg<'a>
+    ensures rule { rule_of result ≡ flag_rule name.now }
+    ensures local { result.global ≡ false }
+{
+    Arg::new(alloc, name)
+        .long(name)
+        .action(ArgAction::SetTrue)
+        .help(help)
 }
 
 /// The subcommand `load --at LIST FILE`.
@@ -192,7 +211,11 @@ fn request_of<'a>(alloc: Global, matches: &ArgMatches<'a>) -> Result<Request<'a>
     match matches.subcommand() {
         Some(("link", values)) => Ok(Request::Link {
             out: value_of(values, "out"),
-            strip: values.get_flag("strip"),
+            options: LinkOptions {
+                strip: values.get_flag("strip"),
+                short: values.get_flag("short"),
+                trim: values.get_flag("trim"),
+            },
             files: files_of(alloc, values)?,
         }),
         Some(("load", values)) => Ok(Request::Load {

@@ -1,6 +1,7 @@
 //! The program: the arguments of the command line, what they ask for, and the exit status.
-ghost use Rattle.std.specs.Prelude.{◌≡◌, ◌<◌, ◌≤◌, ℕ, Bool, List, codes, length, map};
+ghost use Rattle.std.specs.Prelude.{◌≡◌, ◌<◌, ◌≤◌, ℕ, List, codes, length, map};
 ghost use Rattle.std.specs.List.{All};
+ghost use Rattle.hunk_tool.specs.declared.link_options.LinkOptions.{LinkOptions};
 ghost use Rattle.hunk_commands.specs.Request.{EndsImage, EndsLink, EndsLoad, EndsText};
 ghost use Rattle.amihunk.specs.Program.{EndsLine};
 ghost use Rattle.amihunk.specs.CommandLine.{IsNoFlag, file_line, image_line, link_line, load_line};
@@ -35,9 +36,9 @@ pub fn run<R: Files + Print + AllocGlobal, W: Sink, S: AsStr>(
     words: &[S],
 ) -> u8
     ensures line { EndsLine W.taken W.failed errors.old errors.new (map S.text words.now) result }
-    ensures link { (program : List ℕ) (strip : Bool) (out : List ℕ) (files : List (List ℕ))
-        → map S.text words.now ≡ link_line program strip out files
-        → IsNoFlag out → 0 < length files → All IsNoFlag files → EndsLink W.taken W.failed errors.old errors.new out strip files result }
+    ensures link { (program : List ℕ) (options : LinkOptions) (out : List ℕ) (files : List (List ℕ))
+        → map S.text words.now ≡ link_line program options out files
+        → IsNoFlag out → 0 < length files → All IsNoFlag files → EndsLink W.taken W.failed errors.old errors.new out options files result }
     ensures load { (program list file : List ℕ)
         → map S.text words.now ≡ load_line program list file
         → IsNoFlag list → IsNoFlag file → EndsLoad W.taken W.failed errors.old errors.new list file result }

@@ -1,6 +1,6 @@
 //! A file system in memory for the tests, which counts the files that are open.
 
-use crate::samples::{CALLEE, CALLER, LOOP};
+use crate::samples::{CALLEE, CALLER, LOOP, ZEROS};
 use std::alloc::{Allocator, Global};
 use std::cell::{Cell, RefCell};
 use std::fmt::Display;
@@ -106,6 +106,7 @@ fn find(name: &str) -> Option<(Kind, &'static [u8])> {
         "caller" => Some((Kind::Regular, &CALLER)),
         "callee" => Some((Kind::Regular, &CALLEE)),
         "loop" => Some((Kind::Regular, &LOOP)),
+        "zeros" => Some((Kind::Regular, &ZEROS)),
         "pipe" => Some((Kind::Pipe, &LOOP)),
         "directory" => Some((Kind::Directory, &[])),
         "full" => Some((Kind::Full, &[])),

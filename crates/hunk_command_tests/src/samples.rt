@@ -1,5 +1,6 @@
-//! Files and a device for the tests.
+//! Files, options and a device for the tests.
 
+use hunk_tool::LinkOptions;
 use std::io;
 use std::io::{ErrorKind, Read, Write};
 
@@ -45,6 +46,19 @@ pub static LOOP: [u8; 44] = [
     0, 0, 3, 0xE7, 0, 0, 0, 0, 0, 0, 3, 0xE9, 0, 0, 0, 1, 0x4E, 0x75, 0x4E, 0x71, 0, 0, 3, 0xF0, 0,
     0, 0, 1, 0x6C, 0x6F, 0x6F, 0x70, 0, 0, 0, 2, 0, 0, 0, 0, 0, 0, 3, 0xF2,
 ];
+
+/// An object file whose only hunk ends with two zero longwords. The first one is a site.
+pub static ZEROS: [u8; 52] = [
+    0, 0, 3, 0xE7, 0, 0, 0, 0, 0, 0, 3, 0xE9, 0, 0, 0, 3, 0x4E, 0x71, 0x4E, 0x75, 0, 0, 0, 0, 0, 0,
+    0, 0, 0, 0, 3, 0xEC, 0, 0, 0, 1, 0, 0, 0, 0, 0, 0, 0, 4, 0, 0, 0, 0, 0, 0, 3, 0xF2,
+];
+
+/// A plain load file, with symbols and debug blocks.
+pub const PLAIN: LinkOptions = LinkOptions {
+    strip: false,
+    short: false,
+    trim: false,
+};
 
 /// A device that fails.
 #[derive(Drop)]

@@ -3,6 +3,7 @@ use Rattle.std.specs.Prelude.{◌≡◌, ◌⊎◌, ℕ, Bool, List, Option, Con
 use Rattle.hunk_loadfile.specs.LoadHunk.{FileHunk}
 use Rattle.hunk_tool.specs.Inputs.{HaveRead}
 use Rattle.hunk_tool.specs.Link.{IsLinked, IsUnlinked, LinkTo}
+use Rattle.hunk_tool.specs.declared.link_options.LinkOptions.{LinkOptions}
 use Rattle.hunk_tool.specs.declared.tool_fault.ToolFault.TheVariants.{OutOfMemory}
 use Rattle.hunk_commands.specs.declared.failure.Failure.{Failure}
 use Rattle.hunk_commands.specs.declared.failure.Failure.TheVariants.{Opening, Tool}
@@ -14,10 +15,10 @@ abbrev pub DoLinkTo : (strip : Bool) (files : List (List ℕ)) (file : List File
 DoLinkTo strip files file = OfInputs files (λ inputs. HaveRead inputs (LinkTo strip file))
 
 -- the inputs link, and the bytes of their load file are all that was written to OUT
-pub record IsMade (strip : Bool) (files : List (List ℕ)) : Type 0 where
+pub record IsMade (options : LinkOptions) (files : List (List ℕ)) : Type 0 where
   pub old : Option (List ℕ)
   pub new : Option (List ℕ)
-  pub linked : OfInputs files (λ inputs. HaveRead inputs (IsLinked strip old new))
+  pub linked : OfInputs files (λ inputs. HaveRead inputs (IsLinked options old new))
 
 -- why the files were not linked: one of them cannot be opened, they do not link, or out of memory
 abbrev pub AreUnlinked : Bool → (files : List (List ℕ)) → Failure → Type 0

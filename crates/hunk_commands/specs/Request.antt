@@ -1,6 +1,7 @@
 -- The exit status after a request, and the line of its failure.
 use Rattle.std.specs.Prelude.{◌≡◌, ◌⊎◌, ◌∷◌, [], ℕ, List, Bool, Option}
 use Rattle.hunk_commands.specs.Inputs.{file_names}
+use Rattle.hunk_tool.specs.declared.link_options.LinkOptions.{LinkOptions}
 use Rattle.hunk_tool.specs.declared.tool_fault.ToolFault.TheVariants as tool_fault
 use Rattle.hunk_commands.specs.Failure.{failure_line, status_of, TellsLine}
 use Rattle.hunk_commands.specs.Load.{IsLoadFailure, IsLoaded}
@@ -28,9 +29,9 @@ EndsLoad taken failed old new list file status =
     ((status ≡ 0) × IsLoaded list) ⊎ IsFailed taken failed old new (IsLoadFailure list file) (file ∷ []) status
 
 -- the status after `link`
-abbrev pub EndsLink : {W : Type 0} (taken : W → Option (List ℕ)) (failed : W → Bool) (old new : W) (out : List ℕ) (strip : Bool) (files : List (List ℕ)) → ℕ → Type 0
-EndsLink taken failed old new out strip files status =
-    ((status ≡ 0) × IsMade strip files) ⊎ IsFailed taken failed old new (IsLinkFailure strip files out) files status
+abbrev pub EndsLink : {W : Type 0} (taken : W → Option (List ℕ)) (failed : W → Bool) (old new : W) (out : List ℕ) (options : LinkOptions) (files : List (List ℕ)) → ℕ → Type 0
+EndsLink taken failed old new out options files status =
+    ((status ≡ 0) × IsMade options files) ⊎ IsFailed taken failed old new (IsLinkFailure options.strip files out) files status
 
 -- the status after `image`
 abbrev pub EndsImage : {W : Type 0} (taken : W → Option (List ℕ)) (failed : W → Bool) (old new : W) (list : List ℕ) (files : List (List ℕ)) → ℕ → Type 0
@@ -45,7 +46,7 @@ EndsText taken failed old new text file status =
 -- the status after a request
 abbrev pub Ends : {W : Type 0} (taken : W → Option (List ℕ)) (failed : W → Bool) (old new : W) → Request → ℕ → Type 0
 Ends taken failed old new (Load list file) status = EndsLoad taken failed old new list.now file.now status
-Ends taken failed old new (Link out strip files) status = EndsLink taken failed old new out.now strip (file_names files.items) status
+Ends taken failed old new (Link out options files) status = EndsLink taken failed old new out.now options (file_names files.items) status
 Ends taken failed old new (Image list files) status = EndsImage taken failed old new list.now (file_names files.items) status
 Ends taken failed old new (Check file) status = EndsText taken failed old new Line file.now status
 Ends taken failed old new (Show file) status = EndsText taken failed old new Listing file.now status

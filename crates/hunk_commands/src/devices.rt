@@ -5,11 +5,11 @@ ghost use Rattle.std.specs.Io.Buffered.{writer_contents};
 ghost use Rattle.std.specs.Io.KnownBytes.{Appends, Keeps};
 ghost use Rattle.hunk_words.specs.Name.{bytes_of};
 ghost use Rattle.hunk_words.specs.Watched.{inner_of};
-ghost use Rattle.hunk_loadfile.specs.WrittenForm.{written_form};
+ghost use Rattle.hunk_loadfile.specs.WrittenForm.{written_in};
 ghost use Rattle.hunk_commands.specs.Devices.{IsCutShort};
 
 use crate::failure::Failure;
-use hunk_loadfile::{LoadFile, write_load};
+use hunk_loadfile::{LoadFile, LoadForm, write_load_with};
 use hunk_tool::ToolFault;
 use hunk_words::{Watched, WriteFault};
 use std::alloc::Global;
@@ -64,17 +64,18 @@ pub fn flushed<'a, O: Write + Drop>(writer: Watched<BufWriter<O>>) -> Result<O, 
     flush(output)
 }
 
-/// Writes a load file to `output` through a buffer, and returns `output`, flushed.
+/// Writes a load file in this form to `output` through a buffer, and returns `output`, flushed.
 pub fn write_file<'a, O: Write + Drop>(
     alloc: Global,
     output: O,
     file: &LoadFile,
+    form: LoadForm,
 ) -> Result<O, Failure<'a>>
-    ensures ok { IfOk result (λ after. Appends (O.contents output) (O.contents after) (bytes_of (written_form file.now))) }
+    ensures ok { IfOk result (λ after. Appends (O.contents output) (O.contents after) (bytes_of (written_in form file.now))) }
     ensures err { IfErr result IsCutShort }
 {
     let mut writer = buffered(alloc, output)?;
-    match write_load(alloc, file, &mut writer) {
+    match write_load_with(alloc, file, form, &mut writer) {
         Ok(()) => flushed(writer),
         Err(WriteFault::Device { .. }) => Err(Failure::Printing),
         Err(WriteFault::OutOfMemory { .. }) => Err(Failure::out_of_memory()),

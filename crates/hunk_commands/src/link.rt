@@ -1,8 +1,7 @@
 //! The request `link`: the load file of object files.
-ghost use Rattle.std.specs.Prelude.{◌≤◌, IfOk, IfErr, OnOk, length};
+ghost use Rattle.std.specs.Prelude.{IfOk, IfErr, OnOk, length};
 ghost use Rattle.hunk_commands.specs.Inputs.{file_names};
-ghost use Rattle.hunk_words.specs.Files.{most_longwords};
-ghost use Rattle.hunk_loadfile.specs.WrittenForm.{written_form};
+ghost use Rattle.hunk_loadfile.specs.WrittenForm.{IsShortEnough};
 ghost use Rattle.hunk_commands.specs.Failure.{IsOfFiles};
 ghost use Rattle.hunk_commands.specs.Link.{AreUnlinked, DoLinkTo, IsLinkFailure, IsMade};
 
@@ -10,37 +9,39 @@ use crate::devices::{create, write_file};
 use crate::failure::Failure;
 use crate::inputs::open_inputs;
 use hunk_loadfile::LoadFile;
-use hunk_tool::link_inputs;
+use hunk_tool::{LinkOptions, link_inputs};
 use std::rt::Files;
 
-/// Links the object files named `files`, and writes their load file to the file named `out`. With
-/// `strip`, symbols and debug blocks are left out.
+/// Links the object files named `files`, and writes their load file to the file named `out`, as
+/// `options` say.
 ///
 /// The files are linked before `out` is created, so `out` may be one of them.
 pub fn link<'a, R: Files + AllocGlobal>(
     rt: &R,
     out: &'a str,
-    strip: bool,
+    options: LinkOptions,
     files: &[&'a str],
 ) -> Result<(), Failure<'a>>
-    ensures ok { OnOk result (IsMade strip (file_names files.entry.now)) }
-    ensures err { IfErr result (IsLinkFailure strip (file_names files.entry.now) out.entry.now) }
+    ensures ok { OnOk result (IsMade options (file_names files.entry.now)) }
+    ensures err { IfErr result (IsLinkFailure options.strip (file_names files.entry.now) out.entry.now) }
     ensures of_files { IfErr result (IsOfFiles (length files.entry.now)) }
 {
-    let file = linked(rt, strip, files)?;
+    let linked = linked(rt, options.strip, files)?;
+    let file = options.trimmed(linked);
     let output = create(rt, out)?;
-    write_file(rt.alloc(), output, &file)?;
+    write_file(rt.alloc(), output, &file, options.form())?;
     Ok(())
 }
 
-/// The load file of the object files named `files`.
+/// The load file of the object files named `files`. With `strip`, symbols and debug blocks are left
+/// out.
 fn linked<'a, R: Files + AllocGlobal>(
     rt: &R,
     strip: bool,
     files: &[&'a str],
 ) -> Result<LoadFile, Failure<'a>>
     ensures ok { IfOk result (λ file. DoLinkTo strip (file_names files.entry.now) file) }
-    ensures short { IfOk result (λ file. length (written_form file) ≤ most_longwords) }
+    ensures short { IfOk result (λ file. IsShortEnough file) }
     ensures err { IfErr result (AreUnlinked strip (file_names files.entry.now)) }
     ensures of_files { IfErr result (IsOfFiles (length files.entry.now)) }
 {

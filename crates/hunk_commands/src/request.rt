@@ -8,6 +8,7 @@ use crate::image::image;
 use crate::link::link;
 use crate::load::load;
 use crate::text::{Text, print_text};
+use hunk_tool::LinkOptions;
 use hunk_words::{Sink, write_all};
 use std::alloc::{AllocError, Global};
 use std::rt::Files;
@@ -15,13 +16,13 @@ use std::rt::Files;
 /// What the arguments of a command line ask for.
 #[derive(Debug, Drop)]
 pub enum Request<'a> {
-    /// `link --out OUT [--strip] FILE...`: the load file of the object files FILE..., written to
-    /// OUT.
+    /// `link --out OUT [--strip] [--short] [--trim] FILE...`: the load file of the object files
+    /// FILE..., written to OUT.
     Link {
         /// The argument OUT.
         out: &'a str,
-        /// Whether `--strip` is given.
-        strip: bool,
+        /// Which of `--strip`, `--short` and `--trim` are given.
+        options: LinkOptions,
         /// The arguments FILE..., in the order given, of which there is at least one.
         files: Vec<&'a str>,
     },
@@ -68,9 +69,11 @@ pub fn answer<R: Files + Print + AllocGlobal, W: Sink>(
     ensures { Ends W.taken W.failed errors.old errors.new request.entry result }
 {
     match request {
-        Request::Link { out, strip, files } => {
-            answer_link(rt, errors, out, strip, files.as_slice())
-        }
+        Request::Link {
+            out,
+            options,
+            files,
+        } => answer_link(rt, errors, out, options, files.as_slice()),
         Request::Load { list, file } => answer_load(rt, errors, list, file),
         Request::Image { list, files } => answer_image(rt, errors, list, files.as_slice()),
         Request::Check { file } => answer_text(rt, errors, Text::Line, file),
@@ -105,20 +108,20 @@ fn answer_load<R: Files + Print + AllocGlobal, W: Sink>(
     }
 }
 
-/// Does `link --out OUT [--strip] FILE...`, and returns the exit status.
+/// Does `link --out OUT [--strip] [--short] [--trim] FILE...`, and returns the exit status.
 fn answer_link<R: Files + AllocGlobal, W: Sink>(
     rt: &R,
     errors: &mut W,
     out: &str,
-    strip: bool,
+    options: LinkOptions,
     files: &[&str],
 ) -> u8
-    ensures { EndsLink W.taken W.failed errors.old errors.new out.now strip (file_names files.now) result }
+    ensures { EndsLink W.taken W.failed errors.old errors.new out.now options (file_names files.now) result }
 {
     let Ok(names) = names_of(rt.alloc(), files) else {
         return report_failure(errors, &[], &Failure::out_of_memory());
     };
-    match link(rt, out, strip, files) {
+    match link(rt, out, options, files) {
         Ok(()) => DONE,
         Err(failure) => report_failure(errors, names.as_slice(), &failure),
     }

@@ -1,9 +1,8 @@
 //! Linking program units.
-ghost use Rattle.std.specs.Prelude.{◌≡◌, ◌≤◌, Bool, None, length, IfOk, IfErr, OnOk};
+ghost use Rattle.std.specs.Prelude.{◌≡◌, Bool, None, IfOk, IfErr, OnOk};
 ghost use Rattle.std.specs.List.{All};
-ghost use Rattle.hunk_words.specs.Files.{most_longwords};
 ghost use Rattle.hunk_loadfile.specs.Rules.{build_fault};
-ghost use Rattle.hunk_loadfile.specs.WrittenForm.{written_form};
+ghost use Rattle.hunk_loadfile.specs.WrittenForm.{IsShortEnough};
 ghost use Rattle.hunk_link.specs.Carried.{all_addends, carried};
 ghost use Rattle.hunk_link.specs.Limits.{IsHunkCount, IsSmall};
 ghost use Rattle.hunk_link.specs.Linkable.{IsFirstReason, IsLinkRefusal, Linkable};
@@ -45,7 +44,7 @@ pub fn link<A: Allocator + Copy>(
     ensures linkable { OnOk result (Linkable units.now strip) }
     ensures typed { OnOk result (All IsUnit units.now) }
     ensures file { IfOk result (λ file. file ≡ carried units.now strip) }
-    ensures short { IfOk result (λ file. length (written_form file) ≤ most_longwords) }
+    ensures short { IfOk result (λ file. IsShortEnough file) }
     ensures refused { IfErr result (IsLinkRefusal units.now strip) }
 {
     let total = check_limits(units, strip)?;
@@ -69,7 +68,7 @@ pub fn link_units<A: Allocator + Copy>(
     ensures linkable { OnOk result (Linkable units.items strip) }
     ensures typed { OnOk result (All IsUnit units.items) }
     ensures file { IfOk result (λ file. file ≡ carried units.items strip) }
-    ensures short { IfOk result (λ file. length (written_form file) ≤ most_longwords) }
+    ensures short { IfOk result (λ file. IsShortEnough file) }
     ensures refused { IfErr result (IsLinkRefusal units.items strip) }
 {
     let total = check_limits(&units, strip)?;
@@ -102,7 +101,7 @@ fn link_names<A: Allocator + Copy>(
 fn load_file<A: Allocator + Copy>(hunks: Vec<LoadHunk<A>, A>) -> LoadFile<A>
     requires { build_fault hunks.items ≡ None }
     ensures value { result ≡ hunks.items }
-    ensures short { length (written_form result) ≤ most_longwords }
+    ensures short { IsShortEnough result }
 {
     match LoadFile::new(hunks) {
         Ok(file) => {

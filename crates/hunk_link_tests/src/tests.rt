@@ -2,9 +2,12 @@
 //!
 //! - `answers`: what units link to is compared with what it is to be.
 //! - `cases`: files that link, by every call.
+//! - `choices`: how files may be linked.
 //! - `devices`: readers and writers that fail.
 //! - `dice`: numbers that look random.
+//! - `far_sites`: sites about the first offset that 16 bits do not hold.
 //! - `files`: units that link.
+//! - `forms`: one object file, and its load file for every choice of options.
 //! - `growths`: allocations that fail.
 //! - `limits`: as many hunks as a link may have, and as large ones.
 //! - `loads`: allocations of loading that fail.
@@ -24,9 +27,12 @@
 
 mod answers;
 mod cases;
+mod choices;
 mod devices;
 mod dice;
+mod far_sites;
 mod files;
+mod forms;
 mod growths;
 mod limits;
 mod loads;

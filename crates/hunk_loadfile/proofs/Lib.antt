@@ -4,7 +4,10 @@ pub mod RulesLemmas
 pub mod TrimmingLemmas
 pub mod PatchingTwiceLemmas
 pub mod LoadFileLemmas
+pub mod LoadFormLemmas
+pub mod ShortNumbersLemmas
 pub mod WrittenFormLengthLemmas
+pub mod NumberWidthLemmas
 pub mod LongwordWriterLemmas
 pub mod LoadWriterLemmas
 pub mod OpenHunkLemmas
@@ -14,6 +17,7 @@ pub mod WrittenFormInsertLemmas
 pub mod WrittenFormSiteLemmas
 pub mod WrittenFormTree
 pub mod WrittenFormPartLemmas
+pub mod WrittenFormShortLemmas
 pub mod WrittenFormSpellingLemmas
 pub mod WrittenFormValueLemmas
 pub mod WrittenFormLemmas

@@ -7,10 +7,11 @@ use Rattle.std.specs.List.{All, flat_map}
 use Rattle.hunk_words.specs.Longwords.{longwords}
 use Rattle.hunk_words.specs.Name.{bytes_of}
 use Rattle.hunk_words.proofs.SitesLemmas.{AreApart-few}
+use Rattle.hunk_loadfile.specs.declared.load_form.LoadForm.{LoadForm}
 use Rattle.hunk_loadfile.specs.LoadHunk.{FileHunk}
 use Rattle.hunk_loadfile.specs.Rules.{IsLoadFile, IsLoadHunk, carried_by, debug_longwords, most_size, symbol_longwords}
-use Rattle.hunk_loadfile.specs.WrittenForm.{content_words, debug_words, header_words, hunk_words, site_words, size_word, symbols_words}
-use Rattle.hunk_loadfile.proofs.WrittenFormLengthLemmas.{length-content_words-le, length-debugs, length-hunks-le, length-site_words-le, length-symbols_words-le}
+use Rattle.hunk_loadfile.specs.WrittenForm.{content_words, debug_words, header_words, hunk_words, relocation_words, size_word, symbols_words}
+use Rattle.hunk_loadfile.proofs.WrittenFormLengthLemmas.{length-content_words-le, length-debugs, length-hunks-le, length-relocation_words-le, length-symbols_words-le}
 use Rattle.hunk_loadfile.proofs.LongwordWriterLemmas.{bytes_of-append, length-bytes_of}
 use Rattle.hunk_words.proofs.LongwordsByteLemmas.{bytes_of-longwords}
 use Rattle.hunk_words.proofs.LongwordsLemmas.{IsWhole-length}
@@ -50,12 +51,12 @@ pub content-room : (count : ℕ) (h : FileHunk) → IsLoadHunk count h → h.siz
 content-room count h valid small =
     omega (arith, small, length-bytes_of (content_words h.kind h.size (longwords h.content)), length-content_words-le h.kind h.size h.content valid.content)
 
-pub sites-room : (count : ℕ) (h : FileHunk) (entries : List (ℕ × ℕ)) → IsLoadHunk count h → h.size ≤ most_size → entries ≡ h.sites.entries
-    → (4 * (2 + 3 * length entries) < 2 ^ 32) × (length (bytes_of (site_words count entries)) < 2 ^ 32)
-sites-room count h entries valid small is =
+pub sites-room : (form : LoadForm) (count : ℕ) (h : FileHunk) (entries : List (ℕ × ℕ)) → IsLoadHunk count h → h.size ≤ most_size → entries ≡ h.sites.entries
+    → (8 * (2 + 3 * length entries) < 2 ^ 32) × (length (bytes_of (relocation_words form count entries)) < 2 ^ 32)
+sites-room form count h entries valid small is =
     let few = AreApart-few h.sites valid.typed.apart in
-    let room : 4 * (2 + 3 * length entries) < 2 ^ 32 = omega (arith, small, few, valid.limit, ap length is) in
-    (room, omega (arith, room, length-bytes_of (site_words count entries), length-site_words-le count entries))
+    let room : 8 * (2 + 3 * length entries) < 2 ^ 32 = omega (arith, small, few, valid.limit, ap length is) in
+    (room, omega (arith, room, length-bytes_of (relocation_words form count entries), length-relocation_words-le form count entries))
 
 pub symbols-room : (h : FileHunk) (symbols : List (List ℕ × ℕ)) → carried_by h ≤ 2 ^ 28 → symbols ≡ h.symbols
     → (4 * (2 + sum_by symbol_longwords symbols) < 2 ^ 32) × (length (bytes_of (symbols_words symbols)) < 2 ^ 32)
@@ -70,9 +71,9 @@ debugs-room h debugs carries is =
     (room, omega (arith, room, length-bytes_of (flat_map debug_words debugs), length-debugs debugs))
 
 -- the parts of a hunk with these sites, symbols and debug blocks
-pub hunk_words-parts : (count : ℕ) (h : FileHunk) (entries : List (ℕ × ℕ)) (symbols : List (List ℕ × ℕ)) (debugs : List (List ℕ)) → entries ≡ h.sites.entries → symbols ≡ h.symbols → debugs ≡ h.debugs
-    → hunk_words count h ≡ content_words h.kind h.size (longwords h.content) ++ (site_words count entries ++ (symbols_words symbols ++ (flat_map debug_words debugs ++ 1010 ∷ [])))
-hunk_words-parts count h entries symbols debugs sites named blocks = rw (sites, named, blocks) refl
+pub hunk_words-parts : (form : LoadForm) (count : ℕ) (h : FileHunk) (entries : List (ℕ × ℕ)) (symbols : List (List ℕ × ℕ)) (debugs : List (List ℕ)) → entries ≡ h.sites.entries → symbols ≡ h.symbols → debugs ≡ h.debugs
+    → hunk_words form count h ≡ content_words h.kind h.size (longwords h.content) ++ (relocation_words form count entries ++ (symbols_words symbols ++ (flat_map debug_words debugs ++ 1010 ∷ [])))
+hunk_words-parts form count h entries symbols debugs sites named blocks = rw (sites, named, blocks) refl
 
 -- the header is short
 pub length-header_words : (hunks : List FileHunk) → length (header_words hunks) ≡ 5 + length hunks
@@ -83,16 +84,16 @@ counts [] = refl
 counts (h ∷ hs) = omega (arith, counts hs, sum_by-cons (λ (k : FileHunk). 1) h hs)
 
 -- and so are the hunks before an index
-pub length-front_hunks-le : (hunks : List FileHunk) (index : ℕ) → IsLoadFile hunks → length (bytes_of (flat_map (hunk_words (length hunks)) (take index hunks))) < 2 ^ 32
-length-front_hunks-le hunks index valid =
+pub length-front_hunks-le : (form : LoadForm) (hunks : List FileHunk) (index : ℕ) → IsLoadFile hunks → length (bytes_of (flat_map (hunk_words form (length hunks)) (take index hunks))) < 2 ^ 32
+length-front_hunks-le form hunks index valid =
     let front = take index hunks in
     omega (
       arith,
       valid.few,
       valid.small,
       valid.carries,
-      length-bytes_of (flat_map (hunk_words (length hunks)) front),
-      length-hunks-le (length hunks) front (All-take (IsLoadHunk (length hunks)) index hunks valid.each),
+      length-bytes_of (flat_map (hunk_words form (length hunks)) front),
+      length-hunks-le form (length hunks) front (All-take (IsLoadHunk (length hunks)) index hunks valid.each),
       sum_by-take-le (λ (h : FileHunk). h.size) hunks index,
       sum_by-take-le carried_by hunks index,
       sum_by-take-le (λ (h : FileHunk). 1) hunks index,

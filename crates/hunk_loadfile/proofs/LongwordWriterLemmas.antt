@@ -1,4 +1,4 @@
--- Longwords that are written one after another, and what the parts of a load file amount to.
+-- Numbers that are written one after another, and what the parts of a load file amount to.
 use Rattle.std.proofs.Common.{◌≡◌, ◌==◌, ◌<◌, ◌≤◌, ◌+◌, ◌*◌, ◌-◌, ◌∙◌, ℕ, zero, suc, List, [], ◌∷◌, ◌++◌, length, map, take, get_or, replicate, Bool, false, Option, Result, Ok, Err, Vec, sym, ap, refl, subst, append_assoc, arith}
 use Rattle.byteorder.specs.Endian.{big_bytes}
 use Rattle.std.proofs.lemmas.Grind.{flat_map-append}
@@ -13,6 +13,9 @@ use Rattle.hunk_words.proofs.NameLemmas.{length-name_words, name_words-writes}
 use Rattle.hunk_words.proofs.StreamsWritingLemmas.{Wrote-more, Wrote-part, Wrote-stop, Wrote-then}
 use Rattle.hunk_words.specs.declared.kinds.HunkKind.TheVariants.{Code, Data, Bss}
 use Rattle.hunk_words.specs.DebugInfo.{lists_of}
+use Rattle.hunk_loadfile.specs.declared.number_width.NumberWidth.{NumberWidth}
+use Rattle.hunk_loadfile.specs.NumberWidth.{bytes_in}
+use Rattle.hunk_loadfile.proofs.NumberWidthLemmas.{bytes_in-append, length-bytes_in-le}
 use Rattle.hunk_loadfile.specs.WrittenForm.{content_words, symbol_words, symbols_words}
 
 -- ---- bytes of longwords
@@ -28,35 +31,38 @@ bytes_of-flat_map : {X : Type 0} (part : X → List ℕ) (xs : List X) → bytes
 bytes_of-flat_map part [] = refl
 bytes_of-flat_map part (x ∷ xs) = bytes_of-append (part x) (flat_map part xs) ∙ ap (λ t. bytes_of (part x) ++ t) (bytes_of-flat_map part xs)
 
+-- ---- numbers after numbers
+
+module _ (width : NumberWidth) {W : Type 0} (taken : W → Option (List ℕ)) (failed : W → Bool) where
+  -- numbers, and then others
+  pub numbers-then : (old between new : W) (ws first rest : List ℕ) (start middle : ℕ) (r : Result ℕ WriteFault)
+      → ws ≡ first ++ rest
+      → Wrote taken failed old between (bytes_in width first) start (Ok middle)
+      → Wrote taken failed between new (bytes_in width rest) middle r
+      → Wrote taken failed old new (bytes_in width ws) start r
+  numbers-then old between new ws first rest start middle r is one other =
+      Wrote-then taken failed old between new (bytes_in width ws) (bytes_in width first) (bytes_in width rest) start middle r (ap (bytes_in width) is ∙ bytes_in-append width first rest) one other
+
+  -- it stopped in the first ones
+  pub numbers-stop : (old new : W) (ws first rest : List ℕ) (start : ℕ) (fault : WriteFault)
+      → ws ≡ first ++ rest
+      → Wrote taken failed old new (bytes_in width first) start (Err fault)
+      → Wrote taken failed old new (bytes_in width ws) start (Err fault)
+  numbers-stop old new ws first rest start fault is stopped =
+      Wrote-stop taken failed old new (bytes_in width ws) (bytes_in width first) (bytes_in width rest) start fault (ap (bytes_in width) is ∙ bytes_in-append width first rest) stopped
+
+  -- it stopped in some between others
+  pub numbers-inside : (old between new : W) (ws first part rest : List ℕ) (start middle : ℕ) (fault : WriteFault)
+      → ws ≡ first ++ (part ++ rest)
+      → Wrote taken failed old between (bytes_in width first) start (Ok middle)
+      → Wrote taken failed between new (bytes_in width part) middle (Err fault)
+      → Wrote taken failed old new (bytes_in width ws) start (Err fault)
+  numbers-inside old between new ws first part rest start middle fault is one next =
+      numbers-then old between new ws first (part ++ rest) start middle (Err fault) is one (numbers-stop between new (part ++ rest) part rest middle fault refl next)
+
 -- ---- longwords after longwords
 
 module _ {W : Type 0} (taken : W → Option (List ℕ)) (failed : W → Bool) where
-  -- longwords, and then others
-  pub words-then : (old between new : W) (ws first rest : List ℕ) (start middle : ℕ) (r : Result ℕ WriteFault)
-      → ws ≡ first ++ rest
-      → Wrote taken failed old between (bytes_of first) start (Ok middle)
-      → Wrote taken failed between new (bytes_of rest) middle r
-      → Wrote taken failed old new (bytes_of ws) start r
-  words-then old between new ws first rest start middle r is one other =
-      Wrote-then taken failed old between new (bytes_of ws) (bytes_of first) (bytes_of rest) start middle r (ap bytes_of is ∙ bytes_of-append first rest) one other
-
-  -- it stopped in the first ones
-  pub words-stop : (old new : W) (ws first rest : List ℕ) (start : ℕ) (fault : WriteFault)
-      → ws ≡ first ++ rest
-      → Wrote taken failed old new (bytes_of first) start (Err fault)
-      → Wrote taken failed old new (bytes_of ws) start (Err fault)
-  words-stop old new ws first rest start fault is stopped =
-      Wrote-stop taken failed old new (bytes_of ws) (bytes_of first) (bytes_of rest) start fault (ap bytes_of is ∙ bytes_of-append first rest) stopped
-
-  -- it stopped in some between others
-  pub words-inside : (old between new : W) (ws first part rest : List ℕ) (start middle : ℕ) (fault : WriteFault)
-      → ws ≡ first ++ (part ++ rest)
-      → Wrote taken failed old between (bytes_of first) start (Ok middle)
-      → Wrote taken failed between new (bytes_of part) middle (Err fault)
-      → Wrote taken failed old new (bytes_of ws) start (Err fault)
-  words-inside old between new ws first part rest start middle fault is one next =
-      words-then old between new ws first (part ++ rest) start middle (Err fault) is one (words-stop between new (part ++ rest) part rest middle fault refl next)
-
   -- those of one more element of a list
   pub parts-more : {X : Type 0} (old between new : W) (part : X → List ℕ) (xs : List X) (index : ℕ) (x : X) (start middle written : ℕ)
       → index < length xs → x ≡ get_or xs index x
@@ -79,9 +85,9 @@ module _ {W : Type 0} (taken : W → Option (List ℕ)) (failed : W → Bool) wh
       (Wrote-part taken failed (λ y. bytes_of (part y)) xs index x x old between new start middle fault within is
       (subst (λ t. Wrote taken failed old between t start (Ok middle)) (bytes_of-flat_map part (take index xs)) first) next)
 
--- ---- longwords in chunks
+-- ---- numbers in chunks
 
--- One longword of each element is written: these so far, and those of the remaining elements.
+-- One number of each element is written: these so far, and those of the remaining elements.
 module _ {X : Type 0} (word : X → ℕ) (words : List ℕ) (chunk rest all : List X) where
   -- those of the next chunk, and of the rest
   pub chunk-around : (left : List X) → left ≡ chunk ++ rest → words ++ map word left ≡ map word all → words ++ (map word chunk ++ map word rest) ≡ map word all
@@ -92,9 +98,9 @@ module _ {X : Type 0} (word : X → ℕ) (words : List ℕ) (chunk rest all : Li
   chunk-more left parts whole = append_assoc words (map word chunk) (map word rest) ∙ chunk-around left parts whole
 
   -- there is room for those of the next chunk
-  pub chunk-room : (left : List X) (next : List ℕ) (start written : ℕ) → left ≡ chunk ++ rest → words ++ map word left ≡ map word all → next ≡ map word chunk
-      → written ≡ start + length (bytes_of words) → written + length (bytes_of next) ≤ start + 4 * length all
-  chunk-room left next start written parts whole is counted =
+  pub chunk-room : (width : NumberWidth) (left : List X) (next : List ℕ) (start written : ℕ) → left ≡ chunk ++ rest → words ++ map word left ≡ map word all → next ≡ map word chunk
+      → written ≡ start + length (bytes_in width words) → written + length (bytes_in width next) ≤ start + 4 * length all
+  chunk-room width left next start written parts whole is counted =
       omega (
         arith,
         counted,
@@ -103,8 +109,8 @@ module _ {X : Type 0} (word : X → ℕ) (words : List ℕ) (chunk rest all : Li
         length-append words (map word chunk ++ map word rest),
         length-append (map word chunk) (map word rest),
         length-map all word,
-        length-bytes_of words,
-        length-bytes_of next,
+        length-bytes_in-le width words,
+        length-bytes_in-le width next,
       )
 
 -- ---- names and symbols
@@ -118,7 +124,7 @@ bytes_of-name_words n zeros h count =
     w.bytes ∙ ap (λ (k : ℕ). n ++ replicate k 0) same
 
 -- `zeros` zeros of four
-zeros_of : (zeros : ℕ) → zeros ≤ 4 → take {A = ℕ} zeros (0 ∷ 0 ∷ 0 ∷ 0 ∷ []) ≡ replicate zeros 0
+pub zeros_of : (zeros : ℕ) → zeros ≤ 4 → take {A = ℕ} zeros (0 ∷ 0 ∷ 0 ∷ 0 ∷ []) ≡ replicate zeros 0
 zeros_of zero few = refl
 zeros_of (suc zero) few = refl
 zeros_of (suc (suc zero)) few = refl

@@ -1,10 +1,10 @@
 -- The groups of a relocation block, and the sites in ascending order of target that they are made
 -- of.
-use Rattle.std.proofs.Common.{◌≡◌, ◌==◌, ◌&&◌, not, ◌<◌, ◌≤◌, ◌+◌, ◌-◌, ◌*◌, ◌^◌, ◌∙◌, ℕ, zero, suc, inl, inr, false, List, [], ◌∷◌, ◌++◌, length, map, take, drop, get_or, sym, ap, refl, subst, append-nil, eq-eqb, arith}
+use Rattle.std.proofs.Common.{◌≡◌, ◌==◌, ◌&&◌, not, ◌<◌, ◌≤◌, ◌+◌, ◌-◌, ◌*◌, ◌/◌, ◌%◌, ◌^◌, ◌∙◌, ℕ, zero, suc, inl, inr, Bool, false, List, [], ◌∷◌, ◌++◌, length, map, take, drop, get_or, replicate, sym, ap, refl, subst, append-nil, eq-eqb, arith}
 use Rattle.std.proofs.lemmas.Bool.{cases_eq, cases_lt, ne_eqb}
 use Rattle.std.proofs.lemmas.List.{length-append, length-drop, length-map, length-take-le, map-append, take-append-drop, get_or-take, get_or-drop}
-use Rattle.std.proofs.lemmas.List.Elements.{All-drop, All-take, All-weaker, filter-append, filter_agree, recursion_from_All}
-use Rattle.std.proofs.lemmas.List.Sorted.{All-permutation, IsNonDecreasingBy-drop}
+use Rattle.std.proofs.lemmas.List.Elements.{All-drop, All-from_recursion, All-take, All-weaker, filter-append, filter_agree, recursion_from_All}
+use Rattle.std.proofs.lemmas.List.Sorted.{All-permutation, IsNonDecreasingBy-drop, length_permutation}
 use Rattle.std.specs.List.{All, AllByRecursion, filter, flat_map, range_with_len}
 use Rattle.std.specs.List.Sorted.{IsNonDecreasingBy, IsStableByKey, ties}
 use Rattle.std.specs.Ordering.{is_lt, nat_cmp}
@@ -13,9 +13,18 @@ use Rattle.std.specs.declared.cmp.Ordering.TheVariants.{Less, Equal, Greater}
 use Rattle.std.proofs.Math.Seq.{drop-append_seam, take-append_seam}
 use Rattle.hunk_words.specs.Name.{bytes_of}
 use Rattle.hunk_words.specs.Sites.{StandFrom}
-use Rattle.hunk_loadfile.specs.RelocationWriter.{AreByTarget, IsGroup}
-use Rattle.hunk_loadfile.specs.WrittenForm.{group_words, groups_words, offsets_to, site_words}
-use Rattle.hunk_loadfile.proofs.LongwordWriterLemmas.{length-bytes_of}
+use Rattle.byteorder.specs.Endian.{big_bytes}
+use Rattle.hunk_loadfile.specs.declared.number_width.NumberWidth.{NumberWidth}
+use Rattle.hunk_loadfile.specs.declared.number_width.NumberWidth.TheVariants.{Word, Longword}
+use Rattle.hunk_loadfile.specs.NumberWidth.{block_type, bytes_in}
+use Rattle.hunk_loadfile.specs.RelocationWriter.{AreByTarget, IsGroup, block_bytes, block_end}
+use Rattle.hunk_loadfile.specs.WrittenForm.{group_words, groups_words, offsets_to, paired, short_words, site_words}
+use Rattle.hunk_loadfile.specs.declared.load_form.LoadForm.{LoadForm}
+use Rattle.hunk_loadfile.specs.LoadForm.{long_sites, short_sites}
+use Rattle.hunk_loadfile.proofs.LoadFormLemmas.{AllByRecursion-filter, stand-few}
+use Rattle.hunk_loadfile.proofs.ShortNumbersLemmas.{short_groups-fit}
+use Rattle.hunk_loadfile.proofs.LongwordWriterLemmas.{bytes_of-append, length-bytes_of}
+use Rattle.hunk_loadfile.proofs.NumberWidthLemmas.{length-bytes_in-le}
 
 -- ---- the offsets of a target
 
@@ -150,11 +159,11 @@ length-words : (target : ℕ) (os : List ℕ) → 0 < length os → length (grou
 length-words target [] some = absurd (omega arith)
 length-words target (o ∷ os) some = omega arith
 
-pub length-group : (target : ℕ) (group behind pairs : List (ℕ × ℕ)) → IsGroup target group behind pairs → length (bytes_of (group_words target (map offset_of group))) ≡ 4 * (2 + length group)
-length-group target group behind pairs is =
+pub length-group : (width : NumberWidth) (target : ℕ) (group behind pairs : List (ℕ × ℕ)) → IsGroup target group behind pairs → length (bytes_in width (group_words target (map offset_of group))) ≤ 4 * (2 + length group)
+length-group width target group behind pairs is =
     let same = length-map group offset_of in
     let some_offsets : 0 < length (map offset_of group) = omega (arith, same, is.some) in
-    omega (arith, length-bytes_of (group_words target (map offset_of group)), length-words target (map offset_of group) some_offsets, same)
+    omega (arith, length-bytes_in-le width (group_words target (map offset_of group)), length-words target (map offset_of group) some_offsets, same)
 
 pub group_words-some : (target : ℕ) (group : List (ℕ × ℕ)) → 0 < length group → group_words target (map offset_of group) ≡ (length group ∷ target ∷ []) ++ map offset_of group
 group_words-some target [] some = absurd (omega arith)
@@ -174,20 +183,72 @@ groups-around target group behind pairs all is words count below whole =
 -- ---- the block
 
 -- the block around its groups
-pub site_words-some : (count : ℕ) (sites : List (ℕ × ℕ)) → 0 < length sites → site_words count sites ≡ (1004 ∷ []) ++ (groups_words count sites ++ 0 ∷ [])
-site_words-some count [] some = absurd (omega arith)
-site_words-some count (e ∷ es) some = refl
+pub block_bytes-some : (width : NumberWidth) (count : ℕ) (pairs : List (ℕ × ℕ)) → 0 < length pairs
+    → block_bytes width count pairs ≡ bytes_of (block_type width ∷ []) ++ (bytes_in width (groups_words count pairs) ++ block_end (length (bytes_in width (groups_words count pairs))))
+block_bytes-some width count [] some = absurd (omega arith)
+block_bytes-some width count (e ∷ es) some = refl
 
-module _ (sites pairs slice : List (ℕ × ℕ)) (order : AreByTarget sites pairs) (is : slice ≡ pairs) where
-  -- sorting changes no group
-  pub groups-sorted : (count : ℕ) → groups_words count slice ≡ groups_words count sites
-  groups-sorted count = ap (groups_words count) is ∙ groups_words-same count pairs sites order.kept
+-- sorting by target changes no block
+pub block_bytes-sorted : (width : NumberWidth) (count : ℕ) (sites pairs : List (ℕ × ℕ)) → AreByTarget sites pairs → block_bytes width count pairs ≡ block_bytes width count sites
+block_bytes-sorted width count [] [] order = refl
+block_bytes-sorted width count [] (p ∷ ps) order = absurd (omega (arith, length_permutation [] (p ∷ ps) order.same))
+block_bytes-sorted width count (s ∷ ss) [] order = absurd (omega (arith, length_permutation (s ∷ ss) [] order.same))
+block_bytes-sorted width count (s ∷ ss) (p ∷ ps) order =
+    ap (λ (ws : List ℕ). bytes_of (block_type width ∷ []) ++ (bytes_in width ws ++ block_end (length (bytes_in width ws)))) (groups_words-same count (p ∷ ps) (s ∷ ss) order.kept)
 
-  pub All-sorted : (P : ℕ × ℕ → Type 0) → All P sites → All P slice
-  All-sorted P all = subst (All P) (sym is) (All-permutation P sites pairs order.same all)
+-- a zero fills up whole longwords
+whole_longwords : (n : ℕ) → block_end (4 * n) ≡ bytes_of (0 ∷ [])
+whole_longwords n = let four : 4 - 4 * n % 4 ≡ 4 = omega arith in ap (λ (k : ℕ). replicate k 0) four
 
-  pub block-around : (count : ℕ) → 0 < length sites → site_words count sites ≡ (1004 ∷ []) ++ (groups_words count slice ++ 0 ∷ [])
-  block-around count some = site_words-some count sites some ∙ ap (λ (ws : List ℕ). 1004 ∷ (ws ++ 0 ∷ [])) (sym (groups-sorted count))
+-- the block with 32-bit numbers
+pub block_bytes-long : (count : ℕ) (sites : List (ℕ × ℕ)) → block_bytes Longword count sites ≡ bytes_of (site_words count sites)
+block_bytes-long count [] = refl
+block_bytes-long count (e ∷ es) =
+    let words = groups_words count (e ∷ es) in
+    let end = ap block_end (length-bytes_of words) ∙ whole_longwords (length words) in
+    ap (λ (bytes : List ℕ). bytes_of (1004 ∷ []) ++ (bytes_of words ++ bytes)) end ∙ ap (λ (bytes : List ℕ). bytes_of (1004 ∷ []) ++ bytes) (sym (bytes_of-append words (0 ∷ [])))
+
+-- two words in a longword
+pair-bytes : (v w : ℕ) → v < 2 ^ 16 → w < 2 ^ 16 → big_bytes 4 (v * 2 ^ 16 + w) ≡ big_bytes 2 v ++ big_bytes 2 w
+pair-bytes v w high low =
+    let first : (v * 2 ^ 16 + w) / 256 ^ 3 % 256 ≡ v / 256 % 256 = omega arith in
+    let second : (v * 2 ^ 16 + w) / 256 ^ 2 % 256 ≡ v % 256 = omega arith in
+    let third : (v * 2 ^ 16 + w) / 256 % 256 ≡ w / 256 % 256 = omega arith in
+    let fourth : (v * 2 ^ 16 + w) % 256 ≡ w % 256 = omega arith in
+    rw (first, second, third, fourth) refl
+
+-- words and a zero, in longwords
+paired-bytes : (ws : List ℕ) → AllByRecursion (λ w. w < 2 ^ 16) ws → bytes_of (paired (ws ++ 0 ∷ [])) ≡ bytes_in Word ws ++ block_end (length (bytes_in Word ws))
+paired-bytes [] small = refl
+paired-bytes (v ∷ []) small =
+    let same : v * 2 ^ 16 + 0 ≡ v * 2 ^ 16 = omega arith in
+    pair-bytes v 0 small.0 (omega arith)
+paired-bytes (v ∷ w ∷ ws) small =
+    let rest = bytes_in Word ws in
+    let end : suc (suc (suc (suc (length rest)))) % 4 ≡ length rest % 4 = omega arith in
+    ap (λ (bytes : List ℕ). bytes ++ bytes_of (paired (ws ++ 0 ∷ []))) (pair-bytes v w small.0 small.1.0)
+    ∙ ap (λ (bytes : List ℕ). (big_bytes 2 v ++ big_bytes 2 w) ++ bytes) (paired-bytes ws small.1.1)
+    ∙ ap (λ (n : ℕ). (big_bytes 2 v ++ big_bytes 2 w) ++ (rest ++ replicate (4 - n) 0)) (sym end)
+
+-- the short block
+pub block_bytes-short : (count : ℕ) (sites : List (ℕ × ℕ)) → All (λ n. n < 2 ^ 16) (groups_words count sites) → block_bytes Word count sites ≡ bytes_of (short_words count sites)
+block_bytes-short count [] small = refl
+block_bytes-short count (e ∷ es) small =
+    let words = groups_words count (e ∷ es) in
+    ap (λ (bytes : List ℕ). bytes_of (1020 ∷ []) ++ bytes) (sym (paired-bytes words (recursion_from_All (λ n. n < 2 ^ 16) words small)))
+
+-- what sorting leaves of each block of a hunk
+module _ (form : LoadForm) (limit : ℕ) (sites : List (ℕ × ℕ)) where
+  pub short-bytes : (count : ℕ) (pairs : List (ℕ × ℕ)) → AreByTarget (short_sites form sites) pairs → StandFrom 0 limit sites → All (λ (site : ℕ × ℕ). site.1 < 2 ^ 16) sites
+      → block_bytes Word count pairs ≡ bytes_of (short_words count (short_sites form sites))
+  short-bytes count pairs order stand targets =
+      block_bytes-sorted Word count (short_sites form sites) pairs order ∙ block_bytes-short count (short_sites form sites) (short_groups-fit form count limit sites stand targets)
+
+  pub long-bytes : (count : ℕ) (pairs : List (ℕ × ℕ)) → AreByTarget (long_sites form sites) pairs → block_bytes Longword count pairs ≡ bytes_of (site_words count (long_sites form sites))
+  long-bytes count pairs order = block_bytes-sorted Longword count (long_sites form sites) pairs order ∙ block_bytes-long count (long_sites form sites)
+
+  pub All-block : (test : ℕ × ℕ → Bool) (P : ℕ × ℕ → Type 0) (pairs : List (ℕ × ℕ)) → AreByTarget (filter test sites) pairs → All P sites → All P pairs
+  All-block test P pairs order all = All-permutation P (filter test sites) pairs order.same (All-from_recursion P (filter test sites) (AllByRecursion-filter test P sites (recursion_from_All P sites all)))
 
 -- the first sites, as long as their target is the first one's
 pub IsGroup-split : (target n : ℕ) (group behind pairs : List (ℕ × ℕ)) → group ≡ take n pairs → behind ≡ drop n pairs
@@ -213,9 +274,5 @@ IsGroup-split target n group behind pairs front back rise within some first befo
 
 -- ---- the greatest number of sites
 
-stand-few : (from limit : ℕ) (pairs : List (ℕ × ℕ)) → StandFrom from limit pairs → AllByRecursion (λ (pair : ℕ × ℕ). pair.0 < 2 ^ 32) pairs → 4 * length pairs ≤ 2 ^ 32 + 3 - from
-stand-few from limit [] apart typed = omega arith
-stand-few from limit (x ∷ xs) apart typed = omega (arith, apart.0, typed.0, stand-few (x.0 + 4) limit xs apart.2 typed.1)
-
 pub StandFrom-few : (limit : ℕ) (pairs : List (ℕ × ℕ)) → StandFrom 0 limit pairs → All (λ (pair : ℕ × ℕ). pair.0 < 2 ^ 32) pairs → length pairs ≤ 2 ^ 30
-StandFrom-few limit pairs apart typed = omega (arith, stand-few 0 limit pairs apart (recursion_from_All (λ (pair : ℕ × ℕ). pair.0 < 2 ^ 32) pairs typed))
+StandFrom-few limit pairs apart typed = omega (arith, stand-few (2 ^ 32) 0 limit pairs apart (recursion_from_All (λ (pair : ℕ × ℕ). pair.0 < 2 ^ 32) pairs typed))

@@ -10,7 +10,7 @@ use Rattle.std.proofs.lemmas.List.Sums.{sum-map}
 use Rattle.hunk_loadfile.specs.LoadHunk.{FileHunk}
 use Rattle.hunk_loadfile.specs.Laws.{IsZeroFrom}
 use Rattle.hunk_loadfile.specs.Patching.{byte_or_zero, holds, patched_bytes, patched_in, site_over}
-use Rattle.hunk_loadfile.specs.Rules.{IsLoadFile, IsLoadHunk, carried_by}
+use Rattle.hunk_loadfile.specs.Rules.{IsLoadFile, IsLoadHunk, carried_by, carried_longwords, most_carried}
 use Rattle.hunk_loadfile.specs.Trimming.{is_kept, kept_end, kept_length, trimmed, trimmed_hunk}
 use Rattle.hunk_loadfile.proofs.PatchingLemmas.{big_from-same, holds-behind, holds-below, holds-inside, patched_bytes-same}
 
@@ -208,6 +208,9 @@ IsLoadFile-trimmed hunks valid =
       carries = omega (arith, sum_by-trimmed carried_by (λ hunk. refl) hunks, valid.carries);
       each = subst (λ count. All (IsLoadHunk count) (trimmed hunks)) (sym counted) (All-map (IsLoadHunk (length hunks)) trimmed_hunk hunks each);
     }
+
+pub carried_longwords-trimmed : (hunks : List FileHunk) → carried_longwords hunks ≤ most_carried → carried_longwords (trimmed hunks) ≤ most_carried
+carried_longwords-trimmed hunks few = omega (arith, few, sum_by-trimmed carried_by (λ hunk. refl) hunks)
 
 -- ---- hunks that are trimmed one after another
 

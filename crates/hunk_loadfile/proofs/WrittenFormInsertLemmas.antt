@@ -8,13 +8,18 @@ use Rattle.std.specs.declared.cmp.Ordering.TheVariants.{Less, Greater}
 use Rattle.std.proofs.lemmas.Bool.{cases_Bool, cases_order, eq-eqb, ne_eqb, le-ltb, lt-ltb}
 use Rattle.hunk_words.specs.Sites.{StandFrom}
 use Rattle.hunk_words.specs.Values.{Adds}
-use Rattle.hunk_words.specs.Values.Adds.{to_hunk}
+use Rattle.hunk_words.specs.Values.Adds.{to_hunk, to_reference}
 use Rattle.hunk_loadfile.specs.LoadFile.{with_site, with_sites}
 use Rattle.hunk_loadfile.specs.WrittenForm.{offsets_to}
+use Rattle.hunk_loadfile.proofs.LoadFormLemmas.{AllByRecursion-append}
 
 -- ---- after an offset
 
-abbrev AreBehind : ℕ → List (ℕ × ℕ) → Type 0
+-- sites with one target, in the order of a file
+abbrev pub sites_to : ℕ → List ℕ → List (ℕ × Adds)
+sites_to target offsets = map (λ o. (o, to_hunk target)) offsets
+
+abbrev pub AreBehind : ℕ → List (ℕ × ℕ) → Type 0
 AreBehind offset es = AllByRecursion (λ e. offset < e.0) es
 
 behind-stand : (offset from limit : ℕ) (es : List (ℕ × ℕ)) → offset < from → StandFrom from limit es → AreBehind offset es
@@ -28,9 +33,9 @@ behind-filter offset test (e ∷ es) behind = elim (cases_Bool (test e)) [
   | inr fails ↦ rw fails (behind-filter offset test es behind.1)
 ]
 
-behind-offsets : (offset : ℕ) (es : List (ℕ × ℕ)) → AreBehind offset es → AllByRecursion (λ other. offset < other) (map (λ e. e.0) es)
-behind-offsets offset [] behind = tt
-behind-offsets offset (e ∷ es) behind = (behind.0, behind-offsets offset es behind.1)
+behind-sites_to : (offset target : ℕ) (es : List (ℕ × ℕ)) → AreBehind offset es → AllByRecursion (λ s. offset < s.0) (sites_to target (map (λ e. e.0) es))
+behind-sites_to offset target [] behind = tt
+behind-sites_to offset target (e ∷ es) behind = (behind.0, behind-sites_to offset target es behind.1)
 
 -- ---- inserting
 
@@ -45,14 +50,12 @@ insert-behind e es offset target below =
     let greater : nat_cmp offset e.0 ≡ Greater = sym (nat_cmp_is offset e.0 Greater below) in
     rw greater refl
 
--- sites with one target, in the order of a file
-abbrev pub sites_to : ℕ → List ℕ → List (ℕ × Adds)
-sites_to target offsets = map (λ o. (o, to_hunk target)) offsets
-
-put_in-behind : (e : ℕ × ℕ) (es : List (ℕ × ℕ)) (target : ℕ) (os : List ℕ) → AllByRecursion (λ o. e.0 < o) os → with_sites (e ∷ es) (sites_to target os) ≡ e ∷ with_sites es (sites_to target os)
-put_in-behind e es target [] behind = refl
-put_in-behind e es target (o ∷ os) behind =
-    ap (λ sites. with_sites sites (sites_to target os)) (insert-behind e es o target behind.0) ∙ put_in-behind e (insert_entry nat_cmp es o target) target os behind.1
+-- sites after an offset leave what stands there in its place
+pub put_in-behind : (e : ℕ × ℕ) (es : List (ℕ × ℕ)) (sites : List (ℕ × Adds)) → AllByRecursion (λ s. e.0 < s.0) sites → with_sites (e ∷ es) sites ≡ e ∷ with_sites es sites
+put_in-behind e es [] behind = refl
+put_in-behind e es ((o, to_hunk target) ∷ sites) behind =
+    ap (λ all. with_sites all sites) (insert-behind e es o target behind.0) ∙ put_in-behind e (insert_entry nat_cmp es o target) sites behind.1
+put_in-behind e es ((o, to_reference r) ∷ sites) behind = put_in-behind e es sites behind.1
 
 -- ---- group by group
 
@@ -64,30 +67,36 @@ put_in-group : (target from limit : ℕ) (es : List (ℕ × ℕ)) → StandFrom 
 put_in-group target from limit [] apart = refl
 put_in-group target from limit (e ∷ es) apart =
     let behind : AreBehind e.0 es = behind-stand e.0 (e.0 + 4) limit es (omega arith) apart.2 in
-    let later = behind-offsets e.0 (filter (λ s. s.1 == target) es) (behind-filter e.0 (λ s. s.1 == target) es behind) in
+    let later = behind-sites_to e.0 target (filter (λ s. s.1 == target) es) (behind-filter e.0 (λ s. s.1 == target) es behind) in
     let rest = put_in-group target (e.0 + 4) limit es apart.2 in
     elim (cases_order e.1 target) [
       | inl same ↦ rw (eq-eqb e.1 target same, le-ltb e.1 target (omega arith), lt-ltb e.1 (target + 1) (omega arith)) (
           ap (λ sites. with_sites sites (sites_to target (offsets_to target es))) (insert-front e.0 target (below target es) (behind-filter e.0 (λ s. nat_lt s.1 target) es behind))
-          ∙ put_in-behind (e.0, target) (below target es) target (offsets_to target es) later
+          ∙ put_in-behind (e.0, target) (below target es) (sites_to target (offsets_to target es)) later
           ∙ ap (λ sites. (e.0, target) ∷ sites) rest
           ∙ ap (λ t. (e.0, t) ∷ below (target + 1) es) (sym same)
           )
       | inr other ↦ elim other [
         | inl lower ↦ rw (ne_eqb e.1 target (λ same. omega arith), lt-ltb e.1 target lower, lt-ltb e.1 (target + 1) (omega arith)) (
-            put_in-behind e (below target es) target (offsets_to target es) later ∙ ap (λ sites. e ∷ sites) rest
+            put_in-behind e (below target es) (sites_to target (offsets_to target es)) later ∙ ap (λ sites. e ∷ sites) rest
             )
         | inr higher ↦ rw (ne_eqb e.1 target (λ same. omega arith), le-ltb e.1 target (omega arith), le-ltb e.1 (target + 1) (omega arith)) rest
       ]
     ]
 
-with_sites-append : (sites : List (ℕ × ℕ)) (xs ys : List (ℕ × Adds)) → with_sites sites (xs ++ ys) ≡ with_sites (with_sites sites xs) ys
+pub with_sites-append : (sites : List (ℕ × ℕ)) (xs ys : List (ℕ × Adds)) → with_sites sites (xs ++ ys) ≡ with_sites (with_sites sites xs) ys
 with_sites-append sites [] ys = refl
 with_sites-append sites (x ∷ xs) ys = with_sites-append (with_site sites x.0 x.1) xs ys
 
 -- the sites in file order: in ascending order of target, and then of offset
 abbrev pub sites_from : ℕ → ℕ → List (ℕ × ℕ) → List (ℕ × Adds)
 sites_from from count es = flat_map (λ target. sites_to target (offsets_to target es)) (range_with_len from count)
+
+pub sites_from-behind : (offset from count : ℕ) (es : List (ℕ × ℕ)) → AreBehind offset es → AllByRecursion (λ s. offset < s.0) (sites_from from count es)
+sites_from-behind offset from zero es behind = tt
+sites_from-behind offset from (suc count) es behind =
+    AllByRecursion-append (λ (s : ℕ × Adds). offset < s.0) (sites_to from (offsets_to from es)) (sites_from (from + 1) count es)
+    (behind-sites_to offset from (filter (λ e. e.1 == from) es) (behind-filter offset (λ e. e.1 == from) es behind)) (sites_from-behind offset (from + 1) count es behind)
 
 put_in-groups : (from count limit : ℕ) (es : List (ℕ × ℕ)) → StandFrom 0 limit es → with_sites (below from es) (sites_from from count es) ≡ below (from + count) es
 put_in-groups from zero limit es apart = let same : from ≡ from + 0 = omega arith in ap (λ target. below target es) same

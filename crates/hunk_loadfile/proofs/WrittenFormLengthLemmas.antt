@@ -1,4 +1,4 @@
--- The length of the written form of a load file.
+-- The length of the written forms of a load file.
 use Rattle.std.proofs.Common.{◌≡◌, ℕ, zero, suc, ◌+◌, ◌*◌, ◌≤◌, inl, inr, nat_le, cond, List, [], ◌∷◌, ◌++◌, length, map, sum_by, refl, arith}
 use Rattle.std.specs.List.{All, flat_map, range_with_len}
 use Rattle.std.proofs.lemmas.Bool.{cases_lt, cases_eq, ne_eqb, eq-eqb, le-leb, lt-leb}
@@ -12,10 +12,15 @@ use Rattle.hunk_words.proofs.NameLemmas.{length-name_words}
 use Rattle.hunk_words.proofs.SitesLemmas.{AreApart-few}
 use Rattle.hunk_words.specs.declared.kinds.HunkKind.{HunkKind}
 use Rattle.hunk_words.specs.declared.kinds.HunkKind.TheVariants.{Code, Data, Bss}
+use Rattle.hunk_loadfile.specs.declared.load_form.LoadForm.{LoadForm}
+use Rattle.hunk_loadfile.specs.LoadForm.{long_sites, short_sites}
+use Rattle.hunk_loadfile.proofs.LoadFormLemmas.{length-both}
 use Rattle.hunk_loadfile.specs.LoadHunk.{FileHunk}
-use Rattle.hunk_loadfile.specs.Rules.{IsLoadHunk, carried_longwords, carried_by, debug_longwords, most_content, size_of, symbol_longwords}
-use Rattle.hunk_loadfile.specs.WrittenForm.{content_words, debug_words, group_words, groups_words, hunk_words, offsets_to, site_words, size_word, symbol_words, symbols_words}
+use Rattle.hunk_loadfile.specs.Rules.{IsLoadFile, IsLoadHunk, carried_longwords, carried_by, debug_longwords, most_carried, most_content, size_of, symbol_longwords}
+use Rattle.hunk_loadfile.specs.WrittenForm.{IsShortEnough, content_words, debug_words, group_words, groups_words, hunk_words, offsets_to, paired, relocation_words, short_words, site_words, size_word, symbol_words, symbols_words}
 use Rattle.hunk_loadfile.specs.Laws.{WrittenIsShort}
+use Rattle.hunk_loadfile.specs.Trimming.{trimmed}
+use Rattle.hunk_loadfile.proofs.TrimmingLemmas.{IsLoadFile-trimmed, carried_longwords-trimmed}
 
 -- ---- groups
 
@@ -64,9 +69,26 @@ length-content_words-le Code size content fits = omega (arith, length-longwords 
 length-content_words-le Data size content fits = omega (arith, length-longwords content)
 length-content_words-le Bss size content fits = omega arith
 
-pub length-site_words-le : (count : ℕ) (sites : List (ℕ × ℕ)) → length (site_words count sites) ≤ 2 + 3 * length sites
+length-site_words-le : (count : ℕ) (sites : List (ℕ × ℕ)) → length (site_words count sites) ≤ 2 + 3 * length sites
 length-site_words-le count [] = omega arith
 length-site_words-le count (e ∷ es) = omega (arith, length-groups_words-le count (e ∷ es), length-append (groups_words count (e ∷ es)) (0 ∷ []))
+
+length-paired-le : (ws : List ℕ) → length (paired ws) ≤ length ws
+length-paired-le [] = omega arith
+length-paired-le (v ∷ []) = omega arith
+length-paired-le (v ∷ w ∷ ws) = omega (arith, length-paired-le ws)
+
+length-short_words-le : (count : ℕ) (sites : List (ℕ × ℕ)) → length (short_words count sites) ≤ 2 + 3 * length sites
+length-short_words-le count [] = omega arith
+length-short_words-le count (e ∷ es) =
+    let words = groups_words count (e ∷ es) in
+    omega (arith, length-groups_words-le count (e ∷ es), length-append words (0 ∷ []), length-paired-le (words ++ 0 ∷ []))
+
+pub length-relocation_words-le : (form : LoadForm) (count : ℕ) (sites : List (ℕ × ℕ)) → length (relocation_words form count sites) ≤ 4 + 3 * length sites
+length-relocation_words-le form count sites =
+    let near = short_sites form sites in
+    let far = long_sites form sites in
+    omega (arith, length-append (short_words count near) (site_words count far), length-short_words-le count near, length-site_words-le count far, length-both form sites)
 
 length-symbol_words : (s : List ℕ × ℕ) → length (symbol_words s) ≡ symbol_longwords s
 length-symbol_words s = omega (arith, length-name_words s.0, length-append (name_words s.0) (s.1 ∷ []))
@@ -83,10 +105,10 @@ pub length-debugs : (ds : List (List ℕ)) → length (flat_map debug_words ds) 
 length-debugs [] = refl
 length-debugs (d ∷ ds) = omega (arith, length-debugs ds, length-append (debug_words d) (flat_map debug_words ds), sum_by-cons debug_longwords d ds)
 
-length-hunk_words-le : (count : ℕ) (h : FileHunk) → IsLoadHunk count h → length (hunk_words count h) ≤ 7 + 4 * h.size + carried_by h
-length-hunk_words-le count h valid =
+length-hunk_words-le : (form : LoadForm) (count : ℕ) (h : FileHunk) → IsLoadHunk count h → length (hunk_words form count h) ≤ 9 + 4 * h.size + carried_by h
+length-hunk_words-le form count h valid =
     let content = content_words h.kind h.size (longwords h.content) in
-    let sites = site_words count h.sites.entries in
+    let sites = relocation_words form count h.sites.entries in
     let symbols = symbols_words h.symbols in
     let debugs = flat_map debug_words h.debugs in
     let few = AreApart-few h.sites valid.typed.apart in
@@ -95,7 +117,7 @@ length-hunk_words-le count h valid =
       few,
       valid.limit,
       length-content_words-le h.kind h.size h.content valid.content,
-      length-site_words-le count h.sites.entries,
+      length-relocation_words-le form count h.sites.entries,
       length-symbols_words-le h.symbols,
       length-debugs h.debugs,
       length-append content (sites ++ (symbols ++ (debugs ++ 1010 ∷ []))),
@@ -104,22 +126,28 @@ length-hunk_words-le count h valid =
       length-append debugs (1010 ∷ []),
     )
 
-pub length-hunks-le : (count : ℕ) (hunks : List FileHunk) → All (IsLoadHunk count) hunks → length (flat_map (hunk_words count) hunks) ≤ 7 * length hunks + 4 * size_of hunks + carried_longwords hunks
-length-hunks-le count [] valid = omega arith
-length-hunks-le count (h ∷ hs) valid =
-    let here = length-hunk_words-le count h (All-head (IsLoadHunk count) h hs valid) in
-    let rest = length-hunks-le count hs (All-tail (IsLoadHunk count) h hs valid) in
-    omega (arith, here, rest, length-append (hunk_words count h) (flat_map (hunk_words count) hs), sum_by-cons (λ (k : FileHunk). k.size) h hs, sum_by-cons carried_by h hs)
+pub length-hunks-le : (form : LoadForm) (count : ℕ) (hunks : List FileHunk) → All (IsLoadHunk count) hunks → length (flat_map (hunk_words form count) hunks) ≤ 9 * length hunks + 4 * size_of hunks + carried_longwords hunks
+length-hunks-le form count [] valid = omega arith
+length-hunks-le form count (h ∷ hs) valid =
+    let here = length-hunk_words-le form count h (All-head (IsLoadHunk count) h hs valid) in
+    let rest = length-hunks-le form count hs (All-tail (IsLoadHunk count) h hs valid) in
+    omega (arith, here, rest, length-append (hunk_words form count h) (flat_map (hunk_words form count) hs), sum_by-cons (λ (k : FileHunk). k.size) h hs, sum_by-cons carried_by h hs)
 
-pub written_form-is_short : WrittenIsShort
-written_form-is_short hunks valid carries =
-    let body = flat_map (hunk_words (length hunks)) hunks in
+pub written_in-is_short : WrittenIsShort
+written_in-is_short form hunks valid carries =
+    let body = flat_map (hunk_words form (length hunks)) hunks in
     omega (
       arith,
       valid.few,
       valid.small,
       carries,
-      length-hunks-le (length hunks) hunks valid.each,
+      length-hunks-le form (length hunks) hunks valid.each,
       length-map hunks size_word,
       length-append (map size_word hunks) body,
     )
+
+pub IsShortEnough-from : (hunks : List FileHunk) → IsLoadFile hunks → carried_longwords hunks ≤ most_carried → IsShortEnough hunks
+IsShortEnough-from hunks valid carries = λ form. (
+  written_in-is_short form hunks valid carries,
+  written_in-is_short form (trimmed hunks) (IsLoadFile-trimmed hunks valid) (carried_longwords-trimmed hunks carries),
+)

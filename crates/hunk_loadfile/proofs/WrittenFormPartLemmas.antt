@@ -1,11 +1,10 @@
 -- Fields that spell longwords, each number passing and each site obeying the rules: a lemma for
 -- each part of a written hunk, with the premise that what comes after it spells its longwords.
-use Rattle.std.proofs.Common.{◌≡◌, ◌∙◌, ℕ, zero, suc, ◌+◌, ◌*◌, ◌^◌, ◌<◌, ◌≤◌, ◌==◌, nat_le, nat_lt, Bool, true, None, Some, List, [], ◌∷◌, ◌++◌, length, map, sum_by, append_assoc, refl, ap, sym, subst, arith}
-use Rattle.std.specs.List.{All, AllByRecursion, filter, flat_map, range_with_len}
+use Rattle.std.proofs.Common.{◌≡◌, ◌∙◌, ℕ, zero, suc, ◌+◌, ◌*◌, ◌^◌, ◌<◌, ◌≤◌, nat_le, nat_lt, Bool, true, None, Some, List, [], ◌∷◌, ◌++◌, length, map, sum_by, append_assoc, refl, ap, sym, subst, arith}
+use Rattle.std.specs.List.{All, AllByRecursion, flat_map, range_with_len}
 use Rattle.std.proofs.lemmas.Bool.{cond-true, eq-eqb, le-leb, lt-ltb}
-use Rattle.std.proofs.lemmas.List.{length-map}
 use Rattle.std.proofs.lemmas.List.Elements.{recursion_from_All}
-use Rattle.std.proofs.lemmas.List.Sums.{count_by-le-length, length-filter, sum_by-cons}
+use Rattle.std.proofs.lemmas.List.Sums.{sum_by-cons}
 use Rattle.hunk_words.specs.Name.{most_name, name_words}
 use Rattle.hunk_words.specs.Kinds.{Kind, Field, field, low, type_of, entry_type}
 use Rattle.hunk_words.specs.FaultTable.{Passes, AllPass, reject_unless, may_follow, begins_in_load, refused_type, knows_short}
@@ -28,7 +27,8 @@ use Rattle.hunk_words.proofs.KindsTypeLemmas.{type-reloc, type-symbol, type-debu
 use Rattle.hunk_loadfile.specs.Rules.{IsLongword, IsTypedSymbol, debug_longwords}
 use Rattle.hunk_loadfile.specs.WrittenForm.{debug_words, group_words, groups_words, offsets_to, site_words, symbol_words, symbols_words}
 use Rattle.hunk_loadfile.proofs.WrittenFormTree.{debug_trees, group_tree, group_trees, site_trees, symbol_of, symbol_trees}
-use Rattle.hunk_loadfile.proofs.WrittenFormSiteLemmas.{AreFree, IsClear, clear-behind, clear-start, free-offsets}
+use Rattle.hunk_loadfile.proofs.ShortNumbersLemmas.{length-offsets_to-le}
+use Rattle.hunk_loadfile.proofs.WrittenFormSiteLemmas.{AreFree, IsClear, clear-behind, free-offsets}
 
 -- The fields spell the longwords. `seen` are the offsets of the hunk's earlier sites.
 pub record Spells (seen : List ℕ) (fs : List Field) (ws : List ℕ) : Type 0 where
@@ -57,7 +57,7 @@ pub type_longword-plain : (n : ℕ) → n < 2 ^ 30 → type_longword 0 n ≡ n
 type_longword-plain n small = let sum : 0 * 2 ^ 30 + n ≡ n = omega arith in type_longword-is 0 n small ∙ sum
 
 -- a block's type
-spells-type : (last size limit t : ℕ) (y : BlockType) (seen : List ℕ) (fs : List Field) (ws : List ℕ) → t < 2 ^ 30 → type_of t ≡ y → may_follow (in_load last size) y ≡ true
+pub spells-type : (last size limit t : ℕ) (y : BlockType) (seen : List ℕ) (fs : List Field) (ws : List ℕ) → t < 2 ^ 30 → type_of t ≡ y → may_follow (in_load last size) y ≡ true
     → Spells (seen_at y seen) fs ws → Spells seen (field (block_type (in_load last size) limit) (type_longword 0 t) ∷ fs) (t ∷ ws)
 spells-type last size limit t y seen fs ws small is follows rest =
     let plain : type_longword 0 t ≡ t = type_longword-plain t small in
@@ -103,7 +103,7 @@ spells-words (n ∷ ns) seen fs ws long rest =
 
 -- ---- sites
 
-site-obeys : (limit o : ℕ) (seen : List ℕ) → o + 4 ≤ limit → all_apart o seen ≡ true → site_judged (Some limit) seen o ≡ None
+pub site-obeys : (limit o : ℕ) (seen : List ℕ) → o + 4 ≤ limit → all_apart o seen ≡ true → site_judged (Some limit) seen o ≡ None
 site-obeys limit o seen inside apart =
     cond-true (nat_le (o + 4) limit) (reject_unless (all_apart o seen) (SiteOverlap o)) (Some (SiteOutside o)) (le-leb (o + 4) limit inside) ∙ reject_unless-holds (SiteOverlap o) apart
 
@@ -124,10 +124,6 @@ spells-group last size limit target (o ∷ os) seen gs fs ws within few small sh
     (spells-next (hunk_number (in_load last size) limit (length os)) target seen _ _ refl (record { fits = omega arith; passes = reject_unless-holds (NoSuchHunk target) (le-leb target last within) }) refl
     (spells-offsets limit target (o ∷ os) seen (groups (in_load last size) limit gs fs) ws small free rest))
 
-length-offsets_to-le : (target : ℕ) (es : List (ℕ × ℕ)) → length (offsets_to target es) ≤ length es
-length-offsets_to-le target es =
-    omega (arith, length-map (filter (λ e. e.1 == target) es) (λ e. e.0), length-filter (λ e. e.1 == target) es, count_by-le-length (λ e. e.1 == target) es)
-
 spells-groups : (last size limit from count : ℕ) (es : List (ℕ × ℕ)) (seen : List ℕ) (fs : List Field) (ws : List ℕ) → from + count ≤ last + 1 → last < 2 ^ 32 → limit < 2 ^ 32
     → length es < 2 ^ 31 → StandFrom 0 limit es → IsClear from seen es → ((later : List ℕ) → Spells later fs ws)
     → Spells seen (groups (in_load last size) limit (group_trees from count es) fs) (flat_map (λ target. group_words target (offsets_to target es)) (range_with_len from count) ++ 0 ∷ ws)
@@ -141,16 +137,16 @@ spells-groups last size limit from (suc count) es seen fs ws within few small sh
     (spells-group last size limit from os seen (group_trees (from + 1) count es) fs (more ++ 0 ∷ ws) (omega arith) few small fewer (free-offsets from 0 limit seen es stand clear)
     (spells-groups last size limit (from + 1) count es (reverse_onto os seen) fs ws (omega arith) few small short stand (clear-behind from limit seen es stand clear) rest))
 
--- the relocation block, after which no site comes
-pub spells-sites : (last size limit count : ℕ) (es : List (ℕ × ℕ)) (blocks : List BlockTree) (fs : List Field) (ws : List ℕ) → count ≤ last + 1 → last < 2 ^ 32 → limit < 2 ^ 32
-    → length es < 2 ^ 31 → StandFrom 0 limit es → ((later : List ℕ) → Spells later (blocks_end (in_load last size) limit blocks 0 fs) ws)
-    → Spells [] (blocks_end (in_load last size) limit (site_trees count es ++ blocks) 0 fs) (site_words count es ++ ws)
-spells-sites last size limit count [] blocks fs ws within few small short stand rest = rest []
-spells-sites last size limit count (e ∷ es) blocks fs ws within few small short stand rest =
+-- the relocation block with 32-bit numbers, after which no site comes
+pub spells-sites : (last size limit count : ℕ) (es : List (ℕ × ℕ)) (seen : List ℕ) (blocks : List BlockTree) (fs : List Field) (ws : List ℕ) → count ≤ last + 1 → last < 2 ^ 32 → limit < 2 ^ 32
+    → length es < 2 ^ 31 → StandFrom 0 limit es → IsClear 0 seen es → ((later : List ℕ) → Spells later (blocks_end (in_load last size) limit blocks 0 fs) ws)
+    → Spells seen (blocks_end (in_load last size) limit (site_trees count es ++ blocks) 0 fs) (site_words count es ++ ws)
+spells-sites last size limit count [] seen blocks fs ws within few small short stand clear rest = rest seen
+spells-sites last size limit count (e ∷ es) seen blocks fs ws within few small short stand clear rest =
     let whole = blocks_end (in_load last size) limit (site_trees count (e ∷ es) ++ blocks) 0 fs in
-    subst (λ us. Spells [] whole (1004 ∷ us)) (sym (append_assoc (groups_words count (e ∷ es)) (0 ∷ []) ws))
-    (spells-type last size limit 1004 reloc [] _ _ (omega arith) type-reloc refl
-    (spells-groups last size limit 0 count (e ∷ es) [] (blocks_end (in_load last size) limit blocks 0 fs) ws (omega arith) few small short stand (clear-start 0 (e ∷ es)) rest))
+    subst (λ us. Spells seen whole (1004 ∷ us)) (sym (append_assoc (groups_words count (e ∷ es)) (0 ∷ []) ws))
+    (spells-type last size limit 1004 reloc seen _ _ (omega arith) type-reloc refl
+    (spells-groups last size limit 0 count (e ∷ es) seen (blocks_end (in_load last size) limit blocks 0 fs) ws (omega arith) few small short stand clear rest))
 
 -- ---- symbols
 

@@ -7,6 +7,7 @@ use Rattle.hunk_words.specs.Machine.{reverse_onto}
 use Rattle.hunk_words.specs.SiteRules.{all_apart, apart}
 use Rattle.hunk_words.specs.Sites.{StandFrom}
 use Rattle.hunk_loadfile.specs.WrittenForm.{offsets_to}
+use Rattle.hunk_loadfile.proofs.LoadFormLemmas.{LieBefore}
 
 apart-behind : (o p : ℕ) → p + 4 ≤ o → apart o p ≡ true
 apart-behind o p behind = rw (lt-leb (o + 4) p (omega arith), le-leb (p + 4) o behind) refl
@@ -80,3 +81,28 @@ clear-both target os seen (e ∷ es) group clear =
 -- once those with this target are seen, the later ones are clear of them too
 pub clear-behind : (target limit : ℕ) (seen : List ℕ) (es : List (ℕ × ℕ)) → StandFrom 0 limit es → IsClear target seen es → IsClear (target + 1) (reverse_onto (offsets_to target es) seen) es
 clear-behind target limit seen es stand clear = clear-both target (offsets_to target es) seen es (clear-group target 0 limit es stand) clear
+
+-- ---- the sites of another block
+
+before-offsets : (o target : ℕ) (near : List (ℕ × ℕ)) → AllByRecursion (λ e. e.0 + 4 ≤ o) near → all_apart o (offsets_to target near) ≡ true
+before-offsets o target [] before = refl
+before-offsets o target (e ∷ near) before = elim (cases_eq e.1 target) [
+  | inl same ↦ rw (eq-eqb e.1 target same) (and_from (apart o e.0) (all_apart o (offsets_to target near)) (apart-behind o e.0 before.0) (before-offsets o target near before.1))
+  | inr other ↦ rw (ne_eqb e.1 target other) (before-offsets o target near before.1)
+]
+
+first-behind : (f : ℕ × ℕ) (far near : List (ℕ × ℕ)) → LieBefore near (f ∷ far) → AllByRecursion (λ e. e.0 + 4 ≤ f.0) near
+first-behind f far [] before = tt
+first-behind f far (e ∷ near) before = let here : (e.0 + 4 ≤ f.0) × AllByRecursion (λ g. e.0 + 4 ≤ g.0) far = before.0 in (here.0, first-behind f far near before.1)
+
+others-behind : (f : ℕ × ℕ) (far near : List (ℕ × ℕ)) → LieBefore near (f ∷ far) → LieBefore near far
+others-behind f far [] before = tt
+others-behind f far (e ∷ near) before = let here : (e.0 + 4 ≤ f.0) × AllByRecursion (λ g. e.0 + 4 ≤ g.0) far = before.0 in (here.1, others-behind f far near before.1)
+
+-- the sites after those of a block stay clear of them
+pub clear-far : (target : ℕ) (seen : List ℕ) (near far : List (ℕ × ℕ)) → LieBefore near far → IsClear 0 seen far → IsClear 0 (reverse_onto (offsets_to target near) seen) far
+clear-far target seen near [] before clear = tt
+clear-far target seen near (f ∷ far) before clear = (
+  (λ later. all_apart-reverse_onto f.0 (offsets_to target near) seen (before-offsets f.0 target near (first-behind f far near before)) (clear.0 later)),
+  clear-far target seen near far (others-behind f far near before) clear.1,
+)

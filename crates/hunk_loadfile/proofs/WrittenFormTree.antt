@@ -1,13 +1,15 @@
--- The tree of the written form of a load file.
+-- The trees of the written forms of a load file.
 use Rattle.std.proofs.Common.{ℕ, List, [], ◌∷◌, ◌++◌, None, length, map}
 use Rattle.std.specs.List.{flat_map, range_with_len}
 use Rattle.hunk_words.specs.Longwords.{longwords}
 use Rattle.hunk_words.specs.Name.{name_words}
 use Rattle.hunk_words.specs.Trees.{Group, SymbolTree, BlockTree, ContentTree, BodyTree, LoadHunkTree, LoadTree}
-use Rattle.hunk_words.specs.Trees.BlockTree.{reloc_tree, symbol_tree, debug_tree}
+use Rattle.hunk_words.specs.Trees.BlockTree.{reloc_tree, short_tree, symbol_tree, debug_tree}
 use Rattle.hunk_words.specs.Trees.ContentTree.{code_tree, data_tree, bss_tree}
 use Rattle.hunk_words.specs.declared.kinds.HunkKind.{HunkKind}
 use Rattle.hunk_words.specs.declared.kinds.HunkKind.TheVariants.{Code, Data, Bss}
+use Rattle.hunk_loadfile.specs.declared.load_form.LoadForm.{LoadForm}
+use Rattle.hunk_loadfile.specs.LoadForm.{long_sites, short_sites}
 use Rattle.hunk_loadfile.specs.LoadHunk.{FileHunk}
 use Rattle.hunk_loadfile.specs.WrittenForm.{memory_bits, offsets_to}
 
@@ -26,9 +28,16 @@ group_tree target (o ∷ os) = record { target = target; first = o; others = os 
 abbrev pub group_trees : ℕ → ℕ → List (ℕ × ℕ) → List Group
 group_trees from count sites = flat_map (λ target. group_tree target (offsets_to target sites)) (range_with_len from count)
 
+-- a relocation block of either kind, if there are sites
+abbrev pub block_trees : (List Group → BlockTree) → ℕ → List (ℕ × ℕ) → List BlockTree
+block_trees block count [] = []
+block_trees block count (e ∷ es) = block (group_trees 0 count (e ∷ es)) ∷ []
+
+abbrev pub short_trees : ℕ → List (ℕ × ℕ) → List BlockTree
+short_trees count sites = block_trees (λ gs. short_tree 0 gs 0) count sites
+
 abbrev pub site_trees : ℕ → List (ℕ × ℕ) → List BlockTree
-site_trees count [] = []
-site_trees count (e ∷ es) = reloc_tree 0 (group_trees 0 count (e ∷ es)) ∷ []
+site_trees count sites = block_trees (λ gs. reloc_tree 0 gs) count sites
 
 -- a symbol, whose name has at least one longword
 abbrev pub symbol_of : List ℕ → ℕ → SymbolTree
@@ -43,16 +52,16 @@ abbrev pub debug_trees : List (List ℕ) → List BlockTree
 debug_trees ds = map (λ d. debug_tree 0 d) ds
 
 -- one of `count` hunks
-abbrev pub body_tree : ℕ → FileHunk → BodyTree
-body_tree count h = record {
+abbrev pub body_tree : LoadForm → ℕ → FileHunk → BodyTree
+body_tree form count h = record {
   content = content_tree h.kind h.size (longwords h.content);
-  blocks = site_trees count h.sites.entries ++ (symbol_trees h.symbols ++ debug_trees h.debugs);
+  blocks = short_trees count (short_sites form h.sites.entries) ++ (site_trees count (long_sites form h.sites.entries) ++ (symbol_trees h.symbols ++ debug_trees h.debugs));
   end_bits = 0;
 }
 
-abbrev pub hunk_tree : ℕ → FileHunk → LoadHunkTree
-hunk_tree count h = record { memory_bits = memory_bits h.memory; size = h.size; hunk = record { name = None; body = body_tree count h } }
+abbrev pub hunk_tree : LoadForm → ℕ → FileHunk → LoadHunkTree
+hunk_tree form count h = record { memory_bits = memory_bits h.memory; size = h.size; hunk = record { name = None; body = body_tree form count h } }
 
 -- a file of a first hunk and others
-abbrev pub file_tree : FileHunk → List FileHunk → LoadTree
-file_tree h hs = record { type_bits = 0; first = hunk_tree (length (h ∷ hs)) h; others = map (hunk_tree (length (h ∷ hs))) hs }
+abbrev pub file_tree : LoadForm → FileHunk → List FileHunk → LoadTree
+file_tree form h hs = record { type_bits = 0; first = hunk_tree form (length (h ∷ hs)) h; others = map (hunk_tree form (length (h ∷ hs))) hs }

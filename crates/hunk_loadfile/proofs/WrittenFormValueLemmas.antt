@@ -1,5 +1,5 @@
--- The value of the tree of a written load file is that file.
-use Rattle.std.proofs.Common.{◌≡◌, ◌∙◌, ℕ, zero, suc, ◌+◌, ◌*◌, ◌<◌, ◌≤◌, List, [], ◌∷◌, ◌++◌, length, map, refl, ap, sym, subst, arith}
+-- The value of the tree of a load file in either written form is that file.
+use Rattle.std.proofs.Common.{◌≡◌, ◌∙◌, ℕ, zero, suc, ◌+◌, ◌*◌, ◌<◌, ◌≤◌, List, [], ◌∷◌, ◌++◌, length, map, not, refl, ap, sym, subst, arith}
 use Rattle.std.specs.List.{All, AllByRecursion}
 use Rattle.std.proofs.lemmas.List.{append-nil}
 use Rattle.std.proofs.lemmas.List.Elements.{All-head, All-tail, recursion_from_All}
@@ -8,8 +8,9 @@ use Rattle.hunk_words.specs.Kinds.Within.{in_load}
 use Rattle.hunk_words.specs.Longwords.{longwords, IsWhole}
 use Rattle.hunk_words.specs.Name.{bytes_of, name_of, name_words}
 use Rattle.hunk_words.specs.Sites.{StandFrom}
-use Rattle.hunk_words.specs.Trees.{Group}
-use Rattle.hunk_words.specs.Values.{Adds, HunkTables, merged, tables_of_blocks, content_value, tables_of_groups, hunk_value, one_debug, one_site, one_symbol, tables_of_sites, tables_of_symbols}
+use Rattle.hunk_words.specs.Trees.{BlockTree, Group}
+use Rattle.hunk_words.specs.Trees.BlockTree.{reloc_tree, short_tree}
+use Rattle.hunk_words.specs.Values.{Adds, HunkTables, merged, tables_of_block, tables_of_blocks, content_value, tables_of_groups, hunk_value, one_debug, one_site, one_symbol, tables_of_sites, tables_of_symbols}
 use Rattle.hunk_words.specs.Values.Adds.{to_hunk}
 use Rattle.hunk_words.proofs.LongwordsLemmas.{list-none, IsWhole-length}
 use Rattle.hunk_words.proofs.NameLemmas.{length-name_words, name_of-name_words}
@@ -17,14 +18,17 @@ use Rattle.hunk_words.specs.declared.kinds.HunkKind.{HunkKind}
 use Rattle.hunk_words.specs.declared.kinds.HunkKind.TheVariants.{Code, Data, Bss}
 use Rattle.hunk_words.specs.declared.kinds.Memory.{Memory}
 use Rattle.hunk_words.specs.declared.kinds.Memory.TheVariants.{Any, Chip, Fast}
+use Rattle.hunk_loadfile.specs.declared.load_form.LoadForm.{LoadForm}
+use Rattle.hunk_loadfile.specs.LoadForm.{is_short, long_sites, short_sites}
 use Rattle.hunk_loadfile.specs.LoadHunk.{FileHunk}
 use Rattle.hunk_loadfile.specs.LoadFile.{load_hunk_value, load_value, with_sites}
 use Rattle.hunk_words.specs.Kinds.{memory_of}
 use Rattle.hunk_loadfile.specs.Rules.{IsLoadFile, IsLoadHunk, IsTypedSymbol, most_content}
 use Rattle.hunk_loadfile.specs.WrittenForm.{memory_bits, offsets_to}
-use Rattle.hunk_loadfile.proofs.WrittenFormInsertLemmas.{put_in-all, sites_from, sites_to}
+use Rattle.hunk_loadfile.proofs.LoadFormLemmas.{AllByRecursion-filter, LieBefore, in_parts, lie-before, lies-behind, stand-filter}
+use Rattle.hunk_loadfile.proofs.WrittenFormInsertLemmas.{AreBehind, put_in-all, put_in-behind, sites_from, sites_from-behind, sites_to, with_sites-append}
 use Rattle.hunk_words.proofs.LongwordsByteLemmas.{bytes_of-longwords}
-use Rattle.hunk_loadfile.proofs.WrittenFormTree.{body_tree, content_tree, debug_trees, file_tree, group_tree, group_trees, hunk_tree, site_trees, symbol_of, symbol_trees}
+use Rattle.hunk_loadfile.proofs.WrittenFormTree.{block_trees, body_tree, content_tree, debug_trees, file_tree, group_tree, group_trees, hunk_tree, short_trees, site_trees, symbol_of, symbol_trees}
 
 -- ---- what the blocks mean
 
@@ -79,26 +83,62 @@ told-symbols r (s ∷ ss) ds =
     ∙ ap (λ second. merged (others (s ∷ ss) []) second) (told-debugs next ds)
     ∙ ap (λ symbols. record { sites = []; references = []; definitions = []; symbols = symbols; debugs = ds }) (append-nil (in_longwords (s ∷ ss)))
 
--- the sites in file order
-abbrev in_file_order : ℕ → List (ℕ × ℕ) → List (ℕ × Adds)
+-- the sites of a block in file order
+abbrev pub in_file_order : ℕ → List (ℕ × ℕ) → List (ℕ × Adds)
 in_file_order count [] = []
 in_file_order count (e ∷ es) = sites_from 0 count (e ∷ es)
 
-told-blocks : (r count : ℕ) (es : List (ℕ × ℕ)) (ss : List (List ℕ × ℕ)) (ds : List (List ℕ))
-    → tables_of_blocks r (site_trees count es ++ (symbol_trees ss ++ debug_trees ds)) ≡ record (others ss ds) { sites = in_file_order count es }
-told-blocks r count [] ss ds = told-symbols r ss ds
-told-blocks r count (e ∷ es) ss ds =
-    let told = tables_of_groups (group_trees 0 count (e ∷ es)) in
-    let next : ℕ = r + length told.references in
-    ap (λ first. merged first (tables_of_blocks next (symbol_trees ss ++ debug_trees ds))) (told-groups 0 count (e ∷ es))
-    ∙ ap (λ second. merged (only_sites (sites_from 0 count (e ∷ es))) second) (told-symbols next ss ds)
-    ∙ ap (λ sites. record (others ss ds) { sites = sites }) (append-nil (sites_from 0 count (e ∷ es)))
+abbrev tables : List (ℕ × Adds) → List (List ℕ × ℕ) → List (List ℕ) → HunkTables
+tables sites symbols debugs = record (others symbols debugs) { sites = sites }
+
+-- a relocation block of either kind, and what comes after it
+told-block : (block : List Group → BlockTree) → ((r : ℕ) (gs : List Group) → tables_of_block r (block gs) ≡ tables_of_groups gs)
+    → (r count : ℕ) (es : List (ℕ × ℕ)) (blocks : List BlockTree) (sites : List (ℕ × Adds)) (ss : List (List ℕ × ℕ)) (ds : List (List ℕ))
+    → ((next : ℕ) → tables_of_blocks next blocks ≡ tables sites ss ds)
+    → tables_of_blocks r (block_trees block count es ++ blocks) ≡ tables (in_file_order count es ++ sites) ss ds
+told-block block is r count [] blocks sites ss ds rest = rest r
+told-block block is r count (e ∷ es) blocks sites ss ds rest =
+    let gs = group_trees 0 count (e ∷ es) in
+    let next : ℕ = r + length (tables_of_block r (block gs)).references in
+    ap (λ first. merged first (tables_of_blocks next blocks)) (is r gs ∙ told-groups 0 count (e ∷ es))
+    ∙ ap (λ second. merged (only_sites (sites_from 0 count (e ∷ es))) second) (rest next)
+
+told-blocks : (r count : ℕ) (near far : List (ℕ × ℕ)) (ss : List (List ℕ × ℕ)) (ds : List (List ℕ))
+    → tables_of_blocks r (short_trees count near ++ (site_trees count far ++ (symbol_trees ss ++ debug_trees ds))) ≡ tables (in_file_order count near ++ in_file_order count far) ss ds
+told-blocks r count near far ss ds =
+    told-block (λ gs. short_tree 0 gs 0) (λ r gs. refl) r count near _ (in_file_order count far) ss ds (λ next.
+    told-block (λ gs. reloc_tree 0 gs) (λ r gs. refl) next count far _ [] ss ds (λ last. told-symbols last ss ds)
+    ∙ ap (λ sites. tables sites ss ds) (append-nil (in_file_order count far)))
 
 -- ---- the parts of a hunk
 
-read-sites : (count limit : ℕ) (es : List (ℕ × ℕ)) → StandFrom 0 limit es → AllByRecursion (λ e. e.1 < count) es → with_sites [] (in_file_order count es) ≡ es
-read-sites count limit [] stand targets = refl
-read-sites count limit (e ∷ es) stand targets = put_in-all count limit (e ∷ es) stand targets
+read-block : (count limit : ℕ) (es : List (ℕ × ℕ)) → StandFrom 0 limit es → AllByRecursion (λ e. e.1 < count) es → with_sites [] (in_file_order count es) ≡ es
+read-block count limit [] stand targets = refl
+read-block count limit (e ∷ es) stand targets = put_in-all count limit (e ∷ es) stand targets
+
+order-behind : (offset count : ℕ) (es : List (ℕ × ℕ)) → AreBehind offset es → AllByRecursion (λ s. offset < s.0) (in_file_order count es)
+order-behind offset count [] behind = tt
+order-behind offset count (e ∷ es) behind = sites_from-behind offset 0 count (e ∷ es) behind
+
+-- sites that lie before those of a block keep their places
+read-behind : (count : ℕ) (near far : List (ℕ × ℕ)) → LieBefore near far → with_sites near (in_file_order count far) ≡ near ++ with_sites [] (in_file_order count far)
+read-behind count [] far before = refl
+read-behind count (e ∷ near) far before =
+    put_in-behind e near (in_file_order count far) (order-behind e.0 count far (lies-behind e.0 far before.0)) ∙ ap (λ sites. e ∷ sites) (read-behind count near far before.1)
+
+read-sites : (form : LoadForm) (count limit : ℕ) (es : List (ℕ × ℕ)) → StandFrom 0 limit es → AllByRecursion (λ e. e.1 < count) es
+    → with_sites [] (in_file_order count (short_sites form es) ++ in_file_order count (long_sites form es)) ≡ es
+read-sites form count limit es stand targets =
+    let near = short_sites form es in
+    let far = long_sites form es in
+    let parts = in_parts form 0 limit es stand in
+    let short = λ (e : ℕ × ℕ). is_short form e.0 in
+    let long = λ (e : ℕ × ℕ). not (is_short form e.0) in
+    with_sites-append [] (in_file_order count near) (in_file_order count far)
+    ∙ ap (λ sites. with_sites sites (in_file_order count far)) (read-block count limit near (stand-filter short 0 limit es stand) (AllByRecursion-filter short (λ e. e.1 < count) es targets))
+    ∙ read-behind count near far (lie-before 0 limit near far (subst (StandFrom 0 limit) parts stand))
+    ∙ ap (λ sites. near ++ sites) (read-block count limit far (stand-filter long 0 limit es stand) (AllByRecursion-filter long (λ e. e.1 < count) es targets))
+    ∙ sym parts
 
 read-symbols : (ss : List (List ℕ × ℕ)) → AllByRecursion IsTypedSymbol ss → map (λ s. (name_of s.0, s.1)) (in_longwords ss) ≡ ss
 read-symbols [] typed = refl
@@ -140,17 +180,17 @@ hunk_of kind memory size content limit entries symbols debugs = record {
   debugs = debugs;
 }
 
-read-hunk : (last count : ℕ) (h : FileHunk) → IsLoadHunk count h → load_hunk_value last (hunk_tree count h) ≡ h
-read-hunk last count h valid =
+read-hunk : (form : LoadForm) (last count : ℕ) (h : FileHunk) → IsLoadHunk count h → load_hunk_value last (hunk_tree form count h) ≡ h
+read-hunk form last count h valid =
     let w = in_load last h.size in
-    let value = hunk_value w (hunk_tree count h).hunk in
+    let value = hunk_value w (hunk_tree form count h).hunk in
     let named = λ (told : HunkTables). map (λ s. (name_of s.0, s.1)) told.symbols in
-    let told = read-told h.kind w (tables_of_blocks 0 (body_tree count h).blocks) h.size (longwords h.content) ∙ told-blocks 0 count h.sites.entries h.symbols h.debugs in
+    let told = read-told h.kind w (tables_of_blocks 0 (body_tree form count h).blocks) h.size (longwords h.content) ∙ told-blocks 0 count (short_sites form h.sites.entries) (long_sites form h.sites.entries) h.symbols h.debugs in
     let stand = subst (λ limit. StandFrom 0 limit h.sites.entries) valid.limit valid.typed.apart in
-    let sites = read-sites count (4 * h.size) h.sites.entries stand (recursion_from_All (λ e. e.1 < count) h.sites.entries valid.targets) in
-    let content = read-content h.kind w (tables_of_blocks 0 (body_tree count h).blocks) h.size h.content valid.typed.bytes (IsWhole-length h.content valid.whole) valid.content in
+    let sites = read-sites form count (4 * h.size) h.sites.entries stand (recursion_from_All (λ e. e.1 < count) h.sites.entries valid.targets) in
+    let content = read-content h.kind w (tables_of_blocks 0 (body_tree form count h).blocks) h.size h.content valid.typed.bytes (IsWhole-length h.content valid.whole) valid.content in
     ap (λ k. hunk_of k (memory_of (memory_bits h.memory)) h.size (bytes_of value.content) (4 * h.size) (with_sites [] value.tables.sites) (named value.tables) value.tables.debugs)
-    (read-kind h.kind w (tables_of_blocks 0 (body_tree count h).blocks) h.size (longwords h.content))
+    (read-kind h.kind w (tables_of_blocks 0 (body_tree form count h).blocks) h.size (longwords h.content))
     ∙ ap (λ m. hunk_of h.kind m h.size (bytes_of value.content) (4 * h.size) (with_sites [] value.tables.sites) (named value.tables) value.tables.debugs) (read-memory h.memory)
     ∙ ap (λ bytes. hunk_of h.kind h.memory h.size bytes (4 * h.size) (with_sites [] value.tables.sites) (named value.tables) value.tables.debugs) content
     ∙ ap (λ t. hunk_of h.kind h.memory h.size h.content (4 * h.size) (with_sites [] t.sites) (named t) t.debugs) told
@@ -158,11 +198,11 @@ read-hunk last count h valid =
     ∙ ap (λ limit. hunk_of h.kind h.memory h.size h.content limit h.sites.entries (named (others h.symbols h.debugs)) h.debugs) (sym valid.limit)
     ∙ ap (λ symbols. hunk_of h.kind h.memory h.size h.content h.sites.limit h.sites.entries symbols h.debugs) (read-symbols h.symbols (recursion_from_All IsTypedSymbol h.symbols valid.typed.symbols))
 
-read-hunks : (last count : ℕ) (hunks : List FileHunk) → All (IsLoadHunk count) hunks → map (λ t. load_hunk_value last t) (map (hunk_tree count) hunks) ≡ hunks
-read-hunks last count [] valid = refl
-read-hunks last count (h ∷ hs) valid =
-    ap (λ (first : FileHunk). first ∷ map (λ t. load_hunk_value last t) (map (hunk_tree count) hs)) (read-hunk last count h (All-head (IsLoadHunk count) h hs valid))
-    ∙ ap (λ (more : List FileHunk). h ∷ more) (read-hunks last count hs (All-tail (IsLoadHunk count) h hs valid))
+read-hunks : (form : LoadForm) (last count : ℕ) (hunks : List FileHunk) → All (IsLoadHunk count) hunks → map (λ t. load_hunk_value last t) (map (hunk_tree form count) hunks) ≡ hunks
+read-hunks form last count [] valid = refl
+read-hunks form last count (h ∷ hs) valid =
+    ap (λ (first : FileHunk). first ∷ map (λ t. load_hunk_value last t) (map (hunk_tree form count) hs)) (read-hunk form last count h (All-head (IsLoadHunk count) h hs valid))
+    ∙ ap (λ (more : List FileHunk). h ∷ more) (read-hunks form last count hs (All-tail (IsLoadHunk count) h hs valid))
 
-pub read-file : (h : FileHunk) (hs : List FileHunk) → IsLoadFile (h ∷ hs) → load_value (file_tree h hs) ≡ h ∷ hs
-read-file h hs valid = read-hunks (length (map (hunk_tree (length (h ∷ hs))) hs)) (length (h ∷ hs)) (h ∷ hs) valid.each
+pub read-file : (form : LoadForm) (h : FileHunk) (hs : List FileHunk) → IsLoadFile (h ∷ hs) → load_value (file_tree form h hs) ≡ h ∷ hs
+read-file form h hs valid = read-hunks form (length (map (hunk_tree form (length (h ∷ hs))) hs)) (length (h ∷ hs)) (h ∷ hs) valid.each

@@ -1,5 +1,5 @@
 -- Laws about load files, their written form, trimming and patching.
-use Rattle.std.specs.Prelude.{◌≡◌, ℕ, ◌+◌, ◌*◌, ◌<◌, ◌≤◌, List, length, Option, Some, None}
+use Rattle.std.specs.Prelude.{◌≡◌, ℕ, ◌+◌, ◌*◌, ◌^◌, ◌<◌, ◌≤◌, List, length, Option, Some, None}
 use Rattle.std.specs.List.{All, filter_map}
 use Rattle.std.specs.Option.{option_map}
 use Rattle.hunk_words.specs.Event.{events}
@@ -7,13 +7,16 @@ use Rattle.hunk_words.specs.Files.{most_longwords}
 use Rattle.hunk_words.specs.Sites.{StandFrom}
 use Rattle.hunk_words.specs.Spelling.{load_spelling, LoadFits}
 use Rattle.hunk_words.specs.Trees.{LoadTree}
+use Rattle.hunk_loadfile.specs.declared.load_form.LoadForm.{LoadForm}
+use Rattle.hunk_loadfile.specs.declared.load_form.LoadForm.TheVariants.{Short}
 use Rattle.hunk_loadfile.specs.LoadFile.{IsLoad, load_value}
 use Rattle.hunk_loadfile.specs.LoadHunk.{FileHunk}
 use Rattle.hunk_loadfile.specs.Partial.{partial}
 use Rattle.hunk_loadfile.specs.Patching.{byte_or_zero, patched_bytes, site_over}
-use Rattle.hunk_loadfile.specs.Rules.{IsLoadFile, IsTyped, build_fault, carried_longwords, most_carried}
+use Rattle.hunk_loadfile.specs.Rules.{IsLoadFile, IsLoadHunk, IsTyped, build_fault, carried_longwords, most_carried, most_hunks}
+use Rattle.hunk_loadfile.specs.LoadForm.{short_sites}
 use Rattle.hunk_loadfile.specs.Trimming.{trimmed_hunk}
-use Rattle.hunk_loadfile.specs.WrittenForm.{written_form}
+use Rattle.hunk_loadfile.specs.WrittenForm.{IsShortEnough, groups_words, written_in}
 
 -- ---- load files
 
@@ -21,20 +24,25 @@ use Rattle.hunk_loadfile.specs.WrittenForm.{written_form}
 abbrev pub OneLoad : Type 0
 OneLoad = (one other : List FileHunk) (ws : List ℕ) → IsLoad one ws → IsLoad other ws → one ≡ other
 
--- The written form of a load file is no longer than a file may be, if its symbols and debug blocks
+-- Neither written form of a load file is longer than a file may be, if its symbols and debug blocks
 -- are within the limit for hunks that are passed in.
 abbrev pub WrittenIsShort : Type 0
-WrittenIsShort = (hunks : List FileHunk) → IsLoadFile hunks → carried_longwords hunks ≤ most_carried → length (written_form hunks) ≤ most_longwords
+WrittenIsShort = (form : LoadForm) (hunks : List FileHunk) → IsLoadFile hunks → carried_longwords hunks ≤ most_carried → length (written_in form hunks) ≤ most_longwords
 
--- The written form of a load file is that file, if it is no longer than a file may be.
+-- Each written form of a load file is that file, if it is no longer than a file may be.
 abbrev pub WrittenIsLoad : Type 0
-WrittenIsLoad = (hunks : List FileHunk) → IsLoadFile hunks → length (written_form hunks) ≤ most_longwords → IsLoad hunks (written_form hunks)
+WrittenIsLoad = (form : LoadForm) (hunks : List FileHunk) → IsLoadFile hunks → length (written_in form hunks) ≤ most_longwords → IsLoad hunks (written_in form hunks)
 
--- Hunks that break no rule of a load file have a written form that is no longer than a file may be.
--- What their types say about their bytes, sites and names holds of all hunks that a program can
--- pass in.
+-- Neither written form of hunks that break no rule of a load file is longer than a file may be, and
+-- nor is it once they are trimmed. What their types say about their bytes, sites and names holds of
+-- all hunks that a program can pass in.
 abbrev pub AcceptedIsShort : Type 0
-AcceptedIsShort = (hunks : List FileHunk) → All IsTyped hunks → build_fault hunks ≡ None → length (written_form hunks) ≤ most_longwords
+AcceptedIsShort = (hunks : List FileHunk) → All IsTyped hunks → build_fault hunks ≡ None → IsShortEnough hunks
+
+-- 16 bits hold every number of a short relocation block: how many sites a group has, its target and
+-- its offsets.
+abbrev pub ShortNumbersFit : Type 0
+ShortNumbersFit = (count : ℕ) (hunk : FileHunk) → count ≤ most_hunks → IsLoadHunk count hunk → All (λ n. n < 2 ^ 16) (groups_words count (short_sites Short hunk.sites.entries))
 
 -- After the events of a whole file the partial load file is that file.
 abbrev pub WholeIsPartial : Type 0

@@ -1,15 +1,20 @@
--- The written form of a load file, one list of longwords. Layouts and block types are those of The
--- AmigaDOS Manual, 3rd edition, "Amiga binary file structure"; which of the possible forms is
--- written is own.
-use Rattle.std.specs.Prelude.{ℕ, ◌+◌, ◌-◌, ◌*◌, ◌^◌, ◌==◌, List, [], ◌∷◌, ◌++◌, length, map}
+-- The written forms of a load file, each one list of longwords. Layouts and block types are those
+-- of The AmigaDOS Manual, 3rd edition, "Amiga binary file structure"; the layout of the short
+-- relocation block, and which of the possible forms are written, is own.
+use Rattle.std.specs.Prelude.{ℕ, ◌+◌, ◌-◌, ◌*◌, ◌^◌, ◌==◌, ◌≤◌, List, [], ◌∷◌, ◌++◌, length, map}
 use Rattle.std.specs.List.{filter, flat_map, range_with_len}
+use Rattle.hunk_words.specs.Files.{most_longwords}
 use Rattle.hunk_words.specs.Longwords.{longwords}
 use Rattle.hunk_words.specs.Name.{name_words}
 use Rattle.hunk_words.specs.declared.kinds.HunkKind.{HunkKind}
 use Rattle.hunk_words.specs.declared.kinds.HunkKind.TheVariants.{Code, Data, Bss}
 use Rattle.hunk_words.specs.declared.kinds.Memory.{Memory}
 use Rattle.hunk_words.specs.declared.kinds.Memory.TheVariants.{Any, Chip, Fast}
+use Rattle.hunk_loadfile.specs.declared.load_form.LoadForm.{LoadForm}
+use Rattle.hunk_loadfile.specs.declared.load_form.LoadForm.TheVariants.{Plain}
+use Rattle.hunk_loadfile.specs.LoadForm.{long_sites, short_sites}
 use Rattle.hunk_loadfile.specs.LoadHunk.{FileHunk}
+use Rattle.hunk_loadfile.specs.Trimming.{trimmed}
 
 -- the two bits above a size
 abbrev pub memory_bits : Memory → ℕ
@@ -43,10 +48,26 @@ group_words target (o ∷ os) = length (o ∷ os) ∷ target ∷ o ∷ os
 abbrev pub groups_words : ℕ → List (ℕ × ℕ) → List ℕ
 groups_words count sites = flat_map (λ target. group_words target (offsets_to target sites)) (range_with_len 0 count)
 
--- the relocation block, if there are sites
+-- the relocation block with 32-bit numbers, if there are sites
 abbrev pub site_words : ℕ → List (ℕ × ℕ) → List ℕ
 site_words count [] = []
 site_words count (e ∷ es) = 1004 ∷ groups_words count (e ∷ es) ++ 0 ∷ []
+
+-- 16-bit words as longwords, two in each, the first of them in its upper half; after an odd number of words one
+-- of 0
+abbrev pub paired : List ℕ → List ℕ
+paired [] = []
+paired (v ∷ []) = (v * 2 ^ 16) ∷ []
+paired (v ∷ w ∷ ws) = (v * 2 ^ 16 + w) ∷ paired ws
+
+-- the short relocation block, if there are sites
+abbrev pub short_words : ℕ → List (ℕ × ℕ) → List ℕ
+short_words count [] = []
+short_words count (e ∷ es) = 1020 ∷ paired (groups_words count (e ∷ es) ++ 0 ∷ [])
+
+-- both relocation blocks
+abbrev pub relocation_words : LoadForm → ℕ → List (ℕ × ℕ) → List ℕ
+relocation_words form count sites = short_words count (short_sites form sites) ++ site_words count (long_sites form sites)
 
 -- a symbol: the length of its name, the name and the value
 abbrev pub symbol_words : List ℕ × ℕ → List ℕ
@@ -62,11 +83,19 @@ abbrev pub debug_words : List ℕ → List ℕ
 debug_words ws = 1009 ∷ length ws ∷ ws
 
 -- one of `count` hunks, including its END
-abbrev pub hunk_words : ℕ → FileHunk → List ℕ
-hunk_words count hunk =
+abbrev pub hunk_words : LoadForm → ℕ → FileHunk → List ℕ
+hunk_words form count hunk =
     content_words hunk.kind hunk.size (longwords hunk.content)
-    ++ (site_words count hunk.sites.entries ++ (symbols_words hunk.symbols ++ (flat_map debug_words hunk.debugs ++ 1010 ∷ [])))
+    ++ (relocation_words form count hunk.sites.entries ++ (symbols_words hunk.symbols ++ (flat_map debug_words hunk.debugs ++ 1010 ∷ [])))
 
--- the whole file
+-- the whole file in one of the forms
+abbrev pub written_in : LoadForm → List FileHunk → List ℕ
+written_in form hunks = header_words hunks ++ flat_map (hunk_words form (length hunks)) hunks
+
+-- the whole file in the plain form
 abbrev pub written_form : List FileHunk → List ℕ
-written_form hunks = header_words hunks ++ flat_map (hunk_words (length hunks)) hunks
+written_form hunks = written_in Plain hunks
+
+-- Neither form is longer than a file may be, and nor is it once the hunks are trimmed.
+abbrev pub IsShortEnough : List FileHunk → Type 0
+IsShortEnough hunks = (form : LoadForm) → (length (written_in form hunks) ≤ most_longwords) × (length (written_in form (trimmed hunks)) ≤ most_longwords)

@@ -1,26 +1,31 @@
-//! Laws about load files, their written form, trimming and patching, each a function without a body.
-ghost use Rattle.hunk_loadfile.specs.Laws.{AcceptedIsShort, OneLoad, OnlyZerosAreTrimmed, PatchedTwice, TrimmedIsShortest, WholeIsPartial, WrittenIsLoad, WrittenIsShort};
+//! Laws about load files, their written forms, trimming and patching, each a function without a body.
+ghost use Rattle.hunk_loadfile.specs.Laws.{AcceptedIsShort, OneLoad, OnlyZerosAreTrimmed, PatchedTwice, ShortNumbersFit, TrimmedIsShortest, WholeIsPartial, WrittenIsLoad, WrittenIsShort};
 
 /// Decoding is unambiguous: no longwords are the load files of two values.
 pub fn longwords_tell_load_file()
     ensures { OneLoad }
 {}
 
-/// The written form of a load file is at most 2^28 longwords long if its symbols and debug blocks
+/// Either written form of a load file is at most 2^28 longwords long if its symbols and debug blocks
 /// take at most 2^27, as in every file made by [`LoadFile::new`](crate::LoadFile::new).
 pub fn written_is_short()
     ensures { WrittenIsShort }
 {}
 
-/// Hunks that break no rule of [`LoadFile::new`](crate::LoadFile::new) have a written form of at
-/// most 2^28 longwords.
+/// Either written form of hunks that break no rule of [`LoadFile::new`](crate::LoadFile::new) has at
+/// most 2^28 longwords, and so it has once they are trimmed.
 pub fn accepted_is_short()
     ensures { AcceptedIsShort }
 {}
 
-/// The written form of a load file is read back as that file.
+/// Either written form of a load file is read back as that file.
 pub fn written_is_read_back()
     ensures { WrittenIsLoad }
+{}
+
+/// 16 bits hold every number of a short relocation block.
+pub fn short_numbers_fit()
+    ensures { ShortNumbersFit }
 {}
 
 /// After the events of a whole load file the partial load file is that file.

@@ -6,14 +6,16 @@
 //! - `load_builder`: a builder of load files from the events of their longwords.
 //! - `open_hunk`: the current hunk of a load file.
 //! - `load_decoder`: load files from bytes.
+//! - `load_form`: the forms in which a load file is written.
 //! - `load_writer`: load files as bytes.
-//! - `written_form`: the written form of a load file in memory, and its length.
-//! - `relocation_writer`: writes the relocation block of a hunk.
+//! - `written_form`: the written forms of a load file in memory, and their lengths.
+//! - `relocation_writer`: writes the relocation blocks of a hunk.
+//! - `number_width`: how wide the numbers of a relocation block are.
 //! - `debug_writer`: writes the symbols and debug blocks of a hunk.
-//! - `longword_writer`: writes bytes and longwords of a text.
+//! - `longword_writer`: writes longwords and other numbers of a text.
 //! - `patching`: adding numbers to the longwords at sites.
 //! - `trimming`: cutting the zeros at the end of contents.
-//! - `laws`: laws about load files, their written form, trimming and patching.
+//! - `laws`: laws about load files, their written forms, trimming and patching.
 #![tactic(auto)]
 
 mod debug_writer;
@@ -21,9 +23,11 @@ pub mod laws;
 mod load_builder;
 pub mod load_decoder;
 pub mod load_file;
+pub mod load_form;
 pub mod load_hunk;
 pub mod load_writer;
 mod longword_writer;
+mod number_width;
 mod open_hunk;
 pub mod patching;
 mod relocation_writer;
@@ -34,8 +38,9 @@ pub mod written_form;
 pub use hunk_words::{HunkKind, Memory};
 pub use load_decoder::{LoadDecoder, read_load};
 pub use load_file::LoadFile;
+pub use load_form::LoadForm;
 pub use load_hunk::LoadHunk;
-pub use load_writer::write_load;
+pub use load_writer::{write_load, write_load_with};
 pub use patching::{add_at, patch};
 pub use rules::{BuildFault, BuildRefusal};
 pub use written_form::{written_bytes, written_length};

@@ -5,10 +5,11 @@ ghost use Rattle.hunk_words.specs.Longwords.{longwords};
 ghost use Rattle.hunk_words.specs.Name.{bytes_of};
 ghost use Rattle.hunk_words.specs.Streams.{Wrote, WroteAll};
 ghost use Rattle.hunk_loadfile.specs.Rules.{IsLoadFile, IsLoadHunk, carried_by, most_hunks, most_size};
-ghost use Rattle.hunk_loadfile.specs.WrittenForm.{content_words, header_words, hunk_words, size_word, written_form};
+ghost use Rattle.hunk_loadfile.specs.WrittenForm.{content_words, header_words, hunk_words, size_word, written_form, written_in};
 
 use crate::debug_writer::{write_debugs, write_symbols};
 use crate::load_file::LoadFile;
+use crate::load_form::LoadForm;
 use crate::load_hunk::LoadHunk;
 use crate::longword_writer::write_longwords;
 use crate::relocation_writer::write_sites;
@@ -16,9 +17,7 @@ use hunk_words::doshunks::{HUNK_BSS, HUNK_CODE, HUNK_DATA, HUNK_END, HUNK_HEADER
 use hunk_words::{HunkKind, Memory, Sink, WriteFault, write_all};
 use std::alloc::Allocator;
 
-/// Writes a load file in its written form (The AmigaDOS Manual, 3rd edition, "Amiga binary file
-/// structure"; which of the possible forms is written is our own choice). Apart from the file it
-/// keeps at most the sites of one hunk. It does not flush.
+/// Writes a load file in its plain form: [`write_load_with`] and [`LoadForm::Plain`].
 ///
 /// # Errors
 ///
@@ -33,21 +32,43 @@ pub fn write_load<A: Allocator + Copy, W: Sink>(
 ) -> Result<(), WriteFault>
     ensures wrote { WroteAll W.taken W.failed writer.old writer.new (bytes_of (written_form file.now)) result }
 {
-    let _length = write_file(alloc, file, writer)?;
+    write_load_with(alloc, file, LoadForm::Plain, writer)
+}
+
+/// Writes a load file in one of its forms (The AmigaDOS Manual, 3rd edition, "Amiga binary file
+/// structure"; which of the possible forms these are is our own choice). Apart from the file it
+/// keeps at most the sites of one hunk. It does not flush.
+///
+/// # Errors
+///
+/// - [`WriteFault::Device`] only if a write failed or took no byte.
+/// - [`WriteFault::OutOfMemory`] only if an allocation failed and no write failed.
+///
+/// In either case the writer has taken exactly the first `written` bytes of the file.
+pub fn write_load_with<A: Allocator + Copy, W: Sink>(
+    alloc: A,
+    file: &LoadFile<A>,
+    form: LoadForm,
+    writer: &mut W,
+) -> Result<(), WriteFault>
+    ensures wrote { WroteAll W.taken W.failed writer.old writer.new (bytes_of (written_in form file.now)) result }
+{
+    let _length = write_file(alloc, file, form, writer)?;
     Ok(())
 }
 
-/// Writes a load file as [`write_load`] does, and returns the number of bytes written.
+/// Writes a load file as [`write_load_with`] does, and returns the number of bytes written.
 pub(crate) fn write_file<A: Allocator + Copy, W: Sink>(
     alloc: A,
     file: &LoadFile<A>,
+    form: LoadForm,
     writer: &mut W,
 ) -> Result<u64, WriteFault>
-    ensures wrote { Wrote W.taken W.failed writer.old writer.new (bytes_of (written_form file.now)) 0 result }
+    ensures wrote { Wrote W.taken W.failed writer.old writer.new (bytes_of (written_in form file.now)) 0 result }
 {
     let hunks = file.hunks();
     let written = write_header(writer, hunks)?;
-    write_hunks(alloc, writer, written, hunks)
+    write_hunks(alloc, writer, written, form, hunks)
 }
 
 /// Writes the header, and returns the number of bytes written after it.
@@ -115,15 +136,16 @@ fn write_hunks<A: Allocator + Copy, W: Sink>(
     alloc: A,
     writer: &mut W,
     written: u64,
+    form: LoadForm,
     hunks: &[LoadHunk<A>],
 ) -> Result<u64, WriteFault>
     requires valid { IsLoadFile hunks.now }
     requires room { written < 2 ^ 32 }
-    ensures wrote { Wrote W.taken W.failed writer.old writer.new (bytes_of (flat_map (hunk_words (length hunks.now)) hunks.now)) written result }
+    ensures wrote { Wrote W.taken W.failed writer.old writer.new (bytes_of (flat_map (hunk_words form (length hunks.now)) hunks.now)) written result }
 {
     let mut written = written;
     for hunk in hunks {
-        written = write_hunk(alloc, writer, written, hunk)?;
+        written = write_hunk(alloc, writer, written, form, hunk)?;
     }
     Ok(written)
 }
@@ -133,16 +155,17 @@ fn write_hunk<A: Allocator + Copy, W: Sink>(
     alloc: A,
     writer: &mut W,
     written: u64,
+    form: LoadForm,
     hunk: &LoadHunk<A>,
 ) -> Result<u64, WriteFault>
     requires valid { IsLoadHunk most_hunks hunk.now }
     requires small { hunk.now.size ≤ most_size }
     requires carries { carried_by hunk.now ≤ 2 ^ 28 }
     requires room { written < 2 ^ 36 }
-    ensures wrote { (count : ℕ) → All (λ site. site.1 < count) hunk.now.sites.entries → Wrote W.taken W.failed writer.old writer.new (bytes_of (hunk_words count hunk.now)) written result }
+    ensures wrote { (count : ℕ) → All (λ site. site.1 < count) hunk.now.sites.entries → Wrote W.taken W.failed writer.old writer.new (bytes_of (hunk_words form count hunk.now)) written result }
 {
     let written = write_content(writer, written, hunk)?;
-    let written = write_sites(alloc, writer, written, &hunk.sites)?;
+    let written = write_sites(alloc, writer, written, form, &hunk.sites)?;
     let written = write_symbols(writer, written, &hunk.symbols)?;
     let written = write_debugs(writer, written, &hunk.debugs)?;
     write_longwords(writer, written, &[HUNK_END])

@@ -1,17 +1,21 @@
-//! The longwords of a text, as they are written.
-ghost use Rattle.std.specs.Prelude.{◌+◌, ◌<◌, ◌^◌, length};
+//! The numbers of a text, as they are written.
+ghost use Rattle.std.specs.Prelude.{◌≡◌, ◌+◌, ◌*◌, ◌%◌, ◌<◌, ◌≤◌, ◌^◌, length, map};
 ghost use Rattle.hunk_words.specs.Name.{bytes_of};
 ghost use Rattle.hunk_words.specs.Streams.{Wrote};
+ghost use Rattle.hunk_loadfile.specs.NumberWidth.{bytes_in, width_bytes};
 
+use crate::number_width::NumberWidth;
 use byteorder::{BigEndian, ByteOrder};
 use hunk_words::{Sink, WriteFault, write_all};
 
-/// The number of longwords that are written at once.
+/// The number of numbers that are written at once.
 const CHUNK: usize = 256;
 
+/// How many numbers a word can hold.
+const WORDS: u32 = 1 << 16;
+
 /// Writes these longwords of a text, each with its most significant byte first, after the first
-/// `written` bytes of it, and returns the number of bytes written after them. They go through an
-/// array of fixed size.
+/// `written` bytes of it, and returns the number of bytes written after them.
 pub(crate) fn write_longwords<W: Sink>(
     writer: &mut W,
     written: u64,
@@ -20,12 +24,53 @@ pub(crate) fn write_longwords<W: Sink>(
     requires room { written + length (bytes_of words.now) < 2 ^ 64 }
     ensures wrote { Wrote W.taken W.failed writer.old writer.new (bytes_of words.now) written result }
 {
+    write_numbers(writer, written, NumberWidth::Longword, words)
+}
+
+/// Writes these numbers of a text in the given width, of each its lowest bytes, the most
+/// significant one first. They go through an array of fixed size.
+pub(crate) fn write_numbers<W: Sink>(
+    writer: &mut W,
+    written: u64,
+    width: NumberWidth,
+    numbers: &[u32],
+) -> Result<u64, WriteFault>
+    requires room { written + length (bytes_in width numbers.now) < 2 ^ 64 }
+    ensures wrote { Wrote W.taken W.failed writer.old writer.new (bytes_in width numbers.now) written result }
+{
     let mut room = [0; 4 * CHUNK];
     let mut written = written;
-    for chunk in words.chunks(CHUNK) {
-        let bytes = &mut room[..4 * chunk.len()];
-        BigEndian::write_u32_into(chunk, bytes);
+    for chunk in numbers.chunks(CHUNK) {
+        let bytes = &mut room[..width.bytes() * chunk.len()];
+        fill_bytes(bytes, width, chunk);
         written = write_all(writer, written, bytes)?;
     }
     Ok(written)
+}
+
+/// Fills `bytes` with the numbers in the given width.
+fn fill_bytes(bytes: &mut [u8], width: NumberWidth, numbers: &[u32])
+    requires each { length bytes.old ≡ width_bytes width * length numbers.now }
+    requires few { length numbers.now ≤ 256 }
+    ensures { bytes.new ≡ bytes_in width numbers.now }
+{
+    match width {
+        NumberWidth::Word => {
+            let mut room = [0; CHUNK];
+            let words = &mut room[..numbers.len()];
+            fill_words(words, numbers);
+            BigEndian::write_u16_into(words, bytes);
+        }
+        NumberWidth::Longword => BigEndian::write_u32_into(numbers, bytes),
+    }
+}
+
+/// Fills `words` with the lowest 16 bits of each number.
+fn fill_words(words: &mut [u16], numbers: &[u32])
+    requires each { length words.old ≡ length numbers.now }
+    ensures { words.new ≡ map (λ n. n % 2 ^ 16) numbers.now }
+{
+    for (index, number) in numbers.iter().enumerate() {
+        words[index] = (*number % WORDS) as u16;
+    }
 }

@@ -1,75 +1,129 @@
-//! The relocation block of a hunk, as it is written.
+//! The relocation blocks of a hunk, as they are written.
 ghost use Rattle.std.specs.Prelude.{◌≡◌, ◌≢◌, ◌+◌, ◌*◌, ◌<◌, ◌≤◌, ◌^◌, ℕ, length, map, slice_index_or, IfOk};
 ghost use Rattle.std.specs.List.{All};
 ghost use Rattle.std.specs.List.Sorted.{IsNonDecreasingBy};
 ghost use Rattle.hunk_words.specs.Name.{bytes_of};
+ghost use Rattle.hunk_words.specs.Sites.{AreApart};
 ghost use Rattle.hunk_words.specs.Streams.{Wrote};
-ghost use Rattle.hunk_loadfile.specs.RelocationWriter.{AreByTarget, IsGroup};
-ghost use Rattle.hunk_loadfile.specs.WrittenForm.{group_words, groups_words, site_words};
+ghost use Rattle.hunk_loadfile.specs.LoadForm.{long_sites, short_sites};
+ghost use Rattle.hunk_loadfile.specs.NumberWidth.{bytes_in};
+ghost use Rattle.hunk_loadfile.specs.RelocationWriter.{AreByTarget, IsGroup, block_bytes};
+ghost use Rattle.hunk_loadfile.specs.WrittenForm.{group_words, groups_words, relocation_words};
 
-use crate::longword_writer::write_longwords;
-use hunk_words::doshunks::HUNK_RELOC32;
-use hunk_words::{Sink, Sites, WriteFault};
+use crate::load_form::LoadForm;
+use crate::longword_writer::{write_longwords, write_numbers};
+use crate::number_width::NumberWidth;
+use hunk_words::{Sink, Sites, WriteFault, write_all};
 use std::alloc::{AllocError, Allocator};
 
-/// Writes the relocation block of a hunk, if it has sites, and returns the number of bytes written
-/// after it. The block has a group for each target, in ascending order, with its offsets in
-/// ascending order (The AmigaDOS Manual, 3rd edition, "Amiga binary file structure"; the order is
-/// our own).
+/// Writes the relocation blocks of a hunk, and returns the number of bytes written after them. A
+/// block without sites is not written. Each has a group for each target, in ascending order, with
+/// its offsets in ascending order (The AmigaDOS Manual, 3rd edition, "Amiga binary file
+/// structure"; the order is our own).
 ///
 /// It keeps only the pairs of offset and target of this hunk, and allocates them before it writes.
 ///
 /// # Errors
 ///
-/// `OutOfMemory` only if an allocation failed: nothing of the block is written then. `Device` only
+/// `OutOfMemory` only if an allocation failed: nothing of the blocks is written then. `Device` only
 /// if a write failed or took no byte. In either case the writer has taken exactly the first
 /// `written` bytes of the text.
 pub(crate) fn write_sites<W: Sink, A: Allocator + Copy>(
     alloc: A,
     writer: &mut W,
     written: u64,
+    form: LoadForm,
     sites: &Sites<u32, A>,
 ) -> Result<u64, WriteFault>
-    requires room { written + 4 * (2 + 3 * length sites.now.entries) < 2 ^ 64 }
-    ensures wrote { (count : ℕ) → All (λ site. site.1 < count) sites.now.entries → Wrote W.taken W.failed writer.old writer.new (bytes_of (site_words count sites.now.entries)) written result }
+    requires room { written + 8 * (2 + 3 * length sites.now.entries) < 2 ^ 64 }
+    requires apart { AreApart sites.now }
+    requires targets { All (λ site. site.1 < 2 ^ 16) sites.now.entries }
+    ensures wrote { (count : ℕ) → All (λ site. site.1 < count) sites.now.entries → Wrote W.taken W.failed writer.old writer.new (bytes_of (relocation_words form count sites.now.entries)) written result }
 {
-    let Ok(pairs) = by_target(alloc, sites) else {
+    let Ok((short, long)) = by_target(alloc, form, sites) else {
         return Err(WriteFault::OutOfMemory { written });
     };
+    let written = write_block(writer, written, NumberWidth::Word, &short)?;
+    write_block(writer, written, NumberWidth::Longword, &long)
+}
+
+/// The sites of the short relocation block and those of the other, each in ascending order of
+/// target, and those of one target in ascending order of offset.
+fn by_target<A: Allocator + Copy>(
+    alloc: A,
+    form: LoadForm,
+    sites: &Sites<u32, A>,
+) -> Result<(Vec<(u32, u32), A>, Vec<(u32, u32), A>), AllocError>
+    ensures short { IfOk result (λ pairs. AreByTarget (short_sites form sites.now.entries) pairs.0.items) }
+    ensures long { IfOk result (λ pairs. AreByTarget (long_sites form sites.now.entries) pairs.1.items) }
+    ensures few { IfOk result (λ pairs. (length pairs.0.items ≤ 2 ^ 30) × (length pairs.1.items ≤ 2 ^ 30)) }
+{
+    let (short_count, long_count) = block_counts(form, sites);
+    let mut short = Vec::with_capacity(alloc, short_count)?;
+    let mut long = Vec::with_capacity(alloc, long_count)?;
+    for (offset, target) in sites.walk() {
+        if form.is_short(offset) {
+            short.push((offset, *target))?;
+        } else {
+            long.push((offset, *target))?;
+        }
+    }
+    short.sort_by_key(|pair| pair.1)?;
+    long.sort_by_key(|pair| pair.1)?;
+    Ok((short, long))
+}
+
+/// The number of sites in the short relocation block, and in the other.
+fn block_counts<A: Allocator + Copy>(form: LoadForm, sites: &Sites<u32, A>) -> (usize, usize)
+    ensures short { result.0 ≡ length (short_sites form sites.now.entries) }
+    ensures long { result.1 ≡ length (long_sites form sites.now.entries) }
+{
+    let mut short = 0;
+    let mut long = 0;
+    for (offset, _) in sites.walk() {
+        if form.is_short(offset) {
+            short += 1;
+        } else {
+            long += 1;
+        }
+    }
+    (short, long)
+}
+
+/// Writes a relocation block whose sites are in ascending order of target, if there are sites.
+fn write_block<W: Sink>(
+    writer: &mut W,
+    written: u64,
+    width: NumberWidth,
+    pairs: &[(u32, u32)],
+) -> Result<u64, WriteFault>
+    requires rise { IsNonDecreasingBy (λ pair. pair.1) pairs.now }
+    requires few { length pairs.now < 2 ^ 32 }
+    requires room { written + 4 * (2 + 3 * length pairs.now) < 2 ^ 64 }
+    ensures wrote { (count : ℕ) → All (λ pair. pair.1 < count) pairs.now → Wrote W.taken W.failed writer.old writer.new (block_bytes width count pairs.now) written result }
+    ensures bound { IfOk result (λ end. end ≤ written + 4 * (2 + 3 * length pairs.now)) }
+{
     if pairs.is_empty() {
         return Ok(written);
     }
-    let begun = write_longwords(writer, written, &[HUNK_RELOC32])?;
-    let grouped = write_groups(writer, begun, &pairs)?;
-    write_longwords(writer, grouped, &[0])
-}
-
-/// The sites in ascending order of target, those of one target in ascending order of offset.
-fn by_target<A: Allocator + Copy>(
-    alloc: A,
-    sites: &Sites<u32, A>,
-) -> Result<Vec<(u32, u32), A>, AllocError>
-    ensures order { IfOk result (λ pairs. AreByTarget sites.now.entries pairs.items) }
-    ensures few { IfOk result (λ pairs. length pairs.items ≤ 2 ^ 30) }
-{
-    let mut pairs = Vec::with_capacity(alloc, sites.walk().count())?;
-    for (offset, target) in sites.walk() {
-        pairs.push((offset, *target))?;
-    }
-    pairs.sort_by_key(|pair| pair.1)?;
-    Ok(pairs)
+    let begun = write_longwords(writer, written, &[width.block_type()])?;
+    let grouped = write_groups(writer, begun, width, pairs)?;
+    let zeros = 4 - (grouped - begun) as usize % 4;
+    write_all(writer, grouped, &[0; 4][..zeros])
 }
 
 /// Writes the groups of sites that are in ascending order of target.
 fn write_groups<W: Sink>(
     writer: &mut W,
     written: u64,
+    width: NumberWidth,
     pairs: &[(u32, u32)],
 ) -> Result<u64, WriteFault>
     requires rise { IsNonDecreasingBy (λ pair. pair.1) pairs.now }
     requires few { length pairs.now < 2 ^ 32 }
     requires room { written + 12 * length pairs.now < 2 ^ 64 }
-    ensures wrote { (count : ℕ) → All (λ pair. pair.1 < count) pairs.now → Wrote W.taken W.failed writer.old writer.new (bytes_of (groups_words count pairs.now)) written result }
+    ensures wrote { (count : ℕ) → All (λ pair. pair.1 < count) pairs.now → Wrote W.taken W.failed writer.old writer.new (bytes_in width (groups_words count pairs.now)) written result }
+    ensures from { IfOk result (λ end. written ≤ end) }
     ensures bound { IfOk result (λ end. end ≤ written + 12 * length pairs.now) }
 {
     let mut written = written;
@@ -77,7 +131,7 @@ fn write_groups<W: Sink>(
     'groups: while !rest.is_empty() {
         let target = rest[0].1;
         let (group, behind) = split_group(rest, target);
-        written = write_group(writer, written, target, group)?;
+        written = write_group(writer, written, width, target, group)?;
         rest = behind;
     }
     Ok(written)
@@ -111,16 +165,17 @@ fn group_length(pairs: &[(u32, u32)], target: u32) -> usize
 fn write_group<W: Sink>(
     writer: &mut W,
     written: u64,
+    width: NumberWidth,
     target: u32,
     group: &[(u32, u32)],
 ) -> Result<u64, WriteFault>
     requires some { 0 < length group.now }
     requires few { length group.now < 2 ^ 32 }
     requires room { written + 4 * (2 + length group.now) < 2 ^ 64 }
-    ensures wrote { Wrote W.taken W.failed writer.old writer.new (bytes_of (group_words target (map (λ pair. pair.0) group.now))) written result }
+    ensures wrote { Wrote W.taken W.failed writer.old writer.new (bytes_in width (group_words target (map (λ pair. pair.0) group.now))) written result }
 {
-    let begun = write_longwords(writer, written, &[group.len() as u32, target])?;
-    write_offsets(writer, begun, group)
+    let begun = write_numbers(writer, written, width, &[group.len() as u32, target])?;
+    write_offsets(writer, begun, width, group)
 }
 
 /// The number of offsets that are written at once.
@@ -130,17 +185,18 @@ const CHUNK: usize = 256;
 fn write_offsets<W: Sink>(
     writer: &mut W,
     written: u64,
+    width: NumberWidth,
     group: &[(u32, u32)],
 ) -> Result<u64, WriteFault>
     requires room { written + 4 * length group.now < 2 ^ 64 }
-    ensures wrote { Wrote W.taken W.failed writer.old writer.new (bytes_of (map (λ pair. pair.0) group.now)) written result }
+    ensures wrote { Wrote W.taken W.failed writer.old writer.new (bytes_in width (map (λ pair. pair.0) group.now)) written result }
 {
     let mut room = [0; CHUNK];
     let mut written = written;
     for chunk in group.chunks(CHUNK) {
         let offsets = &mut room[..chunk.len()];
         fill_offsets(offsets, chunk);
-        written = write_longwords(writer, written, offsets)?;
+        written = write_numbers(writer, written, width, offsets)?;
     }
     Ok(written)
 }

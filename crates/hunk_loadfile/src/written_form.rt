@@ -1,30 +1,35 @@
-//! The written form of a load file in memory, and its length.
+//! The written forms of a load file in memory, and their lengths.
 ghost use Rattle.std.specs.Prelude.{◌≡◌, length, IfOk};
 ghost use Rattle.hunk_words.specs.Name.{bytes_of};
-ghost use Rattle.hunk_loadfile.specs.WrittenForm.{written_form};
+ghost use Rattle.hunk_loadfile.specs.WrittenForm.{written_in};
 
 use crate::load_file::LoadFile;
-use crate::load_writer::{write_file, write_load};
+use crate::load_form::LoadForm;
+use crate::load_writer::{write_file, write_load_with};
 use hunk_words::{DeviceFault, Sink, Watched, WriteFault};
 use std::alloc::{AllocError, Allocator};
 
-/// The number of bytes that [`write_load`] writes for this file. It allocates the sites of one hunk
+/// The number of bytes that [`write_load_with`](crate::write_load_with) writes for this file in this form. It allocates the sites of one hunk
 /// at a time.
 ///
 /// # Errors
 ///
 /// [`AllocError`] only if an allocation failed.
-pub fn written_length<A: Allocator + Copy>(alloc: A, file: &LoadFile<A>) -> Result<u64, AllocError>
-    ensures { IfOk result (λ count. count ≡ length (bytes_of (written_form file.now))) }
+pub fn written_length<A: Allocator + Copy>(
+    alloc: A,
+    file: &LoadFile<A>,
+    form: LoadForm,
+) -> Result<u64, AllocError>
+    ensures { IfOk result (λ count. count ≡ length (bytes_of (written_in form file.now))) }
 {
-    match write_file(alloc, file, &mut Discarding) {
+    match write_file(alloc, file, form, &mut Discarding) {
         Ok(count) => Ok(count),
         Err(WriteFault::OutOfMemory { .. }) => Err(AllocError),
         Err(WriteFault::Device { .. }) => unreachable!(),
     }
 }
 
-/// The bytes that [`write_load`] writes for this file, in one allocation of exactly their number.
+/// The bytes that [`write_load_with`](crate::write_load_with) writes for this file in this form, in one allocation of exactly their number.
 ///
 /// # Errors
 ///
@@ -32,12 +37,13 @@ pub fn written_length<A: Allocator + Copy>(alloc: A, file: &LoadFile<A>) -> Resu
 pub fn written_bytes<A: Allocator + Copy>(
     alloc: A,
     file: &LoadFile<A>,
+    form: LoadForm,
 ) -> Result<Vec<u8, A>, AllocError>
-    ensures { IfOk result (λ bytes. bytes.items ≡ bytes_of (written_form file.now)) }
+    ensures { IfOk result (λ bytes. bytes.items ≡ bytes_of (written_in form file.now)) }
 {
-    let count = written_length(alloc, file)?;
+    let count = written_length(alloc, file, form)?;
     let mut writer = Watched::new(Vec::with_capacity(alloc, count as usize)?);
-    match write_load(alloc, file, &mut writer) {
+    match write_load_with(alloc, file, form, &mut writer) {
         Ok(()) => Ok(writer.into_inner()),
         Err(_) => Err(AllocError),
     }

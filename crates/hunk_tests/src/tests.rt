@@ -7,6 +7,7 @@
 //! - `loading`: load files that are made of hunks, in memory.
 //! - `parts`: each part of a load file, as it is written.
 //! - `places`: addresses of hunks.
+//! - `short_form`: load files with relocations in 16-bit words, as they are written.
 //! - `trimmed`: load files without the zeros at the end of contents.
 //! - `values`: the expected hunks of a load file.
 //! - `written`: load files that are written.
@@ -18,6 +19,7 @@ mod loaded;
 mod loading;
 mod parts;
 mod places;
+mod short_form;
 mod trimmed;
 mod values;
 mod written;

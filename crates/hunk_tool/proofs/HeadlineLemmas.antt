@@ -1,13 +1,12 @@
 -- The load file that units make has in memory what the units define directly, and so the bytes that
 -- are linked have the report of that memory, and no other.
-use Rattle.std.proofs.Common.{◌≡◌, ℕ, zero, suc, ◌+◌, ◌*◌, ◌<◌, List, [], ◌∷◌, ◌++◌, length, map, slice_index, get_or, Bool, Option, Some, None, refl, sym, ap, ap₂, subst, ◌∙◌, zero-add, add-zero, arith}
-use Rattle.std.specs.List.{All, enumerate_from, zip}
+use Rattle.std.proofs.Common.{◌≡◌, ℕ, zero, suc, ◌+◌, ◌*◌, List, [], ◌∷◌, ◌++◌, length, map, slice_index, get_or, Bool, inl, inr, Option, Some, None, refl, sym, ap, ap₂, subst, ◌∙◌, zero-add, add-zero}
+use Rattle.std.specs.List.{All, zip}
 use Rattle.std.proofs.Math.Nat.{add_comm}
 use Rattle.std.proofs.Math.Path.{fun_ext}
+use Rattle.std.proofs.lemmas.Bool.{cases_Bool}
 use Rattle.std.proofs.lemmas.List.{append_cancel_left}
-use Rattle.std.proofs.lemmas.List.Elements.{All-append, All-head, All-map, All-nil, All-tail}
-use Rattle.std.proofs.lemmas.List.FromFn.{get_or-enumerate_from, length-enumerate_from}
-use Rattle.std.proofs.lemmas.Simd.{map-map}
+use Rattle.std.proofs.lemmas.List.Elements.{All-head, All-tail}
 use Rattle.hunk_words.specs.Longwords.{longwords}
 use Rattle.hunk_words.specs.Sites.{StandFrom}
 use Rattle.hunk_objects.specs.ProgramUnit.{ObjectUnit}
@@ -23,7 +22,7 @@ use Rattle.hunk_loadfile.specs.Patching.{patched_bytes}
 use Rattle.hunk_loadfile.proofs.PatchingTwiceLemmas.{patched_bytes-twice}
 use Rattle.hunk_link.specs.Addend.{addend_of, defined_addend, definition_addend, name_addend, nothing, reference_addends}
 use Rattle.hunk_link.specs.Carried.{carried, carried_ranked}
-use Rattle.hunk_link.specs.Ranks.{IsUnit, RankedHunk, hunks_of}
+use Rattle.hunk_link.specs.Ranks.{RankedHunk, hunks_of}
 use Rattle.hunk_link.specs.SymbolTable.{Table, look_up, table_of}
 use Rattle.hunk_link.specs.declared.symbol_table.Defined.{Defined}
 use Rattle.hunk_link.proofs.CarriedLawsLemmas.{sizes-carried}
@@ -32,12 +31,14 @@ use Rattle.hunk_loader.specs.Image.{memory_map}
 use Rattle.hunk_loader.specs.Loading.{loaded, loaded_bytes}
 use Rattle.hunk_loader.specs.Places.{Placed}
 use Rattle.hunk_loader.specs.Sizes.{sizes_of}
+use Rattle.hunk_loader.proofs.LoadingLemmas.{loaded-trimmed, sizes_of-trimmed}
 use Rattle.hunk_tool.specs.Direct.{added, defined_value, definition_value, direct, direct_bytes, name_value}
 use Rattle.hunk_tool.specs.Headline.{LinkedIsReported, LoadedIsDirect, MemoryIsDirect, ReportsAgree}
 use Rattle.hunk_tool.specs.Image.{ranked_sizes}
 use Rattle.hunk_tool.specs.Inputs.{AreObjects}
-use Rattle.hunk_tool.specs.Link.{linked_bytes}
+use Rattle.hunk_tool.specs.Link.{linked_bytes, linked_hunks}
 use Rattle.hunk_tool.specs.Report.{report}
+use Rattle.hunk_tool.specs.declared.link_options.LinkOptions.{LinkOptions}
 use Rattle.hunk_tool.proofs.LawsLemmas.{one-value}
 
 -- ---- what is added at a site
@@ -112,24 +113,38 @@ one-units (bytes ∷ files) one other (some, rest, is, are, parts) (also, left, 
     ∙ ap₂ (λ xs ys. xs ++ ys) (one-object some also (longwords bytes) is.is_object same.is_object) (one-units files rest left are these)
     ∙ sym halves
 
+-- trimming changes neither the memory nor the sizes
+loaded-linked : (units : List ObjectUnit) (options : LinkOptions) (bases : List ℕ) → loaded (linked_hunks units options) bases ≡ loaded (carried units options.strip) bases
+loaded-linked units options bases = elim (cases_Bool options.trim) [
+  | inl trim ↦ rw trim (loaded-trimmed bases bases (carried units options.strip))
+  | inr whole ↦ rw whole refl
+]
+
+sizes-linked : (units : List ObjectUnit) (options : LinkOptions) → sizes_of (linked_hunks units options) ≡ sizes_of (carried units options.strip)
+sizes-linked units options = elim (cases_Bool options.trim) [
+  | inl trim ↦ rw trim (sizes_of-trimmed (carried units options.strip))
+  | inr whole ↦ rw whole refl
+]
+
 pub linked-is-reported : LinkedIsReported
-linked-is-reported strip files bases file linked image told link imaged =
+linked-is-reported options files bases file linked image told link imaged =
     let units : List ObjectUnit = link.units in
     let same : imaged.units ≡ units = one-units files imaged.units units imaged.link.are link.link.are in
-    let bytes : linked ≡ linked_bytes units strip = append_cancel_left file linked (linked_bytes units strip) link.written in
-    let sizes : ranked_sizes imaged.units ≡ sizes_of (carried units strip) =
-    ap ranked_sizes same ∙ sym (sizes-carried units strip) in
-    let memory : direct imaged.units bases ≡ loaded (carried units strip) bases = ap (λ us. direct us bases) same ∙ sym (loaded-is-direct units strip bases link.link.typed) in
+    let bytes : linked ≡ linked_bytes units options = append_cancel_left file linked (linked_bytes units options) link.written in
+    let sizes : ranked_sizes imaged.units ≡ sizes_of (linked_hunks units options) =
+    ap ranked_sizes same ∙ sym (sizes-linked units options ∙ sizes-carried units options.strip) in
+    let memory : direct imaged.units bases ≡ loaded (linked_hunks units options) bases =
+    ap (λ us. direct us bases) same ∙ sym (loaded-linked units options bases ∙ loaded-is-direct units options.strip bases link.link.typed) in
     record {
-      hunks = carried units strip;
-      is_file = subst (IsLoadOf (carried units strip)) (sym bytes) link.is_load;
+      hunks = linked_hunks units options;
+      is_file = subst (IsLoadOf (linked_hunks units options)) (sym bytes) link.is_load;
       placed = subst (λ counts. Placed counts bases) sizes imaged.placed;
       written = imaged.written ∙ ap (λ hunks. image ++ report hunks) memory;
     }
 
 pub reports-agree : ReportsAgree
-reports-agree strip files bases file linked before told image other link reported imaged =
-    let also = linked-is-reported strip files bases file linked image other link imaged in
+reports-agree options files bases file linked before told image other link reported imaged =
+    let also = linked-is-reported options files bases file linked image other link imaged in
     let same = one-value reported.hunks also.hunks linked reported.is_file also.is_file in
     append_cancel_left before told (report (loaded reported.hunks bases)) reported.written
     ∙ ap (λ hunks. report (loaded hunks bases)) same

@@ -1,10 +1,8 @@
 -- The image of linked units is the memory that they define, and what a fault of making it says.
-use Rattle.std.proofs.Common.{◌≡◌, ℕ, ◌≤◌, List, length, Option, Bool, true, refl, ap, subst, ◌∙◌}
+use Rattle.std.proofs.Common.{◌≡◌, ℕ, List, Option, Bool, true, ap, subst, ◌∙◌}
 use Rattle.std.specs.Io.KnownBytes.{Appends}
 use Rattle.std.specs.List.{All}
 use Rattle.std.proofs.KnownBytes.{Keeps-refl}
-use Rattle.std.proofs.lemmas.Simd.{map-map}
-use Rattle.hunk_words.specs.Files.{most_longwords}
 use Rattle.hunk_words.specs.Name.{bytes_of}
 use Rattle.hunk_words.specs.Streams.{IsDevice, TookFront, WriteStopped}
 use Rattle.hunk_words.specs.declared.fault.WriteFault.{WriteFault}
@@ -12,10 +10,10 @@ use Rattle.hunk_words.specs.declared.fault.WriteFault.TheVariants as write_fault
 use Rattle.hunk_objects.specs.ProgramUnit.{ObjectUnit}
 use Rattle.hunk_loadfile.specs.LoadHunk.{FileHunk}
 use Rattle.hunk_loadfile.specs.Rules.{IsLoadFile}
-use Rattle.hunk_loadfile.specs.WrittenForm.{written_form}
-use Rattle.hunk_link.specs.Carried.{carried, carried_ranked}
+use Rattle.hunk_loadfile.specs.declared.load_form.LoadForm.TheVariants.{Plain}
+use Rattle.hunk_loadfile.specs.WrittenForm.{IsShortEnough, written_form}
+use Rattle.hunk_link.specs.Carried.{carried}
 use Rattle.hunk_link.specs.Ranks.{IsUnit}
-use Rattle.hunk_link.specs.SymbolTable.{table_of}
 use Rattle.hunk_link.proofs.CarriedLawsLemmas.{sizes-carried}
 use Rattle.hunk_loader.specs.ImageLoader.{LoadsAs}
 use Rattle.hunk_loader.specs.Loading.{loaded}
@@ -45,9 +43,9 @@ FirstRefusal-carried units file bases fault is first = subst (λ sizes. IsFirstR
 direct-carried : (units : List ObjectUnit) (file : List FileHunk) (bases : List ℕ) (image : List (ℕ × List ℕ)) → file ≡ carried units true → All IsUnit units → image ≡ loaded file bases → image ≡ direct units bases
 direct-carried units file bases image is typed made = made ∙ ap (λ hunks. loaded hunks bases) is ∙ loaded-is-direct units true bases typed
 
-pub LoadsAs-written : (file : List FileHunk) (bases : List ℕ) (image : List (ℕ × List ℕ)) → IsLoadFile file → length (written_form file) ≤ most_longwords → Placed (sizes_of file) bases → image ≡ loaded file bases
+pub LoadsAs-written : (file : List FileHunk) (bases : List ℕ) (image : List (ℕ × List ℕ)) → IsLoadFile file → IsShortEnough file → Placed (sizes_of file) bases → image ≡ loaded file bases
     → LoadsAs bases (bytes_of (written_form file)) image
-LoadsAs-written file bases image valid short placed made = record { hunks = file; is_file = written_bytes-are_load file valid short; placed = placed; image_is = made }
+LoadsAs-written file bases image valid short placed made = record { hunks = file; is_file = written_bytes-are_load Plain file valid (short Plain).0; placed = placed; image_is = made }
 
 pub HaveRead-imaged : (inputs : List Input) (bases : List ℕ) (file : List FileHunk) (image : List (ℕ × List ℕ)) (old new : Option (List ℕ)) → HaveRead inputs (LinkTo true file)
     → Placed (sizes_of file) bases → image ≡ loaded file bases → Appends old new (report image) → HaveRead inputs (IsImaged bases old new)

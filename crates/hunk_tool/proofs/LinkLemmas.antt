@@ -1,5 +1,5 @@
--- The written form of a load file is the bytes of one, and what a fault of linking says.
-use Rattle.std.proofs.Common.{◌≡◌, ℕ, ◌/◌, ◌^◌, ◌<◌, ◌≤◌, inl, inr, List, [], ◌∷◌, length, Option, Bool, refl, sym, subst, arith}
+-- The written forms of a load file are the bytes of one, and what a fault of linking says.
+use Rattle.std.proofs.Common.{◌≡◌, ℕ, ◌/◌, ◌^◌, ◌<◌, ◌≤◌, inl, inr, List, [], ◌∷◌, length, Option, Bool, true, false, ap₂, refl, sym, subst, arith}
 use Rattle.std.specs.Io.KnownBytes.{Appends}
 use Rattle.std.specs.List.{All}
 use Rattle.std.proofs.KnownBytes.{Keeps-refl}
@@ -19,10 +19,12 @@ use Rattle.hunk_words.proofs.FilesPrefixLemmas.{end_of, spelling-read, start}
 use Rattle.hunk_words.proofs.LongwordsByteLemmas.{bytes_of-IsWhole, longwords-bytes_of}
 use Rattle.hunk_objects.specs.ProgramUnit.{ObjectUnit}
 use Rattle.hunk_loadfile.specs.LoadFile.{IsLoad, IsLoadOf}
+use Rattle.hunk_loadfile.specs.Trimming.{trimmed}
+use Rattle.hunk_loadfile.specs.declared.load_form.LoadForm.{LoadForm}
 use Rattle.hunk_loadfile.specs.LoadHunk.{FileHunk}
 use Rattle.hunk_loadfile.specs.Rules.{IsLoadFile}
-use Rattle.hunk_loadfile.specs.WrittenForm.{written_form}
-use Rattle.hunk_loadfile.proofs.WrittenFormLemmas.{written_form-is_load}
+use Rattle.hunk_loadfile.specs.WrittenForm.{IsShortEnough, written_in}
+use Rattle.hunk_loadfile.proofs.WrittenFormLemmas.{written_in-is_load}
 use Rattle.hunk_link.specs.Carried.{carried}
 use Rattle.hunk_link.specs.Ranks.{IsUnit}
 use Rattle.hunk_link.specs.Linkable.{IsLinkRefusal, Linkable}
@@ -30,6 +32,8 @@ use Rattle.hunk_link.specs.declared.refusal.LinkRefusal.{LinkRefusal}
 use Rattle.hunk_link.specs.declared.refusal.LinkRefusal.TheVariants as link_refusal
 use Rattle.hunk_tool.specs.Inputs.{AreObjects, HaveRead, Input, IsInputFault}
 use Rattle.hunk_tool.specs.Link.{IsLinkCutShort, IsLinkFault, IsLinked, IsNotLinked, IsUnlinked, LinkTo}
+use Rattle.hunk_tool.specs.LinkOptions.{form_of, trimmed_if}
+use Rattle.hunk_tool.specs.declared.link_options.LinkOptions.{LinkOptions}
 use Rattle.hunk_tool.specs.ToolFault.{tool_fault_of_link, tool_fault_of_write}
 use Rattle.hunk_tool.specs.declared.tool_fault.ToolFault.{ToolFault}
 use Rattle.hunk_tool.specs.declared.tool_fault.ToolFault.TheVariants as tool_fault
@@ -51,11 +55,22 @@ reads-long stack (word ∷ words) after reads =
 long-load : (tree : LoadTree) (words : List ℕ) → IsFileOf Load tree words → AllLong words
 long-load tree words file = reads-long (start Load) words (end_of Load) (subst (λ spelled. Reads (start Load) spelled (end_of Load)) file.spelled (spelling-read Load tree file.fits))
 
-pub written_bytes-are_load : (hunks : List FileHunk) → IsLoadFile hunks → length (written_form hunks) ≤ most_longwords → IsLoadOf hunks (bytes_of (written_form hunks))
-written_bytes-are_load hunks valid short =
-    let is = written_form-is_load hunks valid short in
-    let all : All (λ w. w < 2 ^ 32) (written_form hunks) = All-from_recursion (λ w. w < 2 ^ 32) (written_form hunks) (long-load is.tree (written_form hunks) is.is_file) in
-    record { whole = bytes_of-IsWhole (written_form hunks); is_load = subst (IsLoad hunks) (sym (longwords-bytes_of (written_form hunks) all)) is }
+pub written_bytes-are_load : (form : LoadForm) (hunks : List FileHunk) → IsLoadFile hunks → length (written_in form hunks) ≤ most_longwords → IsLoadOf hunks (bytes_of (written_in form hunks))
+written_bytes-are_load form hunks valid short =
+    let words = written_in form hunks in
+    let is = written_in-is_load form hunks valid short in
+    let all : All (λ w. w < 2 ^ 32) words = All-from_recursion (λ w. w < 2 ^ 32) words (long-load is.tree words is.is_file) in
+    record { whole = bytes_of-IsWhole words; is_load = subst (IsLoad hunks) (sym (longwords-bytes_of words all)) is }
+
+-- trimmed or not, as the options say
+pub linked_bytes-are_load : (form : LoadForm) (trim : Bool) (hunks : List FileHunk) → IsLoadFile (trimmed_if trim hunks) → IsShortEnough hunks → IsLoadOf (trimmed_if trim hunks) (bytes_of (written_in form (trimmed_if trim hunks)))
+linked_bytes-are_load form true hunks valid short = written_bytes-are_load form (trimmed hunks) valid (short form).1
+linked_bytes-are_load form false hunks valid short = written_bytes-are_load form hunks valid (short form).0
+
+-- the form and the file that the options choose
+pub bytes-chosen : (options : LinkOptions) (file hunks : List FileHunk) (form : LoadForm) → form ≡ form_of options → hunks ≡ trimmed_if options.trim file
+    → bytes_of (written_in form hunks) ≡ bytes_of (written_in (form_of options) (trimmed_if options.trim file))
+bytes-chosen options file hunks form form_is hunks_are = ap₂ (λ f hs. bytes_of (written_in f hs)) form_is hunks_are
 
 -- ---- the load file of inputs
 
@@ -65,14 +80,14 @@ HaveRead-link_to inputs strip units file read typed linkable is =
     HaveRead-weaker inputs (λ files. AreObjects files units) (LinkTo strip file)
     (λ files are. record { units = units; link = record { are = are; typed = typed; linkable = linkable }; file_is = is }) read
 
-pub IsLinked-written : (inputs : List Input) (strip : Bool) (file : List FileHunk) (old new : Option (List ℕ)) → HaveRead inputs (LinkTo strip file)
-    → IsLoadFile file → length (written_form file) ≤ most_longwords → Appends old new (bytes_of (written_form file)) → HaveRead inputs (IsLinked strip old new)
-IsLinked-written inputs strip file old new read valid short written =
-    HaveRead-weaker inputs (LinkTo strip file) (IsLinked strip old new) (λ files to. record {
+pub IsLinked-written : (inputs : List Input) (options : LinkOptions) (file : List FileHunk) (old new : Option (List ℕ)) → HaveRead inputs (LinkTo options.strip file)
+    → IsLoadFile (trimmed_if options.trim file) → IsShortEnough file → Appends old new (bytes_of (written_in (form_of options) (trimmed_if options.trim file))) → HaveRead inputs (IsLinked options old new)
+IsLinked-written inputs options file old new read valid short written =
+    HaveRead-weaker inputs (LinkTo options.strip file) (IsLinked options old new) (λ files to. record {
       units = to.units;
       link = to.link;
-      is_load = subst (λ hunks. IsLoadOf hunks (bytes_of (written_form hunks))) to.file_is (written_bytes-are_load file valid short);
-      written = subst (λ hunks. Appends old new (bytes_of (written_form hunks))) to.file_is written;
+      is_load = subst (λ hunks. IsLoadOf (trimmed_if options.trim hunks) (bytes_of (written_in (form_of options) (trimmed_if options.trim hunks)))) to.file_is (linked_bytes-are_load (form_of options) options.trim file valid short);
+      written = subst (λ hunks. Appends old new (bytes_of (written_in (form_of options) (trimmed_if options.trim hunks)))) to.file_is written;
     }) read
 
 -- ---- faults
@@ -101,24 +116,27 @@ IsUnlinked-link {A = A} strip inputs units refusal read first =
     go (link_refusal.UndefinedName unit hunk name) is = (is, λ same. cc)
 
 -- Then nothing was written.
-pub IsLinkFault-unlinked : {A : Type 0} (strip : Bool) (inputs : List Input) (taken : Option (List ℕ)) (failed : Bool) (fault : ToolFault A)
-    → IsUnlinked strip inputs fault → IsLinkFault strip inputs (record { old = taken; new = taken; failed = failed }) fault
-IsLinkFault-unlinked strip inputs taken failed (tool_fault.Input file fault) is = (is, Keeps-refl taken)
-IsLinkFault-unlinked strip inputs taken failed (tool_fault.InputDevice file) is = (is, Keeps-refl taken)
-IsLinkFault-unlinked strip inputs taken failed (tool_fault.Link refusal) is = (is, Keeps-refl taken)
-IsLinkFault-unlinked strip inputs taken failed (tool_fault.Place fault) is = absurd is
-IsLinkFault-unlinked strip inputs taken failed (tool_fault.Output written) is = absurd is
-IsLinkFault-unlinked strip inputs taken failed (tool_fault.OutOfMemory written) is = inl (is, Keeps-refl taken)
+pub IsLinkFault-unlinked : {A : Type 0} (options : LinkOptions) (inputs : List Input) (taken : Option (List ℕ)) (failed : Bool) (fault : ToolFault A)
+    → IsUnlinked options.strip inputs fault → IsLinkFault options inputs (record { old = taken; new = taken; failed = failed }) fault
+IsLinkFault-unlinked options inputs taken failed (tool_fault.Input file fault) is = (is, Keeps-refl taken)
+IsLinkFault-unlinked options inputs taken failed (tool_fault.InputDevice file) is = (is, Keeps-refl taken)
+IsLinkFault-unlinked options inputs taken failed (tool_fault.Link refusal) is = (is, Keeps-refl taken)
+IsLinkFault-unlinked options inputs taken failed (tool_fault.Place fault) is = absurd is
+IsLinkFault-unlinked options inputs taken failed (tool_fault.Output written) is = absurd is
+IsLinkFault-unlinked options inputs taken failed (tool_fault.OutOfMemory written) is = inl (is, Keeps-refl taken)
 
-cut_short : (inputs : List Input) (strip : Bool) (file : List FileHunk) (old new : Option (List ℕ)) (written : ℕ) → HaveRead inputs (LinkTo strip file)
-    → TookFront old new (bytes_of (written_form file)) 0 written → HaveRead inputs (IsLinkCutShort strip old new written)
-cut_short inputs strip file old new written read front =
-    HaveRead-weaker inputs (LinkTo strip file) (IsLinkCutShort strip old new written)
-    (λ files to. record { units = to.units; link = to.link; front = subst (λ hunks. TookFront old new (bytes_of (written_form hunks)) 0 written) to.file_is front }) read
+cut_short : (inputs : List Input) (options : LinkOptions) (file : List FileHunk) (old new : Option (List ℕ)) (written : ℕ) → HaveRead inputs (LinkTo options.strip file)
+    → TookFront old new (bytes_of (written_in (form_of options) (trimmed_if options.trim file))) 0 written → HaveRead inputs (IsLinkCutShort options old new written)
+cut_short inputs options file old new written read front =
+    HaveRead-weaker inputs (LinkTo options.strip file) (IsLinkCutShort options old new written) (λ files to. record {
+      units = to.units;
+      link = to.link;
+      front = subst (λ hunks. TookFront old new (bytes_of (written_in (form_of options) (trimmed_if options.trim hunks))) 0 written) to.file_is front;
+    }) read
 
 -- Where writing the load file stopped.
-pub IsLinkFault-written : (A : Type 0) {W : Type 0} (taken : W → Option (List ℕ)) (failed : W → Bool) (old new : W) (strip : Bool) (inputs : List Input) (file : List FileHunk) (fault : WriteFault)
-    → HaveRead inputs (LinkTo strip file) → WriteStopped taken failed old new (bytes_of (written_form file)) 0 fault
-    → IsLinkFault strip inputs (record { old = taken old; new = taken new; failed = failed new }) (tool_fault_of_write {A = A} fault)
-IsLinkFault-written A taken failed old new strip inputs file (write_fault.Device written) read stopped = (cut_short inputs strip file (taken old) (taken new) written read stopped.0, stopped.1)
-IsLinkFault-written A taken failed old new strip inputs file (write_fault.OutOfMemory written) read stopped = inr (cut_short inputs strip file (taken old) (taken new) written read stopped.0)
+pub IsLinkFault-written : (A : Type 0) {W : Type 0} (taken : W → Option (List ℕ)) (failed : W → Bool) (old new : W) (options : LinkOptions) (inputs : List Input) (file : List FileHunk) (fault : WriteFault)
+    → HaveRead inputs (LinkTo options.strip file) → WriteStopped taken failed old new (bytes_of (written_in (form_of options) (trimmed_if options.trim file))) 0 fault
+    → IsLinkFault options inputs (record { old = taken old; new = taken new; failed = failed new }) (tool_fault_of_write {A = A} fault)
+IsLinkFault-written A taken failed old new options inputs file (write_fault.Device written) read stopped = (cut_short inputs options file (taken old) (taken new) written read stopped.0, stopped.1)
+IsLinkFault-written A taken failed old new options inputs file (write_fault.OutOfMemory written) read stopped = inr (cut_short inputs options file (taken old) (taken new) written read stopped.0)

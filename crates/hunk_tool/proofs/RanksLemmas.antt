@@ -1,13 +1,11 @@
 -- What holds of each item of each hunk, and of the first that breaks a rule.
-use Rattle.std.proofs.Common.{ℕ, suc, ◌+◌, ◌<◌, List, [], ◌∷◌, ◌++◌, length, refl, sym, subst, arith}
-use Rattle.std.specs.List.{All, enumerate_from}
+use Rattle.std.proofs.Common.{ℕ, List, [], ◌∷◌, ◌++◌, length, refl, subst, arith}
+use Rattle.std.specs.List.{All}
 use Rattle.std.proofs.lemmas.List.{get_or_at, length-append}
 use Rattle.std.proofs.lemmas.List.Elements.{All-append, All-head, All-map, All-nil, All-tail}
-use Rattle.std.proofs.lemmas.List.FromFn.{get_or-enumerate_from, length-enumerate_from}
-use Rattle.hunk_objects.specs.ProgramUnit.{ObjectUnit}
 use Rattle.hunk_objects.specs.UnitHunk.{ObjectHunk}
 use Rattle.hunk_link.specs.FirstToBreak.{IsFirstToBreak}
-use Rattle.hunk_link.specs.Ranks.{RankedHunk, all_items, hunks_from, hunks_of, items_of, unit_hunks}
+use Rattle.hunk_link.specs.Ranks.{RankedHunk, all_items, items_of}
 
 pub All-all_items : {T : Type 0} (P : T → Type 0) (items : ObjectHunk → List T) (hunks : List RankedHunk) → All (λ ranked. All P (items ranked.hunk)) hunks → All (λ item. P item.1) (all_items items hunks)
 All-all_items P items [] all = All-nil (λ item. P item.1)

@@ -13,6 +13,7 @@ pub mod Check
 pub mod Show
 pub mod Direct
 pub mod Inputs
+pub mod LinkOptions
 pub mod Link
 pub mod Image
 pub mod Headline

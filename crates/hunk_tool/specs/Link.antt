@@ -7,13 +7,15 @@ use Rattle.hunk_words.specs.Streams.{TookFront}
 use Rattle.hunk_objects.specs.ProgramUnit.{ObjectUnit}
 use Rattle.hunk_loadfile.specs.LoadFile.{IsLoadOf}
 use Rattle.hunk_loadfile.specs.LoadHunk.{FileHunk}
-use Rattle.hunk_loadfile.specs.WrittenForm.{written_form}
+use Rattle.hunk_loadfile.specs.WrittenForm.{written_in}
 use Rattle.hunk_link.specs.Carried.{carried}
 use Rattle.hunk_link.specs.Ranks.{IsUnit}
 use Rattle.hunk_link.specs.Linkable.{IsLinkRefusal, Linkable}
 use Rattle.hunk_link.specs.declared.refusal.LinkRefusal.{LinkRefusal}
 use Rattle.hunk_link.specs.declared.refusal.LinkRefusal.TheVariants as link_refusal
 use Rattle.hunk_tool.specs.Inputs.{AreObjects, HaveRead, Input, IsInputFault}
+use Rattle.hunk_tool.specs.LinkOptions.{form_of, trimmed_if}
+use Rattle.hunk_tool.specs.declared.link_options.LinkOptions.{LinkOptions}
 use Rattle.hunk_tool.specs.declared.tool_fault.ToolFault.{ToolFault}
 use Rattle.hunk_tool.specs.declared.tool_fault.ToolFault.TheVariants.{Link, Output, OutOfMemory}
 
@@ -23,24 +25,28 @@ pub record DoLink (strip : Bool) (files : List (List ℕ)) (units : List ObjectU
   pub typed : All IsUnit units
   pub linkable : Linkable units strip
 
--- the bytes of the load file that the units make
-abbrev pub linked_bytes : List ObjectUnit → Bool → List ℕ
-linked_bytes units strip = bytes_of (written_form (carried units strip))
+-- the hunks of the load file that the units make
+abbrev pub linked_hunks : List ObjectUnit → LinkOptions → List FileHunk
+linked_hunks units options = trimmed_if options.trim (carried units options.strip)
+
+-- its bytes
+abbrev pub linked_bytes : List ObjectUnit → LinkOptions → List ℕ
+linked_bytes units options = bytes_of (written_in (form_of options) (linked_hunks units options))
 
 -- The object files link, and the bytes of the load file, which is that of their hunks, were written.
-pub record IsLinked (strip : Bool) (old new : Option (List ℕ)) (files : List (List ℕ)) : Type 0 where
+pub record IsLinked (options : LinkOptions) (old new : Option (List ℕ)) (files : List (List ℕ)) : Type 0 where
   pub units : List ObjectUnit
-  pub link : DoLink strip files units
-  pub is_load : IsLoadOf (carried units strip) (linked_bytes units strip)
-  pub written : Appends old new (linked_bytes units strip)
+  pub link : DoLink options.strip files units
+  pub is_load : IsLoadOf (linked_hunks units options) (linked_bytes units options)
+  pub written : Appends old new (linked_bytes units options)
 
 -- The object files link, and the writer took exactly the first `written` bytes of the load file.
-pub record IsLinkCutShort (strip : Bool) (old new : Option (List ℕ)) (written : ℕ) (files : List (List ℕ)) : Type 0 where
+pub record IsLinkCutShort (options : LinkOptions) (old new : Option (List ℕ)) (written : ℕ) (files : List (List ℕ)) : Type 0 where
   pub units : List ObjectUnit
-  pub link : DoLink strip files units
-  pub front : TookFront old new (linked_bytes units strip) 0 written
+  pub link : DoLink options.strip files units
+  pub front : TookFront old new (linked_bytes units options) 0 written
 
--- The object files link, and this is the load file of their units.
+-- The object files link, and this is the load file of their units, before it is trimmed.
 pub record LinkTo (strip : Bool) (file : List FileHunk) (files : List (List ℕ)) : Type 0 where
   pub units : List ObjectUnit
   pub link : DoLink strip files units
@@ -65,7 +71,7 @@ pub record Taken : Type 0 where
 
 -- Why the load file was not written, or not in full. Nothing was written before all inputs were read
 -- and their units linked.
-abbrev pub IsLinkFault : {A : Type 0} → Bool → List Input → Taken → ToolFault A → Type 0
-IsLinkFault strip inputs taken (Output written) = HaveRead inputs (IsLinkCutShort strip taken.old taken.new written) × IsTrue taken.failed
-IsLinkFault strip inputs taken (OutOfMemory written) = ((written ≡ 0) × Keeps taken.old taken.new) ⊎ HaveRead inputs (IsLinkCutShort strip taken.old taken.new written)
-IsLinkFault strip inputs taken fault = IsUnlinked strip inputs fault × Keeps taken.old taken.new
+abbrev pub IsLinkFault : {A : Type 0} → LinkOptions → List Input → Taken → ToolFault A → Type 0
+IsLinkFault options inputs taken (Output written) = HaveRead inputs (IsLinkCutShort options taken.old taken.new written) × IsTrue taken.failed
+IsLinkFault options inputs taken (OutOfMemory written) = ((written ≡ 0) × Keeps taken.old taken.new) ⊎ HaveRead inputs (IsLinkCutShort options taken.old taken.new written)
+IsLinkFault options inputs taken fault = IsUnlinked options.strip inputs fault × Keeps taken.old taken.new

@@ -9,6 +9,7 @@
 //! - `counting`: decoders that check a file and count what it has.
 //! - `inputs`: the object files that an operation reads.
 //! - `link`: links object files and writes the load file.
+//! - `link_options`: how object files are linked, and how their load file is written.
 //! - `image`: writes the report of the memory that object files define.
 //! - `load`: loads a file and writes the report of its memory.
 //! - `report`: the report of an image.
@@ -30,6 +31,7 @@ mod inputs;
 pub mod laws;
 pub mod link;
 mod link_line;
+pub mod link_options;
 pub mod load;
 pub mod phrase;
 mod report;
@@ -43,6 +45,7 @@ pub use fault_line::{write_fault, write_line};
 pub use hunk_loader::PlaceFault;
 pub use image::image_run;
 pub use link::{link_inputs, link_run, link_to_vec};
+pub use link_options::LinkOptions;
 pub use load::load_run;
 pub use phrase::Phrase;
 pub use show::show_run;

@@ -1,21 +1,21 @@
 //! Links object files, and writes the load file.
 
-ghost use Rattle.std.specs.Prelude.{◌≤◌, [], length, IfOk, OnOk, IfErr, Some};
-ghost use Rattle.hunk_words.specs.Files.{most_longwords};
-ghost use Rattle.hunk_loadfile.specs.WrittenForm.{written_form};
+ghost use Rattle.std.specs.Prelude.{[], length, IfOk, OnOk, IfErr, Some};
+ghost use Rattle.hunk_loadfile.specs.WrittenForm.{IsShortEnough};
 ghost use Rattle.hunk_tool.specs.FaultLine.{IsOfInputs};
 ghost use Rattle.hunk_tool.specs.Inputs.{HaveRead, inputs_of};
 ghost use Rattle.hunk_tool.specs.Link.{IsLinkFault, IsLinked, IsUnlinked, LinkTo};
 
 use crate::inputs::read_inputs;
+use crate::link_options::LinkOptions;
 use crate::tool_fault::ToolFault;
 use hunk_link::link_units;
-use hunk_loadfile::{LoadFile, write_load, written_bytes};
+use hunk_loadfile::{LoadFile, write_load_with, written_bytes};
 use hunk_words::{Sink, Source};
 use std::alloc::Allocator;
 
 /// Reads every input in order, to its end, as an object file, links all their units, and writes the
-/// load file. With `strip`, symbols and debug blocks are left out.
+/// load file, as `options` say.
 ///
 /// Nothing is written before all inputs have been read and their units linked. It does not flush.
 ///
@@ -31,16 +31,17 @@ use std::alloc::Allocator;
 pub fn link_run<A: Allocator + Copy, R: Source, W: Sink>(
     alloc: A,
     inputs: &mut [R],
-    strip: bool,
+    options: LinkOptions,
     writer: &mut W,
 ) -> Result<(), ToolFault<A>>
-    ensures ok { OnOk result (HaveRead (inputs_of R.left R.failed R.ended inputs.old inputs.new) (IsLinked strip (W.taken writer.old) (W.taken writer.new))) }
-    ensures err { IfErr result (IsLinkFault strip (inputs_of R.left R.failed R.ended inputs.old inputs.new)
+    ensures ok { OnOk result (HaveRead (inputs_of R.left R.failed R.ended inputs.old inputs.new) (IsLinked options (W.taken writer.old) (W.taken writer.new))) }
+    ensures err { IfErr result (IsLinkFault options (inputs_of R.left R.failed R.ended inputs.old inputs.new)
         (record { old = W.taken writer.old; new = W.taken writer.new; failed = W.failed writer.new })) }
     ensures writable { IfErr result (IsOfInputs (length inputs.old)) }
 {
-    let file = link_inputs(alloc, inputs, strip)?;
-    Ok(write_load(alloc, &file, writer)?)
+    let linked = link_inputs(alloc, inputs, options.strip)?;
+    let file = options.trimmed(linked);
+    Ok(write_load_with(alloc, &file, options.form(), writer)?)
 }
 
 /// Links as [`link_run`] does, and returns the bytes of the load file, in one allocation of exactly
@@ -54,19 +55,20 @@ pub fn link_run<A: Allocator + Copy, R: Source, W: Sink>(
 pub fn link_to_vec<A: Allocator + Copy, R: Source>(
     alloc: A,
     inputs: &mut [R],
-    strip: bool,
+    options: LinkOptions,
 ) -> Result<Vec<u8, A>, ToolFault<A>>
-    ensures ok { IfOk result (λ bytes. HaveRead (inputs_of R.left R.failed R.ended inputs.old inputs.new) (IsLinked strip (Some []) (Some bytes.items))) }
-    ensures err { IfErr result (IsUnlinked strip (inputs_of R.left R.failed R.ended inputs.old inputs.new)) }
+    ensures ok { IfOk result (λ bytes. HaveRead (inputs_of R.left R.failed R.ended inputs.old inputs.new) (IsLinked options (Some []) (Some bytes.items))) }
+    ensures err { IfErr result (IsUnlinked options.strip (inputs_of R.left R.failed R.ended inputs.old inputs.new)) }
     ensures writable { IfErr result (IsOfInputs (length inputs.old)) }
 {
-    let file = link_inputs(alloc, inputs, strip)?;
-    Ok(written_bytes(alloc, &file)?)
+    let linked = link_inputs(alloc, inputs, options.strip)?;
+    let file = options.trimmed(linked);
+    Ok(written_bytes(alloc, &file, options.form())?)
 }
 
 /// Reads every input in order, to its end, as an object file, and links all their units. The load
-/// file that it returns has a written form of at most 2^28 longwords. With `strip`, symbols and debug
-/// blocks are left out.
+/// file that it returns has at most 2^28 longwords in either form, trimmed or not. With `strip`,
+/// symbols and debug blocks are left out.
 ///
 /// # Errors
 ///
@@ -77,7 +79,7 @@ pub fn link_inputs<A: Allocator + Copy, R: Source>(
     strip: bool,
 ) -> Result<LoadFile<A>, ToolFault<A>>
     ensures linked { IfOk result (λ file. HaveRead (inputs_of R.left R.failed R.ended inputs.old inputs.new) (LinkTo strip file)) }
-    ensures short { IfOk result (λ file. length (written_form file) ≤ most_longwords) }
+    ensures short { IfOk result (λ file. IsShortEnough file) }
     ensures unlinked { IfErr result (IsUnlinked strip (inputs_of R.left R.failed R.ended inputs.old inputs.new)) }
     ensures writable { IfErr result (IsOfInputs (length inputs.old)) }
 {

@@ -5,8 +5,11 @@ pub const LINK: &str = "\
 It writes to OUT one load file with the hunks of all the object files, in the order of linking: the
 files in the order given, the units in the order of a file, and the hunks in the order of a unit.
 
-For example, this links two files without their symbols and debug blocks:
-  amihunk link --out program --strip startup.o main.o";
+Neither `--short` nor `--trim` changes the bytes of the hunks in memory, but not every old loader
+reads the short form, which has blocks of type 1020.
+
+For example, this writes a short and trimmed load file without symbols and debug blocks:
+  amihunk link --out program --strip --short --trim startup.o main.o";
 
 /// The end of the help of `load`.
 pub const LOAD: &str = "\

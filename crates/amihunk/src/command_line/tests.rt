@@ -1,4 +1,26 @@
 use super::{Request, read_words};
+use hunk_tool::LinkOptions;
+use std::alloc::Global;
+use std::process::Abort;
+
+fn options_of(strip: bool, short: bool, trim: bool) -> LinkOptions {
+    LinkOptions { strip, short, trim }
+}
+
+/// The words are read as `link` with OUT `o`, these options and these files.
+fn is_link(rt: &impl Abort, alloc: Global, words: &[&str], wanted: LinkOptions, names: &[&str]) {
+    match read_words(alloc, words) {
+        Request::Link {
+            out,
+            options,
+            files,
+        } => {
+            assert!(rt; out == "o" && options == wanted, "{words:?}: {options:?}");
+            assert_eq!(rt; files.as_slice(), names);
+        }
+        request => panic!(rt; "{words:?}: {request:?}"),
+    }
+}
 
 #[test]
 fn reads_link(rt: HostRuntime) {
@@ -40,15 +62,68 @@ fn reads_link(rt: HostRuntime) {
             &["link", "strip"],
         ),
     ];
-    for (words, with_strip, names) in &lines {
-        match read_words(rt.alloc(), words) {
-            Request::Link { out, strip, files } => {
-                assert!(rt; out == "o" && strip == *with_strip, "{words:?}");
-                assert_eq!(rt; files.as_slice(), *names);
-            }
-            request => panic!(rt; "{words:?}: {request:?}"),
-        }
+    for (words, strip, names) in &lines {
+        is_link(
+            &rt,
+            rt.alloc(),
+            words,
+            options_of(*strip, false, false),
+            names,
+        );
     }
+}
+
+#[test]
+fn reads_the_form_of_the_load_file(rt: HostRuntime) {
+    let lines: [(&[&str], LinkOptions); 8] = [
+        (
+            &["amihunk", "link", "--out", "o", "--short", "x", "y"],
+            options_of(false, true, false),
+        ),
+        (
+            &["amihunk", "link", "--out", "o", "--trim", "x", "y"],
+            options_of(false, false, true),
+        ),
+        (
+            &["amihunk", "link", "x", "--short", "y", "--out=o"],
+            options_of(false, true, false),
+        ),
+        (
+            &["amihunk", "link", "x", "y", "--out=o", "--trim"],
+            options_of(false, false, true),
+        ),
+        (
+            &[
+                "amihunk", "link", "--trim", "--short", "--out", "o", "x", "y",
+            ],
+            options_of(false, true, true),
+        ),
+        (
+            &["amihunk", "link", "--short", "x", "y", "--strip", "--out=o"],
+            options_of(true, true, false),
+        ),
+        (
+            &["amihunk", "link", "--out=o", "--strip", "--trim", "x", "y"],
+            options_of(true, false, true),
+        ),
+        (
+            &[
+                "amihunk", "link", "--trim", "x", "--out=o", "--strip", "y", "--short",
+            ],
+            options_of(true, true, true),
+        ),
+    ];
+    for (words, wanted) in &lines {
+        is_link(&rt, rt.alloc(), words, *wanted, &["x", "y"]);
+    }
+    let words = ["amihunk", "link", "--out", "o", "--", "--short", "--trim"];
+    is_link(
+        &rt,
+        rt.alloc(),
+        &words,
+        options_of(false, false, false),
+        &["--short", "--trim"],
+    );
 }
 
 #[test]
@@ -108,7 +183,7 @@ fn reads_a_file_to_be_checked_or_shown(rt: HostRuntime) {
 
 #[test]
 fn refuses_what_is_no_command_line(rt: HostRuntime) {
-    let lines: [(&[&str], &str); 15] = [
+    let lines: [(&[&str], &str); 18] = [
         (
             &["amihunk"],
             "error: 'amihunk' requires a subcommand but one was not provided\n  \
@@ -134,6 +209,26 @@ fn refuses_what_is_no_command_line(rt: HostRuntime) {
         (
             &["amihunk", "link", "--out", "o", "x", "--out", "y"],
             "error: the argument '--out <OUT>' cannot be used multiple times\n\n\
+             Usage: amihunk link [OPTIONS] --out <OUT> <FILE>...\n\n\
+             For more information, try '--help'.\n",
+        ),
+        (
+            &["amihunk", "link", "--out", "o", "--strip", "x", "--strip"],
+            "error: the argument '--strip' cannot be used multiple times\n\n\
+             Usage: amihunk link [OPTIONS] --out <OUT> <FILE>...\n\n\
+             For more information, try '--help'.\n",
+        ),
+        (
+            &["amihunk", "link", "--short", "--short", "--out", "o", "x"],
+            "error: the argument '--short' cannot be used multiple times\n\n\
+             Usage: amihunk link [OPTIONS] --out <OUT> <FILE>...\n\n\
+             For more information, try '--help'.\n",
+        ),
+        (
+            &[
+                "amihunk", "link", "--trim", "--out", "o", "--short", "--trim", "x",
+            ],
+            "error: the argument '--trim' cannot be used multiple times\n\n\
              Usage: amihunk link [OPTIONS] --out <OUT> <FILE>...\n\n\
              For more information, try '--help'.\n",
         ),
@@ -218,13 +313,17 @@ fn gives_help(rt: HostRuntime) {
              Arguments:\n  <FILE>...  Object files, in the order of linking\n\n\
              Options:\n      \
              --out <OUT>  The load file to write\n      \
-             --strip      Leaves out symbols and debug blocks\n  \
+             --strip      Leaves out symbols and debug blocks\n      \
+             --short      Writes the short form, with relocations in 16-bit lists where they fit\n      \
+             --trim       Leaves out zero longwords at the end of each hunk\n  \
              -h, --help       Print help\n\n\
              It writes to OUT one load file with the hunks of all the object files, in the order of \
              linking: the\nfiles in the order given, the units in the order of a file, and the hunks \
              in the order of a unit.\n\n\
-             For example, this links two files without their symbols and debug blocks:\n  \
-             amihunk link --out program --strip startup.o main.o\n",
+             Neither `--short` nor `--trim` changes the bytes of the hunks in memory, but not every old \
+             loader\nreads the short form, which has blocks of type 1020.\n\n\
+             For example, this writes a short and trimmed load file without symbols and debug blocks:\n  \
+             amihunk link --out program --strip --short --trim startup.o main.o\n",
         ),
         (
             &["amihunk", "load", "--help"],

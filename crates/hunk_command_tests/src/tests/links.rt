@@ -1,20 +1,35 @@
 //! The load file of object files.
 
 use crate::fake_files::{FakeFiles, Log};
-use crate::samples::PROGRAM;
+use crate::samples::{PLAIN, PROGRAM};
 use hunk_commands::Failure;
 use hunk_commands::link::link;
-use hunk_tool::ToolFault;
+use hunk_tool::{LinkOptions, ToolFault};
 use std::alloc::Global;
 use std::process::Abort;
 use std::test::Fail;
+
+const STRIP: LinkOptions = LinkOptions {
+    strip: true,
+    ..PLAIN
+};
+
+const SHORT: LinkOptions = LinkOptions {
+    short: true,
+    ..PLAIN
+};
+
+const TRIM: LinkOptions = LinkOptions {
+    trim: true,
+    ..PLAIN
+};
 
 // The load file of the files, written to `out`, is these bytes, and `out` was created once.
 fn is_written<'a>(
     rt: &impl Abort,
     alloc: Global,
     out: &'a str,
-    strip: bool,
+    options: LinkOptions,
     files: &[&'a str],
     bytes: &[u8],
 ) -> Result<(), Fail> {
@@ -23,7 +38,7 @@ fn is_written<'a>(
         openings: 100,
         log: &log,
     };
-    assert_eq!(rt; link(&(system, alloc), out, strip, files), Ok(()));
+    assert_eq!(rt; link(&(system, alloc), out, options, files), Ok(()));
     assert_eq!(rt; log.created.get(), 1);
     assert_eq!(rt; log.open.get(), 0);
     assert_eq!(rt; log.written.into_inner().as_slice(), bytes);
@@ -33,8 +48,9 @@ fn is_written<'a>(
 #[test]
 fn writes_the_load_file_of_object_files(rt: HostRuntime) -> Result<(), Fail> {
     let alloc = rt.alloc();
-    is_written(&rt, alloc, "out", false, &["caller", "callee"], &PROGRAM)?;
-    is_written(&rt, alloc, "out", true, &["caller", "callee"], &PROGRAM)
+    let files = ["caller", "callee"];
+    is_written(&rt, alloc, "out", PLAIN, &files, &PROGRAM)?;
+    is_written(&rt, alloc, "out", STRIP, &files, &PROGRAM)
 }
 
 #[test]
@@ -43,7 +59,7 @@ fn out_may_be_one_of_the_files(rt: HostRuntime) -> Result<(), Fail> {
         &rt,
         rt.alloc(),
         "callee",
-        false,
+        PLAIN,
         &["caller", "callee"],
         &PROGRAM,
     )
@@ -56,12 +72,50 @@ fn strip_leaves_out_symbols(rt: HostRuntime) -> Result<(), Fail> {
         0, 0, 0, 1, 0x4E, 0x75, 0x4E, 0x71, 0, 0, 3, 0xF0, 0, 0, 0, 1, 0x6C, 0x6F, 0x6F, 0x70, 0,
         0, 0, 2, 0, 0, 0, 0, 0, 0, 3, 0xF2,
     ];
-    is_written(&rt, rt.alloc(), "out", false, &["pipe"], &whole)?;
+    is_written(&rt, rt.alloc(), "out", PLAIN, &["pipe"], &whole)?;
     let stripped = [
         0, 0, 3, 0xF3, 0, 0, 0, 0, 0, 0, 0, 1, 0, 0, 0, 0, 0, 0, 0, 0, 0, 0, 0, 1, 0, 0, 3, 0xE9,
         0, 0, 0, 1, 0x4E, 0x75, 0x4E, 0x71, 0, 0, 3, 0xF2,
     ];
-    is_written(&rt, rt.alloc(), "out", true, &["pipe"], &stripped)
+    is_written(&rt, rt.alloc(), "out", STRIP, &["pipe"], &stripped)
+}
+
+#[test]
+fn short_writes_relocations_in_words(rt: HostRuntime) -> Result<(), Fail> {
+    let short = [
+        0, 0, 3, 0xF3, 0, 0, 0, 0, 0, 0, 0, 2, 0, 0, 0, 0, 0, 0, 0, 1, 0, 0, 0, 2, 0, 0, 0, 2, 0,
+        0, 3, 0xE9, 0, 0, 0, 2, 0x4E, 0xB9, 0, 0, 0, 4, 0x4E, 0x75, 0, 0, 3, 0xFC, 0, 1, 0, 1, 0,
+        2, 0, 0, 0, 0, 3, 0xF2, 0, 0, 3, 0xE9, 0, 0, 0, 2, 0x4E, 0x71, 0x4E, 0x71, 0x4E, 0x75,
+        0x4E, 0x71, 0, 0, 3, 0xF2,
+    ];
+    is_written(&rt, rt.alloc(), "out", SHORT, &["caller", "callee"], &short)
+}
+
+#[test]
+fn trim_leaves_out_zeros_at_the_end(rt: HostRuntime) -> Result<(), Fail> {
+    let whole = [
+        0, 0, 3, 0xF3, 0, 0, 0, 0, 0, 0, 0, 1, 0, 0, 0, 0, 0, 0, 0, 0, 0, 0, 0, 3, 0, 0, 3, 0xE9,
+        0, 0, 0, 3, 0x4E, 0x71, 0x4E, 0x75, 0, 0, 0, 0, 0, 0, 0, 0, 0, 0, 3, 0xEC, 0, 0, 0, 1, 0,
+        0, 0, 0, 0, 0, 0, 4, 0, 0, 0, 0, 0, 0, 3, 0xF2,
+    ];
+    is_written(&rt, rt.alloc(), "out", PLAIN, &["zeros"], &whole)?;
+    let trimmed = [
+        0, 0, 3, 0xF3, 0, 0, 0, 0, 0, 0, 0, 1, 0, 0, 0, 0, 0, 0, 0, 0, 0, 0, 0, 3, 0, 0, 3, 0xE9,
+        0, 0, 0, 2, 0x4E, 0x71, 0x4E, 0x75, 0, 0, 0, 0, 0, 0, 3, 0xEC, 0, 0, 0, 1, 0, 0, 0, 0, 0,
+        0, 0, 4, 0, 0, 0, 0, 0, 0, 3, 0xF2,
+    ];
+    is_written(&rt, rt.alloc(), "out", TRIM, &["zeros"], &trimmed)?;
+    let compact = [
+        0, 0, 3, 0xF3, 0, 0, 0, 0, 0, 0, 0, 1, 0, 0, 0, 0, 0, 0, 0, 0, 0, 0, 0, 3, 0, 0, 3, 0xE9,
+        0, 0, 0, 2, 0x4E, 0x71, 0x4E, 0x75, 0, 0, 0, 0, 0, 0, 3, 0xFC, 0, 1, 0, 0, 0, 4, 0, 0, 0,
+        0, 3, 0xF2,
+    ];
+    let options = LinkOptions {
+        strip: true,
+        short: true,
+        trim: true,
+    };
+    is_written(&rt, rt.alloc(), "out", options, &["zeros"], &compact)
 }
 
 // Linking the files fails for this reason, after `created` files were created.
@@ -78,7 +132,7 @@ fn fails<'a>(
         openings: 40,
         log: &log,
     };
-    assert_eq!(rt; link(&(system, alloc), out, false, files), Err(failure));
+    assert_eq!(rt; link(&(system, alloc), out, PLAIN, files), Err(failure));
     assert_eq!(rt; log.created.get(), created);
     assert_eq!(rt; log.open.get(), 0);
 }
@@ -102,7 +156,7 @@ fn out_is_not_touched_before_the_files_are_linked(rt: HostRuntime) {
         log: &log,
     };
     let system = (files, alloc);
-    let unlinked = link(&system, "out", false, &["caller"]);
+    let unlinked = link(&system, "out", PLAIN, &["caller"]);
     assert!(rt; matches!(unlinked, Err(Failure::Tool(ToolFault::Link(_)))));
     assert_eq!(rt; log.created.get(), 0);
 }
@@ -130,7 +184,7 @@ fn at_most_33_of_40_regular_files_are_open_at_once(rt: HostRuntime) {
         openings: 48,
         log: &log,
     };
-    assert_eq!(rt; link(&(system, alloc), "out", false, &["loop"; 40]), Ok(()));
+    assert_eq!(rt; link(&(system, alloc), "out", PLAIN, &["loop"; 40]), Ok(()));
     assert_eq!(rt; log.opened.get(), 48);
     assert_eq!(rt; log.most_open.get(), 33);
     assert_eq!(rt; log.open.get(), 0);

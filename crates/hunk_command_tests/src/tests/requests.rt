@@ -1,6 +1,7 @@
 //! The status of each request, and the line of its failure.
 
 use crate::fake_files::{FakeFiles, Log};
+use crate::samples::PLAIN;
 use hunk_commands::{Request, answer};
 use hunk_words::Watched;
 use std::alloc::Global;
@@ -23,7 +24,7 @@ fn link_ends<'a>(
     };
     let request = Request::Link {
         out,
-        strip: false,
+        options: PLAIN,
         files: files.to_vec(alloc)?,
     };
     let mut errors = Watched::new(Vec::new(alloc));

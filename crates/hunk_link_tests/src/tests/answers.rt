@@ -1,8 +1,9 @@
 //! What units link to is compared with what it is to be.
 
 use hunk_link::{LinkRefusal, link, link_units};
-use hunk_loadfile::{LoadFile, write_load};
+use hunk_loadfile::{LoadFile, LoadForm, write_load_with};
 use hunk_objects::{ProgramUnit, read_object};
+use hunk_tool::LinkOptions;
 use hunk_words::{Pieces, Room};
 use std::alloc::{AllocError, Allocator, Global};
 use std::process::Abort;
@@ -39,30 +40,36 @@ pub(crate) fn units_of<A: Allocator + Copy>(
     Ok(units)
 }
 
-/// The load file is written as these longwords.
+/// The load file is written in this form as these longwords.
 pub(crate) fn is_file<A: Allocator + Copy>(
     rt: &impl Abort,
     global: Global,
     alloc: A,
     file: &LoadFile<A>,
+    form: LoadForm,
     words: &[u32],
 ) -> Result<(), Fail> {
     let bytes = bytes_of(global, words)?;
     let mut writer = Room::new(global, PIECE, bytes.len(), false)?;
-    assert_eq!(rt; write_load(alloc, file, &mut writer), Ok(()), "{words:?}");
+    let got = write_load_with(alloc, file, form, &mut writer);
+    assert_eq!(rt; got, Ok(()), "{words:?}");
     assert_eq!(rt; writer.bytes(), bytes.as_slice(), "{words:?}");
     Ok(())
 }
 
-// This is the answer.
+// This is the answer, as the options say.
 fn is_answer(
     rt: &impl Abort,
     alloc: Global,
     linked: Result<LoadFile, LinkRefusal>,
+    options: LinkOptions,
     wanted: Answer<'_>,
 ) -> Result<(), Fail> {
     match (linked, wanted) {
-        (Ok(file), Ok(words)) => is_file(rt, alloc, alloc, &file, words)?,
+        (Ok(file), Ok(words)) => {
+            let file = options.trimmed(file);
+            is_file(rt, alloc, alloc, &file, options.form(), words)?;
+        }
         (Err(refusal), Err(other)) => assert_eq!(rt; refusal, *other),
         (Ok(_), Err(other)) => assert!(rt; false, "a file in place of {other:?}"),
         (Err(refusal), Ok(words)) => assert!(rt; false, "{refusal:?} in place of {words:?}"),
@@ -70,15 +77,17 @@ fn is_answer(
     Ok(())
 }
 
-/// Both calls give this answer for the units of these object files.
+/// Both calls give this answer for the units of these object files, as the options say.
 pub(crate) fn links_to(
     rt: &impl Abort,
     alloc: Global,
     objects: &[&[u32]],
-    strip: bool,
+    options: LinkOptions,
     wanted: Answer<'_>,
 ) -> Result<(), Fail> {
     let units = units_of(alloc, alloc, objects)?;
-    is_answer(rt, alloc, link(alloc, &units, strip), wanted)?;
-    is_answer(rt, alloc, link_units(alloc, units, strip), wanted)
+    let copied = link(alloc, &units, options.strip);
+    is_answer(rt, alloc, copied, options, wanted)?;
+    let moved = link_units(alloc, units, options.strip);
+    is_answer(rt, alloc, moved, options, wanted)
 }

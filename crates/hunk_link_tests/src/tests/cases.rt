@@ -1,7 +1,10 @@
 //! Object files that link, and what becomes of them.
 
 use super::answers::{bytes_of, links_to};
-use super::runs::{Run, loads_to, writes};
+use super::choices::CHOICES;
+use super::runs::{Run, inputs_of, loads_to, writes};
+use hunk_tool::{LinkOptions, link_run};
+use hunk_words::Watched;
 use std::alloc::Global;
 use std::process::Abort;
 use std::test::Fail;
@@ -17,8 +20,8 @@ const PIECES: [usize; 4] = [4096, 1, 3, 5];
 pub(crate) struct Case<'a> {
     /// The longwords of each object file.
     pub(crate) objects: &'a [&'a [u32]],
-    /// Whether symbols and debug blocks are left out.
-    pub(crate) strip: bool,
+    /// How they are linked.
+    pub(crate) options: LinkOptions,
     /// The longwords of the load file.
     pub(crate) linked: &'a [u32],
     /// The address of each hunk.
@@ -28,16 +31,24 @@ pub(crate) struct Case<'a> {
 }
 
 /// Both calls that link units make this load file, and so do both runs that link. Loading it writes
-/// the report, and so does an image of the object files.
+/// the report, and so does an image of the object files. With any other options the load file may be
+/// another one, but loading it writes the same report.
 pub(crate) fn becomes(rt: &impl Abort, alloc: Global, case: &Case<'_>) -> Result<(), Fail> {
-    links_to(rt, alloc, case.objects, case.strip, Ok(case.linked))?;
+    let Case { objects, bases, .. } = *case;
+    let report = case.report.as_bytes();
+    links_to(rt, alloc, objects, case.options, Ok(case.linked))?;
     for most in PIECES {
         runs_to(rt, alloc, case, most)?;
+        writes(rt, alloc, objects, Run::Image { bases }, most, report)?;
+    }
+    for options in CHOICES {
+        loads_alike(rt, alloc, case, options)?;
     }
     Ok(())
 }
 
-/// The same of the runs alone, at most `most` bytes per read and per write.
+/// Both runs that link make this load file, and loading it writes the report, at most `most` bytes
+/// per read and per write.
 pub(crate) fn runs_to(
     rt: &impl Abort,
     alloc: Global,
@@ -46,16 +57,26 @@ pub(crate) fn runs_to(
 ) -> Result<(), Fail> {
     let linked = bytes_of(alloc, case.linked)?;
     let report = case.report.as_bytes();
-    let Case { strip, bases, .. } = *case;
-    writes(rt, alloc, case.objects, Run::Link { strip }, most, &linked)?;
-    writes(
-        rt,
-        alloc,
-        case.objects,
-        Run::LinkToVec { strip },
-        most,
-        &linked,
-    )?;
-    loads_to(rt, alloc, &linked, bases, most, report)?;
-    writes(rt, alloc, case.objects, Run::Image { bases }, most, report)
+    let Case { options, bases, .. } = *case;
+    for run in [Run::Link { options }, Run::LinkToVec { options }] {
+        writes(rt, alloc, case.objects, run, most, &linked)?;
+    }
+    loads_to(rt, alloc, &linked, bases, most, report)
+}
+
+// Linked with these options, the object files have the same report.
+fn loads_alike(
+    rt: &impl Abort,
+    alloc: Global,
+    case: &Case<'_>,
+    options: LinkOptions,
+) -> Result<(), Fail> {
+    let mut inputs = inputs_of(rt, alloc, case.objects, 4096, None)?;
+    let mut writer = Watched::new(Vec::new(alloc));
+    let got = link_run(alloc, &mut inputs, options, &mut writer);
+    assert_eq!(rt; got, Ok(()), "{options:?}");
+    let linked = writer.into_inner();
+    let run = Run::LinkToVec { options };
+    writes(rt, alloc, case.objects, run, 4096, &linked)?;
+    loads_to(rt, alloc, &linked, case.bases, 4096, case.report.as_bytes())
 }

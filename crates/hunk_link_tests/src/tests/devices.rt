@@ -2,9 +2,11 @@
 
 use super::answers::bytes_of;
 use super::cases::BASES;
+use super::choices::{PLAIN, SHORT_TRIM};
+use super::forms::{FORMS, ZEROS_LAST};
 use super::runs::{Run, fails_with, inputs_of};
-use super::words::{DEFINES, LINKED, REFERS, REPORT};
-use hunk_tool::ToolFault;
+use super::words::{DEFINES, LINKED, LINKED_SHORT, REFERS, REPORT};
+use hunk_tool::{LinkOptions, ToolFault};
 use hunk_words::Room;
 use std::alloc::Global;
 use std::process::Abort;
@@ -33,8 +35,14 @@ fn fails_to_read(
 #[test]
 fn tells_which_input_failed(rt: HostRuntime) -> Result<(), Fail> {
     for run in [
-        Run::Link { strip: false },
-        Run::LinkToVec { strip: false },
+        Run::Link { options: PLAIN },
+        Run::Link {
+            options: SHORT_TRIM,
+        },
+        Run::LinkToVec { options: PLAIN },
+        Run::LinkToVec {
+            options: SHORT_TRIM,
+        },
         Run::Image { bases: &BASES },
     ] {
         for (most, reads) in [
@@ -58,12 +66,13 @@ fn tells_which_input_failed(rt: HostRuntime) -> Result<(), Fail> {
 fn fails_to_write(
     rt: &impl Abort,
     alloc: Global,
+    objects: &[&[u32]],
     run: Run<'_>,
     text: &[u8],
     room: usize,
     zero: bool,
 ) -> Result<(), Fail> {
-    let mut inputs = inputs_of(rt, alloc, &OBJECTS, 4096, None)?;
+    let mut inputs = inputs_of(rt, alloc, objects, 4096, None)?;
     let mut writer = Room::new(alloc, 7, room, zero)?;
     let got = run.of(alloc, &mut inputs, &mut writer);
     let written = room as u64;
@@ -72,18 +81,39 @@ fn fails_to_write(
     Ok(())
 }
 
+// The same into writers that take each number of bytes of the text but all of them.
+fn fails_at_each_byte(
+    rt: &impl Abort,
+    alloc: Global,
+    objects: &[&[u32]],
+    run: Run<'_>,
+    text: &[u8],
+) -> Result<(), Fail> {
+    for room in 0..text.len() {
+        fails_to_write(rt, alloc, objects, run, text, room, false)?;
+        fails_to_write(rt, alloc, objects, run, text, room, true)?;
+    }
+    Ok(())
+}
+
 #[test]
 fn tells_what_a_writer_took(rt: HostRuntime) -> Result<(), Fail> {
-    let linked = bytes_of(rt.alloc(), &LINKED)?;
-    let rows = [
-        (Run::Link { strip: false }, linked.as_slice()),
-        (Run::Image { bases: &BASES }, REPORT.as_bytes()),
-    ];
-    for (run, text) in rows {
-        for room in 0..text.len() {
-            fails_to_write(&rt, rt.alloc(), run, text, room, false)?;
-            fails_to_write(&rt, rt.alloc(), run, text, room, true)?;
-        }
+    let rows: [(LinkOptions, &[u32]); 2] = [(PLAIN, &LINKED), (SHORT_TRIM, &LINKED_SHORT)];
+    for (options, words) in rows {
+        let linked = bytes_of(rt.alloc(), words)?;
+        let link = Run::Link { options };
+        fails_at_each_byte(&rt, rt.alloc(), &OBJECTS, link, &linked)?;
+    }
+    let image = Run::Image { bases: &BASES };
+    fails_at_each_byte(&rt, rt.alloc(), &OBJECTS, image, REPORT.as_bytes())
+}
+
+#[test]
+fn tells_what_a_writer_took_with_every_choice(rt: HostRuntime) -> Result<(), Fail> {
+    for (options, words) in FORMS {
+        let linked = bytes_of(rt.alloc(), words)?;
+        let link = Run::Link { options };
+        fails_at_each_byte(&rt, rt.alloc(), &[&ZEROS_LAST], link, &linked)?;
     }
     Ok(())
 }

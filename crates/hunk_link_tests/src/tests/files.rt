@@ -1,17 +1,19 @@
 //! Units that link.
 
 use super::cases::{BASES, Case, becomes};
+use super::choices::{PLAIN, STRIP, STRIP_SHORT_TRIM};
 use super::words::{
     ADDRESS, ASSEMBLED, DEFINES, DEFINES_NUMBER, EXAMPLE_LIBRARY, EXAMPLE_MAIN, LINKED,
-    LINKED_ALONE, REFERS, REPORT, REPORT_ALONE, STRIPPED,
+    LINKED_ALONE, REFERS, REPORT, REPORT_ALONE, SMALLEST_ALONE, STRIPPED,
 };
+use hunk_tool::LinkOptions;
 use std::test::Fail;
 
 #[test]
 fn links_two_units(rt: HostRuntime) -> Result<(), Fail> {
     let case = Case {
         objects: &[&REFERS, &DEFINES],
-        strip: false,
+        options: PLAIN,
         linked: &LINKED,
         bases: &BASES,
         report: REPORT,
@@ -26,7 +28,7 @@ fn adds_a_number_that_has_a_name(rt: HostRuntime) -> Result<(), Fail> {
     refers[5] = 0x00014E75;
     let case = Case {
         objects: &[&refers, &DEFINES_NUMBER],
-        strip: false,
+        options: PLAIN,
         linked: &[
             0x3F3, 0, 2, 0, 1, 2, 2, //
             0x3E9, 2, 0x4EB90000, 0x00004E75, 0x3F2, //
@@ -49,7 +51,7 @@ fn adds_an_offset_modulo_2_to_the_32(rt: HostRuntime) -> Result<(), Fail> {
     defines[9] = 0xFFFFFFFF;
     let case = Case {
         objects: &[&refers, &defines],
-        strip: false,
+        options: PLAIN,
         linked: &[
             0x3F3, 0, 2, 0, 1, 2, 2, //
             0x3E9, 2, 0x4EB9FFFF, 0xFFFE4E75, 0x3EC, 1, 1, 2, 0, 0x3F2, //
@@ -66,7 +68,7 @@ fn adds_an_offset_modulo_2_to_the_32(rt: HostRuntime) -> Result<(), Fail> {
 fn numbers_hunks_over_all_units(rt: HostRuntime) -> Result<(), Fail> {
     let case = Case {
         objects: &[&DEFINES, &ADDRESS],
-        strip: false,
+        options: PLAIN,
         linked: &[
             0x3F3, 0, 3, 0, 2, 2, 1, 4, //
             0x3E9, 2, 0x4E714E71, 0x4E754E71, 0x3F2, //
@@ -90,7 +92,7 @@ fn links_a_reference_without_offsets(rt: HostRuntime) -> Result<(), Fail> {
     ];
     let case = Case {
         objects: &[&refers],
-        strip: false,
+        options: PLAIN,
         linked: &[
             0x3F3, 0, 1, 0, 0, 2, 0x3E9, 2, 0x4EB90000, 0x00004E75, 0x3F2,
         ],
@@ -108,7 +110,7 @@ fn adds_a_name_at_each_of_its_offsets(rt: HostRuntime) -> Result<(), Fail> {
     ];
     let case = Case {
         objects: &[&refers, &DEFINES],
-        strip: false,
+        options: PLAIN,
         linked: &[
             0x3F3, 0, 2, 0, 1, 3, 2, //
             0x3E9, 3, 5, 2, 7, 0x3EC, 2, 1, 0, 8, 0, 0x3F2, //
@@ -125,7 +127,7 @@ fn adds_a_name_at_each_of_its_offsets(rt: HostRuntime) -> Result<(), Fail> {
 fn keeps_the_memory_of_a_hunk(rt: HostRuntime) -> Result<(), Fail> {
     let case = Case {
         objects: &[&[0x3E7, 0, 0x400003EA, 1, 0, 0x3F2]],
-        strip: false,
+        options: PLAIN,
         linked: &[0x3F3, 0, 1, 0, 0, 0x40000001, 0x3EA, 1, 0, 0x3F2],
         bases: &[0x10000],
         report: "hunk 0 at 00010000 size 4\n00010000 00000000\n",
@@ -135,10 +137,15 @@ fn keeps_the_memory_of_a_hunk(rt: HostRuntime) -> Result<(), Fail> {
 
 #[test]
 fn keeps_symbols_and_debug_blocks_unless_stripped(rt: HostRuntime) -> Result<(), Fail> {
-    for (strip, linked) in [(false, LINKED_ALONE.as_slice()), (true, &STRIPPED)] {
+    let rows: [(LinkOptions, &[u32]); 3] = [
+        (PLAIN, &LINKED_ALONE),
+        (STRIP, &STRIPPED),
+        (STRIP_SHORT_TRIM, &SMALLEST_ALONE),
+    ];
+    for (options, linked) in rows {
         let case = Case {
             objects: &[&ASSEMBLED],
-            strip,
+            options,
             linked,
             bases: &BASES,
             report: REPORT_ALONE,
@@ -152,7 +159,7 @@ fn keeps_symbols_and_debug_blocks_unless_stripped(rt: HostRuntime) -> Result<(),
 fn links_the_examples(rt: HostRuntime) -> Result<(), Fail> {
     let case = Case {
         objects: &[&EXAMPLE_MAIN, &EXAMPLE_LIBRARY],
-        strip: false,
+        options: PLAIN,
         linked: &[
             0x3F3, 0, 4, 0, 3, 4, 4, 5, 0x40000004, //
             0x3E9, 4, 0x41F90000, 0x00004EB9, 0x00000008, 0x4E754E71, //

@@ -3,6 +3,7 @@
 use super::answers::{is_file, units_of};
 use super::words::{ASSEMBLED, DEFINES, LINKED, LINKED_ALONE, REFERS};
 use hunk_link::{LinkRefusal, link, link_units};
+use hunk_loadfile::LoadForm;
 use hunk_test_support::Refusing;
 use std::alloc::Global;
 use std::process::Abort;
@@ -38,7 +39,7 @@ fn is_linked(
     match linked {
         Ok(file) => {
             assert!(rt; heap.asked() <= refused, "growth {refused}");
-            is_file(rt, alloc, &unlimited, &file, wanted)?;
+            is_file(rt, alloc, &unlimited, &file, LoadForm::Plain, wanted)?;
             Ok(true)
         }
         Err(refusal) => {

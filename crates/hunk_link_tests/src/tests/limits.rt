@@ -1,9 +1,13 @@
 //! As many hunks as a link may have, and as large ones.
 
-use super::answers::links_to;
+use super::answers::{bytes_of, links_to};
+use super::choices::{CHOICES, PLAIN, STRIP_SHORT_TRIM};
 use super::refusals::is_refused;
+use super::runs::{Run, writes};
 use hunk_link::LinkRefusal;
+use hunk_tool::LinkOptions;
 use std::alloc::{AllocError, Global};
+use std::process::Abort;
 use std::test::Fail;
 
 // The most longwords of all hunks.
@@ -34,11 +38,29 @@ fn linked_zeros(alloc: Global, count: u32, size: u32) -> Result<Vec<u32>, AllocE
     Ok(words)
 }
 
+// The units link to this file, and so they do in runs with these options. Such hunks have neither
+// content nor sites, so each choice gives the same bytes, and with them the same memory.
+fn links_alike(
+    rt: &impl Abort,
+    alloc: Global,
+    object: &[u32],
+    choices: &[LinkOptions],
+    linked: &[u32],
+) -> Result<(), Fail> {
+    links_to(rt, alloc, &[object], PLAIN, Ok(linked))?;
+    let bytes = bytes_of(alloc, linked)?;
+    for options in choices {
+        let run = Run::Link { options: *options };
+        writes(rt, alloc, &[object], run, 4096, &bytes)?;
+    }
+    Ok(())
+}
+
 #[test]
 fn links_as_many_hunks_as_a_file_may_have(rt: HostRuntime) -> Result<(), Fail> {
     let most = zeros(rt.alloc(), &[(32_768, 0), (32_767, 0)])?;
     let linked = linked_zeros(rt.alloc(), 65_535, 0)?;
-    links_to(&rt, rt.alloc(), &[&most], false, Ok(&linked))
+    links_alike(&rt, rt.alloc(), &most, &[STRIP_SHORT_TRIM], &linked)
 }
 
 #[test]
@@ -51,7 +73,7 @@ fn refuses_one_hunk_more(rt: HostRuntime) -> Result<(), Fail> {
 fn links_as_many_longwords_as_a_file_may_have(rt: HostRuntime) -> Result<(), Fail> {
     let most = zeros(rt.alloc(), &[(1, MOST_SIZE)])?;
     let linked = linked_zeros(rt.alloc(), 1, MOST_SIZE)?;
-    links_to(&rt, rt.alloc(), &[&most], false, Ok(&linked))
+    links_alike(&rt, rt.alloc(), &most, &CHOICES, &linked)
 }
 
 #[test]

@@ -82,7 +82,7 @@ fn fill_plan(
     total: u32,
 ) -> Result<(), AllocError> {
     if plan.kind != HunkKind::Bss {
-        plan.content = made_words(alloc, dice, plan.size)?;
+        plan.content = made_content(alloc, dice, plan.size)?;
         for offset in made_offsets(alloc, dice, plan.size)? {
             let added = made_added(alloc, dice, count, total)?;
             plan.sites.push((offset, added))?;
@@ -98,6 +98,20 @@ fn fill_plan(
         plan.debugs.push(made_words(alloc, dice, length)?)?;
     }
     Ok(())
+}
+
+// Content of this many longwords. Half of the time some of them, or all, are zeros up to the end.
+fn made_content(alloc: Global, dice: &mut Dice, size: u32) -> Result<Vec<u32>, AllocError> {
+    let mut content = made_words(alloc, dice, size)?;
+    if dice.roll(2) == 0 {
+        let kept = dice.roll(size) as usize;
+        for (index, word) in content.iter_mut().enumerate() {
+            if kept <= index {
+                *word = 0;
+            }
+        }
+    }
+    Ok(content)
 }
 
 fn made_words(alloc: Global, dice: &mut Dice, count: u32) -> Result<Vec<u32>, AllocError> {

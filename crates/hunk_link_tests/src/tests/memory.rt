@@ -2,6 +2,8 @@
 
 use super::answers::bytes_of;
 use super::cases::BASES;
+use super::choices::{PLAIN, STRIP};
+use super::forms::{FORM_BASES, FORM_REPORT, FORMS, ZEROS_LAST};
 use super::runs::{Run, inputs_of};
 use super::words::{
     ASSEMBLED, DEFINES, LINKED, LINKED_ALONE, REFERS, REPORT, REPORT_ALONE, STRIPPED,
@@ -113,11 +115,11 @@ fn refuses_each_growth_of_a_run(rt: HostRuntime) -> Result<(), Fail> {
     let unstripped = bytes_of(rt.alloc(), &LINKED_ALONE)?;
     let stripped = bytes_of(rt.alloc(), &STRIPPED)?;
     let rows: [(&[&[u32]], Run<'_>, &[u8]); 6] = [
-        (&pair, Run::Link { strip: false }, &linked),
-        (&pair, Run::LinkToVec { strip: false }, &linked),
+        (&pair, Run::Link { options: PLAIN }, &linked),
+        (&pair, Run::LinkToVec { options: PLAIN }, &linked),
         (&pair, image, REPORT.as_bytes()),
-        (&alone, Run::Link { strip: false }, &unstripped),
-        (&alone, Run::Link { strip: true }, &stripped),
+        (&alone, Run::Link { options: PLAIN }, &unstripped),
+        (&alone, Run::Link { options: STRIP }, &stripped),
         (&alone, image, REPORT_ALONE.as_bytes()),
     ];
     for (objects, run, text) in rows {
@@ -129,13 +131,40 @@ fn refuses_each_growth_of_a_run(rt: HostRuntime) -> Result<(), Fail> {
     Ok(())
 }
 
-// Whether the job was done on this heap, and then the load file loaded with this report. If not,
-// memory ran out.
+// Contents are trimmed in place.
+#[test]
+fn refuses_each_growth_with_every_choice(rt: HostRuntime) -> Result<(), Fail> {
+    let mut counts = Vec::new(rt.alloc());
+    for (options, words) in FORMS {
+        let text = bytes_of(rt.alloc(), words)?;
+        for run in [Run::Link { options }, Run::LinkToVec { options }] {
+            let job = Job {
+                objects: &[&ZEROS_LAST],
+                run,
+                text: &text,
+            };
+            let growths = growths_of(&rt, rt.alloc(), job)?;
+            assert!(rt; 8 <= growths, "{run:?} met {growths} growths");
+            counts.push(growths)?;
+        }
+    }
+    assert_eq!(rt; counts.len(), 16);
+    assert_eq!(rt;
+        counts.get(..8),
+        counts.get(8..),
+        "trimming asks for no allocation"
+    );
+    Ok(())
+}
+
+// Whether the job was done on this heap, and then the load file loaded at these addresses with this
+// report. If not, memory ran out.
 fn is_loaded<A: Allocator + Copy>(
     rt: &impl Abort,
     alloc: Global,
     heap: A,
     job: Job<'_>,
+    bases: &[u32],
     report: &[u8],
 ) -> Result<bool, Fail> {
     if !is_done(rt, alloc, heap, job)? {
@@ -143,10 +172,31 @@ fn is_loaded<A: Allocator + Copy>(
     }
     let mut reader = Pieces::new(job.text.to_vec(alloc)?, 4096, None);
     let mut writer = Room::new(alloc, 4096, report.len(), false)?;
-    let got = load_run(heap, &mut reader, &BASES, &mut writer);
+    let got = load_run(heap, &mut reader, bases, &mut writer);
     let done = is_whole(rt, got, writer.bytes(), report);
     assert!(rt; done || writer.bytes().is_empty());
     Ok(done)
+}
+
+// Memory runs out with each allocation of the job and of the load failing, and the file is loaded once
+// none fails.
+fn loads_once_none_fails(
+    rt: &impl Abort,
+    alloc: Global,
+    job: Job<'_>,
+    bases: &[u32],
+    report: &[u8],
+) -> Result<(), Fail> {
+    for number in 0..MOST_GROWTHS {
+        let heap = Refusing::new(alloc, number);
+        let done = is_loaded(rt, alloc, &heap, job, bases, report)?;
+        assert_eq!(rt; done, heap.asked() <= number, "growth {number}");
+        if done {
+            return Ok(());
+        }
+    }
+    assert!(rt; false, "each of {MOST_GROWTHS} runs was refused a growth");
+    Ok(())
 }
 
 #[test]
@@ -154,17 +204,19 @@ fn refuses_each_growth_of_a_link_and_a_load(rt: HostRuntime) -> Result<(), Fail>
     let text = bytes_of(rt.alloc(), &LINKED)?;
     let job = Job {
         objects: &[&REFERS, &DEFINES],
-        run: Run::Link { strip: false },
+        run: Run::Link { options: PLAIN },
         text: &text,
     };
-    for number in 0..MOST_GROWTHS {
-        let heap = Refusing::new(rt.alloc(), number);
-        let done = is_loaded(&rt, rt.alloc(), &heap, job, REPORT.as_bytes())?;
-        assert_eq!(rt; done, heap.asked() <= number, "growth {number}");
-        if done {
-            return Ok(());
-        }
+    loads_once_none_fails(&rt, rt.alloc(), job, &BASES, REPORT.as_bytes())?;
+    for (options, words) in FORMS {
+        let text = bytes_of(rt.alloc(), words)?;
+        let job = Job {
+            objects: &[&ZEROS_LAST],
+            run: Run::Link { options },
+            text: &text,
+        };
+        let report = FORM_REPORT.as_bytes();
+        loads_once_none_fails(&rt, rt.alloc(), job, &FORM_BASES, report)?;
     }
-    assert!(rt; false, "each of {MOST_GROWTHS} runs was refused a growth");
     Ok(())
 }

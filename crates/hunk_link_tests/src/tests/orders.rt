@@ -1,6 +1,7 @@
 //! Which of several faults a run tells, before anything is written.
 
 use super::cases::BASES;
+use super::choices::{PLAIN, SHORT_TRIM};
 use super::names::undefined;
 use super::runs::{Run, refuses};
 use super::words::{ADDRESS, ASSEMBLED, DEFINES, LINKED, REFERS};
@@ -22,8 +23,14 @@ fn refuses_input(
     let fault = Fault { place, reason };
     let input = ToolFault::Input { file, fault };
     for run in [
-        Run::Link { strip: false },
-        Run::LinkToVec { strip: false },
+        Run::Link { options: PLAIN },
+        Run::Link {
+            options: SHORT_TRIM,
+        },
+        Run::LinkToVec { options: PLAIN },
+        Run::LinkToVec {
+            options: SHORT_TRIM,
+        },
         Run::Image { bases: &BASES },
     ] {
         refuses(rt, alloc, objects, run, &input)?;

@@ -5,13 +5,14 @@ use super::plain_file::load_words;
 use super::plans::{Added, Plan};
 use hunk_link::LinkRefusal;
 use hunk_objects::Definition;
+use hunk_tool::LinkOptions;
 use std::alloc::{AllocError, Global};
 
 /// The longwords of the load file of these hunks, or the first reason why there is none.
 pub(crate) fn plain_link(
     alloc: Global,
     plans: &[Plan],
-    strip: bool,
+    options: LinkOptions,
 ) -> Result<Vec<u32>, LinkRefusal> {
     if plans.is_empty() {
         return Err(LinkRefusal::NoHunks);
@@ -19,7 +20,7 @@ pub(crate) fn plain_link(
     check_bases(plans)?;
     check_definitions(alloc, plans)?;
     check_references(alloc, plans)?;
-    Ok(load_words(alloc, plans, strip)?)
+    Ok(load_words(alloc, plans, options)?)
 }
 
 // The number over all units of a hunk of this unit.

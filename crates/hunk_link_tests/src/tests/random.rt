@@ -2,15 +2,18 @@
 
 use super::answers::links_to;
 use super::cases::{Case, runs_to};
+use super::choices::{
+    CHOICES, PLAIN, SHORT, SHORT_TRIM, STRIP, STRIP_SHORT, STRIP_SHORT_TRIM, STRIP_TRIM, TRIM,
+};
 use super::dice::Dice;
 use super::made_places::made_bases;
 use super::made_plans::{made_files, made_plans};
 use super::plain_link::plain_link;
 use super::plain_memory::direct_report;
 use super::plans::{Plan, object_files, object_words};
-use super::runs::{Run, refuses};
+use super::runs::{Run, refuses, writes};
 use hunk_link::LinkRefusal;
-use hunk_tool::ToolFault;
+use hunk_tool::{LinkOptions, ToolFault};
 use std::alloc::{AllocError, Global};
 use std::process::Abort;
 use std::test::Fail;
@@ -23,13 +26,15 @@ const SETS: u32 = 2000;
 
 const SEED: u32 = 1;
 
-// How many links of object files have each answer, at least. Of sets there are ten times as many.
+// How many links of object files have each answer, at least. Of sets there are five times as many.
 const LEAST: u32 = 8;
 
-// How many links had each answer.
+// How many links had each answer, and how many load files were smaller in the short form, and trimmed.
 #[derive(Debug, Default, Drop)]
 struct Tally {
     files: u32,
+    shorter: u32,
+    trimmed: u32,
     without_hunks: u32,
     foreign: u32,
     duplicate: u32,
@@ -50,6 +55,22 @@ impl Tally {
         *number = number.wrapping_add(1);
     }
 
+    // Counts the load file of these hunks if it is smaller in the short form, or trimmed.
+    fn count_smaller(&mut self, alloc: Global, plans: &[Plan]) {
+        let whole = linked_length(alloc, plans, PLAIN);
+        if linked_length(alloc, plans, SHORT) < whole {
+            self.shorter = self.shorter.wrapping_add(1);
+        }
+        if linked_length(alloc, plans, TRIM) < whole {
+            self.trimmed = self.trimmed.wrapping_add(1);
+        }
+    }
+
+    // Whether load files were smaller in the short form, and trimmed, this often.
+    fn has_smaller(&self, least: u32) -> bool {
+        least <= self.shorter && least <= self.trimmed
+    }
+
     // Whether each answer came this often.
     fn is_mixed(&self, least: u32) -> bool {
         let counts = [
@@ -63,6 +84,11 @@ impl Tally {
     }
 }
 
+// The number of longwords of the load file of these hunks, or 0 if they do not link.
+fn linked_length(alloc: Global, plans: &[Plan], options: LinkOptions) -> usize {
+    plain_link(alloc, plans, options).map_or(0, |words| words.len())
+}
+
 #[test]
 fn links_units_made_at_random(rt: HostRuntime) -> Result<(), Fail> {
     let mut dice = Dice::new(SEED);
@@ -71,13 +97,15 @@ fn links_units_made_at_random(rt: HostRuntime) -> Result<(), Fail> {
         let units = dice.roll(4).saturating_add(1) as usize;
         let plans = made_plans(rt.alloc(), &mut dice, units)?;
         let words = object_words(rt.alloc(), 0, units, &plans)?;
-        for strip in [false, true] {
-            let wanted = plain_link(rt.alloc(), &plans, strip);
+        for options in CHOICES {
+            let wanted = plain_link(rt.alloc(), &plans, options);
             tally.count(&wanted);
-            links_to(&rt, rt.alloc(), &[&words], strip, wanted.as_deref())?;
+            links_to(&rt, rt.alloc(), &[&words], options, wanted.as_deref())?;
         }
+        tally.count_smaller(rt.alloc(), &plans);
     }
     assert!(rt; tally.is_mixed(LEAST), "{tally:?}");
+    assert!(rt; tally.has_smaller(LEAST), "{tally:?}");
     Ok(())
 }
 
@@ -103,33 +131,66 @@ struct Set<'a> {
     most: usize,
 }
 
-// The files are linked, loaded and reported as wanted, or refused.
-fn runs_as_wanted(
+// The files are linked as wanted with these options, and loaded with this report, or refused.
+fn links_as_wanted(
     rt: &impl Abort,
     alloc: Global,
     set: Set<'_>,
-    strip: bool,
+    options: LinkOptions,
+    report: &str,
     wanted: Result<Vec<u32>, LinkRefusal>,
 ) -> Result<(), Fail> {
     let Set { objects, bases, .. } = set;
     match wanted {
         Ok(linked) => {
-            let report = direct_report(alloc, set.plans, bases)?;
             let case = Case {
                 objects,
-                strip,
+                options,
                 linked: &linked,
                 bases,
-                report: &report,
+                report,
             };
             runs_to(rt, alloc, &case, set.most)
         }
         Err(refusal) => {
             let fault = ToolFault::Link(refusal);
-            refuses(rt, alloc, objects, Run::Link { strip }, &fault)?;
-            refuses(rt, alloc, objects, Run::Image { bases }, &fault)
+            refuses(rt, alloc, objects, Run::Link { options }, &fault)
         }
     }
+}
+
+// An image of the files has this report, or they are refused.
+fn reports_as_wanted(
+    rt: &impl Abort,
+    alloc: Global,
+    set: Set<'_>,
+    report: &str,
+) -> Result<(), Fail> {
+    let Set { objects, bases, .. } = set;
+    let run = Run::Image { bases };
+    match plain_link(alloc, set.plans, PLAIN) {
+        Ok(_) => writes(rt, alloc, objects, run, set.most, report.as_bytes()),
+        Err(refusal) => refuses(rt, alloc, objects, run, &ToolFault::Link(refusal)),
+    }
+}
+
+// The files are linked and loaded as wanted, or refused. Whatever the options, the memory that is
+// wanted is the same. An image has no options, so it is made once.
+fn runs_as_wanted(
+    rt: &impl Abort,
+    alloc: Global,
+    set: Set<'_>,
+    options: LinkOptions,
+    tally: &mut Tally,
+) -> Result<(), Fail> {
+    let report = direct_report(alloc, set.plans, set.bases)?;
+    let wanted = plain_link(alloc, set.plans, options);
+    tally.count(&wanted);
+    links_as_wanted(rt, alloc, set, options, &report, wanted)?;
+    if options == PLAIN {
+        reports_as_wanted(rt, alloc, set, &report)?;
+    }
+    Ok(())
 }
 
 // The most bytes per read and per write: more than a set has, or a few.
@@ -140,31 +201,69 @@ fn made_most(dice: &mut Dice) -> usize {
     }
 }
 
-#[test]
-fn reports_files_made_at_random(rt: HostRuntime) -> Result<(), Fail> {
+// All sets are linked with these options, and their memory is as it is to be.
+fn reports_sets(rt: &impl Abort, alloc: Global, options: LinkOptions) -> Result<(), Fail> {
     let mut dice = Dice::new(SEED);
     let mut tally = Tally::default();
     for _ in 0..SETS {
-        let files = made_files(rt.alloc(), &mut dice)?;
+        let files = made_files(alloc, &mut dice)?;
         let units = files
             .iter()
             .fold(0usize, |sum, units| sum.saturating_add(*units));
-        let plans = made_plans(rt.alloc(), &mut dice, units)?;
-        let bases = made_bases(rt.alloc(), &mut dice, &plans)?;
-        let made = object_files(rt.alloc(), &files, &plans)?;
-        let objects = lent(rt.alloc(), &made)?;
+        let plans = made_plans(alloc, &mut dice, units)?;
+        let bases = made_bases(alloc, &mut dice, &plans)?;
+        let made = object_files(alloc, &files, &plans)?;
+        let objects = lent(alloc, &made)?;
         let set = Set {
             plans: &plans,
             objects: &objects,
             bases: &bases,
             most: made_most(&mut dice),
         };
-        for strip in [false, true] {
-            let wanted = plain_link(rt.alloc(), &plans, strip);
-            tally.count(&wanted);
-            runs_as_wanted(&rt, rt.alloc(), set, strip, wanted)?;
-        }
+        runs_as_wanted(rt, alloc, set, options, &mut tally)?;
     }
-    assert!(rt; tally.is_mixed(10 * LEAST), "{tally:?}");
+    assert!(rt; tally.is_mixed(5 * LEAST), "{tally:?}");
     Ok(())
+}
+
+// The sets are made anew for each test, always the same ones, so together the tests link each set with
+// every choice of options. They are eight since a test has a limit of time.
+#[test]
+fn reports_files_made_at_random(rt: HostRuntime) -> Result<(), Fail> {
+    reports_sets(&rt, rt.alloc(), PLAIN)
+}
+
+#[test]
+fn reports_stripped_files(rt: HostRuntime) -> Result<(), Fail> {
+    reports_sets(&rt, rt.alloc(), STRIP)
+}
+
+#[test]
+fn reports_short_files(rt: HostRuntime) -> Result<(), Fail> {
+    reports_sets(&rt, rt.alloc(), SHORT)
+}
+
+#[test]
+fn reports_stripped_short_files(rt: HostRuntime) -> Result<(), Fail> {
+    reports_sets(&rt, rt.alloc(), STRIP_SHORT)
+}
+
+#[test]
+fn reports_trimmed_files(rt: HostRuntime) -> Result<(), Fail> {
+    reports_sets(&rt, rt.alloc(), TRIM)
+}
+
+#[test]
+fn reports_stripped_trimmed_files(rt: HostRuntime) -> Result<(), Fail> {
+    reports_sets(&rt, rt.alloc(), STRIP_TRIM)
+}
+
+#[test]
+fn reports_short_trimmed_files(rt: HostRuntime) -> Result<(), Fail> {
+    reports_sets(&rt, rt.alloc(), SHORT_TRIM)
+}
+
+#[test]
+fn reports_stripped_short_trimmed_files(rt: HostRuntime) -> Result<(), Fail> {
+    reports_sets(&rt, rt.alloc(), STRIP_SHORT_TRIM)
 }

@@ -2,6 +2,7 @@
 
 use super::answers::links_to;
 use super::cases::BASES;
+use super::choices::{PLAIN, STRIP_SHORT_TRIM};
 use super::names::{duplicate, undefined};
 use super::runs::{Run, refuses};
 use super::words::{DEFINES, DEFINES_NUMBER, FOREIGN, NO_HUNKS, REFERS};
@@ -15,26 +16,23 @@ use std::test::Fail;
 const FOO: u32 = 0x666F6F00;
 
 /// The units of these files do not link, for this reason: by both calls that link, and by runs, which
-/// write nothing. Whether an image could be placed does not matter.
+/// write nothing. The options do not matter, nor whether an image could be placed.
 pub(crate) fn is_refused(
     rt: &impl Abort,
     alloc: Global,
     objects: &[&[u32]],
     refusal: LinkRefusal,
 ) -> Result<(), Fail> {
-    links_to(rt, alloc, objects, false, Err(&refusal))?;
-    links_to(rt, alloc, objects, true, Err(&refusal))?;
-    let fault = ToolFault::Link(refusal);
-    for run in [
-        Run::Link { strip: false },
-        Run::Link { strip: true },
-        Run::LinkToVec { strip: false },
-        Run::Image { bases: &BASES },
-        Run::Image { bases: &[] },
-    ] {
-        refuses(rt, alloc, objects, run, &fault)?;
+    for options in [PLAIN, STRIP_SHORT_TRIM] {
+        links_to(rt, alloc, objects, options, Err(&refusal))?;
     }
-    Ok(())
+    let fault = ToolFault::Link(refusal);
+    for options in [PLAIN, STRIP_SHORT_TRIM] {
+        refuses(rt, alloc, objects, Run::Link { options }, &fault)?;
+        refuses(rt, alloc, objects, Run::LinkToVec { options }, &fault)?;
+    }
+    refuses(rt, alloc, objects, Run::Image { bases: &BASES }, &fault)?;
+    refuses(rt, alloc, objects, Run::Image { bases: &[] }, &fault)
 }
 
 #[test]

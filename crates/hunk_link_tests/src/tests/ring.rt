@@ -1,6 +1,7 @@
 //! Many units, each of which refers to the next.
 
-use super::answers::links_to;
+use super::cases::{Case, becomes};
+use super::choices::PLAIN;
 use super::names::name_word;
 use std::alloc::{AllocError, Global};
 use std::test::Fail;
@@ -60,9 +61,41 @@ fn linked_ring(alloc: Global) -> Result<Vec<u32>, Fail> {
     Ok(words)
 }
 
+// Where the hunk of a unit is placed.
+fn base_of(unit: u32) -> u32 {
+    0x0100_0000u32.wrapping_add(unit.wrapping_mul(16))
+}
+
+// The memory of the units: the second longword of each has the address of what the next one defines.
+fn ring_report(alloc: Global) -> Result<String, AllocError> {
+    let mut report = String::new(alloc);
+    for unit in 0..UNITS {
+        let base = base_of(unit);
+        let next = next_of(unit);
+        let [first, second] = code_of(unit);
+        let address = base_of(next).wrapping_add(next);
+        let sum = second.wrapping_add(address);
+        write!(report, "hunk {unit} at {base:08x} size 8\n")?;
+        write!(report, "{base:08x} {first:08x}{sum:08x}\n")?;
+    }
+    Ok(report)
+}
+
 #[test]
 fn links_a_ring_of_units(rt: HostRuntime) -> Result<(), Fail> {
     let words = ring(rt.alloc())?;
     let linked = linked_ring(rt.alloc())?;
-    links_to(&rt, rt.alloc(), &[&words], false, Ok(&linked))
+    let mut bases = Vec::new(rt.alloc());
+    for unit in 0..UNITS {
+        bases.push(base_of(unit)).map_err(AllocError::from)?;
+    }
+    let report = ring_report(rt.alloc())?;
+    let case = Case {
+        objects: &[&words],
+        options: PLAIN,
+        linked: &linked,
+        bases: &bases,
+        report: &report,
+    };
+    becomes(&rt, rt.alloc(), &case)
 }

@@ -1,7 +1,7 @@
 //! Links and images from readers to writers.
 
 use super::answers::bytes_of;
-use hunk_tool::{ToolFault, image_run, link_run, link_to_vec, load_run, status_of};
+use hunk_tool::{LinkOptions, ToolFault, image_run, link_run, link_to_vec, load_run, status_of};
 use hunk_words::{Pieces, Room, Sink, write_all};
 use std::alloc::{AllocError, Allocator, Global};
 use std::process::Abort;
@@ -10,10 +10,10 @@ use std::test::Fail;
 /// What is run on object files.
 #[derive(Clone, Copy, Debug)]
 pub(crate) enum Run<'a> {
-    /// They are linked, with or without their symbols and debug blocks.
-    Link { strip: bool },
-    /// They are linked to a list of bytes, which is written then.
-    LinkToVec { strip: bool },
+    /// They are linked as the options say.
+    Link { options: LinkOptions },
+    /// They are linked so to a list of bytes, which is written then.
+    LinkToVec { options: LinkOptions },
     /// Their memory at these addresses is reported.
     Image { bases: &'a [u32] },
 }
@@ -27,9 +27,9 @@ impl Run<'_> {
         writer: &mut Room,
     ) -> Result<(), ToolFault<A>> {
         match self {
-            Run::Link { strip } => link_run(alloc, inputs, strip, writer),
-            Run::LinkToVec { strip } => {
-                let bytes = link_to_vec(alloc, inputs, strip)?;
+            Run::Link { options } => link_run(alloc, inputs, options, writer),
+            Run::LinkToVec { options } => {
+                let bytes = link_to_vec(alloc, inputs, options)?;
                 let _written = write_all(writer, 0, &bytes)?;
                 Ok(())
             }

@@ -67,6 +67,13 @@ pub(crate) const LINKED: [u32; 22] = [
     0x3E9, 2, 0x4E714E71, 0x4E754E71, 0x3F2,
 ];
 
+/// The same with relocations in 16-bit words.
+pub(crate) const LINKED_SHORT: [u32; 20] = [
+    0x3F3, 0, 2, 0, 1, 2, 2, //
+    0x3E9, 2, 0x4EB90000, 0x00044E75, 0x3FC, 0x00010001, 0x00020000, 0x3F2, //
+    0x3E9, 2, 0x4E714E71, 0x4E754E71, 0x3F2,
+];
+
 /// The load file of the assembler's unit.
 pub(crate) const LINKED_ALONE: [u32; 28] = [
     0x3F3, 0, 2, 0, 1, 2, 0x40000002, //
@@ -79,6 +86,13 @@ pub(crate) const LINKED_ALONE: [u32; 28] = [
 pub(crate) const STRIPPED: [u32; 20] = [
     0x3F3, 0, 2, 0, 1, 2, 0x40000002, //
     0x3E9, 2, 0x4EB90000, 0x00004E75, 0x3EC, 1, 1, 2, 0, 0x3F2, //
+    0x3EB, 2, 0x3F2,
+];
+
+/// The same with relocations in 16-bit words.
+pub(crate) const SMALLEST_ALONE: [u32; 18] = [
+    0x3F3, 0, 2, 0, 1, 2, 0x40000002, //
+    0x3E9, 2, 0x4EB90000, 0x00004E75, 0x3FC, 0x00010001, 0x00020000, 0x3F2, //
     0x3EB, 2, 0x3F2,
 ];
 

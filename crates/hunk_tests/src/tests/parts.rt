@@ -1,7 +1,8 @@
 //! Each part of a load file, as it is written.
 
 use hunk_loadfile::{
-    HunkKind, LoadFile, LoadHunk, Memory, write_load, written_bytes, written_length,
+    HunkKind, LoadFile, LoadForm, LoadHunk, Memory, write_load, write_load_with, written_bytes,
+    written_length,
 };
 use hunk_words::{Name, Room, Sites, Watched, WriteFault};
 use std::alloc::Global;
@@ -23,6 +24,9 @@ const FILE: [&[u32]; 12] = [
     &[1010],
     &[1003, 5, 1010],
 ];
+
+// The first hunk's sites in 16-bit words.
+const SHORT_SITES: [u32; 5] = [1020, 0x0001_0000, 0x0008_0002, 0x0001_0000, 0x0004_0000];
 
 fn symbol(alloc: Global, words: &[u32], value: u32) -> Result<(Name, u32), Fail> {
     Ok((Name::from_words(alloc, words)?, value))
@@ -64,9 +68,13 @@ fn file(alloc: Global) -> Result<LoadFile, Fail> {
     Ok(LoadFile::new(hunks)?)
 }
 
-fn bytes(alloc: Global) -> Result<Vec<u8>, Fail> {
+fn bytes(alloc: Global, form: LoadForm) -> Result<Vec<u8>, Fail> {
+    let mut rows = FILE;
+    if form == LoadForm::Short {
+        rows[2] = &SHORT_SITES;
+    }
     let mut bytes = Vec::new(alloc);
-    for row in FILE {
+    for row in rows {
         for word in row {
             bytes.extend_from_slice(&word.to_be_bytes())?;
         }
@@ -76,7 +84,7 @@ fn bytes(alloc: Global) -> Result<Vec<u8>, Fail> {
 
 #[test]
 fn writes_each_part_of_a_file(rt: HostRuntime) -> Result<(), Fail> {
-    let want = bytes(rt.alloc())?;
+    let want = bytes(rt.alloc(), LoadForm::Plain)?;
     let mut writer = Watched::new(Vec::new(rt.alloc()));
     assert_eq!(rt;
         write_load(rt.alloc(), &file(rt.alloc())?, &mut writer),
@@ -86,30 +94,37 @@ fn writes_each_part_of_a_file(rt: HostRuntime) -> Result<(), Fail> {
     Ok(())
 }
 
+const FORMS: [LoadForm; 2] = [LoadForm::Plain, LoadForm::Short];
+
 #[test]
 fn writes_a_file_into_memory_that_holds_it_exactly(rt: HostRuntime) -> Result<(), Fail> {
     let file = file(rt.alloc())?;
-    let want = bytes(rt.alloc())?;
-    let length = want.len() as u64;
-    assert_eq!(rt; written_length(rt.alloc(), &file), Ok(length));
-    let text = written_bytes(rt.alloc(), &file)?;
-    assert_eq!(rt; text.as_slice(), want.as_slice());
-    assert_eq!(rt; text.capacity(), want.len());
+    for form in FORMS {
+        let want = bytes(rt.alloc(), form)?;
+        let length = want.len() as u64;
+        assert_eq!(rt; written_length(rt.alloc(), &file, form), Ok(length));
+        let text = written_bytes(rt.alloc(), &file, form)?;
+        assert_eq!(rt; text.as_slice(), want.as_slice(), "{form:?}");
+        assert_eq!(rt; text.capacity(), want.len(), "{form:?}");
+    }
     Ok(())
 }
 
 #[test]
 fn tells_how_much_a_device_took(rt: HostRuntime) -> Result<(), Fail> {
     let file = file(rt.alloc())?;
-    let want = bytes(rt.alloc())?;
-    for zero in [false, true] {
-        for room in 0..want.len() {
-            let mut writer = Room::new(rt.alloc(), 3, room, zero)?;
-            let fault = WriteFault::Device {
-                written: room as u64,
-            };
-            assert_eq!(rt; write_load(rt.alloc(), &file, &mut writer), Err(fault));
-            assert_eq!(rt; writer.bytes(), &want[..room]);
+    for form in FORMS {
+        let want = bytes(rt.alloc(), form)?;
+        for zero in [false, true] {
+            for room in 0..want.len() {
+                let mut writer = Room::new(rt.alloc(), 3, room, zero)?;
+                let fault = WriteFault::Device {
+                    written: room as u64,
+                };
+                let got = write_load_with(rt.alloc(), &file, form, &mut writer);
+                assert_eq!(rt; got, Err(fault), "{form:?}");
+                assert_eq!(rt; writer.bytes(), &want[..room], "{form:?}");
+            }
         }
     }
     Ok(())

@@ -1,7 +1,7 @@
 //! Load files that are written: their bytes, and writers that fail.
 
 use super::growths::growths_of_reading;
-use hunk_loadfile::{LoadFile, read_load, write_load};
+use hunk_loadfile::{LoadFile, LoadForm, read_load, write_load_with};
 use hunk_test_support::load_words::{THREE_HUNKS, TWO_HUNKS, ZEROS};
 use hunk_test_support::words::{BEHIND_CONTENT, LINKED, LINKED_ALONE, SCATTERED, SHORT, WRITTEN};
 use hunk_test_support::{CHUNKS, FILE, ROOM, Refusing, bytes_of};
@@ -65,18 +65,26 @@ const FILES: [(&[u32], &[u32]); 11] = [
     (&TWO_HUNKS, &EXAMPLE),
 ];
 
-// The file is written as this text, at most `most` bytes per write.
-fn writes(
+/// A load file, and the bytes of it in one of its forms.
+#[derive(Clone, Copy)]
+pub(crate) struct Text<'a> {
+    pub(crate) file: &'a LoadFile,
+    pub(crate) form: LoadForm,
+    pub(crate) bytes: &'a [u8],
+}
+
+/// The file is written as these bytes, at most `most` bytes per write.
+pub(crate) fn writes(
     rt: &impl Abort,
     alloc: Global,
-    file: &LoadFile,
+    text: Text<'_>,
     most: usize,
-    text: &[u8],
 ) -> Result<(), Fail> {
     assert!(rt; 1 <= most);
-    let mut writer = Room::new(alloc, most, ROOM, false)?;
-    assert_eq!(rt; write_load(alloc, file, &mut writer), Ok(()));
-    assert_eq!(rt; writer.bytes(), text, "{most} a write");
+    let mut writer = Room::new(alloc, most, text.bytes.len(), false)?;
+    let got = write_load_with(alloc, text.file, text.form, &mut writer);
+    assert_eq!(rt; got, Ok(()));
+    assert_eq!(rt; writer.bytes(), text.bytes, "{most} a write");
     assert!(rt; !Sink::failed(&writer));
     Ok(())
 }
@@ -85,9 +93,14 @@ fn writes(
 fn writes_files(rt: HostRuntime) -> Result<(), Fail> {
     for (words, wanted) in FILES {
         let file = file_of(rt.alloc(), bytes_of(rt.alloc(), words, &[])?)?;
-        let text = bytes_of(rt.alloc(), wanted, &[])?;
+        let bytes = bytes_of(rt.alloc(), wanted, &[])?;
+        let text = Text {
+            file: &file,
+            form: LoadForm::Plain,
+            bytes: &bytes,
+        };
         for most in CHUNKS {
-            writes(&rt, rt.alloc(), &file, most, &text)?;
+            writes(&rt, rt.alloc(), text, most)?;
         }
     }
     Ok(())
@@ -97,41 +110,58 @@ fn writes_files(rt: HostRuntime) -> Result<(), Fail> {
 fn fails_to_write(
     rt: &impl Abort,
     alloc: Global,
-    file: &LoadFile,
-    text: &[u8],
+    text: Text<'_>,
     room: usize,
     (most, zero): (usize, bool),
 ) -> Result<(), Fail> {
     assert!(rt; 1 <= most);
     let mut writer = Room::new(alloc, most, room, zero)?;
-    let got = write_load(alloc, file, &mut writer);
+    let got = write_load_with(alloc, text.file, text.form, &mut writer);
     let written = room as u64;
     assert_eq!(rt; got, Err(WriteFault::Device { written }), "room for {room}");
-    assert_eq!(rt; Some(writer.bytes()), text.get(..room), "room for {room}");
+    assert_eq!(rt;
+        Some(writer.bytes()),
+        text.bytes.get(..room),
+        "room for {room}"
+    );
     assert!(rt; Sink::failed(&writer));
     Ok(())
 }
 
-// A writer with room for each prefix of the file.
-#[test]
-fn tells_what_a_writer_took_of_a_file(rt: HostRuntime) -> Result<(), Fail> {
-    let text = bytes_of(rt.alloc(), &LINKED, &[])?;
-    let file = file_of(rt.alloc(), text.clone()?)?;
-    assert_eq!(rt; text.len(), 88);
-    for room in 0..88 {
+/// A writer with room for each proper prefix of the bytes takes that prefix of the file.
+pub(crate) fn fails_at_each_byte(
+    rt: &impl Abort,
+    alloc: Global,
+    text: Text<'_>,
+) -> Result<(), Fail> {
+    for room in 0..text.bytes.len() {
         for way in [(ROOM, false), (ROOM, true), (1, false), (7, true)] {
-            fails_to_write(&rt, rt.alloc(), &file, &text, room, way)?;
+            fails_to_write(rt, alloc, text, room, way)?;
         }
     }
     Ok(())
 }
 
-// A file in written form is written with each allocation failing in turn: exactly the bytes up to
-// the relocation block of the first hunk that has sites, and then, after at least `least`
-// allocations, with none failing. The allocations to read the file come before those to write it.
-fn is_written_up_to(
+#[test]
+fn tells_what_a_writer_took_of_a_file(rt: HostRuntime) -> Result<(), Fail> {
+    let text = bytes_of(rt.alloc(), &LINKED, &[])?;
+    let file = file_of(rt.alloc(), text.clone()?)?;
+    assert_eq!(rt; text.len(), 88);
+    let text = Text {
+        file: &file,
+        form: LoadForm::Plain,
+        bytes: &text,
+    };
+    fails_at_each_byte(&rt, rt.alloc(), text)
+}
+
+/// A file in this form is written with each allocation failing in turn: exactly the bytes up to the
+/// relocation blocks of the first hunk that has sites, and then, after at least `least` allocations,
+/// with none failing. The allocations to read the file come before those to write it.
+pub(crate) fn is_written_up_to(
     rt: &impl Abort,
     alloc: Global,
+    form: LoadForm,
     words: &[u32],
     front: usize,
     least: u64,
@@ -144,7 +174,7 @@ fn is_written_up_to(
         let heap = Refusing::new(alloc, refused);
         let file = file_of(&heap, text.clone()?)?;
         let mut writer = Room::new(alloc, 64, text.len(), false)?;
-        let got = write_load(&heap, &file, &mut writer);
+        let got = write_load_with(&heap, &file, form, &mut writer);
         if heap.asked() <= refused {
             assert_eq!(rt; got, Ok(()));
             assert_eq!(rt; writer.bytes(), text.as_slice());
@@ -168,7 +198,7 @@ fn is_written_up_to(
 // allocation. They are written whichever allocation fails.
 #[test]
 fn writes_hunk_by_hunk(rt: HostRuntime) -> Result<(), Fail> {
-    is_written_up_to(&rt, rt.alloc(), &THREE_HUNKS, 64, 1)
+    is_written_up_to(&rt, rt.alloc(), LoadForm::Plain, &THREE_HUNKS, 64, 1)
 }
 
 // Sites that name four hunks in turn, more of each hunk than are written at once. They need memory,
@@ -190,5 +220,5 @@ fn sorts_before_it_writes_relocations(rt: HostRuntime) -> Result<(), Fail> {
     for _ in 0..3 {
         words.extend_from_slice(&[0x3EB, 0, 0x3F2])?;
     }
-    is_written_up_to(&rt, rt.alloc(), &words, 4844, 2)
+    is_written_up_to(&rt, rt.alloc(), LoadForm::Plain, &words, 4844, 2)
 }

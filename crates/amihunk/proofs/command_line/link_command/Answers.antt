@@ -1,18 +1,37 @@
-use Rattle.std.proofs.Common.{◌≡◌, ◌∙◌, ap, ap₂, codes, false, rules}
+use Rattle.std.proofs.Common.{◌≡◌, ◌∙◌, ◌||◌, Bool, ap, ap₂, codes, false}
 use Rattle.std.proofs.lemmas.Result.{IfOk-weaker}
-use Rattle.clap.specs.Words.{App, app_of, new_app, rule_of, with_rule}
+use Rattle.clap.specs.Words.{App, app_of, new_app, with_rule}
 use Rattle.clap.specs.Simple.{app_of_fields}
-use Rattle.amihunk.specs.CommandLine.{strip_rule}
+use Rattle.clap.specs.declared.builder.command.Command.{Command}
+use Rattle.clap.specs.declared.builder.command.Command.TheOpen.{Command-F}
+use Rattle.clap.specs.declared.builder.command.Command.TheViews.{out-Command}
 use Rattle.amihunk.proofs.command_line.link_command.Goals as goal
 
 pub returns-clause-shape : goal.returns-clause-shape
 returns-clause-shape c =
-    let strip_is : rule_of c.help-strip.result ≡ strip_rule = search rules in
-    let strip_local : c.help-strip.result.global ≡ false = search rules in
     let named : app_of c.after_help.result ≡ new_app (codes "link") =
-    ap app_of_fields c.after_help.ensures ∙ (ap app_of_fields c.about.ensures ∙ c.new-2.ensures.app) in
+    ap app_of_fields c.after_help.ensures ∙ (ap app_of_fields c.about.ensures ∙ c.new.ensures.app) in
     let out = c.in_ok-arg.ensures.shape c.option_argument.ensures.local ∙ ap₂ with_rule named c.option_argument.ensures.rule in
-    let strip = c.in_ok-arg-2.ensures.shape strip_local ∙ ap₂ with_rule out strip_is in
-    IfOk-weaker c.arg-3.result _ _
-    (λ r added. ap (λ (a : App). a.top) (added.shape c.files_argument.ensures.local ∙ ap₂ with_rule strip c.files_argument.ensures.rule))
-    c.arg-3.ensures
+    let strip = c.in_ok-arg-2.ensures.shape c.flag.ensures.local ∙ ap₂ with_rule out c.flag.ensures.rule in
+    let short = c.in_ok-arg-3.ensures.shape c.flag-2.ensures.local ∙ ap₂ with_rule strip c.flag-2.ensures.rule in
+    let trim = c.in_ok-arg-4.ensures.shape c.flag-3.ensures.local ∙ ap₂ with_rule short c.flag-3.ensures.rule in
+    IfOk-weaker c.arg-5.result _ _
+    (λ r added. ap (λ (a : App). a.top) (added.shape c.files_argument.ensures.local ∙ ap₂ with_rule trim c.files_argument.ensures.rule))
+    c.arg-5.ensures
+
+-- whether one of the arguments is global
+any_global : Command-F Command → Bool
+any_global c = c.has_globals
+
+pub returns-clause-local : goal.returns-clause-local
+unfolding any_global
+returns-clause-local c =
+    let named : (out-Command c.after_help.result).has_globals ≡ false =
+    ap any_global c.after_help.ensures ∙ (ap any_global c.about.ensures ∙ c.new.ensures.local) in
+    let out = c.in_ok-arg.ensures.globals ∙ ap₂ ◌||◌ named c.option_argument.ensures.local in
+    let strip = c.in_ok-arg-2.ensures.globals ∙ ap₂ ◌||◌ out c.flag.ensures.local in
+    let short = c.in_ok-arg-3.ensures.globals ∙ ap₂ ◌||◌ strip c.flag-2.ensures.local in
+    let trim = c.in_ok-arg-4.ensures.globals ∙ ap₂ ◌||◌ short c.flag-3.ensures.local in
+    IfOk-weaker c.arg-5.result _ _
+    (λ r added. added.globals ∙ ap₂ ◌||◌ trim c.files_argument.ensures.local)
+    c.arg-5.ensures

@@ -1,18 +1,33 @@
-use Rattle.std.proofs.Common.{◌≡◌, ◌∙◌, codes, rules, Some}
+use Rattle.std.proofs.Common.{◌≡◌, ◌∙◌, Bool, codes, false, rules, Some, true}
 use Rattle.clap.specs.Walk.{texts}
-use Rattle.clap.specs.Words.{found_of, rows_of, subcommand_rows_of}
+use Rattle.clap.specs.Words.{Text, found_of, one_text, rows_of, subcommand_rows_of}
+use Rattle.clap.specs.declared.parser.matches.Found.{Found}
 use Rattle.clap.proofs.WalkLemmas.{one_text-rows}
-use Rattle.amihunk.proofs.CommandLineValueLemmas.{says_image, says_link}
+use Rattle.amihunk.proofs.CommandLineValueLemmas.{Reads, says_image, says_link}
 use Rattle.amihunk.proofs.command_line.request_of.Goals as goal
+
+-- the value of a flag that was read, by the rows
+reads : (found : Found) (name : Text) (given : Bool) → (one_text found name ≡ Some (codes "true") → given ≡ true)
+    → (one_text found name ≡ Some (codes "false") → given ≡ false) → Reads (rows_of found) name given
+reads found name given on off = record {
+  on = λ is. on (one_text-rows found name ∙ is);
+  off = λ is. off (one_text-rows found name ∙ is);
+}
 
 pub returns-in_ok-files_of-in-Some-link-default : goal.returns-in_ok-files_of-in-Some-link-default
 returns-in_ok-files_of-in-Some-link-default c =
     let found = found_of c.in-Some-link-default.values.now in
     let called : subcommand_rows_of c.args.matches.now ≡ Some (codes "link", rows_of found) = search rules in
     let files = c.in_ok-files_of-in-Some-link-default in
-    says_link (subcommand_rows_of c.args.matches.now) (rows_of found) c.requires called c.value_of.result.now c.get_flag.result (texts files.field-0.items)
-    c.value_of.ensures (λ on. c.get_flag.ensures.value (one_text-rows found (codes "strip") ∙ on))
-    (λ off. c.get_flag.ensures.other (one_text-rows found (codes "strip") ∙ off)) files.ensures
+    let strip = c.get_flag in
+    let short = c.get_flag-in-Some-link-default in
+    let trim = c.get_flag-in-Some-link-default-2 in
+    says_link (subcommand_rows_of c.args.matches.now) (rows_of found) c.requires called c.value_of.result.now
+    (record { strip = strip.result; short = short.result; trim = trim.result }) (texts files.field-0.items) c.value_of.ensures
+    (reads found (codes "strip") strip.result strip.ensures.value strip.ensures.other)
+    (reads found (codes "short") short.result short.ensures.value short.ensures.other)
+    (reads found (codes "trim") trim.result trim.ensures.value trim.ensures.other)
+    files.ensures
 
 pub returns-in-Some-load-default : goal.returns-in-Some-load-default
 returns-in-Some-load-default c = record {

@@ -14,8 +14,8 @@ returns-clause-show g c program file is_line plain =
     ends_show g.W.Sink.taken g.W.Sink.failed c.args.errors.now c.answer.new.errors file c.read_words.result c.answer.result (c.read_words.ensures.show program file is_line plain) c.answer.ensures
 
 pub returns-clause-link : goal.returns-clause-link
-returns-clause-link g c program strip out files is_line plain_out some plain_files =
-    ends_link g.W.Sink.taken g.W.Sink.failed c.args.errors.now c.answer.new.errors out strip files c.read_words.result c.answer.result (c.read_words.ensures.link program strip out files is_line plain_out some plain_files) c.answer.ensures
+returns-clause-link g c program options out files is_line plain_out some plain_files =
+    ends_link g.W.Sink.taken g.W.Sink.failed c.args.errors.now c.answer.new.errors out options files c.read_words.result c.answer.result (c.read_words.ensures.link program options out files is_line plain_out some plain_files) c.answer.ensures
 
 pub returns-clause-image : goal.returns-clause-image
 returns-clause-image g c program list files is_line plain_list some plain_files =

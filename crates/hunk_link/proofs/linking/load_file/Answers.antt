@@ -1,7 +1,7 @@
 -- The load file breaks no rule, and is valid by its type: so it has room for its symbols and debug
--- blocks, and its written form is short.
+-- blocks, and its written forms are short.
 use Rattle.hunk_loadfile.proofs.RulesLemmas.{carried_longwords-accepted}
-use Rattle.hunk_loadfile.proofs.WrittenFormLengthLemmas.{written_form-is_short}
+use Rattle.hunk_loadfile.proofs.WrittenFormLengthLemmas.{IsShortEnough-from}
 use Rattle.std.proofs.Common.{◌≤◌, subst, sym}
 use Rattle.hunk_loadfile.specs.Rules.{carried_longwords, most_carried}
 use Rattle.hunk_link.proofs.linking.load_file.Goals as goal
@@ -9,4 +9,4 @@ use Rattle.hunk_link.proofs.linking.load_file.Goals as goal
 pub returns-clause-short : goal.returns-clause-short
 returns-clause-short g c =
     let none = c.in-Ok.ensures.accepted in
-    written_form-is_short c.in-Ok.file c.hunks-hunks.ensures.valid (subst (λ hunks. carried_longwords hunks ≤ most_carried) (sym none.1) (carried_longwords-accepted c.args.hunks.items none.0))
+    IsShortEnough-from c.in-Ok.file c.hunks-hunks.ensures.valid (subst (λ hunks. carried_longwords hunks ≤ most_carried) (sym none.1) (carried_longwords-accepted c.args.hunks.items none.0))

@@ -4,7 +4,8 @@ use Rattle.std.proofs.lemmas.Result.{err_from_is_err_and}
 use Rattle.hunk_words.specs.Name.{longword_count, name_words}
 use Rattle.hunk_words.proofs.NameLemmas.{length-name_words}
 use Rattle.hunk_loadfile.specs.WrittenForm.{symbol_words}
-use Rattle.hunk_loadfile.proofs.LongwordWriterLemmas.{length-bytes_of, symbol_words-is, words-stop, words-then}
+use Rattle.hunk_loadfile.specs.declared.number_width.NumberWidth.TheVariants.{Longword}
+use Rattle.hunk_loadfile.proofs.LongwordWriterLemmas.{length-bytes_of, symbol_words-is, numbers-stop, numbers-then}
 use Rattle.hunk_loadfile.proofs.debug_writer.write_symbol.Goals as goal
 
 pub returns-in_err-written : goal.returns-in_err-written
@@ -14,7 +15,7 @@ returns-in_err-written g c =
     let count = c.longword_count-count.result in
     let counted : count ≡ longword_count (length s.0) = c.longword_count-count.ensures ∙ ap (λ (n : List ℕ). longword_count (length n)) c.bytes.ensures.value in
     record {
-      wrote = rw (p.1, p.2) (words-stop g.W.Sink.taken g.W.Sink.failed c.args.writer.now c.write_longwords.new.writer (symbol_words s) (count ∷ []) (name_words s.0 ++ s.1 ∷ []) c.args.written _ (symbol_words-is s count counted) c.in_err-written.ensures.wrote);
+      wrote = rw (p.1, p.2) (numbers-stop Longword g.W.Sink.taken g.W.Sink.failed c.args.writer.now c.write_longwords.new.writer (symbol_words s) (count ∷ []) (name_words s.0 ++ s.1 ∷ []) c.args.written _ (symbol_words-is s count counted) c.in_err-written.ensures.wrote);
     }
 
 pub returns-in_err-written-2 : goal.returns-in_err-written-2
@@ -23,9 +24,9 @@ returns-in_err-written-2 g c =
     let s = c.args.symbol.now in
     let count = c.longword_count-count.result in
     let counted : count ≡ longword_count (length s.0) = c.longword_count-count.ensures ∙ ap (λ (n : List ℕ). longword_count (length n)) c.bytes.ensures.value in
-    let stopped = words-stop g.W.Sink.taken g.W.Sink.failed c.write_longwords.new.writer c.write_name.new.writer (name_words s.0 ++ s.1 ∷ []) (name_words s.0) (s.1 ∷ []) c.in_ok-written.written c.in_err-written-2.field-0.0 refl c.in_err-written-2.ensures.wrote in
+    let stopped = numbers-stop Longword g.W.Sink.taken g.W.Sink.failed c.write_longwords.new.writer c.write_name.new.writer (name_words s.0 ++ s.1 ∷ []) (name_words s.0) (s.1 ∷ []) c.in_ok-written.written c.in_err-written-2.field-0.0 refl c.in_err-written-2.ensures.wrote in
     record {
-      wrote = rw (p.1, p.2) (words-then g.W.Sink.taken g.W.Sink.failed c.args.writer.now c.write_longwords.new.writer c.write_name.new.writer (symbol_words s) (count ∷ []) (name_words s.0 ++ s.1 ∷ []) c.args.written c.in_ok-written.written (Err c.in_err-written-2.field-0.0) (symbol_words-is s count counted) c.in_ok-written.ensures.wrote stopped);
+      wrote = rw (p.1, p.2) (numbers-then Longword g.W.Sink.taken g.W.Sink.failed c.args.writer.now c.write_longwords.new.writer c.write_name.new.writer (symbol_words s) (count ∷ []) (name_words s.0 ++ s.1 ∷ []) c.args.written c.in_ok-written.written (Err c.in_err-written-2.field-0.0) (symbol_words-is s count counted) c.in_ok-written.ensures.wrote stopped);
     }
 
 pub write_longwords-requires-2 : goal.write_longwords-requires-2
@@ -38,7 +39,7 @@ returns g c =
     let s = c.args.symbol.now in
     let count = c.longword_count-count.result in
     let counted : count ≡ longword_count (length s.0) = c.longword_count-count.ensures ∙ ap (λ (n : List ℕ). longword_count (length n)) c.bytes.ensures.value in
-    let rest = words-then g.W.Sink.taken g.W.Sink.failed c.write_longwords.new.writer c.write_name.new.writer c.write_longwords-2.new.writer (name_words s.0 ++ s.1 ∷ []) (name_words s.0) (s.1 ∷ []) c.in_ok-written.written c.in_ok-written-2.written c.write_longwords-2.result refl c.in_ok-written-2.ensures.wrote c.write_longwords-2.ensures.wrote in
+    let rest = numbers-then Longword g.W.Sink.taken g.W.Sink.failed c.write_longwords.new.writer c.write_name.new.writer c.write_longwords-2.new.writer (name_words s.0 ++ s.1 ∷ []) (name_words s.0) (s.1 ∷ []) c.in_ok-written.written c.in_ok-written-2.written c.write_longwords-2.result refl c.in_ok-written-2.ensures.wrote c.write_longwords-2.ensures.wrote in
     record {
-      wrote = words-then g.W.Sink.taken g.W.Sink.failed c.args.writer.now c.write_longwords.new.writer c.write_longwords-2.new.writer (symbol_words s) (count ∷ []) (name_words s.0 ++ s.1 ∷ []) c.args.written c.in_ok-written.written c.write_longwords-2.result (symbol_words-is s count counted) c.in_ok-written.ensures.wrote rest;
+      wrote = numbers-then Longword g.W.Sink.taken g.W.Sink.failed c.args.writer.now c.write_longwords.new.writer c.write_longwords-2.new.writer (symbol_words s) (count ∷ []) (name_words s.0 ++ s.1 ∷ []) c.args.written c.in_ok-written.written c.write_longwords-2.result (symbol_words-is s count counted) c.in_ok-written.ensures.wrote rest;
     }

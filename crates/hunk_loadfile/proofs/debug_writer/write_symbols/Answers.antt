@@ -4,7 +4,8 @@ use Rattle.std.proofs.lemmas.Result.{err_from_is_err_and}
 use Rattle.std.specs.List.{flat_map}
 use Rattle.hunk_loadfile.specs.WrittenForm.{symbol_words, symbols_words}
 use Rattle.hunk_loadfile.proofs.WrittenFormLengthLemmas.{length-symbols}
-use Rattle.hunk_loadfile.proofs.LongwordWriterLemmas.{length-bytes_of, symbols_words-some, words-stop, words-then}
+use Rattle.hunk_loadfile.specs.declared.number_width.NumberWidth.TheVariants.{Longword}
+use Rattle.hunk_loadfile.proofs.LongwordWriterLemmas.{length-bytes_of, symbols_words-some, numbers-stop, numbers-then}
 use Rattle.hunk_loadfile.proofs.debug_writer.write_symbols.Goals as goal
 
 pub returns-in_err-written : goal.returns-in_err-written
@@ -13,7 +14,7 @@ returns-in_err-written g c =
     let ss = c.args.symbols.now in
     let some = symbols_words-some ss c.is_empty.result c.is_empty.ensures c.if-is_empty.false in
     record {
-      wrote = rw (p.1, p.2) (words-stop g.W.Sink.taken g.W.Sink.failed c.args.writer.now c.write_longwords.new.writer (symbols_words ss) (1008 ∷ []) (flat_map symbol_words ss ++ 0 ∷ []) c.args.written _ some c.in_err-written.ensures.wrote);
+      wrote = rw (p.1, p.2) (numbers-stop Longword g.W.Sink.taken g.W.Sink.failed c.args.writer.now c.write_longwords.new.writer (symbols_words ss) (1008 ∷ []) (flat_map symbol_words ss ++ 0 ∷ []) c.args.written _ some c.in_err-written.ensures.wrote);
     }
 
 pub returns-in_err-written-2 : goal.returns-in_err-written-2
@@ -22,9 +23,9 @@ returns-in_err-written-2 g c =
     let ss = c.args.symbols.now in
     let each = flat_map symbol_words ss in
     let some = symbols_words-some ss c.is_empty.result c.is_empty.ensures c.if-is_empty.false in
-    let stopped = words-stop g.W.Sink.taken g.W.Sink.failed c.write_longwords.new.writer c.write_each_symbol.new.writer (each ++ 0 ∷ []) each (0 ∷ []) c.in_ok-written.written c.in_err-written-2.field-0.0 refl c.in_err-written-2.ensures.wrote in
+    let stopped = numbers-stop Longword g.W.Sink.taken g.W.Sink.failed c.write_longwords.new.writer c.write_each_symbol.new.writer (each ++ 0 ∷ []) each (0 ∷ []) c.in_ok-written.written c.in_err-written-2.field-0.0 refl c.in_err-written-2.ensures.wrote in
     record {
-      wrote = rw (p.1, p.2) (words-then g.W.Sink.taken g.W.Sink.failed c.args.writer.now c.write_longwords.new.writer c.write_each_symbol.new.writer (symbols_words ss) (1008 ∷ []) (each ++ 0 ∷ []) c.args.written c.in_ok-written.written (Err c.in_err-written-2.field-0.0) some c.in_ok-written.ensures.wrote stopped);
+      wrote = rw (p.1, p.2) (numbers-then Longword g.W.Sink.taken g.W.Sink.failed c.args.writer.now c.write_longwords.new.writer c.write_each_symbol.new.writer (symbols_words ss) (1008 ∷ []) (each ++ 0 ∷ []) c.args.written c.in_ok-written.written (Err c.in_err-written-2.field-0.0) some c.in_ok-written.ensures.wrote stopped);
     }
 
 pub write_longwords-requires-2 : goal.write_longwords-requires-2
@@ -37,7 +38,7 @@ returns g c =
     let ss = c.args.symbols.now in
     let each = flat_map symbol_words ss in
     let some = symbols_words-some ss c.is_empty.result c.is_empty.ensures c.if-is_empty.false in
-    let rest = words-then g.W.Sink.taken g.W.Sink.failed c.write_longwords.new.writer c.write_each_symbol.new.writer c.write_longwords-2.new.writer (each ++ 0 ∷ []) each (0 ∷ []) c.in_ok-written.written c.in_ok-written-2.written c.write_longwords-2.result refl c.in_ok-written-2.ensures.wrote c.write_longwords-2.ensures.wrote in
+    let rest = numbers-then Longword g.W.Sink.taken g.W.Sink.failed c.write_longwords.new.writer c.write_each_symbol.new.writer c.write_longwords-2.new.writer (each ++ 0 ∷ []) each (0 ∷ []) c.in_ok-written.written c.in_ok-written-2.written c.write_longwords-2.result refl c.in_ok-written-2.ensures.wrote c.write_longwords-2.ensures.wrote in
     record {
-      wrote = words-then g.W.Sink.taken g.W.Sink.failed c.args.writer.now c.write_longwords.new.writer c.write_longwords-2.new.writer (symbols_words ss) (1008 ∷ []) (each ++ 0 ∷ []) c.args.written c.in_ok-written.written c.write_longwords-2.result some c.in_ok-written.ensures.wrote rest;
+      wrote = numbers-then Longword g.W.Sink.taken g.W.Sink.failed c.args.writer.now c.write_longwords.new.writer c.write_longwords-2.new.writer (symbols_words ss) (1008 ∷ []) (each ++ 0 ∷ []) c.args.written c.in_ok-written.written c.write_longwords-2.result some c.in_ok-written.ensures.wrote rest;
     }

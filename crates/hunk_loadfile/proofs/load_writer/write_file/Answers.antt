@@ -2,9 +2,10 @@
 use Rattle.std.proofs.Common.{ap, length, sym, arith}
 use Rattle.std.proofs.lemmas.Result.{err_from_is_err_and}
 use Rattle.std.specs.List.{flat_map}
-use Rattle.hunk_loadfile.specs.WrittenForm.{header_words, hunk_words, written_form}
+use Rattle.hunk_loadfile.specs.WrittenForm.{header_words, hunk_words, written_in}
 use Rattle.hunk_loadfile.proofs.LoadWriterLemmas.{length-header_words}
-use Rattle.hunk_loadfile.proofs.LongwordWriterLemmas.{length-bytes_of, words-stop, words-then}
+use Rattle.hunk_loadfile.specs.declared.number_width.NumberWidth.TheVariants.{Longword}
+use Rattle.hunk_loadfile.proofs.LongwordWriterLemmas.{length-bytes_of, numbers-stop, numbers-then}
 use Rattle.hunk_loadfile.proofs.load_writer.write_file.Goals as goal
 
 pub returns-in_err-written : goal.returns-in_err-written
@@ -13,7 +14,7 @@ returns-in_err-written g c =
     let hunks = c.hunks-hunks.result.now in
     let file = c.args.file.now in
     record {
-      wrote = rw (p.1, p.2) (words-stop g.W.Sink.taken g.W.Sink.failed c.args.writer.now c.write_header.new.writer (written_form file) (header_words hunks) (flat_map (hunk_words (length hunks)) hunks) 0 _ (ap written_form (sym c.hunks-hunks.ensures.value)) c.in_err-written.ensures.wrote);
+      wrote = rw (p.1, p.2) (numbers-stop Longword g.W.Sink.taken g.W.Sink.failed c.args.writer.now c.write_header.new.writer (written_in c.args.form file) (header_words hunks) (flat_map (hunk_words c.args.form (length hunks)) hunks) 0 _ (ap (written_in c.args.form) (sym c.hunks-hunks.ensures.value)) c.in_err-written.ensures.wrote);
     }
 
 pub write_hunks-requires-clause-room : goal.write_hunks-requires-clause-room
@@ -26,5 +27,5 @@ returns g c =
     let hunks = c.hunks-hunks.result.now in
     let file = c.args.file.now in
     record {
-      wrote = words-then g.W.Sink.taken g.W.Sink.failed c.args.writer.now c.write_header.new.writer c.write_hunks.new.writer (written_form file) (header_words hunks) (flat_map (hunk_words (length hunks)) hunks) 0 c.in_ok-written.written c.write_hunks.result (ap written_form (sym c.hunks-hunks.ensures.value)) c.in_ok-written.ensures.wrote c.write_hunks.ensures.wrote;
+      wrote = numbers-then Longword g.W.Sink.taken g.W.Sink.failed c.args.writer.now c.write_header.new.writer c.write_hunks.new.writer (written_in c.args.form file) (header_words hunks) (flat_map (hunk_words c.args.form (length hunks)) hunks) 0 c.in_ok-written.written c.write_hunks.result (ap (written_in c.args.form) (sym c.hunks-hunks.ensures.value)) c.in_ok-written.ensures.wrote c.write_hunks.ensures.wrote;
     }

@@ -9,7 +9,7 @@ use Rattle.hunk_loadfile.proofs.load_writer.write_hunks.Goals as goal
 
 pub write_hunk-requires-clause-room : goal.write_hunk-requires-clause-room
 write_hunk-requires-clause-room g c =
-    omega (arith, length-front_hunks-le c.args.hunks.now c.loop-hunk.hunk-index c.requires.valid, c.loop-hunk.invariant.wrote.0)
+    omega (arith, length-front_hunks-le c.args.form c.args.hunks.now c.loop-hunk.hunk-index c.requires.valid, c.loop-hunk.invariant.wrote.0)
 
 pub returns-in_err-written : goal.returns-in_err-written
 returns-in_err-written g c =
@@ -19,7 +19,7 @@ returns-in_err-written g c =
     let hunk = c.hunk-item.result in
     let valid = subst (IsLoadHunk (length hunks)) (sym c.hunk-item.is) (c.requires.valid.each i hunk c.loop-hunk-test.true) in
     record {
-      wrote = rw (p.1, p.2) (parts-stop g.W.Sink.taken g.W.Sink.failed c.args.writer.now c.loop-hunk.writer c.write_hunk.new.writer (hunk_words (length hunks)) hunks i hunk c.args.written c.loop-hunk.written _ c.loop-hunk-test.true c.hunk-item.is c.loop-hunk.invariant.wrote (c.in_err-written.ensures.wrote (length hunks) valid.targets));
+      wrote = rw (p.1, p.2) (parts-stop g.W.Sink.taken g.W.Sink.failed c.args.writer.now c.loop-hunk.writer c.write_hunk.new.writer (hunk_words c.args.form (length hunks)) hunks i hunk c.args.written c.loop-hunk.written _ c.loop-hunk-test.true c.hunk-item.is c.loop-hunk.invariant.wrote (c.in_err-written.ensures.wrote (length hunks) valid.targets));
     }
 
 pub loop-hunk-preserved : goal.loop-hunk-preserved
@@ -29,5 +29,5 @@ loop-hunk-preserved g c =
     let hunk = c.hunk-item.result in
     let valid = subst (IsLoadHunk (length hunks)) (sym c.hunk-item.is) (c.requires.valid.each i hunk c.loop-hunk-test.true) in
     record {
-      wrote = parts-more g.W.Sink.taken g.W.Sink.failed c.args.writer.now c.loop-hunk.writer c.write_hunk.new.writer (hunk_words (length hunks)) hunks i hunk c.args.written c.loop-hunk.written c.in_ok-written.written c.loop-hunk-test.true c.hunk-item.is c.loop-hunk.invariant.wrote (c.in_ok-written.ensures.wrote (length hunks) valid.targets);
+      wrote = parts-more g.W.Sink.taken g.W.Sink.failed c.args.writer.now c.loop-hunk.writer c.write_hunk.new.writer (hunk_words c.args.form (length hunks)) hunks i hunk c.args.written c.loop-hunk.written c.in_ok-written.written c.loop-hunk-test.true c.hunk-item.is c.loop-hunk.invariant.wrote (c.in_ok-written.ensures.wrote (length hunks) valid.targets);
     }

@@ -8,5 +8,5 @@ use Rattle.hunk_loadfile.proofs.load_writer.write_hunks.Given as goal
 
 abbrev pub invariant-loop-hunk : goal.invariant-loop-hunk
 invariant-loop-hunk g l = record {
-  wrote : Wrote g.W.Sink.taken g.W.Sink.failed l.fn.writer l.writer (bytes_of (flat_map (hunk_words (length l.hunks)) (take l.hunk-index l.hunks))) l.fn.written (Ok l.written);
+  wrote : Wrote g.W.Sink.taken g.W.Sink.failed l.fn.writer l.writer (bytes_of (flat_map (hunk_words l.form (length l.hunks)) (take l.hunk-index l.hunks))) l.fn.written (Ok l.written);
 }

@@ -8,7 +8,8 @@ use Rattle.hunk_loadfile.specs.LoadHunk.{FileHunk}
 use Rattle.hunk_loadfile.specs.Rules.{most_size}
 use Rattle.hunk_loadfile.specs.WrittenForm.{size_word}
 use Rattle.hunk_loadfile.proofs.LoadWriterLemmas.{All-behind, All-front}
-use Rattle.hunk_loadfile.proofs.LongwordWriterLemmas.{chunk-around, chunk-more, chunk-room, words-inside, words-then}
+use Rattle.hunk_loadfile.specs.declared.number_width.NumberWidth.TheVariants.{Longword}
+use Rattle.hunk_loadfile.proofs.LongwordWriterLemmas.{chunk-around, chunk-more, chunk-room, numbers-inside, numbers-then}
 use Rattle.hunk_loadfile.proofs.load_writer.write_sizes.Goals as goal
 
 abbrev IsSmall : FileHunk → Type 0
@@ -34,7 +35,7 @@ fill_sizes-requires-clause-small g c =
 pub write_longwords-requires : goal.write_longwords-requires
 write_longwords-requires g c =
     let inv = c.loop-chunk.invariant in
-    let room = chunk-room size_word inv.words c.in-Some.chunk.now (chunks_rest c.next.new.self) c.args.hunks.now (chunks_rest c.loop-chunk.chunk-iterator) c.fill_sizes.new.words c.args.written c.loop-chunk.written c.in-Some.ensures.steps.1.0 inv.whole c.fill_sizes.ensures inv.wrote.0 in
+    let room = chunk-room size_word inv.words c.in-Some.chunk.now (chunks_rest c.next.new.self) c.args.hunks.now Longword (chunks_rest c.loop-chunk.chunk-iterator) c.fill_sizes.new.words c.args.written c.loop-chunk.written c.in-Some.ensures.steps.1.0 inv.whole c.fill_sizes.ensures inv.wrote.0 in
     record { room = omega (arith, room, c.requires.room) }
 
 pub returns-in_err-written : goal.returns-in_err-written
@@ -45,7 +46,7 @@ returns-in_err-written g c =
     let rest = chunks_rest c.next.new.self in
     let whole = chunk-around size_word inv.words chunk rest c.args.hunks.now (chunks_rest c.loop-chunk.chunk-iterator) c.in-Some.ensures.steps.1.0 inv.whole in
     record {
-      wrote = rw (p.1, p.2) (words-inside g.W.Sink.taken g.W.Sink.failed c.args.writer.now c.loop-chunk.writer c.write_longwords.new.writer (map size_word c.args.hunks.now) inv.words (map size_word chunk) (map size_word rest) c.args.written c.loop-chunk.written _ (sym whole) inv.wrote (rw c.fill_sizes.ensures at c.in_err-written.ensures.wrote));
+      wrote = rw (p.1, p.2) (numbers-inside Longword g.W.Sink.taken g.W.Sink.failed c.args.writer.now c.loop-chunk.writer c.write_longwords.new.writer (map size_word c.args.hunks.now) inv.words (map size_word chunk) (map size_word rest) c.args.written c.loop-chunk.written _ (sym whole) inv.wrote (rw c.fill_sizes.ensures at c.in_err-written.ensures.wrote));
     }
 
 pub loop-chunk-preserved : goal.loop-chunk-preserved
@@ -61,5 +62,5 @@ loop-chunk-preserved g c =
       small = All-behind IsSmall chunk rest (chunks_rest c.loop-chunk.chunk-iterator) steps.1.0 inv.small;
       words = inv.words ++ map size_word chunk;
       whole = chunk-more size_word inv.words chunk rest c.args.hunks.now (chunks_rest c.loop-chunk.chunk-iterator) steps.1.0 inv.whole;
-      wrote = words-then g.W.Sink.taken g.W.Sink.failed c.args.writer.now c.loop-chunk.writer c.write_longwords.new.writer (inv.words ++ map size_word chunk) inv.words (map size_word chunk) c.args.written c.loop-chunk.written (Ok c.in_ok-written.written) refl inv.wrote (rw c.fill_sizes.ensures at c.in_ok-written.ensures.wrote);
+      wrote = numbers-then Longword g.W.Sink.taken g.W.Sink.failed c.args.writer.now c.loop-chunk.writer c.write_longwords.new.writer (inv.words ++ map size_word chunk) inv.words (map size_word chunk) c.args.written c.loop-chunk.written (Ok c.in_ok-written.written) refl inv.wrote (rw c.fill_sizes.ensures at c.in_ok-written.ensures.wrote);
     }

@@ -2,14 +2,14 @@
 use Rattle.std.proofs.Common.{◌∙◌, ◌++◌, map, Ok, refl, sym, arith}
 use Rattle.std.proofs.lemmas.Result.{err_from_is_err_and}
 use Rattle.std.specs.Slice.Iter.{chunks_rest}
-use Rattle.hunk_loadfile.proofs.LongwordWriterLemmas.{chunk-around, chunk-more, chunk-room, words-inside, words-then}
+use Rattle.hunk_loadfile.proofs.LongwordWriterLemmas.{chunk-around, chunk-more, chunk-room, numbers-inside, numbers-then}
 use Rattle.hunk_loadfile.proofs.RelocationWriterLemmas.{offset_of}
 use Rattle.hunk_loadfile.proofs.relocation_writer.write_offsets.Goals as goal
 
-pub write_longwords-requires : goal.write_longwords-requires
-write_longwords-requires g c =
+pub write_numbers-requires : goal.write_numbers-requires
+write_numbers-requires g c =
     let inv = c.loop-chunk.invariant in
-    let room = chunk-room offset_of inv.words c.in-Some.chunk.now (chunks_rest c.next.new.self) c.args.group.now (chunks_rest c.loop-chunk.chunk-iterator) c.fill_offsets.new.offsets c.args.written c.loop-chunk.written c.in-Some.ensures.steps.1.0 inv.whole c.fill_offsets.ensures inv.wrote.0 in
+    let room = chunk-room offset_of inv.words c.in-Some.chunk.now (chunks_rest c.next.new.self) c.args.group.now c.args.width (chunks_rest c.loop-chunk.chunk-iterator) c.fill_offsets.new.offsets c.args.written c.loop-chunk.written c.in-Some.ensures.steps.1.0 inv.whole c.fill_offsets.ensures inv.wrote.0 in
     record { room = omega (arith, room, c.requires.room) }
 
 pub returns-in_err-written : goal.returns-in_err-written
@@ -20,7 +20,7 @@ returns-in_err-written g c =
     let rest = chunks_rest c.next.new.self in
     let whole = chunk-around offset_of inv.words chunk rest c.args.group.now (chunks_rest c.loop-chunk.chunk-iterator) c.in-Some.ensures.steps.1.0 inv.whole in
     record {
-      wrote = rw (p.1, p.2) (words-inside g.W.Sink.taken g.W.Sink.failed c.args.writer.now c.loop-chunk.writer c.write_longwords.new.writer (map offset_of c.args.group.now) inv.words (map offset_of chunk) (map offset_of rest) c.args.written c.loop-chunk.written _ (sym whole) inv.wrote (rw c.fill_offsets.ensures at c.in_err-written.ensures.wrote));
+      wrote = rw (p.1, p.2) (numbers-inside c.args.width g.W.Sink.taken g.W.Sink.failed c.args.writer.now c.loop-chunk.writer c.write_numbers.new.writer (map offset_of c.args.group.now) inv.words (map offset_of chunk) (map offset_of rest) c.args.written c.loop-chunk.written _ (sym whole) inv.wrote (rw c.fill_offsets.ensures at c.in_err-written.ensures.wrote));
     }
 
 pub loop-chunk-preserved : goal.loop-chunk-preserved
@@ -34,5 +34,5 @@ loop-chunk-preserved g c =
       size = steps.0 ∙ inv.size;
       words = inv.words ++ map offset_of chunk;
       whole = chunk-more offset_of inv.words chunk (chunks_rest c.next.new.self) c.args.group.now (chunks_rest c.loop-chunk.chunk-iterator) steps.1.0 inv.whole;
-      wrote = words-then g.W.Sink.taken g.W.Sink.failed c.args.writer.now c.loop-chunk.writer c.write_longwords.new.writer (inv.words ++ map offset_of chunk) inv.words (map offset_of chunk) c.args.written c.loop-chunk.written (Ok c.in_ok-written.written) refl inv.wrote (rw c.fill_offsets.ensures at c.in_ok-written.ensures.wrote);
+      wrote = numbers-then c.args.width g.W.Sink.taken g.W.Sink.failed c.args.writer.now c.loop-chunk.writer c.write_numbers.new.writer (inv.words ++ map offset_of chunk) inv.words (map offset_of chunk) c.args.written c.loop-chunk.written (Ok c.in_ok-written.written) refl inv.wrote (rw c.fill_offsets.ensures at c.in_ok-written.ensures.wrote);
     }

@@ -1,8 +1,8 @@
 -- The offsets so far and those of the remaining chunks are all offsets.
 use Rattle.std.proofs.Common.{◌≡◌, ◌++◌, ℕ, List, map, Ok}
 use Rattle.std.specs.Slice.Iter.{chunks_rest, chunks_size}
-use Rattle.hunk_words.specs.Name.{bytes_of}
 use Rattle.hunk_words.specs.Streams.{Wrote}
+use Rattle.hunk_loadfile.specs.NumberWidth.{bytes_in}
 use Rattle.hunk_loadfile.proofs.relocation_writer.write_offsets.Given as goal
 
 abbrev pub invariant-loop-chunk : goal.invariant-loop-chunk
@@ -12,5 +12,5 @@ invariant-loop-chunk g l = record {
   size : chunks_size l.chunk-iterator ≡ 256;
   words : List ℕ;
   whole : words ++ map (λ (pair : ℕ × ℕ). pair.0) (chunks_rest l.chunk-iterator) ≡ map (λ (pair : ℕ × ℕ). pair.0) l.group;
-  wrote : Wrote g.W.Sink.taken g.W.Sink.failed l.fn.writer l.writer (bytes_of words) l.fn.written (Ok l.written);
+  wrote : Wrote g.W.Sink.taken g.W.Sink.failed l.fn.writer l.writer (bytes_in l.width words) l.fn.written (Ok l.written);
 }

@@ -1,9 +1,9 @@
--- The longwords so far were written, and those of the remaining chunks are the rest.
+-- The numbers so far were written, and those of the remaining chunks are the rest.
 use Rattle.std.proofs.Common.{◌≡◌, List, ◌++◌, ℕ, Ok}
 use Rattle.std.specs.Slice.Iter.{chunks_rest, chunks_size}
-use Rattle.hunk_words.specs.Name.{bytes_of}
 use Rattle.hunk_words.specs.Streams.{Wrote}
-use Rattle.hunk_loadfile.proofs.longword_writer.write_longwords.Given as goal
+use Rattle.hunk_loadfile.specs.NumberWidth.{bytes_in}
+use Rattle.hunk_loadfile.proofs.longword_writer.write_numbers.Given as goal
 
 abbrev pub invariant-loop-chunk : goal.invariant-loop-chunk
 invariant-loop-chunk g l = record {
@@ -11,6 +11,6 @@ invariant-loop-chunk g l = record {
   is_finite : (goal.iterator-loop-chunk g).is_finite l.chunk-iterator;
   size : chunks_size l.chunk-iterator ≡ 256;
   words : List ℕ;
-  whole : words ++ chunks_rest l.chunk-iterator ≡ l.words;
-  wrote : Wrote g.W.Sink.taken g.W.Sink.failed l.fn.writer l.writer (bytes_of words) l.fn.written (Ok l.written);
+  whole : words ++ chunks_rest l.chunk-iterator ≡ l.numbers;
+  wrote : Wrote g.W.Sink.taken g.W.Sink.failed l.fn.writer l.writer (bytes_in l.width words) l.fn.written (Ok l.written);
 }
