@@ -31,9 +31,11 @@ for row in "many 5000 8" "symbols 100 20" "big 15728640 9"; do
     half="$(best /dev/null "$amihunk" link --out half.linked "$kind.half"/*)"
     figure "link of $kind ($link us) by cat" "$allowed" "$(ratio "$link" "$cat_time")" times
     figure "the same by half the work ($half us)" 2.2 "$(ratio "$link" "$half")" times
+    small="$(best /dev/null "$amihunk" link --short --trim --out small.linked "${files[@]}")"
+    figure "the same with --short --trim ($small us) by it" 1.1 "$(ratio "$small" "$link")" times
     kib="$(peak "$amihunk" link --out "$kind.linked" "${files[@]}")"
     figure "memory of the same by the inputs" 2.5 "$(ratio "$((1024 * kib))" "$size")" times
-    rm -r copy half.linked "$kind.half"
+    rm -r copy half.linked small.linked "$kind.half"
 done
 
 echo "the report of 60 MB with a million relocations; both write a file"
