@@ -1,9 +1,9 @@
 //! The sites of one page of a hunk.
-ghost use Rattle.std.specs.Prelude.{◌≡◌, ℕ, ◌+◌, ◌<◌, ◌≤◌, [], length, insert, is_ok, if◌then◌else◌, MatchOption, vec_len};
+ghost use Rattle.std.specs.Prelude.{◌≡◌, ℕ, ◌+◌, ◌*◌, ◌<◌, ◌≤◌, ◌^◌, [], length, insert, is_ok, if◌then◌else◌, MatchOption, vec_len};
 ghost use Rattle.std.specs.List.Sorted.{IsPartitionPoint};
 ghost use Rattle.std.specs.Option.{option_copied};
 ghost use Rattle.std.specs.Slice.Iter.{iter_rest};
-ghost use Rattle.hunk_words.specs.Page.{IsFreePlace};
+ghost use Rattle.hunk_words.specs.Page.{AreSpaced, IsFreePlace};
 ghost use Rattle.hunk_words.specs.Sites.{Meets, target_at};
 
 use std::alloc::{AllocError, Allocator};
@@ -12,6 +12,9 @@ use std::slice;
 
 /// How many bytes a site has.
 pub const SITE_BYTES: u32 = 4;
+
+/// How many bytes of the hunk a page has.
+pub const PAGE_BYTES: u32 = 4096;
 
 // How many sites the first allocation of a page has room for at least. Later ones double it.
 const FIRST_SITES: usize = 3;
@@ -31,6 +34,32 @@ fn put<T: Copy, A: Allocator + Copy>(
         sites.insert(place, site)?;
     }
     Ok(())
+}
+
+// How many sites of a page begin before the offset, where they are spread evenly over the page.
+fn likely_count(sites: usize, offset: u32) -> usize
+    requires { 4 * sites < 2 ^ 33 }
+    ensures { result ≤ sites }
+{
+    sites * (offset % PAGE_BYTES) as usize / PAGE_BYTES as usize
+}
+
+// How many sites of a page begin before the offset. Most files spread them evenly, so a search from the
+// likely count takes a few steps, and reads sites that lie side by side. A binary search reads all over
+// the page, and in files whose relocations stand in no order it waits for memory at most of its steps.
+fn count_below<T>(sites: &[(u32, T)], offset: u32) -> usize
+    requires { AreSpaced sites.now }
+    ensures within { result ≤ length sites.now }
+    ensures parts { IsPartitionPoint (λ (site : ℕ × T). site.0 < offset) (λ (site : ℕ × T). offset ≤ site.0) sites.now result }
+{
+    let mut count = likely_count(sites.len(), offset);
+    while count < sites.len() && sites[count].0 < offset {
+        count += 1;
+    }
+    while 0 < count && offset <= sites[count - 1].0 {
+        count -= 1;
+    }
+    count
 }
 
 /// The sites of a page with their targets, by rising offset. No two share a byte.
@@ -77,7 +106,7 @@ impl<T: Copy, A: Allocator + Copy> Page<T, A> {
     {
         match self.sites.last() {
             Some((last, _)) if *last < offset => self.sites.len(),
-            _ => self.sites.partition_point(|site| site.0 < offset),
+            _ => count_below(&self.sites, offset),
         }
     }
 

@@ -10,11 +10,8 @@ ghost use Rattle.hunk_words.specs.Page.{IsFreePlace};
 ghost use Rattle.hunk_words.specs.Pages.{LieInPages, AppendsEmptyPages, all_sites, page_at};
 ghost use Rattle.hunk_words.specs.Sites.{Meets, target_at};
 
-use crate::page::{Page, SITE_BYTES};
+use crate::page::{PAGE_BYTES, Page, SITE_BYTES};
 use std::alloc::{AllocError, Allocator};
-
-// How many bytes of the hunk a page has.
-const PAGE_BYTES: u64 = 4096;
 
 // How far the last byte of a site lies from its first one.
 const LAST_BYTE: u64 = SITE_BYTES as u64 - 1;
@@ -23,7 +20,7 @@ const LAST_BYTE: u64 = SITE_BYTES as u64 - 1;
 fn page_number(byte: u64) -> usize
     ensures { result ≡ byte / 4096 }
 {
-    (byte / PAGE_BYTES) as usize
+    (byte / u64::from(PAGE_BYTES)) as usize
 }
 
 // The place for a site at the offset among the sites of one page, or `None` where it would share a
