@@ -12,7 +12,8 @@ use Rattle.clap.specs.declared.error.ErrorKind.TheVariants as error
 use Rattle.hunk_tool.specs.declared.link_options.LinkOptions.{LinkOptions}
 use Rattle.hunk_commands.specs.declared.request.Request.{Request}
 use Rattle.hunk_commands.specs.declared.request.Request.TheVariants.{Link, Load, Image, Check, Show, Help, Refused, OutOfMemory}
-use Rattle.amihunk.specs.CommandLine.{Answers, AsksCheck, AsksImage, AsksLink, AsksLoad, AsksShow, IsAskedBy, IsCalled, IsImage, IsLink, IsLoad, IsNoFlag, Says, Met, command_line, file_line, image_line, link_line, load_line, option_words}
+use Rattle.amihunk.specs.CommandLine.{Answers, AsksCheck, AsksImage, AsksLink, AsksLoad, AsksShow, IsAskedBy, IsCalled, IsImage, IsLink, IsLoad, IsNoFlag, Says, Met, command_line, file_line, form_words, image_line, link_line, load_line, option_words}
+use Rattle.hunk_tool.specs.declared.image_form.ImageForm.{ImageForm}
 use Rattle.amihunk.proofs.CommandLineValueLemmas.{IsCalled-same, IsImage-same, IsLink-same, IsLoad-same, names_apart}
 use Rattle.amihunk.proofs.CommandLineFileLemmas.{calls-check, calls-show, fault_of-file_line, is_called-file_line}
 use Rattle.amihunk.proofs.CommandLineImageLemmas.{fault_of-image_line, is_image-image_line}
@@ -29,8 +30,8 @@ IsNoAnswer _ = ⊤
 pub asked_by_kind : (words : List Text) (request : Request) (k : ErrorKind) → (k ≡ error.OutOfMemory) ⊎ IsAmong k (fault_of command_line words)
     → Answers k request → IsAskedBy words request
 asked_by_kind words (Link out options files) k has answers = absurd answers
-asked_by_kind words (Load list file) k has answers = absurd answers
-asked_by_kind words (Image list files) k has answers = absurd answers
+asked_by_kind words (Load list form file) k has answers = absurd answers
+asked_by_kind words (Image list form files) k has answers = absurd answers
 asked_by_kind words (Check file) k has answers = absurd answers
 asked_by_kind words (Show file) k has answers = absurd answers
 asked_by_kind words (Help text) k (inl none) answers = cc
@@ -43,8 +44,8 @@ asked_by_kind words OutOfMemory k has answers = tt
 asked_by_met : (words : List Text) (met : Met) (request : Request) → fault_of command_line words ≡ []
     → met ≡ subcommand_of command_line words → Says met request → IsAskedBy words request
 asked_by_met words met (Link out options files) quiet is link = (quiet, subst (λ m. IsLink m out.now options (texts files.items)) is link)
-asked_by_met words met (Load list file) quiet is load = (quiet, subst (λ m. IsLoad m list.now file.now) is load)
-asked_by_met words met (Image list files) quiet is image = (quiet, subst (λ m. IsImage m list.now (texts files.items)) is image)
+asked_by_met words met (Load list form file) quiet is load = (quiet, subst (λ m. IsLoad m list.now form file.now) is load)
+asked_by_met words met (Image list form files) quiet is image = (quiet, subst (λ m. IsImage m list.now form (texts files.items)) is image)
 asked_by_met words met (Check file) quiet is check = (quiet, subst (λ m. IsCalled m (codes "check") file.now) is check)
 asked_by_met words met (Show file) quiet is show = (quiet, subst (λ m. IsCalled m (codes "show") file.now) is show)
 asked_by_met words met (Help text) quiet is nothing = absurd nothing
@@ -60,8 +61,8 @@ asked_by_result words met (Err e) request quiet is says same = subst (IsAskedBy 
 -- arguments with which nothing is wrong ask neither for help nor are they rejected
 asks_no_help : (words : List Text) (request : Request) → fault_of command_line words ≡ [] → IsAskedBy words request → IsNoAnswer request
 asks_no_help words (Link out options files) quiet asked = tt
-asks_no_help words (Load list file) quiet asked = tt
-asks_no_help words (Image list files) quiet asked = tt
+asks_no_help words (Load list form file) quiet asked = tt
+asks_no_help words (Image list form files) quiet asked = tt
 asks_no_help words (Check file) quiet asked = tt
 asks_no_help words (Show file) quiet asked = tt
 asks_no_help words (Help text) quiet asked = subst (λ kinds. IsAmong error.DisplayHelp kinds) quiet asked
@@ -72,44 +73,44 @@ asks_no_help words OutOfMemory quiet asked = tt
 asks_link : (words : List Text) (out : Text) (options : LinkOptions) (files : List Text) → fault_of command_line words ≡ [] → IsLink (subcommand_of command_line words) out options files
     → (request : Request) → IsAskedBy words request → AsksLink out options files request
 asks_link words out options files quiet is (Link o s fs) asked = IsLink-same _ o.now out s options (texts fs.items) files asked.1 is
-asks_link words out options files quiet is (Load l f) asked = absurd (names_apart _ (codes "load") (codes "link") _ _ asked.1.of_file.called is.of_files.called refl)
-asks_link words out options files quiet is (Image l fs) asked = absurd (names_apart _ (codes "image") (codes "link") _ _ asked.1.of_files.called is.of_files.called refl)
+asks_link words out options files quiet is (Load l form f) asked = absurd (names_apart _ (codes "load") (codes "link") _ _ asked.1.of_file.called is.of_files.called refl)
+asks_link words out options files quiet is (Image l form fs) asked = absurd (names_apart _ (codes "image") (codes "link") _ _ asked.1.of_files.called is.of_files.called refl)
 asks_link words out options files quiet is (Check f) asked = absurd (names_apart _ (codes "check") (codes "link") _ _ asked.1.called is.of_files.called refl)
 asks_link words out options files quiet is (Show f) asked = absurd (names_apart _ (codes "show") (codes "link") _ _ asked.1.called is.of_files.called refl)
 asks_link words out options files quiet is (Help text) asked = asks_no_help words (Help text) quiet asked
 asks_link words out options files quiet is (Refused text) asked = asks_no_help words (Refused text) quiet asked
 asks_link words out options files quiet is OutOfMemory asked = tt
 
--- what arguments that are `load` with this LIST and this FILE ask for
-asks_load : (words : List Text) (list file : Text) → fault_of command_line words ≡ [] → IsLoad (subcommand_of command_line words) list file
-    → (request : Request) → IsAskedBy words request → AsksLoad list file request
-asks_load words list file quiet is (Link o s fs) asked = absurd (names_apart _ (codes "link") (codes "load") _ _ asked.1.of_files.called is.of_file.called refl)
-asks_load words list file quiet is (Load l f) asked = IsLoad-same _ l.now f.now list file asked.1 is
-asks_load words list file quiet is (Image l fs) asked = absurd (names_apart _ (codes "image") (codes "load") _ _ asked.1.of_files.called is.of_file.called refl)
-asks_load words list file quiet is (Check f) asked = absurd (names_apart _ (codes "check") (codes "load") _ _ asked.1.called is.of_file.called refl)
-asks_load words list file quiet is (Show f) asked = absurd (names_apart _ (codes "show") (codes "load") _ _ asked.1.called is.of_file.called refl)
-asks_load words list file quiet is (Help text) asked = asks_no_help words (Help text) quiet asked
-asks_load words list file quiet is (Refused text) asked = asks_no_help words (Refused text) quiet asked
-asks_load words list file quiet is OutOfMemory asked = tt
+-- what arguments that are `load` with this LIST, this form and this FILE ask for
+asks_load : (words : List Text) (list : Text) (wanted : ImageForm) (file : Text) → fault_of command_line words ≡ [] → IsLoad (subcommand_of command_line words) list wanted file
+    → (request : Request) → IsAskedBy words request → AsksLoad list wanted file request
+asks_load words list wanted file quiet is (Link o s fs) asked = absurd (names_apart _ (codes "link") (codes "load") _ _ asked.1.of_files.called is.of_file.called refl)
+asks_load words list wanted file quiet is (Load l form f) asked = IsLoad-same _ l.now list form wanted f.now file asked.1 is
+asks_load words list wanted file quiet is (Image l form fs) asked = absurd (names_apart _ (codes "image") (codes "load") _ _ asked.1.of_files.called is.of_file.called refl)
+asks_load words list wanted file quiet is (Check f) asked = absurd (names_apart _ (codes "check") (codes "load") _ _ asked.1.called is.of_file.called refl)
+asks_load words list wanted file quiet is (Show f) asked = absurd (names_apart _ (codes "show") (codes "load") _ _ asked.1.called is.of_file.called refl)
+asks_load words list wanted file quiet is (Help text) asked = asks_no_help words (Help text) quiet asked
+asks_load words list wanted file quiet is (Refused text) asked = asks_no_help words (Refused text) quiet asked
+asks_load words list wanted file quiet is OutOfMemory asked = tt
 
--- what arguments that are `image` with this LIST and these files ask for
-asks_image : (words : List Text) (list : Text) (files : List Text) → fault_of command_line words ≡ [] → IsImage (subcommand_of command_line words) list files
-    → (request : Request) → IsAskedBy words request → AsksImage list files request
-asks_image words list files quiet is (Link o s fs) asked = absurd (names_apart _ (codes "link") (codes "image") _ _ asked.1.of_files.called is.of_files.called refl)
-asks_image words list files quiet is (Load l f) asked = absurd (names_apart _ (codes "load") (codes "image") _ _ asked.1.of_file.called is.of_files.called refl)
-asks_image words list files quiet is (Image l fs) asked = IsImage-same _ l.now list (texts fs.items) files asked.1 is
-asks_image words list files quiet is (Check f) asked = absurd (names_apart _ (codes "check") (codes "image") _ _ asked.1.called is.of_files.called refl)
-asks_image words list files quiet is (Show f) asked = absurd (names_apart _ (codes "show") (codes "image") _ _ asked.1.called is.of_files.called refl)
-asks_image words list files quiet is (Help text) asked = asks_no_help words (Help text) quiet asked
-asks_image words list files quiet is (Refused text) asked = asks_no_help words (Refused text) quiet asked
-asks_image words list files quiet is OutOfMemory asked = tt
+-- what arguments that are `image` with this LIST, this form and these files ask for
+asks_image : (words : List Text) (list : Text) (wanted : ImageForm) (files : List Text) → fault_of command_line words ≡ [] → IsImage (subcommand_of command_line words) list wanted files
+    → (request : Request) → IsAskedBy words request → AsksImage list wanted files request
+asks_image words list wanted files quiet is (Link o s fs) asked = absurd (names_apart _ (codes "link") (codes "image") _ _ asked.1.of_files.called is.of_files.called refl)
+asks_image words list wanted files quiet is (Load l form f) asked = absurd (names_apart _ (codes "load") (codes "image") _ _ asked.1.of_file.called is.of_files.called refl)
+asks_image words list wanted files quiet is (Image l form fs) asked = IsImage-same _ l.now list form wanted (texts fs.items) files asked.1 is
+asks_image words list wanted files quiet is (Check f) asked = absurd (names_apart _ (codes "check") (codes "image") _ _ asked.1.called is.of_files.called refl)
+asks_image words list wanted files quiet is (Show f) asked = absurd (names_apart _ (codes "show") (codes "image") _ _ asked.1.called is.of_files.called refl)
+asks_image words list wanted files quiet is (Help text) asked = asks_no_help words (Help text) quiet asked
+asks_image words list wanted files quiet is (Refused text) asked = asks_no_help words (Refused text) quiet asked
+asks_image words list wanted files quiet is OutOfMemory asked = tt
 
 -- what arguments that are `check` with this FILE ask for
 asks_check : (words : List Text) (file : Text) → fault_of command_line words ≡ [] → IsCalled (subcommand_of command_line words) (codes "check") file
     → (request : Request) → IsAskedBy words request → AsksCheck file request
 asks_check words file quiet is (Link o s fs) asked = absurd (names_apart _ (codes "link") (codes "check") _ _ asked.1.of_files.called is.called refl)
-asks_check words file quiet is (Load l f) asked = absurd (names_apart _ (codes "load") (codes "check") _ _ asked.1.of_file.called is.called refl)
-asks_check words file quiet is (Image l fs) asked = absurd (names_apart _ (codes "image") (codes "check") _ _ asked.1.of_files.called is.called refl)
+asks_check words file quiet is (Load l form f) asked = absurd (names_apart _ (codes "load") (codes "check") _ _ asked.1.of_file.called is.called refl)
+asks_check words file quiet is (Image l form fs) asked = absurd (names_apart _ (codes "image") (codes "check") _ _ asked.1.of_files.called is.called refl)
 asks_check words file quiet is (Check f) asked = IsCalled-same _ (codes "check") (codes "check") f.now file asked.1 is
 asks_check words file quiet is (Show f) asked = absurd (names_apart _ (codes "show") (codes "check") _ _ asked.1.called is.called refl)
 asks_check words file quiet is (Help text) asked = asks_no_help words (Help text) quiet asked
@@ -120,8 +121,8 @@ asks_check words file quiet is OutOfMemory asked = tt
 asks_show : (words : List Text) (file : Text) → fault_of command_line words ≡ [] → IsCalled (subcommand_of command_line words) (codes "show") file
     → (request : Request) → IsAskedBy words request → AsksShow file request
 asks_show words file quiet is (Link o s fs) asked = absurd (names_apart _ (codes "link") (codes "show") _ _ asked.1.of_files.called is.called refl)
-asks_show words file quiet is (Load l f) asked = absurd (names_apart _ (codes "load") (codes "show") _ _ asked.1.of_file.called is.called refl)
-asks_show words file quiet is (Image l fs) asked = absurd (names_apart _ (codes "image") (codes "show") _ _ asked.1.of_files.called is.called refl)
+asks_show words file quiet is (Load l form f) asked = absurd (names_apart _ (codes "load") (codes "show") _ _ asked.1.of_file.called is.called refl)
+asks_show words file quiet is (Image l form fs) asked = absurd (names_apart _ (codes "image") (codes "show") _ _ asked.1.of_files.called is.called refl)
 asks_show words file quiet is (Check f) asked = absurd (names_apart _ (codes "check") (codes "show") _ _ asked.1.called is.called refl)
 asks_show words file quiet is (Show f) asked = IsCalled-same _ (codes "show") (codes "show") f.now file asked.1 is
 asks_show words file quiet is (Help text) asked = asks_no_help words (Help text) quiet asked
@@ -141,19 +142,20 @@ asks_link_where words request fits asked program options out files is_line plain
     asks_link (link_line program options out files) out options files (fault_of-link_line program options out plain_out files some plain_files files_fit)
     (is_link-link_line program options out plain_out files some plain_files) request (subst (λ w. IsAskedBy w request) is_line asked)
 
-pub asks_load_where : (words : List Text) (request : Request) → IsAskedBy words request → (program list file : Text)
-    → words ≡ load_line program list file → IsNoFlag list → IsNoFlag file → AsksLoad list file request
-asks_load_where words request asked program list file is_line plain_list plain_file =
-    asks_load (load_line program list file) list file (fault_of-load_line program list file plain_list plain_file)
-    (is_load-load_line program list file plain_list plain_file) request (subst (λ w. IsAskedBy w request) is_line asked)
+pub asks_load_where : (words : List Text) (request : Request) → IsAskedBy words request → (program list : Text) (form : ImageForm) (file : Text)
+    → words ≡ load_line program list form file → IsNoFlag list → IsNoFlag file → AsksLoad list form file request
+asks_load_where words request asked program list form file is_line plain_list plain_file =
+    asks_load (load_line program list form file) list form file (fault_of-load_line program form list file plain_list plain_file)
+    (is_load-load_line program form list file plain_list plain_file) request (subst (λ w. IsAskedBy w request) is_line asked)
 
 pub asks_image_where : (words : List Text) (request : Request) → length words ≤ usize_max → IsAskedBy words request
-    → (program list : Text) (files : List Text) → words ≡ image_line program list files
-    → IsNoFlag list → 0 < length files → All IsNoFlag files → AsksImage list files request
-asks_image_where words request fits asked program list files is_line plain_list some plain_files =
-    let line_fit : length (image_line program list files) ≤ usize_max = subst (λ w. length w ≤ usize_max) is_line fits in
-    asks_image (image_line program list files) list files (fault_of-image_line program list plain_list files some plain_files (omega (arith, line_fit)))
-    (is_image-image_line program list plain_list files some plain_files) request (subst (λ w. IsAskedBy w request) is_line asked)
+    → (program list : Text) (form : ImageForm) (files : List Text) → words ≡ image_line program list form files
+    → IsNoFlag list → 0 < length files → All IsNoFlag files → AsksImage list form files request
+asks_image_where words request fits asked program list form files is_line plain_list some plain_files =
+    let line_fit : length (image_line program list form files) ≤ usize_max = subst (λ w. length w ≤ usize_max) is_line fits in
+    let few : length files ≤ usize_max = omega (arith, line_fit, length-append (form_words form) files) in
+    asks_image (image_line program list form files) list form files (fault_of-image_line program form list plain_list files some plain_files few)
+    (is_image-image_line program form list plain_list files some plain_files) request (subst (λ w. IsAskedBy w request) is_line asked)
 
 pub asks_check_where : (words : List Text) (request : Request) → IsAskedBy words request → (program file : Text)
     → words ≡ file_line program (codes "check") file → IsNoFlag file → AsksCheck file request

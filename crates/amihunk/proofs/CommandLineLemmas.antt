@@ -3,14 +3,16 @@ use Rattle.std.proofs.Common.{◌≡◌, ◌||◌, Bool, true, false, not, cond,
 use Rattle.std.specs.Prelude.{⊤, find}
 use Rattle.std.specs.Option.{option_map, option_map_or}
 use Rattle.clap.specs.Words.{App, Row, Text, built, fault_of, subcommand_of, with_subcommand}
-use Rattle.clap.specs.Walk.{answers_to, finished, nothing_held, rows_after, settled, walk, walk_from}
+use Rattle.clap.specs.Walk.{answers_to, finished, has_row, nothing_held, rows_after, settled, walk, walk_from}
 use Rattle.clap.specs.Simple.{Shape, entered, filled, label_of, names_of, rows_at}
 use Rattle.clap.specs.Takes.{is_given}
 use Rattle.clap.specs.Faults.{check_fault, defaults_fault, entered_fault, level_fault, settle_fault, walk_fault}
 use Rattle.clap.specs.Kinds.{check_kinds}
 use Rattle.amihunk.proofs.CommandLineUseLemmas.{AllDefaulting, Filled, HasDefault, IsDefaulted, IsFilling, filled-defaults, flag_read, has_row-defaults, is_flag, or_else-nil, value_given, values_given}
 use Rattle.amihunk.proofs.CommandLineRowLemmas.{AllFilling, filled-settled, filled-walk}
-use Rattle.amihunk.specs.CommandLine.{IsCalled, IsFlag, IsWhole, bare_shape, command_line, file_shape, flag_rule, image_shape, link_shape, load_shape}
+use Rattle.amihunk.specs.CommandLine.{IsCalled, IsFlag, IsWhole, bare_shape, command_line, file_shape, flag_rule, image_shape, is_srec, link_shape, load_shape}
+use Rattle.hunk_tool.specs.declared.image_form.ImageForm.{ImageForm}
+use Rattle.hunk_tool.specs.declared.image_form.ImageForm.TheVariants.{Report, SRecords}
 use Rattle.amihunk.specs.CommandLine.IsWhole.{link, load, image, check, show}
 
 -- ---- one level
@@ -123,13 +125,24 @@ sound_link words e =
       trim_is = trim.1;
     })
 
+-- the form that `--srec` asks for, or not
+form_read : (rows : List Row) → Filled rows → has_row (codes "srec") rows ≡ true → (form : ImageForm) × IsFlag rows (codes "srec") (is_srec form)
+form_read rows full has = go (flag_read (codes "srec") rows refl full has)
+  where
+    go : (given : Bool) × IsFlag rows (codes "srec") given → (form : ImageForm) × IsFlag rows (codes "srec") (is_srec form)
+    go (true, is) = (SRecords, is)
+    go (false, is) = (Report, is)
+
 -- `load`
 
 load_filling : AllFilling false built_load.rules
-load_filling = (inr (inl (inl refl, (omega arith, refl))), (inr (inl (inl refl, (omega arith, refl))), (inl refl, tt)))
+load_filling = (inr (inl (inl refl, (omega arith, refl))), (flag_filling (codes "srec"), (inr (inl (inl refl, (omega arith, refl))), (inl refl, tt))))
 
 load_defaults : AllDefaulting built_load.rules
-load_defaults = (inl refl, (inl refl, (inl refl, tt)))
+load_defaults = (inl refl, (inr (refl, refl), (inl refl, (inl refl, tt))))
+
+load_srec : IsDefaulted (codes "srec") built_load.rules
+load_srec = inr (inl (flag_default (codes "srec")))
 
 sound_load : IsSound built_load
 sound_load words e =
@@ -138,15 +151,19 @@ sound_load words e =
     let given = both_given (is_given (codes "at") rows) (is_given (codes "file") rows) right.checked in
     let list = value_given (codes "at") rows right.filled given.0 in
     let file = value_given (codes "file") rows right.filled given.1 in
-    load list.0 file.0 (record { of_file = record { rows = rows; called = refl; file_is = file.1 }; list_is = list.1 })
+    let form = form_read rows right.filled (has_row-defaults (codes "srec") built_load.rules (settled built_load.rules (walk built_load.rules [] nothing_held words).held).rows load_srec) in
+    load list.0 form.0 file.0 (record { of_file = record { rows = rows; called = refl; file_is = file.1 }; list_is = list.1; form_is = form.1 })
 
 -- `image`
 
 image_filling : AllFilling false built_image.rules
-image_filling = (inr (inl (inl refl, (omega arith, refl))), (inr (inl (inr refl, (omega arith, refl))), (inl refl, tt)))
+image_filling = (inr (inl (inl refl, (omega arith, refl))), (flag_filling (codes "srec"), (inr (inl (inr refl, (omega arith, refl))), (inl refl, tt))))
 
 image_defaults : AllDefaulting built_image.rules
-image_defaults = (inl refl, (inl refl, (inl refl, tt)))
+image_defaults = (inl refl, (inr (refl, refl), (inl refl, (inl refl, tt))))
+
+image_srec : IsDefaulted (codes "srec") built_image.rules
+image_srec = inr (inl (flag_default (codes "srec")))
 
 sound_image : IsSound built_image
 sound_image words e =
@@ -155,9 +172,11 @@ sound_image words e =
     let given = both_given (is_given (codes "at") rows) (is_given (codes "file") rows) right.checked in
     let list = value_given (codes "at") rows right.filled given.0 in
     let files = values_given (codes "file") rows right.filled given.1 in
-    image list.0 files.0 (record {
+    let form = form_read rows right.filled (has_row-defaults (codes "srec") built_image.rules (settled built_image.rules (walk built_image.rules [] nothing_held words).held).rows image_srec) in
+    image list.0 form.0 files.0 (record {
       of_files = record { rows = rows; called = refl; files_are = files.2; some = files.1 };
       list_is = list.1;
+      form_is = form.1;
     })
 
 -- a subcommand whose only argument is FILE

@@ -1,18 +1,19 @@
 -- The plain form of the subcommand `link`.
 use Rattle.std.proofs.Common.{◌≡◌, ◌∙◌, ◌<◌, ◌≤◌, All, ap, arith, refl, subst, sym, Bool, true, false, List, [], ◌∷◌, ◌++◌, codes, length, Some}
-use Rattle.std.specs.Prelude.{⊤, fold}
+use Rattle.std.specs.Prelude.{fold}
 use Rattle.clap.specs.Lexer.{usize_max}
 use Rattle.clap.specs.Takes.{is_given}
 use Rattle.clap.specs.Values.{bool_text}
 use Rattle.clap.specs.Words.{Row, Text, all_of, fault_of, first_of, one_of, subcommand_of}
 use Rattle.clap.specs.Walk.{Held, Walk, is_pending, nothing_held, finished, settled, walk, walk_from, walked}
-use Rattle.clap.specs.Faults.{settle_fault, turn_fault, walk_fault}
+use Rattle.clap.specs.Faults.{settle_fault, walk_fault}
 use Rattle.clap.proofs.OnLiterals.{clap_on_literals}
 use Rattle.amihunk.proofs.CommandLineLemmas.{built_link}
 use Rattle.amihunk.proofs.CommandLineFilesLemmas.{HasFiles, after_files, built_files, end_fault-files, walk-files, walk_fault-files}
+use Rattle.amihunk.proofs.CommandLineFlagsLemmas.{IsQuiet, walk_fault-words, walk_on, walk_on-append}
 use Rattle.amihunk.proofs.CommandLineOptionLemmas.{IsOption, after_value, walk-option, walk_fault-option}
 use Rattle.amihunk.proofs.CommandLineSubcommandLemmas.{Calls, at_start, fault_of-line, subcommand_of-line}
-use Rattle.amihunk.proofs.CommandLineWalkLemmas.{end_fault, late_fault, level_fault-nil, walk_fault-cons}
+use Rattle.amihunk.proofs.CommandLineWalkLemmas.{end_fault, late_fault, level_fault-nil}
 use Rattle.amihunk.specs.CommandLine.{IsLink, IsNoFlag, command_line, link_line, option_words}
 use Rattle.hunk_tool.specs.declared.link_options.LinkOptions.{LinkOptions}
 
@@ -52,52 +53,33 @@ each_choice P a b c d e f g h options = go options.strip options.short options.t
 abbrev after_out : Text → Walk
 after_out = after_value (codes "out")
 
--- the walk over more words
-abbrev walk_on : Walk → List Text → Walk
-walk_on w words = fold (walked built_link.rules []) w words
-
 -- what is held before the files
 abbrev link_held : LinkOptions → Text → Held
-link_held options out = (walk_on (after_out out) (option_words options)).held
+link_held options out = (walk_on built_link (after_out out) (option_words options)).held
 
-walked-options : (out : Text) (options : LinkOptions) → walk_on (after_out out) (option_words options) ≡ walk_from (link_held options out)
+walked-options : (out : Text) (options : LinkOptions) → walk_on built_link (after_out out) (option_words options) ≡ walk_from (link_held options out)
 unfolding clap_on_literals
-walked-options out = each_choice (λ options. walk_on (after_out out) (option_words options) ≡ walk_from (link_held options out))
+walked-options out = each_choice (λ options. walk_on built_link (after_out out) (option_words options) ≡ walk_from (link_held options out))
     refl refl refl refl refl refl refl refl
 
--- nothing is wrong with these words after that walk
-IsQuiet : Walk → List Text → Type 0
-IsQuiet w [] = ⊤
-IsQuiet w (word ∷ words) = (turn_fault built_link [] w word ≡ []) × IsQuiet (walked built_link.rules [] w word) words
-
-walk_fault-words : (w : Walk) (words files : List Text) → IsQuiet w words → walk_fault built_link [] (walk_on w words) files ≡ [] → walk_fault built_link [] w (words ++ files) ≡ []
-unfolding IsQuiet
-walk_fault-words w [] files quiet rest = rest
-walk_fault-words w (word ∷ words) files quiet rest =
-    walk_fault-cons built_link [] w (walked built_link.rules [] w word) word (words ++ files) quiet.0 refl (walk_fault-words (walked built_link.rules [] w word) words files quiet.1 rest)
-
-quiet-options : (out : Text) (options : LinkOptions) → IsQuiet (after_out out) (option_words options)
-unfolding IsQuiet clap_on_literals
-quiet-options out = each_choice (λ options. IsQuiet (after_out out) (option_words options))
+quiet-options : (out : Text) (options : LinkOptions) → IsQuiet built_link (after_out out) (option_words options)
+unfolding clap_on_literals
+quiet-options out = each_choice (λ options. IsQuiet built_link (after_out out) (option_words options))
     (refl, (refl, (refl, tt))) (refl, (refl, tt)) (refl, (refl, tt)) (refl, tt)
     (refl, (refl, tt)) (refl, tt) (refl, tt) tt
-
-walk_on-append : (w : Walk) (words files : List Text) → walk_on w (words ++ files) ≡ walk_on (walk_on w words) files
-walk_on-append w [] files = refl
-walk_on-append w (word ∷ words) files = walk_on-append (walked built_link.rules [] w word) words files
 
 walk-flags : (options : LinkOptions) (out : Text) (files : List Text) → IsNoFlag out
     → fold (walked built_link.rules []) at_start (link_words options out files) ≡ fold (walked built_link.rules []) (walk_from (link_held options out)) files
 walk-flags options out files plain =
     walk-option built_link.rules (codes "--out") (codes "out") out (option_words options ++ files) is_out plain
-    ∙ walk_on-append (after_out out) (option_words options) files
-    ∙ ap (λ w. walk_on w files) (walked-options out options)
+    ∙ walk_on-append built_link (after_out out) (option_words options) files
+    ∙ ap (λ w. walk_on built_link w files) (walked-options out options)
 
 walk_fault-flags : (options : LinkOptions) (out : Text) (files : List Text) → IsNoFlag out → walk_fault built_link [] (walk_from (link_held options out)) files ≡ []
     → walk_fault built_link [] at_start (link_words options out files) ≡ []
 walk_fault-flags options out files plain quiet =
     walk_fault-option built_link (codes "--out") (codes "out") out (option_words options ++ files) is_out plain
-    (walk_fault-words (after_out out) (option_words options) files (quiet-options out options)
+    (walk_fault-words built_link (after_out out) (option_words options) files (quiet-options out options)
     (subst (λ w. walk_fault built_link [] w files ≡ []) (sym (walked-options out options)) quiet))
 
 -- no file is pending yet, and nothing is wrong with what is

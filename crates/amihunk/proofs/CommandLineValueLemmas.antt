@@ -7,7 +7,9 @@ use Rattle.std.specs.Option.{option_map_or}
 use Rattle.clap.specs.Takes.{is_given}
 use Rattle.clap.specs.Values.{bool_text}
 use Rattle.clap.specs.Words.{Row, Text, all_of, first_of, one_of}
-use Rattle.amihunk.specs.CommandLine.{IsCalled, IsCalledOn, IsFlag, IsImage, IsLink, IsLoad, IsWhole, Met}
+use Rattle.amihunk.specs.CommandLine.{IsCalled, IsCalledOn, IsFlag, IsImage, IsLink, IsLoad, IsWhole, Met, is_srec}
+use Rattle.hunk_tool.specs.declared.image_form.ImageForm.{ImageForm}
+use Rattle.hunk_tool.specs.declared.image_form.ImageForm.TheVariants.{Report, SRecords}
 use Rattle.hunk_tool.specs.declared.link_options.LinkOptions.{LinkOptions}
 use Rattle.amihunk.specs.CommandLine.IsWhole.{link, load, image, check, show}
 
@@ -58,17 +60,26 @@ IsLink-same met a b s t xs ys h k =
     (IsFlag-same (codes "trim") h.of_files.rows k.of_files.rows s.trim t.trim same h.trim_is k.trim_is) in
     (cc, options, IsCalledOn-same met (codes "link") (codes "link") xs ys h.of_files k.of_files)
 
-pub IsLoad-same : (met : Met) (a b c d : Text) → IsLoad met a b → IsLoad met c d → (a ≡ c) × (b ≡ d)
-IsLoad-same met a b c d h k =
+-- a form is told by whether `--srec` asks for it
+forms_same : (one other : ImageForm) → is_srec one ≡ is_srec other → one ≡ other
+forms_same Report Report is = refl
+forms_same Report SRecords is = cc
+forms_same SRecords Report is = cc
+forms_same SRecords SRecords is = refl
+
+pub IsLoad-same : (met : Met) (a c : Text) (one other : ImageForm) (b d : Text) → IsLoad met a one b → IsLoad met c other d → (a ≡ c) × (one ≡ other) × (b ≡ d)
+IsLoad-same met a c one other b d h k =
     let same = rows_same met (codes "load") (codes "load") h.of_file.rows k.of_file.rows h.of_file.called k.of_file.called in
     let lists : Some a ≡ Some c = sym h.list_is ∙ (ap (first_of (codes "at")) same ∙ k.list_is) in
-    (cc, IsCalled-same met (codes "load") (codes "load") b d h.of_file k.of_file)
+    let forms = IsFlag-same (codes "srec") h.of_file.rows k.of_file.rows (is_srec one) (is_srec other) same h.form_is k.form_is in
+    (cc, forms_same one other forms, IsCalled-same met (codes "load") (codes "load") b d h.of_file k.of_file)
 
-pub IsImage-same : (met : Met) (a b : Text) (xs ys : List Text) → IsImage met a xs → IsImage met b ys → (a ≡ b) × (xs ≡ ys)
-IsImage-same met a b xs ys h k =
+pub IsImage-same : (met : Met) (a b : Text) (one other : ImageForm) (xs ys : List Text) → IsImage met a one xs → IsImage met b other ys → (a ≡ b) × (one ≡ other) × (xs ≡ ys)
+IsImage-same met a b one other xs ys h k =
     let same = rows_same met (codes "image") (codes "image") h.of_files.rows k.of_files.rows h.of_files.called k.of_files.called in
     let lists : Some a ≡ Some b = sym h.list_is ∙ (ap (first_of (codes "at")) same ∙ k.list_is) in
-    (cc, IsCalledOn-same met (codes "image") (codes "image") xs ys h.of_files k.of_files)
+    let forms = IsFlag-same (codes "srec") h.of_files.rows k.of_files.rows (is_srec one) (is_srec other) same h.form_is k.form_is in
+    (cc, forms_same one other forms, IsCalledOn-same met (codes "image") (codes "image") xs ys h.of_files k.of_files)
 
 -- ---- what was found is whole, and these are the values in its rows
 
@@ -110,25 +121,48 @@ says_link met rows (link o s fs is) called out options files out_is strip short 
       short_is = says_flag is.of_files.rows rows (codes "short") s.short options.short same is.short_is short;
       trim_is = says_flag is.of_files.rows rows (codes "trim") s.trim options.trim same is.trim_is trim;
     }
-says_link met rows (load l f is) called out options files out_is strip short trim files_are =
+says_link met rows (load l form f is) called out options files out_is strip short trim files_are =
     absurd (names_apart met (codes "load") (codes "link") is.of_file.rows rows is.of_file.called called refl)
-says_link met rows (image l fs is) called out options files out_is strip short trim files_are =
+says_link met rows (image l form fs is) called out options files out_is strip short trim files_are =
     absurd (names_apart met (codes "image") (codes "link") is.of_files.rows rows is.of_files.called called refl)
 says_link met rows (check f is) called out options files out_is strip short trim files_are =
     absurd (names_apart met (codes "check") (codes "link") is.rows rows is.called called refl)
 says_link met rows (show f is) called out options files out_is strip short trim files_are =
     absurd (names_apart met (codes "show") (codes "link") is.rows rows is.called called refl)
 
-pub says_image : (met : Met) (rows : List Row) → IsWhole met → met ≡ Some (codes "image", rows) → (list : Text) (files : List Text)
-    → first_of (codes "at") rows ≡ Some list → all_of (codes "file") rows ≡ Some files → IsImage met list files
+pub says_load : (met : Met) (rows : List Row) → IsWhole met → met ≡ Some (codes "load", rows) → (list : Text) (form : ImageForm) (file : Text)
+    → first_of (codes "at") rows ≡ Some list → Reads rows (codes "srec") (is_srec form) → first_of (codes "file") rows ≡ Some file → IsLoad met list form file
+says_load met rows (load l f x is) called list form file list_is srec file_is =
+    let same = rows_same met (codes "load") (codes "load") is.of_file.rows rows is.of_file.called called in
+    record {
+      of_file = record { rows = rows; called = called; file_is = file_is };
+      list_is = list_is;
+      form_is = says_flag is.of_file.rows rows (codes "srec") (is_srec f) (is_srec form) same is.form_is srec;
+    }
+says_load met rows (link o s fs is) called list form file list_is srec file_is =
+    absurd (names_apart met (codes "link") (codes "load") is.of_files.rows rows is.of_files.called called refl)
+says_load met rows (image l f fs is) called list form file list_is srec file_is =
+    absurd (names_apart met (codes "image") (codes "load") is.of_files.rows rows is.of_files.called called refl)
+says_load met rows (check f is) called list form file list_is srec file_is =
+    absurd (names_apart met (codes "check") (codes "load") is.rows rows is.called called refl)
+says_load met rows (show f is) called list form file list_is srec file_is =
+    absurd (names_apart met (codes "show") (codes "load") is.rows rows is.called called refl)
+
+pub says_image : (met : Met) (rows : List Row) → IsWhole met → met ≡ Some (codes "image", rows) → (list : Text) (form : ImageForm) (files : List Text)
+    → first_of (codes "at") rows ≡ Some list → Reads rows (codes "srec") (is_srec form) → all_of (codes "file") rows ≡ Some files → IsImage met list form files
 unfolding called_on
-says_image met rows (image l fs is) called list files list_is files_are =
-    record { of_files = called_on met (codes "image") rows files fs called files_are is.of_files; list_is = list_is }
-says_image met rows (link o s fs is) called list files list_is files_are =
+says_image met rows (image l f fs is) called list form files list_is srec files_are =
+    let same = rows_same met (codes "image") (codes "image") is.of_files.rows rows is.of_files.called called in
+    record {
+      of_files = called_on met (codes "image") rows files fs called files_are is.of_files;
+      list_is = list_is;
+      form_is = says_flag is.of_files.rows rows (codes "srec") (is_srec f) (is_srec form) same is.form_is srec;
+    }
+says_image met rows (link o s fs is) called list form files list_is srec files_are =
     absurd (names_apart met (codes "link") (codes "image") is.of_files.rows rows is.of_files.called called refl)
-says_image met rows (load l f is) called list files list_is files_are =
+says_image met rows (load l f x is) called list form files list_is srec files_are =
     absurd (names_apart met (codes "load") (codes "image") is.of_file.rows rows is.of_file.called called refl)
-says_image met rows (check f is) called list files list_is files_are =
+says_image met rows (check f is) called list form files list_is srec files_are =
     absurd (names_apart met (codes "check") (codes "image") is.rows rows is.called called refl)
-says_image met rows (show f is) called list files list_is files_are =
+says_image met rows (show f is) called list form files list_is srec files_are =
     absurd (names_apart met (codes "show") (codes "image") is.rows rows is.called called refl)

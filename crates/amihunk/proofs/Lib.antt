@@ -9,6 +9,7 @@ pub mod CommandLineValueLemmas
 pub mod CommandLineUseLemmas
 pub mod CommandLineSubcommandLemmas
 pub mod CommandLineOptionLemmas
+pub mod CommandLineFlagsLemmas
 pub mod CommandLineFilesLemmas
 pub mod CommandLineImageLemmas
 pub mod CommandLineLinkLemmas

@@ -9,6 +9,7 @@ use Rattle.hunk_commands.specs.Text.{IsTextFailure}
 use Rattle.hunk_commands.specs.declared.text.Text.TheVariants.{Line, Listing}
 use Rattle.hunk_tool.specs.declared.link_options.LinkOptions.{LinkOptions}
 use Rattle.hunk_commands.specs.declared.request.Request.{Request}
+use Rattle.hunk_tool.specs.declared.image_form.ImageForm.{ImageForm}
 use Rattle.hunk_commands.specs.declared.request.Request.TheVariants.{Load, Link, Image, Check, Show, Help, Refused, OutOfMemory}
 use Rattle.hunk_commands.proofs.RequestLemmas.{not_begun}
 
@@ -17,8 +18,8 @@ pub ends_link : {W : Type 0} (taken : W → Option (List ℕ)) (failed : W → B
 ends_link taken failed old new out options files (Link o s fs) status asks ends =
     subst (λ x. EndsLink taken failed old new x options files status) asks.0
     (subst (λ y. EndsLink taken failed old new o.now y files status) asks.1 (subst (λ z. EndsLink taken failed old new o.now s z status) asks.2 ends))
-ends_link taken failed old new out options files (Load l f) status asks ends = absurd asks
-ends_link taken failed old new out options files (Image l fs) status asks ends = absurd asks
+ends_link taken failed old new out options files (Load l asked f) status asks ends = absurd asks
+ends_link taken failed old new out options files (Image l asked fs) status asks ends = absurd asks
 ends_link taken failed old new out options files (Check f) status asks ends = absurd asks
 ends_link taken failed old new out options files (Show f) status asks ends = absurd asks
 ends_link taken failed old new out options files (Help text) status asks ends = absurd asks
@@ -26,39 +27,41 @@ ends_link taken failed old new out options files (Refused text) status asks ends
 ends_link taken failed old new out options files OutOfMemory status asks ends =
     inr (not_begun taken failed old new (IsLinkFailure options.strip files out) files status (inl (inl refl)) ends)
 
-pub ends_image : {W : Type 0} (taken : W → Option (List ℕ)) (failed : W → Bool) (old new : W) (list : List ℕ) (files : List (List ℕ)) (request : Request) (status : ℕ)
-    → AsksImage list files request → Ends taken failed old new request status → EndsImage taken failed old new list files status
-ends_image taken failed old new list files (Image l fs) status asks ends =
-    subst (λ x. EndsImage taken failed old new x files status) asks.0 (subst (λ y. EndsImage taken failed old new l.now y status) asks.1 ends)
-ends_image taken failed old new list files (Link out options fs) status asks ends = absurd asks
-ends_image taken failed old new list files (Load l f) status asks ends = absurd asks
-ends_image taken failed old new list files (Check f) status asks ends = absurd asks
-ends_image taken failed old new list files (Show f) status asks ends = absurd asks
-ends_image taken failed old new list files (Help text) status asks ends = absurd asks
-ends_image taken failed old new list files (Refused text) status asks ends = absurd asks
-ends_image taken failed old new list files OutOfMemory status asks ends =
-    inr (not_begun taken failed old new (IsImageFailure list files) files status (inl refl) ends)
+pub ends_image : {W : Type 0} (taken : W → Option (List ℕ)) (failed : W → Bool) (old new : W) (list : List ℕ) (form : ImageForm) (files : List (List ℕ)) (request : Request) (status : ℕ)
+    → AsksImage list form files request → Ends taken failed old new request status → EndsImage taken failed old new list form files status
+ends_image taken failed old new list form files (Image l asked fs) status asks ends =
+    subst (λ x. EndsImage taken failed old new x form files status) asks.0
+    (subst (λ f. EndsImage taken failed old new l.now f files status) asks.1 (subst (λ y. EndsImage taken failed old new l.now asked y status) asks.2 ends))
+ends_image taken failed old new list form files (Link out options fs) status asks ends = absurd asks
+ends_image taken failed old new list form files (Load l asked f) status asks ends = absurd asks
+ends_image taken failed old new list form files (Check f) status asks ends = absurd asks
+ends_image taken failed old new list form files (Show f) status asks ends = absurd asks
+ends_image taken failed old new list form files (Help text) status asks ends = absurd asks
+ends_image taken failed old new list form files (Refused text) status asks ends = absurd asks
+ends_image taken failed old new list form files OutOfMemory status asks ends =
+    inr (not_begun taken failed old new (IsImageFailure form list files) files status (inl refl) ends)
 
-pub ends_load : {W : Type 0} (taken : W → Option (List ℕ)) (failed : W → Bool) (old new : W) (list file : List ℕ) (request : Request) (status : ℕ)
-    → AsksLoad list file request → Ends taken failed old new request status → EndsLoad taken failed old new list file status
-ends_load taken failed old new list file (Load l f) status asks ends =
-    subst (λ x. EndsLoad taken failed old new x file status) asks.0 (subst (λ y. EndsLoad taken failed old new l.now y status) asks.1 ends)
-ends_load taken failed old new list file (Check f) status asks ends = absurd asks
-ends_load taken failed old new list file (Show f) status asks ends = absurd asks
-ends_load taken failed old new list file (Link out options files) status asks ends = absurd asks
-ends_load taken failed old new list file (Image l files) status asks ends = absurd asks
-ends_load taken failed old new list file (Help text) status asks ends = absurd asks
-ends_load taken failed old new list file (Refused text) status asks ends = absurd asks
-ends_load taken failed old new list file OutOfMemory status asks ends =
-    inr (not_begun taken failed old new (IsLoadFailure list file) (file ∷ []) status (inl refl) ends)
+pub ends_load : {W : Type 0} (taken : W → Option (List ℕ)) (failed : W → Bool) (old new : W) (list : List ℕ) (form : ImageForm) (file : List ℕ) (request : Request) (status : ℕ)
+    → AsksLoad list form file request → Ends taken failed old new request status → EndsLoad taken failed old new list form file status
+ends_load taken failed old new list form file (Load l asked f) status asks ends =
+    subst (λ x. EndsLoad taken failed old new x form file status) asks.0
+    (subst (λ y. EndsLoad taken failed old new l.now y file status) asks.1 (subst (λ z. EndsLoad taken failed old new l.now asked z status) asks.2 ends))
+ends_load taken failed old new list form file (Check f) status asks ends = absurd asks
+ends_load taken failed old new list form file (Show f) status asks ends = absurd asks
+ends_load taken failed old new list form file (Link out options files) status asks ends = absurd asks
+ends_load taken failed old new list form file (Image l asked files) status asks ends = absurd asks
+ends_load taken failed old new list form file (Help text) status asks ends = absurd asks
+ends_load taken failed old new list form file (Refused text) status asks ends = absurd asks
+ends_load taken failed old new list form file OutOfMemory status asks ends =
+    inr (not_begun taken failed old new (IsLoadFailure form list file) (file ∷ []) status (inl refl) ends)
 
 pub ends_check : {W : Type 0} (taken : W → Option (List ℕ)) (failed : W → Bool) (old new : W) (file : List ℕ) (request : Request) (status : ℕ)
     → AsksCheck file request → Ends taken failed old new request status → EndsText taken failed old new Line file status
-ends_check taken failed old new file (Load l f) status asks ends = absurd asks
+ends_check taken failed old new file (Load l asked f) status asks ends = absurd asks
 ends_check taken failed old new file (Check f) status asks ends = subst (λ x. EndsText taken failed old new Line x status) asks ends
 ends_check taken failed old new file (Show f) status asks ends = absurd asks
 ends_check taken failed old new file (Link out options files) status asks ends = absurd asks
-ends_check taken failed old new file (Image l files) status asks ends = absurd asks
+ends_check taken failed old new file (Image l asked files) status asks ends = absurd asks
 ends_check taken failed old new file (Help text) status asks ends = absurd asks
 ends_check taken failed old new file (Refused text) status asks ends = absurd asks
 ends_check taken failed old new file OutOfMemory status asks ends =
@@ -66,11 +69,11 @@ ends_check taken failed old new file OutOfMemory status asks ends =
 
 pub ends_show : {W : Type 0} (taken : W → Option (List ℕ)) (failed : W → Bool) (old new : W) (file : List ℕ) (request : Request) (status : ℕ)
     → AsksShow file request → Ends taken failed old new request status → EndsText taken failed old new Listing file status
-ends_show taken failed old new file (Load l f) status asks ends = absurd asks
+ends_show taken failed old new file (Load l asked f) status asks ends = absurd asks
 ends_show taken failed old new file (Check f) status asks ends = absurd asks
 ends_show taken failed old new file (Show f) status asks ends = subst (λ x. EndsText taken failed old new Listing x status) asks ends
 ends_show taken failed old new file (Link out options files) status asks ends = absurd asks
-ends_show taken failed old new file (Image l files) status asks ends = absurd asks
+ends_show taken failed old new file (Image l asked files) status asks ends = absurd asks
 ends_show taken failed old new file (Help text) status asks ends = absurd asks
 ends_show taken failed old new file (Refused text) status asks ends = absurd asks
 ends_show taken failed old new file OutOfMemory status asks ends =

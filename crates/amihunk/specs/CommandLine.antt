@@ -1,5 +1,5 @@
 -- What the arguments of a command line ask for, as `clap` reads them.
-use Rattle.std.specs.Prelude.{◌≡◌, ◌≢◌, ◌<◌, ⊤, ◌∷◌, ◌++◌, Bool, List, [], true, codes, if◌then◌else◌, length, Option, Some}
+use Rattle.std.specs.Prelude.{◌≡◌, ◌≢◌, ◌<◌, ⊤, ◌∷◌, ◌++◌, Bool, List, [], true, false, codes, if◌then◌else◌, length, Option, Some}
 use Rattle.clap.specs.Lexer.{usize_max}
 use Rattle.clap.specs.Takes.{is_given}
 use Rattle.clap.specs.Values.{bool_text}
@@ -9,6 +9,8 @@ use Rattle.clap.specs.Words.{new_app, new_rule, one_of, subcommand_of, with_rule
 use Rattle.clap.specs.declared.builder.action.ArgAction.TheVariants.{SetTrue}
 use Rattle.clap.specs.declared.error.ErrorKind.{ErrorKind}
 use Rattle.clap.specs.declared.error.ErrorKind.TheVariants as error
+use Rattle.hunk_tool.specs.declared.image_form.ImageForm.{ImageForm}
+use Rattle.hunk_tool.specs.declared.image_form.ImageForm.TheVariants.{Report, SRecords}
 use Rattle.hunk_tool.specs.declared.link_options.LinkOptions.{LinkOptions}
 use Rattle.hunk_commands.specs.declared.request.Request.{Request}
 use Rattle.hunk_commands.specs.declared.request.Request.TheVariants.{Link, Load, Image, Check, Show, Help, Refused, OutOfMemory}
@@ -35,13 +37,15 @@ link_shape = (with_rule (with_rule (with_rule (with_rule (with_rule
     (new_app (codes "link")) (option_rule (codes "out")))
     (flag_rule (codes "strip"))) (flag_rule (codes "short"))) (flag_rule (codes "trim"))) files_rule).top
 
--- `load --at LIST FILE`
+-- `load --at LIST [--srec] FILE`
 abbrev pub load_shape : Shape
-load_shape = (with_rule (with_rule (new_app (codes "load")) (option_rule (codes "at"))) file_rule).top
+load_shape = (with_rule (with_rule (with_rule
+    (new_app (codes "load")) (option_rule (codes "at"))) (flag_rule (codes "srec"))) file_rule).top
 
--- `image --at LIST FILE...`
+-- `image --at LIST [--srec] FILE...`
 abbrev pub image_shape : Shape
-image_shape = (with_rule (with_rule (new_app (codes "image")) (option_rule (codes "at"))) files_rule).top
+image_shape = (with_rule (with_rule (with_rule
+    (new_app (codes "image")) (option_rule (codes "at"))) (flag_rule (codes "srec"))) files_rule).top
 
 -- the program, which requires a subcommand, and has none called `help`
 abbrev pub bare_shape : Shape
@@ -89,29 +93,36 @@ pub record IsLink (met : Met) (out : Text) (options : LinkOptions) (files : List
   pub short_is : IsFlag of_files.rows (codes "short") options.short
   pub trim_is : IsFlag of_files.rows (codes "trim") options.trim
 
--- the subcommand is `load`, with this LIST and this FILE
-pub record IsLoad (met : Met) (list file : Text) : Type 0 where
+-- whether `--srec` asks for this form
+abbrev pub is_srec : ImageForm → Bool
+is_srec Report = false
+is_srec SRecords = true
+
+-- the subcommand is `load`, with this LIST, this form and this FILE
+pub record IsLoad (met : Met) (list : Text) (form : ImageForm) (file : Text) : Type 0 where
   pub of_file : IsCalled met (codes "load") file
   pub list_is : first_of (codes "at") of_file.rows ≡ Some list
+  pub form_is : IsFlag of_file.rows (codes "srec") (is_srec form)
 
--- the subcommand is `image`, with this LIST and these files
-pub record IsImage (met : Met) (list : Text) (files : List Text) : Type 0 where
+-- the subcommand is `image`, with this LIST, this form and these files
+pub record IsImage (met : Met) (list : Text) (form : ImageForm) (files : List Text) : Type 0 where
   pub of_files : IsCalledOn met (codes "image") files
   pub list_is : first_of (codes "at") of_files.rows ≡ Some list
+  pub form_is : IsFlag of_files.rows (codes "srec") (is_srec form)
 
 -- the subcommand is one of the program's, with its required values
 pub data IsWhole (met : Met) : Type 0 where
   link : (out : Text) (options : LinkOptions) (files : List Text) → IsLink met out options files → IsWhole met
-  load : (list file : Text) → IsLoad met list file → IsWhole met
-  image : (list : Text) (files : List Text) → IsImage met list files → IsWhole met
+  load : (list : Text) (form : ImageForm) (file : Text) → IsLoad met list form file → IsWhole met
+  image : (list : Text) (form : ImageForm) (files : List Text) → IsImage met list form files → IsWhole met
   check : (file : Text) → IsCalled met (codes "check") file → IsWhole met
   show : (file : Text) → IsCalled met (codes "show") file → IsWhole met
 
 -- the request matches what was found
 abbrev pub Says : Met → Request → Type 0
 Says met (Link out options files) = IsLink met out.now options (texts files.items)
-Says met (Load list file) = IsLoad met list.now file.now
-Says met (Image list files) = IsImage met list.now (texts files.items)
+Says met (Load list form file) = IsLoad met list.now form file.now
+Says met (Image list form files) = IsImage met list.now form (texts files.items)
 Says met (Check file) = IsCalled met (codes "check") file.now
 Says met (Show file) = IsCalled met (codes "show") file.now
 Says met _ = ⊥
@@ -119,8 +130,8 @@ Says met _ = ⊥
 -- the request for arguments that `clap` rejects with this kind of error
 abbrev pub Answers : ErrorKind → Request → Type 0
 Answers k (Link out options files) = ⊥
-Answers k (Load list file) = ⊥
-Answers k (Image list files) = ⊥
+Answers k (Load list form file) = ⊥
+Answers k (Image list form files) = ⊥
 Answers k (Check file) = ⊥
 Answers k (Show file) = ⊥
 Answers k (Help text) = k ≡ error.DisplayHelp
@@ -138,10 +149,10 @@ pub record IsRefusedBy (kinds : Kinds) : Type 0 where
 abbrev pub IsAskedBy : List Text → Request → Type 0
 IsAskedBy words (Link out options files) = (fault_of command_line words ≡ [])
     × IsLink (subcommand_of command_line words) out.now options (texts files.items)
-IsAskedBy words (Load list file) = (fault_of command_line words ≡ [])
-    × IsLoad (subcommand_of command_line words) list.now file.now
-IsAskedBy words (Image list files) = (fault_of command_line words ≡ [])
-    × IsImage (subcommand_of command_line words) list.now (texts files.items)
+IsAskedBy words (Load list form file) = (fault_of command_line words ≡ [])
+    × IsLoad (subcommand_of command_line words) list.now form file.now
+IsAskedBy words (Image list form files) = (fault_of command_line words ≡ [])
+    × IsImage (subcommand_of command_line words) list.now form (texts files.items)
 IsAskedBy words (Check file) = (fault_of command_line words ≡ [])
     × IsCalled (subcommand_of command_line words) (codes "check") file.now
 IsAskedBy words (Show file) = (fault_of command_line words ≡ [])
@@ -176,13 +187,17 @@ option_words options =
 abbrev pub link_line : Text → LinkOptions → Text → List Text → List Text
 link_line program options out files = program ∷ codes "link" ∷ codes "--out" ∷ out ∷ (option_words options ++ files)
 
--- the arguments `PROGRAM load --at LIST FILE`
-abbrev pub load_line : Text → Text → Text → List Text
-load_line program list file = program ∷ codes "load" ∷ codes "--at" ∷ list ∷ file ∷ []
+-- the word `--srec`, if this form is asked for by it
+abbrev pub form_words : ImageForm → List Text
+form_words form = word_if (is_srec form) (codes "--srec")
 
--- the arguments `PROGRAM image --at LIST FILE...`
-abbrev pub image_line : Text → Text → List Text → List Text
-image_line program list files = program ∷ codes "image" ∷ codes "--at" ∷ list ∷ files
+-- the arguments `PROGRAM load --at LIST [--srec] FILE`
+abbrev pub load_line : Text → Text → ImageForm → Text → List Text
+load_line program list form file = program ∷ codes "load" ∷ codes "--at" ∷ list ∷ (form_words form ++ file ∷ [])
+
+-- the arguments `PROGRAM image --at LIST [--srec] FILE...`
+abbrev pub image_line : Text → Text → ImageForm → List Text → List Text
+image_line program list form files = program ∷ codes "image" ∷ codes "--at" ∷ list ∷ (form_words form ++ files)
 
 -- the arguments `PROGRAM NAME FILE`
 abbrev pub file_line : Text → Text → Text → List Text
@@ -194,17 +209,17 @@ AsksLink out options files (Link o s fs) = (o.now ≡ out) × (s ≡ options) ×
 AsksLink out options files OutOfMemory = ⊤
 AsksLink out options files _ = ⊥
 
--- the request is `load` with this LIST and this FILE, or memory ran out
-abbrev pub AsksLoad : Text → Text → Request → Type 0
-AsksLoad list file (Load l f) = (l.now ≡ list) × (f.now ≡ file)
-AsksLoad list file OutOfMemory = ⊤
-AsksLoad list file _ = ⊥
+-- the request is `load` with this LIST, this form and this FILE, or memory ran out
+abbrev pub AsksLoad : Text → ImageForm → Text → Request → Type 0
+AsksLoad list form file (Load l asked f) = (l.now ≡ list) × (asked ≡ form) × (f.now ≡ file)
+AsksLoad list form file OutOfMemory = ⊤
+AsksLoad list form file _ = ⊥
 
--- the request is `image` with this LIST and these files in this order, or memory ran out
-abbrev pub AsksImage : Text → List Text → Request → Type 0
-AsksImage list files (Image l fs) = (l.now ≡ list) × (texts fs.items ≡ files)
-AsksImage list files OutOfMemory = ⊤
-AsksImage list files _ = ⊥
+-- the request is `image` with this LIST, this form and these files in this order, or memory ran out
+abbrev pub AsksImage : Text → ImageForm → List Text → Request → Type 0
+AsksImage list form files (Image l asked fs) = (l.now ≡ list) × (asked ≡ form) × (texts fs.items ≡ files)
+AsksImage list form files OutOfMemory = ⊤
+AsksImage list form files _ = ⊥
 
 -- the request is `check` with this FILE, or memory ran out
 abbrev pub AsksCheck : Text → Request → Type 0

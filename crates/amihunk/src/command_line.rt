@@ -5,15 +5,16 @@ ghost use Rattle.clap.specs.Words.{FailsBy, all_of, app_of, fault_of, first_of, 
 ghost use Rattle.clap.specs.Words.{rule_of, shape_of, subcommand_of, subcommand_rows_of};
 ghost use Rattle.clap.specs.declared.builder.command.Command.TheViews.{out-Command};
 ghost use Rattle.amihunk.specs.CommandLine.{Answers, AsksCheck, AsksImage, AsksLink, AsksLoad, AsksShow, IsAskedBy};
-ghost use Rattle.amihunk.specs.CommandLine.{IsNoFlag, IsRefusal, IsWhole, Says, command_line, file_line, file_rule};
+ghost use Rattle.amihunk.specs.CommandLine.{IsNoFlag, IsRefusal, IsWhole, Says, command_line, file_line, file_rule, is_srec};
 ghost use Rattle.amihunk.specs.CommandLine.{file_shape, files_rule, flag_rule, image_line, image_shape, link_line, link_shape};
 ghost use Rattle.amihunk.specs.CommandLine.{load_line, load_shape, option_rule};
+ghost use Rattle.hunk_tool.specs.declared.image_form.ImageForm.{ImageForm};
 ghost use Rattle.hunk_tool.specs.declared.link_options.LinkOptions.{LinkOptions};
 
 use clap::error::ErrorKind;
 use clap::{Arg, ArgAction, ArgMatches, Command, Error};
 use hunk_commands::Request;
-use hunk_tool::LinkOptions;
+use hunk_tool::{ImageForm, LinkOptions};
 use std::alloc::{AllocError, Global};
 use std::convert::AsStr;
 
@@ -23,12 +24,12 @@ pub fn read_words<'a, S: AsStr>(alloc: Global, words: &'a [S]) -> Request<'a>
     ensures link { (program : List ℕ) (options : LinkOptions) (out : List ℕ) (files : List (List ℕ))
         → map S.text words.entry.now ≡ link_line program options out files
         → IsNoFlag out → 0 < length files → All IsNoFlag files → AsksLink out options files result }
-    ensures load { (program list file : List ℕ)
-        → map S.text words.entry.now ≡ load_line program list file
-        → IsNoFlag list → IsNoFlag file → AsksLoad list file result }
-    ensures image { (program list : List ℕ) (files : List (List ℕ))
-        → map S.text words.entry.now ≡ image_line program list files
-        → IsNoFlag list → 0 < length files → All IsNoFlag files → AsksImage list files result }
+    ensures load { (program list : List ℕ) (form : ImageForm) (file : List ℕ)
+        → map S.text words.entry.now ≡ load_line program list form file
+        → IsNoFlag list → IsNoFlag file → AsksLoad list form file result }
+    ensures image { (program list : List ℕ) (form : ImageForm) (files : List (List ℕ))
+        → map S.text words.entry.now ≡ image_line program list form files
+        → IsNoFlag list → 0 < length files → All IsNoFlag files → AsksImage list form files result }
     ensures check { (program file : List ℕ)
         → map S.text words.entry.now ≡ file_line program (codes "check") file
         → IsNoFlag file → AsksCheck file result }
@@ -117,7 +118,16 @@ fn flag<'a>(alloc: Global, name: &'a str, help: &'a str) -> Arg<'a>
         .help(help)
 }
 
-/// The subcommand `load --at LIST FILE`.
+/// The flag `--srec`.
+fn srec_flag<'a>(alloc: Global) -> Arg<'a>
+    ensures rule { rule_of result ≡ flag_rule (codes "srec") }
+    ensures local { result.global ≡ false }
+{
+    let help = "Prints Motorola S-records in place of the report";
+    flag(alloc, "srec", help)
+}
+
+/// The subcommand `load --at LIST [--srec] FILE`.
 fn load_command<'a>(alloc: Global) -> Result<Command<'a>, AllocError>
     ensures shape { IfOk result (λ c. shape_of c ≡ load_shape) }
     ensures local { IfOk result (λ c. (out-Command c).has_globals ≡ false) }
@@ -126,10 +136,11 @@ fn load_command<'a>(alloc: Global) -> Result<Command<'a>, AllocError>
         .about("Loads a file at addresses, and prints the bytes of its hunks")
         .after_help(help::LOAD)
         .arg(list_argument(alloc))?
+        .arg(srec_flag(alloc))?
         .arg(file_argument(alloc, "A load file"))
 }
 
-/// The subcommand `image --at LIST FILE...`.
+/// The subcommand `image --at LIST [--srec] FILE...`.
 fn image_command<'a>(alloc: Global) -> Result<Command<'a>, AllocError>
     ensures shape { IfOk result (λ c. shape_of c ≡ image_shape) }
     ensures local { IfOk result (λ c. (out-Command c).has_globals ≡ false) }
@@ -138,6 +149,7 @@ fn image_command<'a>(alloc: Global) -> Result<Command<'a>, AllocError>
         .about("Links object files at addresses, and prints the bytes of their hunks")
         .after_help(help::IMAGE)
         .arg(list_argument(alloc))?
+        .arg(srec_flag(alloc))?
         .arg(files_argument(alloc))
 }
 
@@ -220,10 +232,12 @@ fn request_of<'a>(alloc: Global, matches: &ArgMatches<'a>) -> Result<Request<'a>
         }),
         Some(("load", values)) => Ok(Request::Load {
             list: value_of(values, "at"),
+            form: form_of(values.get_flag("srec")),
             file: value_of(values, "file"),
         }),
         Some(("image", values)) => Ok(Request::Image {
             list: value_of(values, "at"),
+            form: form_of(values.get_flag("srec")),
             files: files_of(alloc, values)?,
         }),
         Some(("check", values)) => Ok(Request::Check {
@@ -233,6 +247,17 @@ fn request_of<'a>(alloc: Global, matches: &ArgMatches<'a>) -> Result<Request<'a>
             file: value_of(values, "file"),
         }),
         _ => unreachable!(),
+    }
+}
+
+/// The form in which an image is printed.
+fn form_of(srec: bool) -> ImageForm
+    ensures { is_srec result ≡ srec }
+{
+    if srec {
+        ImageForm::SRecords
+    } else {
+        ImageForm::Report
     }
 }
 

@@ -1,6 +1,7 @@
 //! The program: the arguments of the command line, what they ask for, and the exit status.
 ghost use Rattle.std.specs.Prelude.{◌≡◌, ◌<◌, ◌≤◌, ℕ, List, codes, length, map};
 ghost use Rattle.std.specs.List.{All};
+ghost use Rattle.hunk_tool.specs.declared.image_form.ImageForm.{ImageForm};
 ghost use Rattle.hunk_tool.specs.declared.link_options.LinkOptions.{LinkOptions};
 ghost use Rattle.hunk_commands.specs.Request.{EndsImage, EndsLink, EndsLoad, EndsText};
 ghost use Rattle.amihunk.specs.Program.{EndsLine};
@@ -39,12 +40,12 @@ pub fn run<R: Files + Print + AllocGlobal, W: Sink, S: AsStr>(
     ensures link { (program : List ℕ) (options : LinkOptions) (out : List ℕ) (files : List (List ℕ))
         → map S.text words.now ≡ link_line program options out files
         → IsNoFlag out → 0 < length files → All IsNoFlag files → EndsLink W.taken W.failed errors.old errors.new out options files result }
-    ensures load { (program list file : List ℕ)
-        → map S.text words.now ≡ load_line program list file
-        → IsNoFlag list → IsNoFlag file → EndsLoad W.taken W.failed errors.old errors.new list file result }
-    ensures image { (program list : List ℕ) (files : List (List ℕ))
-        → map S.text words.now ≡ image_line program list files
-        → IsNoFlag list → 0 < length files → All IsNoFlag files → EndsImage W.taken W.failed errors.old errors.new list files result }
+    ensures load { (program list : List ℕ) (form : ImageForm) (file : List ℕ)
+        → map S.text words.now ≡ load_line program list form file
+        → IsNoFlag list → IsNoFlag file → EndsLoad W.taken W.failed errors.old errors.new list form file result }
+    ensures image { (program list : List ℕ) (form : ImageForm) (files : List (List ℕ))
+        → map S.text words.now ≡ image_line program list form files
+        → IsNoFlag list → 0 < length files → All IsNoFlag files → EndsImage W.taken W.failed errors.old errors.new list form files result }
     ensures check { (program file : List ℕ)
         → map S.text words.now ≡ file_line program (codes "check") file
         → IsNoFlag file → EndsText W.taken W.failed errors.old errors.new Text.Line file result }

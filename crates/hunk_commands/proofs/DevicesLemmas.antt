@@ -5,6 +5,7 @@ use Rattle.std.proofs.KnownBytes.{Keeps-refl}
 use Rattle.hunk_tool.specs.FileText.{IsTextFault}
 use Rattle.hunk_tool.specs.FileValue.{FileValue}
 use Rattle.hunk_tool.specs.Load.{Ends, IsLoadFault, ends_of}
+use Rattle.hunk_tool.specs.declared.image_form.ImageForm.{ImageForm}
 use Rattle.hunk_tool.specs.declared.tool_fault.ToolFault.{ToolFault}
 use Rattle.hunk_tool.specs.declared.tool_fault.ToolFault.TheVariants.{OutOfMemory}
 use Rattle.hunk_commands.specs.Devices.{Stopped}
@@ -19,9 +20,9 @@ stopped_between Holds left taken fault ends left_is taken_is holds =
 abbrev untouched : (left taken : Option (List ℕ)) → Ends
 untouched left taken = ends_of left left false false taken taken false
 
-pub load_stopped_at_once : (bases : List ℕ) (left taken : Option (List ℕ)) → Stopped (IsLoadFault bases) left taken (OutOfMemory 0)
-load_stopped_at_once bases left taken =
-    stopped_between (IsLoadFault bases) left taken (OutOfMemory 0) (untouched left taken) refl refl (refl, Keeps-refl taken)
+pub load_stopped_at_once : (form : ImageForm) (bases : List ℕ) (left taken : Option (List ℕ)) → Stopped (IsLoadFault form bases) left taken (OutOfMemory 0)
+load_stopped_at_once form bases left taken =
+    stopped_between (IsLoadFault form bases) left taken (OutOfMemory 0) (untouched left taken) refl refl (refl, Keeps-refl taken)
 
 pub text_stopped_at_once : (text : FileValue → List ℕ) (left taken : Option (List ℕ)) → Stopped (IsTextFault text) left taken (OutOfMemory 0)
 text_stopped_at_once text left taken =

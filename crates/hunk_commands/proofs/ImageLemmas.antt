@@ -5,6 +5,7 @@ use Rattle.hunk_commands.specs.Inputs.{file_names}
 use Rattle.hunk_tool.specs.Bases.{numbers}
 use Rattle.hunk_tool.specs.Image.{IsImaged}
 use Rattle.hunk_tool.specs.Inputs.{HaveRead, Input, inputs_of}
+use Rattle.hunk_tool.specs.declared.image_form.ImageForm.{ImageForm}
 use Rattle.hunk_tool.specs.declared.tool_fault.ToolFault.TheVariants.{OutOfMemory}
 use Rattle.hunk_commands.specs.Image.{AreImaged, AtBasesOfInputs, HaveNoReport, HaveReport, IsImageFailure, IsUnprinted}
 use Rattle.hunk_commands.specs.declared.failure.Failure.{Failure}
@@ -12,8 +13,8 @@ use Rattle.hunk_commands.specs.declared.failure.Failure.TheVariants.{BadNumber, 
 use Rattle.hunk_commands.proofs.InputsLemmas.{OfInputs-readers}
 
 -- Memory ran out before anything was read or written.
-pub report_not_begun : (bases : List ℕ) (inputs : List Input) (old : Option (List ℕ)) → HaveNoReport bases inputs old (OutOfMemory 0)
-report_not_begun bases inputs old =
+pub report_not_begun : (form : ImageForm) (bases : List ℕ) (inputs : List Input) (old : Option (List ℕ)) → HaveNoReport form bases inputs old (OutOfMemory 0)
+report_not_begun form bases inputs old =
     record { taken = record { old = old; new = old; failed = false }; old_is = refl; why = (refl, Keeps-refl old) }
 
 -- this holds at the numbers in the list, of the inputs of readers, of which there is one for each file
@@ -26,18 +27,18 @@ at_bases_of_readers list files bases left failed ended olds news old Holds numbe
   holds = OfInputs-readers files left failed ended olds news (λ inputs. (taken : Option (List ℕ)) × Holds bases inputs taken) count same (old, holds);
 }
 
-pub imaged_where : {R : Type 0} (list : List ℕ) (files : List (Bor (List ℕ))) (bases : List ℕ) (left : R → Option (List ℕ)) (failed ended : R → Bool) (olds news : List R) (old new : Option (List ℕ))
+pub imaged_where : {R : Type 0} (form : ImageForm) (list : List ℕ) (files : List (Bor (List ℕ))) (bases : List ℕ) (left : R → Option (List ℕ)) (failed ended : R → Bool) (olds news : List R) (old new : Option (List ℕ))
     → numbers list ≡ map Some bases → length olds ≡ length files → length news ≡ length olds
-    → HaveRead (inputs_of left failed ended olds news) (IsImaged bases old new) → AreImaged list (file_names files)
-imaged_where list files bases left failed ended olds news old new numbers_are count same read =
-    at_bases_of_readers list files bases left failed ended olds news old HaveReport numbers_are count same (new, read)
+    → HaveRead (inputs_of left failed ended olds news) (IsImaged form bases old new) → AreImaged form list (file_names files)
+imaged_where form list files bases left failed ended olds news old new numbers_are count same read =
+    at_bases_of_readers list files bases left failed ended olds news old (HaveReport form) numbers_are count same (new, read)
 
-pub unprinted_where : {R : Type 0} (list : List ℕ) (files : List (Bor (List ℕ))) (bases : List ℕ) (left : R → Option (List ℕ)) (failed ended : R → Bool) (olds news : List R) (old : Option (List ℕ))
+pub unprinted_where : {R : Type 0} (form : ImageForm) (list : List ℕ) (files : List (Bor (List ℕ))) (bases : List ℕ) (left : R → Option (List ℕ)) (failed ended : R → Bool) (olds news : List R) (old : Option (List ℕ))
     (failure : Failure) → numbers list ≡ map Some bases → length olds ≡ length files → length news ≡ length olds
-    → IsUnprinted bases (inputs_of left failed ended olds news) old failure → IsImageFailure list (file_names files) failure
-unprinted_where list files bases left failed ended olds news old (BadNumber index) numbers_are count same why = absurd why
-unprinted_where list files bases left failed ended olds news old (Opening name) numbers_are count same why = absurd why
-unprinted_where list files bases left failed ended olds news old Printing numbers_are count same why =
-    at_bases_of_readers list files bases left failed ended olds news old HaveReport numbers_are count same why
-unprinted_where list files bases left failed ended olds news old (Tool fault) numbers_are count same why =
-    inr (at_bases_of_readers list files bases left failed ended olds news old (λ bases inputs taken. HaveNoReport bases inputs taken fault) numbers_are count same why)
+    → IsUnprinted form bases (inputs_of left failed ended olds news) old failure → IsImageFailure form list (file_names files) failure
+unprinted_where form list files bases left failed ended olds news old (BadNumber index) numbers_are count same why = absurd why
+unprinted_where form list files bases left failed ended olds news old (Opening name) numbers_are count same why = absurd why
+unprinted_where form list files bases left failed ended olds news old Printing numbers_are count same why =
+    at_bases_of_readers list files bases left failed ended olds news old (HaveReport form) numbers_are count same why
+unprinted_where form list files bases left failed ended olds news old (Tool fault) numbers_are count same why =
+    inr (at_bases_of_readers list files bases left failed ended olds news old (λ bases inputs taken. HaveNoReport form bases inputs taken fault) numbers_are count same why)

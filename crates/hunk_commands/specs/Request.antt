@@ -1,6 +1,7 @@
 -- The exit status after a request, and the line of its failure.
 use Rattle.std.specs.Prelude.{◌≡◌, ◌⊎◌, ◌∷◌, [], ℕ, List, Bool, Option}
 use Rattle.hunk_commands.specs.Inputs.{file_names}
+use Rattle.hunk_tool.specs.declared.image_form.ImageForm.{ImageForm}
 use Rattle.hunk_tool.specs.declared.link_options.LinkOptions.{LinkOptions}
 use Rattle.hunk_tool.specs.declared.tool_fault.ToolFault.TheVariants as tool_fault
 use Rattle.hunk_commands.specs.Failure.{failure_line, status_of, TellsLine}
@@ -24,9 +25,9 @@ pub record IsFailed {W : Type 0} (taken : W → Option (List ℕ)) (failed : W �
   pub line : TellsLine taken failed old new (failure_line files failure)
 
 -- the status after `load`
-abbrev pub EndsLoad : {W : Type 0} (taken : W → Option (List ℕ)) (failed : W → Bool) (old new : W) (list file : List ℕ) → ℕ → Type 0
-EndsLoad taken failed old new list file status =
-    ((status ≡ 0) × IsLoaded list) ⊎ IsFailed taken failed old new (IsLoadFailure list file) (file ∷ []) status
+abbrev pub EndsLoad : {W : Type 0} (taken : W → Option (List ℕ)) (failed : W → Bool) (old new : W) (list : List ℕ) (form : ImageForm) (file : List ℕ) → ℕ → Type 0
+EndsLoad taken failed old new list form file status =
+    ((status ≡ 0) × IsLoaded form list) ⊎ IsFailed taken failed old new (IsLoadFailure form list file) (file ∷ []) status
 
 -- the status after `link`
 abbrev pub EndsLink : {W : Type 0} (taken : W → Option (List ℕ)) (failed : W → Bool) (old new : W) (out : List ℕ) (options : LinkOptions) (files : List (List ℕ)) → ℕ → Type 0
@@ -34,9 +35,9 @@ EndsLink taken failed old new out options files status =
     ((status ≡ 0) × IsMade options files) ⊎ IsFailed taken failed old new (IsLinkFailure options.strip files out) files status
 
 -- the status after `image`
-abbrev pub EndsImage : {W : Type 0} (taken : W → Option (List ℕ)) (failed : W → Bool) (old new : W) (list : List ℕ) (files : List (List ℕ)) → ℕ → Type 0
-EndsImage taken failed old new list files status =
-    ((status ≡ 0) × AreImaged list files) ⊎ IsFailed taken failed old new (IsImageFailure list files) files status
+abbrev pub EndsImage : {W : Type 0} (taken : W → Option (List ℕ)) (failed : W → Bool) (old new : W) (list : List ℕ) (form : ImageForm) (files : List (List ℕ)) → ℕ → Type 0
+EndsImage taken failed old new list form files status =
+    ((status ≡ 0) × AreImaged form list files) ⊎ IsFailed taken failed old new (IsImageFailure form list files) files status
 
 -- the status after a text about FILE
 abbrev pub EndsText : {W : Type 0} (taken : W → Option (List ℕ)) (failed : W → Bool) (old new : W) (text : Text) (file : List ℕ) → ℕ → Type 0
@@ -45,9 +46,9 @@ EndsText taken failed old new text file status =
 
 -- the status after a request
 abbrev pub Ends : {W : Type 0} (taken : W → Option (List ℕ)) (failed : W → Bool) (old new : W) → Request → ℕ → Type 0
-Ends taken failed old new (Load list file) status = EndsLoad taken failed old new list.now file.now status
+Ends taken failed old new (Load list form file) status = EndsLoad taken failed old new list.now form file.now status
 Ends taken failed old new (Link out options files) status = EndsLink taken failed old new out.now options (file_names files.items) status
-Ends taken failed old new (Image list files) status = EndsImage taken failed old new list.now (file_names files.items) status
+Ends taken failed old new (Image list form files) status = EndsImage taken failed old new list.now form (file_names files.items) status
 Ends taken failed old new (Check file) status = EndsText taken failed old new Line file.now status
 Ends taken failed old new (Show file) status = EndsText taken failed old new Listing file.now status
 Ends taken failed old new (Help text) status = (status ≡ 0) ⊎ (status ≡ 3)

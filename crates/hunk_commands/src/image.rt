@@ -1,4 +1,4 @@
-//! The request `image`: the report of the memory that object files define at the addresses of a list.
+//! The request `image`: the memory that object files define at the addresses of a list.
 ghost use Rattle.std.specs.Prelude.{IfOk, IfErr, OnOk, length};
 ghost use Rattle.hunk_commands.specs.Inputs.{file_names};
 ghost use Rattle.hunk_tool.specs.Image.{IsImaged};
@@ -10,22 +10,23 @@ use crate::bases::bases_of;
 use crate::devices::{buffered, flushed};
 use crate::failure::Failure;
 use crate::inputs::open_inputs;
-use hunk_tool::image_run;
+use hunk_tool::{ImageForm, image_run_with};
 use hunk_words::Source;
 use std::alloc::Global;
 use std::io;
 use std::io::Write;
 use std::rt::Files;
 
-/// Links the object files named `files`, and prints the report of the memory that they define at the
+/// Links the object files named `files`, and prints in this form the memory that they define at the
 /// addresses in `list`. The list is checked before the files are opened.
 pub fn image<'a, R: Files + Print + AllocGlobal>(
     rt: &R,
     list: &str,
+    form: ImageForm,
     files: &[&'a str],
 ) -> Result<(), Failure<'a>>
-    ensures ok { OnOk result (AreImaged list.now (file_names files.entry.now)) }
-    ensures err { IfErr result (IsImageFailure list.now (file_names files.entry.now)) }
+    ensures ok { OnOk result (AreImaged form list.now (file_names files.entry.now)) }
+    ensures err { IfErr result (IsImageFailure form list.now (file_names files.entry.now)) }
     ensures of_files { IfErr result (IsOfFiles (length files.entry.now)) }
 {
     let bases = bases_of(rt.alloc(), list)?;
@@ -34,26 +35,28 @@ pub fn image<'a, R: Files + Print + AllocGlobal>(
         rt.alloc(),
         inputs.as_mut_slice(),
         bases.as_slice(),
+        form,
         io::writer(rt),
     )?;
     Ok(())
 }
 
-/// Writes the report of the memory that the object files in `inputs` define, through a buffer, and
+/// Writes the memory that the object files in `inputs` define, in this form and through a buffer, and
 /// returns `output`, flushed.
 pub fn image_to<'a, I: Source, O: Write + Drop>(
     alloc: Global,
     inputs: &mut [I],
     bases: &[u32],
+    form: ImageForm,
     output: O,
 ) -> Result<O, Failure<'a>>
     ensures ok { IfOk result (λ after. HaveRead (inputs_of I.left I.failed I.ended inputs.old inputs.new)
-        (IsImaged bases.now (O.contents output) (O.contents after))) }
-    ensures err { IfErr result (IsUnprinted bases.now (inputs_of I.left I.failed I.ended inputs.old inputs.new) (O.contents output)) }
+        (IsImaged form bases.now (O.contents output) (O.contents after))) }
+    ensures err { IfErr result (IsUnprinted form bases.now (inputs_of I.left I.failed I.ended inputs.old inputs.new) (O.contents output)) }
     ensures of_files { IfErr result (IsOfFiles (length inputs.old)) }
 {
     let mut writer = buffered(alloc, output)?;
-    match image_run(alloc, inputs, bases, &mut writer) {
+    match image_run_with(alloc, inputs, bases, form, &mut writer) {
         Ok(()) => flushed(writer),
         Err(fault) => Err(Failure::Tool(fault)),
     }

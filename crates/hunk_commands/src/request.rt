@@ -8,7 +8,7 @@ use crate::image::image;
 use crate::link::link;
 use crate::load::load;
 use crate::text::{Text, print_text};
-use hunk_tool::LinkOptions;
+use hunk_tool::{ImageForm, LinkOptions};
 use hunk_words::{Sink, write_all};
 use std::alloc::{AllocError, Global};
 use std::rt::Files;
@@ -26,18 +26,22 @@ pub enum Request<'a> {
         /// The arguments FILE..., in the order given, of which there is at least one.
         files: Vec<&'a str>,
     },
-    /// `load --at LIST FILE`: the report of FILE, loaded at the addresses in LIST.
+    /// `load --at LIST [--srec] FILE`: the image of FILE, loaded at the addresses in LIST.
     Load {
         /// The argument LIST, not yet parsed.
         list: &'a str,
+        /// S-records if `--srec` is given, and otherwise the report.
+        form: ImageForm,
         /// The argument FILE.
         file: &'a str,
     },
-    /// `image --at LIST FILE...`: the report of the memory that the object files FILE... define at
-    /// the addresses in LIST.
+    /// `image --at LIST [--srec] FILE...`: the memory that the object files FILE... define at the
+    /// addresses in LIST.
     Image {
         /// The argument LIST, not yet parsed.
         list: &'a str,
+        /// S-records if `--srec` is given, and otherwise the report.
+        form: ImageForm,
         /// The arguments FILE..., in the order given, of which there is at least one.
         files: Vec<&'a str>,
     },
@@ -74,8 +78,10 @@ pub fn answer<R: Files + Print + AllocGlobal, W: Sink>(
             options,
             files,
         } => answer_link(rt, errors, out, options, files.as_slice()),
-        Request::Load { list, file } => answer_load(rt, errors, list, file),
-        Request::Image { list, files } => answer_image(rt, errors, list, files.as_slice()),
+        Request::Load { list, form, file } => answer_load(rt, errors, list, form, file),
+        Request::Image { list, form, files } => {
+            answer_image(rt, errors, list, form, files.as_slice())
+        }
         Request::Check { file } => answer_text(rt, errors, Text::Line, file),
         Request::Show { file } => answer_text(rt, errors, Text::Listing, file),
         Request::Help(text) => match rt.print(text) {
@@ -90,19 +96,20 @@ pub fn answer<R: Files + Print + AllocGlobal, W: Sink>(
     }
 }
 
-/// Does `load --at LIST FILE`, and returns the exit status.
+/// Does `load --at LIST [--srec] FILE`, and returns the exit status.
 fn answer_load<R: Files + Print + AllocGlobal, W: Sink>(
     rt: &R,
     errors: &mut W,
     list: &str,
+    form: ImageForm,
     file: &str,
 ) -> u8
-    ensures { EndsLoad W.taken W.failed errors.old errors.new list.now file.now result }
+    ensures { EndsLoad W.taken W.failed errors.old errors.new list.now form file.now result }
 {
     let Ok(name) = String::from_str(rt.alloc(), file) else {
         return report_failure(errors, &[], &Failure::out_of_memory());
     };
-    match load(rt, list, file) {
+    match load(rt, list, form, file) {
         Ok(()) => DONE,
         Err(failure) => report_failure(errors, &[name], &failure),
     }
@@ -127,19 +134,20 @@ fn answer_link<R: Files + AllocGlobal, W: Sink>(
     }
 }
 
-/// Does `image --at LIST FILE...`, and returns the exit status.
+/// Does `image --at LIST [--srec] FILE...`, and returns the exit status.
 fn answer_image<R: Files + Print + AllocGlobal, W: Sink>(
     rt: &R,
     errors: &mut W,
     list: &str,
+    form: ImageForm,
     files: &[&str],
 ) -> u8
-    ensures { EndsImage W.taken W.failed errors.old errors.new list.now (file_names files.now) result }
+    ensures { EndsImage W.taken W.failed errors.old errors.new list.now form (file_names files.now) result }
 {
     let Ok(names) = names_of(rt.alloc(), files) else {
         return report_failure(errors, &[], &Failure::out_of_memory());
     };
-    match image(rt, list, files) {
+    match image(rt, list, form, files) {
         Ok(()) => DONE,
         Err(failure) => report_failure(errors, names.as_slice(), &failure),
     }

@@ -37,7 +37,7 @@ use Rattle.hunk_tool.specs.Headline.{LinkedIsReported, LoadedIsDirect, MemoryIsD
 use Rattle.hunk_tool.specs.Image.{ranked_sizes}
 use Rattle.hunk_tool.specs.Inputs.{AreObjects}
 use Rattle.hunk_tool.specs.Link.{linked_bytes, linked_hunks}
-use Rattle.hunk_tool.specs.Report.{report}
+use Rattle.hunk_tool.specs.ImageText.{image_text}
 use Rattle.hunk_tool.specs.declared.link_options.LinkOptions.{LinkOptions}
 use Rattle.hunk_tool.proofs.LawsLemmas.{one-value}
 
@@ -127,7 +127,7 @@ sizes-linked units options = elim (cases_Bool options.trim) [
 ]
 
 pub linked-is-reported : LinkedIsReported
-linked-is-reported options files bases file linked image told link imaged =
+linked-is-reported options form files bases file linked image told link imaged =
     let units : List ObjectUnit = link.units in
     let same : imaged.units ≡ units = one-units files imaged.units units imaged.link.are link.link.are in
     let bytes : linked ≡ linked_bytes units options = append_cancel_left file linked (linked_bytes units options) link.written in
@@ -139,13 +139,13 @@ linked-is-reported options files bases file linked image told link imaged =
       hunks = linked_hunks units options;
       is_file = subst (IsLoadOf (linked_hunks units options)) (sym bytes) link.is_load;
       placed = subst (λ counts. Placed counts bases) sizes imaged.placed;
-      written = imaged.written ∙ ap (λ hunks. image ++ report hunks) memory;
+      written = imaged.written ∙ ap (λ hunks. image ++ image_text form hunks) memory;
     }
 
 pub reports-agree : ReportsAgree
-reports-agree options files bases file linked before told image other link reported imaged =
-    let also = linked-is-reported options files bases file linked image other link imaged in
+reports-agree options form files bases file linked before told image other link reported imaged =
+    let also = linked-is-reported options form files bases file linked image other link imaged in
     let same = one-value reported.hunks also.hunks linked reported.is_file also.is_file in
-    append_cancel_left before told (report (loaded reported.hunks bases)) reported.written
-    ∙ ap (λ hunks. report (loaded hunks bases)) same
-    ∙ sym (append_cancel_left image other (report (loaded also.hunks bases)) also.written)
+    append_cancel_left before told (image_text form (loaded reported.hunks bases)) reported.written
+    ∙ ap (λ hunks. image_text form (loaded hunks bases)) same
+    ∙ sym (append_cancel_left image other (image_text form (loaded also.hunks bases)) also.written)

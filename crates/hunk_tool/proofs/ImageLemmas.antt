@@ -24,7 +24,8 @@ use Rattle.hunk_tool.specs.Direct.{direct}
 use Rattle.hunk_tool.specs.Image.{AreNotPlaced, IsImageCutShort, IsImageFault, IsImaged, ranked_sizes}
 use Rattle.hunk_tool.specs.Inputs.{HaveRead, Input}
 use Rattle.hunk_tool.specs.Link.{IsUnlinked, LinkTo}
-use Rattle.hunk_tool.specs.Report.{report}
+use Rattle.hunk_tool.specs.ImageText.{image_text}
+use Rattle.hunk_tool.specs.declared.image_form.ImageForm.{ImageForm}
 use Rattle.hunk_tool.specs.ToolFault.{tool_fault_of_write}
 use Rattle.hunk_tool.specs.declared.tool_fault.ToolFault.{ToolFault}
 use Rattle.hunk_tool.specs.declared.tool_fault.ToolFault.TheVariants as tool_fault
@@ -47,27 +48,27 @@ pub LoadsAs-written : (file : List FileHunk) (bases : List ℕ) (image : List (�
     → LoadsAs bases (bytes_of (written_form file)) image
 LoadsAs-written file bases image valid short placed made = record { hunks = file; is_file = written_bytes-are_load Plain file valid (short Plain).0; placed = placed; image_is = made }
 
-pub HaveRead-imaged : (inputs : List Input) (bases : List ℕ) (file : List FileHunk) (image : List (ℕ × List ℕ)) (old new : Option (List ℕ)) → HaveRead inputs (LinkTo true file)
-    → Placed (sizes_of file) bases → image ≡ loaded file bases → Appends old new (report image) → HaveRead inputs (IsImaged bases old new)
-HaveRead-imaged inputs bases file image old new read placed made written =
-    HaveRead-weaker inputs (LinkTo true file) (IsImaged bases old new) (λ files to. record {
+pub HaveRead-imaged : (inputs : List Input) (form : ImageForm) (bases : List ℕ) (file : List FileHunk) (image : List (ℕ × List ℕ)) (old new : Option (List ℕ)) → HaveRead inputs (LinkTo true file)
+    → Placed (sizes_of file) bases → image ≡ loaded file bases → Appends old new (image_text form image) → HaveRead inputs (IsImaged form bases old new)
+HaveRead-imaged inputs form bases file image old new read placed made written =
+    HaveRead-weaker inputs (LinkTo true file) (IsImaged form bases old new) (λ files to. record {
       units = to.units;
       link = to.link;
       placed = Placed-carried to.units file bases to.file_is placed;
-      written = subst (λ hunks. Appends old new (report hunks)) (direct-carried to.units file bases image to.file_is to.link.typed made) written;
+      written = subst (λ hunks. Appends old new (image_text form hunks)) (direct-carried to.units file bases image to.file_is to.link.typed made) written;
     }) read
 
 -- ---- faults
 
 -- If the inputs were not linked, nothing was written.
-pub IsImageFault-unlinked : {A : Type 0} (bases : List ℕ) (inputs : List Input) (taken : Option (List ℕ)) (failed : Bool) (fault : ToolFault A)
-    → IsUnlinked true inputs fault → IsImageFault bases inputs (record { old = taken; new = taken; failed = failed }) fault
-IsImageFault-unlinked bases inputs taken failed (tool_fault.Input file fault) is = (is, Keeps-refl taken)
-IsImageFault-unlinked bases inputs taken failed (tool_fault.InputDevice file) is = (is, Keeps-refl taken)
-IsImageFault-unlinked bases inputs taken failed (tool_fault.Link refusal) is = (is, Keeps-refl taken)
-IsImageFault-unlinked bases inputs taken failed (tool_fault.Place fault) is = absurd is
-IsImageFault-unlinked bases inputs taken failed (tool_fault.Output written) is = absurd is
-IsImageFault-unlinked bases inputs taken failed (tool_fault.OutOfMemory written) is = (is, Keeps-refl taken)
+pub IsImageFault-unlinked : {A : Type 0} (form : ImageForm) (bases : List ℕ) (inputs : List Input) (taken : Option (List ℕ)) (failed : Bool) (fault : ToolFault A)
+    → IsUnlinked true inputs fault → IsImageFault form bases inputs (record { old = taken; new = taken; failed = failed }) fault
+IsImageFault-unlinked form bases inputs taken failed (tool_fault.Input file fault) is = (is, Keeps-refl taken)
+IsImageFault-unlinked form bases inputs taken failed (tool_fault.InputDevice file) is = (is, Keeps-refl taken)
+IsImageFault-unlinked form bases inputs taken failed (tool_fault.Link refusal) is = (is, Keeps-refl taken)
+IsImageFault-unlinked form bases inputs taken failed (tool_fault.Place fault) is = absurd is
+IsImageFault-unlinked form bases inputs taken failed (tool_fault.Output written) is = absurd is
+IsImageFault-unlinked form bases inputs taken failed (tool_fault.OutOfMemory written) is = (is, Keeps-refl taken)
 
 -- Where their hunks cannot be placed.
 pub HaveRead-not_placed : (inputs : List Input) (bases : List ℕ) (file : List FileHunk) (fault : PlaceFault) → HaveRead inputs (LinkTo true file)
@@ -76,17 +77,17 @@ HaveRead-not_placed inputs bases file fault read first =
     HaveRead-weaker inputs (LinkTo true file) (AreNotPlaced bases fault)
     (λ files to. record { units = to.units; link = to.link; first = FirstRefusal-carried to.units file bases fault to.file_is first }) read
 
--- Where writing the report stopped.
-pub IsImageFault-written : (A : Type 0) {W : Type 0} (taken : W → Option (List ℕ)) (failed : W → Bool) (old new : W) (bases : List ℕ) (inputs : List Input) (file : List FileHunk) (image : List (ℕ × List ℕ)) (fault : WriteFault)
-    → HaveRead inputs (LinkTo true file) → Placed (sizes_of file) bases → image ≡ loaded file bases → IsDevice fault → WriteStopped taken failed old new (report image) 0 fault
-    → IsImageFault bases inputs (record { old = taken old; new = taken new; failed = failed new }) (tool_fault_of_write {A = A} fault)
-IsImageFault-written A taken failed old new bases inputs file image (write_fault.Device written) read placed made device stopped = (
-  HaveRead-weaker inputs (LinkTo true file) (IsImageCutShort bases (taken old) (taken new) written) (λ files to. record {
+-- Where writing the image stopped.
+pub IsImageFault-written : (A : Type 0) {W : Type 0} (taken : W → Option (List ℕ)) (failed : W → Bool) (old new : W) (form : ImageForm) (bases : List ℕ) (inputs : List Input) (file : List FileHunk) (image : List (ℕ × List ℕ)) (fault : WriteFault)
+    → HaveRead inputs (LinkTo true file) → Placed (sizes_of file) bases → image ≡ loaded file bases → IsDevice fault → WriteStopped taken failed old new (image_text form image) 0 fault
+    → IsImageFault form bases inputs (record { old = taken old; new = taken new; failed = failed new }) (tool_fault_of_write {A = A} fault)
+IsImageFault-written A taken failed old new form bases inputs file image (write_fault.Device written) read placed made device stopped = (
+  HaveRead-weaker inputs (LinkTo true file) (IsImageCutShort form bases (taken old) (taken new) written) (λ files to. record {
     units = to.units;
     link = to.link;
     placed = Placed-carried to.units file bases to.file_is placed;
-    front = subst (λ hunks. TookFront (taken old) (taken new) (report hunks) 0 written) (direct-carried to.units file bases image to.file_is to.link.typed made) stopped.0;
+    front = subst (λ hunks. TookFront (taken old) (taken new) (image_text form hunks) 0 written) (direct-carried to.units file bases image to.file_is to.link.typed made) stopped.0;
   }) read,
   stopped.1,
 )
-IsImageFault-written A taken failed old new bases inputs file image (write_fault.OutOfMemory written) read placed made device stopped = absurd device
+IsImageFault-written A taken failed old new form bases inputs file image (write_fault.OutOfMemory written) read placed made device stopped = absurd device

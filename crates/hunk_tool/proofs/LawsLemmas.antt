@@ -60,7 +60,7 @@ pub one-value : (one other : List FileHunk) (bytes : List ℕ) → IsLoadOf one 
 one-value one other bytes file same = one-load one other (longwords bytes) file.is_load same.is_load
 
 pub reported-is-placed : ReportedIsPlaced
-reported-is-placed bases old new fault bytes reported refused =
+reported-is-placed form bases old new fault bytes reported refused =
     let first : IsFirstRefusal (sizes_of reported.hunks) bases fault =
     subst (λ hunks. IsFirstRefusal (sizes_of hunks) bases fault) (one-value refused.hunks reported.hunks bytes refused.is_file reported.is_file) refused.first in
     Placed-unrefused (sizes_of reported.hunks) bases reported.placed fault first

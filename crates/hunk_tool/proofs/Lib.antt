@@ -1,11 +1,13 @@
 pub mod BasesLemmas
-pub mod ReportBlockLemmas
+pub mod RecordLemmas
+pub mod RowsLemmas
+pub mod RowBlocksLemmas
 pub mod FaultLineLemmas
 pub mod LawsLemmas
 pub mod FileLawsLemmas
 pub mod LoadLemmas
-pub mod ReportExampleLemmas
-pub mod ReportLemmas
+pub mod ImageTextExampleLemmas
+pub mod ImageTextLemmas
 pub mod CountersLemmas
 pub mod FileDecoderLemmas
 pub mod FileTextLemmas

@@ -28,47 +28,48 @@ use Rattle.hunk_loader.specs.declared.image_reader.ImageFault.TheVariants as ima
 use Rattle.hunk_loader.specs.declared.loading.LoadRefusal.TheVariants as load_refusal
 use Rattle.hunk_loader.proofs.LoadingLemmas.{loaded_from}
 use Rattle.hunk_tool.specs.Load.{IsCutShort, IsLoadFault, IsReported, ends_of}
-use Rattle.hunk_tool.specs.Report.{EndsInside, report}
+use Rattle.hunk_tool.specs.ImageText.{EndsInside, image_text}
+use Rattle.hunk_tool.specs.declared.image_form.ImageForm.{ImageForm}
 use Rattle.hunk_tool.specs.ToolFault.{tool_fault_of_image, tool_fault_of_write}
-use Rattle.hunk_tool.proofs.ReportLemmas.{length-hunks_of}
+use Rattle.hunk_tool.proofs.ImageTextLemmas.{length-hunks_of}
 
 -- ---- what was read
 
 -- If the image was not made, nothing was written.
-pub IsLoadFault-read : (A : Type 0) (bases : List ℕ) (left left_then : Option (List ℕ)) (failed ended : Bool) (taken : Option (List ℕ)) (write_failed : Bool) (fault : ImageFault)
-    → IsImageFault bases left left_then failed ended fault → IsLoadFault {A = A} bases (ends_of left left_then failed ended taken taken write_failed) (tool_fault_of_image fault)
-IsLoadFault-read A bases left left_then failed ended taken write_failed (image_fault.Refused (load_refusal.File fault)) is = (refl, is, Keeps-refl taken)
-IsLoadFault-read A bases left left_then failed ended taken write_failed (image_fault.Refused (load_refusal.Place fault)) is = (is.0, is.1, Keeps-refl taken)
-IsLoadFault-read A bases left left_then failed ended taken write_failed (image_fault.Refused load_refusal.OutOfMemory) is = (refl, Keeps-refl taken)
-IsLoadFault-read A bases left left_then failed ended taken write_failed image_fault.Device is = (refl, is, Keeps-refl taken)
+pub IsLoadFault-read : (A : Type 0) (form : ImageForm) (bases : List ℕ) (left left_then : Option (List ℕ)) (failed ended : Bool) (taken : Option (List ℕ)) (write_failed : Bool) (fault : ImageFault)
+    → IsImageFault bases left left_then failed ended fault → IsLoadFault {A = A} form bases (ends_of left left_then failed ended taken taken write_failed) (tool_fault_of_image fault)
+IsLoadFault-read A form bases left left_then failed ended taken write_failed (image_fault.Refused (load_refusal.File fault)) is = (refl, is, Keeps-refl taken)
+IsLoadFault-read A form bases left left_then failed ended taken write_failed (image_fault.Refused (load_refusal.Place fault)) is = (is.0, is.1, Keeps-refl taken)
+IsLoadFault-read A form bases left left_then failed ended taken write_failed (image_fault.Refused load_refusal.OutOfMemory) is = (refl, Keeps-refl taken)
+IsLoadFault-read A form bases left left_then failed ended taken write_failed image_fault.Device is = (refl, is, Keeps-refl taken)
 
--- Where the image was made, and writing its report stopped.
-pub IsLoadFault-written : (A : Type 0) {W : Type 0} (taken : W → Option (List ℕ)) (failed : W → Bool) (old new : W) (bases : List ℕ) (image : List (ℕ × List ℕ)) (left left_then : Option (List ℕ)) (read_failed ended : Bool) (fault : WriteFault)
-    → IsTrue ended → HasRead left left_then (λ bytes. LoadsAs bases bytes image) → IsDevice fault → WriteStopped taken failed old new (report image) 0 fault
-    → IsLoadFault {A = A} bases (ends_of left left_then read_failed ended (taken old) (taken new) (failed new)) (tool_fault_of_write fault)
-IsLoadFault-written A taken failed old new bases image left left_then read_failed ended (write_fault.Device written) at_end read device stopped = (
+-- Where the image was made, and writing it stopped.
+pub IsLoadFault-written : (A : Type 0) {W : Type 0} (taken : W → Option (List ℕ)) (failed : W → Bool) (old new : W) (form : ImageForm) (bases : List ℕ) (image : List (ℕ × List ℕ)) (left left_then : Option (List ℕ)) (read_failed ended : Bool) (fault : WriteFault)
+    → IsTrue ended → HasRead left left_then (λ bytes. LoadsAs bases bytes image) → IsDevice fault → WriteStopped taken failed old new (image_text form image) 0 fault
+    → IsLoadFault {A = A} form bases (ends_of left left_then read_failed ended (taken old) (taken new) (failed new)) (tool_fault_of_write fault)
+IsLoadFault-written A taken failed old new form bases image left left_then read_failed ended (write_fault.Device written) at_end read device stopped = (
   at_end,
-  HasRead-weaker left left_then _ (IsCutShort bases (taken old) (taken new) written) (λ bytes loads. record {
+  HasRead-weaker left left_then _ (IsCutShort form bases (taken old) (taken new) written) (λ bytes loads. record {
     hunks = loads.hunks;
     is_file = loads.is_file;
     placed = loads.placed;
-    front = subst (λ hunks. TookFront (taken old) (taken new) (report hunks) 0 written) loads.image_is stopped.0;
+    front = subst (λ hunks. TookFront (taken old) (taken new) (image_text form hunks) 0 written) loads.image_is stopped.0;
   }) read,
   stopped.1,
 )
-IsLoadFault-written A taken failed old new bases image left left_then read_failed ended (write_fault.OutOfMemory written) at_end read device stopped = absurd device
+IsLoadFault-written A taken failed old new form bases image left left_then read_failed ended (write_fault.OutOfMemory written) at_end read device stopped = absurd device
 
 -- ---- the image
 
--- The report of an image that was written is that of the file.
-pub IsReported-of : (bases : List ℕ) (image : List (ℕ × List ℕ)) (left left_then old new : Option (List ℕ)) → HasRead left left_then (λ bytes. LoadsAs bases bytes image)
-    → Appends old new (report image) → HasRead left left_then (IsReported bases old new)
-IsReported-of bases image left left_then old new read written =
-    HasRead-weaker left left_then _ (IsReported bases old new) (λ bytes loads. record {
+-- The image that was written is that of the file.
+pub IsReported-of : (form : ImageForm) (bases : List ℕ) (image : List (ℕ × List ℕ)) (left left_then old new : Option (List ℕ)) → HasRead left left_then (λ bytes. LoadsAs bases bytes image)
+    → Appends old new (image_text form image) → HasRead left left_then (IsReported form bases old new)
+IsReported-of form bases image left left_then old new read written =
+    HasRead-weaker left left_then _ (IsReported form bases old new) (λ bytes loads. record {
       hunks = loads.hunks;
       is_file = loads.is_file;
       placed = loads.placed;
-      written = subst (λ hunks. Appends old new (report hunks)) loads.image_is written;
+      written = subst (λ hunks. Appends old new (image_text form hunks)) loads.image_is written;
     }) read
 
 -- A header has at most 65,535 hunks.

@@ -12,6 +12,7 @@ use Rattle.hunk_tool.specs.Direct.{direct}
 use Rattle.hunk_tool.specs.Image.{IsImaged}
 use Rattle.hunk_tool.specs.Link.{IsLinked}
 use Rattle.hunk_tool.specs.Load.{IsReported}
+use Rattle.hunk_tool.specs.declared.image_form.ImageForm.{ImageForm}
 use Rattle.hunk_tool.specs.declared.link_options.LinkOptions.{LinkOptions}
 
 -- ---- as lists, and as maps from addresses to bytes
@@ -28,20 +29,21 @@ MemoryIsDirect =
 
 -- ---- over bytes
 
--- The bytes that linking these files appends, whatever the options are, are a load file whose report,
--- at the same bases, is the one that is written of the memory which the files define.
+-- The bytes that linking these files appends, whatever the options are, are a load file whose image,
+-- at the same bases and in the same form, is the one that is written of the memory which the files
+-- define.
 abbrev pub LinkedIsReported : Type 0
 LinkedIsReported =
-    (options : LinkOptions) (files : List (List ℕ)) (bases file linked image told : List ℕ)
+    (options : LinkOptions) (form : ImageForm) (files : List (List ℕ)) (bases file linked image told : List ℕ)
     → IsLinked options (Some file) (Some (file ++ linked)) files
-    → IsImaged bases (Some image) (Some (image ++ told)) files
-    → IsReported bases (Some image) (Some (image ++ told)) linked
+    → IsImaged form bases (Some image) (Some (image ++ told)) files
+    → IsReported form bases (Some image) (Some (image ++ told)) linked
 
--- No other report can be written of them.
+-- No other image can be written of them in that form.
 abbrev pub ReportsAgree : Type 0
 ReportsAgree =
-    (options : LinkOptions) (files : List (List ℕ)) (bases file linked report told image other : List ℕ)
+    (options : LinkOptions) (form : ImageForm) (files : List (List ℕ)) (bases file linked before told image other : List ℕ)
     → IsLinked options (Some file) (Some (file ++ linked)) files
-    → IsReported bases (Some report) (Some (report ++ told)) linked
-    → IsImaged bases (Some image) (Some (image ++ other)) files
+    → IsReported form bases (Some before) (Some (before ++ told)) linked
+    → IsImaged form bases (Some image) (Some (image ++ other)) files
     → told ≡ other

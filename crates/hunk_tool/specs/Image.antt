@@ -1,5 +1,4 @@
--- What it means that the report of the memory that object files define was written, or why it was
--- not.
+-- What it means that the memory that object files define was written, or why it was not.
 use Rattle.std.specs.Prelude.{ℕ, List, map, true, IsTrue, Option}
 use Rattle.std.specs.Io.KnownBytes.{Appends, Keeps}
 use Rattle.hunk_words.specs.Streams.{TookFront}
@@ -10,7 +9,8 @@ use Rattle.hunk_loader.specs.declared.places.PlaceFault.{PlaceFault}
 use Rattle.hunk_tool.specs.Direct.{direct}
 use Rattle.hunk_tool.specs.Inputs.{HaveRead, Input}
 use Rattle.hunk_tool.specs.Link.{DoLink, IsUnlinked, Taken}
-use Rattle.hunk_tool.specs.Report.{report}
+use Rattle.hunk_tool.specs.ImageText.{image_text}
+use Rattle.hunk_tool.specs.declared.image_form.ImageForm.{ImageForm}
 use Rattle.hunk_tool.specs.declared.tool_fault.ToolFault.{ToolFault}
 use Rattle.hunk_tool.specs.declared.tool_fault.ToolFault.TheVariants.{Place, Output}
 
@@ -18,20 +18,21 @@ use Rattle.hunk_tool.specs.declared.tool_fault.ToolFault.TheVariants.{Place, Out
 abbrev pub ranked_sizes : List ObjectUnit → List ℕ
 ranked_sizes units = map (λ ranked. ranked.hunk.size) (hunks_of units)
 
--- The object files link, and the report of the memory that their units define at these placed bases
--- was written.
-pub record IsImaged (bases : List ℕ) (old new : Option (List ℕ)) (files : List (List ℕ)) : Type 0 where
+-- The object files link, and the memory that their units define at these placed bases was written in
+-- this form.
+pub record IsImaged (form : ImageForm) (bases : List ℕ) (old new : Option (List ℕ)) (files : List (List ℕ)) : Type 0 where
   pub units : List ObjectUnit
   pub link : DoLink true files units
   pub placed : Placed (ranked_sizes units) bases
-  pub written : Appends old new (report (direct units bases))
+  pub written : Appends old new (image_text form (direct units bases))
 
--- They link and are placed, and the writer took exactly the first `written` bytes of the report.
-pub record IsImageCutShort (bases : List ℕ) (old new : Option (List ℕ)) (written : ℕ) (files : List (List ℕ)) : Type 0 where
+-- They link and are placed, and the writer took exactly the first `written` bytes of the memory in
+-- this form.
+pub record IsImageCutShort (form : ImageForm) (bases : List ℕ) (old new : Option (List ℕ)) (written : ℕ) (files : List (List ℕ)) : Type 0 where
   pub units : List ObjectUnit
   pub link : DoLink true files units
   pub placed : Placed (ranked_sizes units) bases
-  pub front : TookFront old new (report (direct units bases)) 0 written
+  pub front : TookFront old new (image_text form (direct units bases)) 0 written
 
 -- They link, and their hunks cannot be placed at the bases, with this as the first fault.
 pub record AreNotPlaced (bases : List ℕ) (fault : PlaceFault) (files : List (List ℕ)) : Type 0 where
@@ -39,9 +40,9 @@ pub record AreNotPlaced (bases : List ℕ) (fault : PlaceFault) (files : List (L
   pub link : DoLink true files units
   pub first : IsFirstRefusal (ranked_sizes units) bases fault
 
--- Why the report was not written, or not in full. Nothing was written before all inputs were read,
+-- Why the memory was not written in this form, or not in full. Nothing was written before all inputs were read,
 -- their units linked and their hunks placed.
-abbrev pub IsImageFault : {A : Type 0} → List ℕ → List Input → Taken → ToolFault A → Type 0
-IsImageFault bases inputs taken (Place fault) = HaveRead inputs (AreNotPlaced bases fault) × Keeps taken.old taken.new
-IsImageFault bases inputs taken (Output written) = HaveRead inputs (IsImageCutShort bases taken.old taken.new written) × IsTrue taken.failed
-IsImageFault bases inputs taken fault = IsUnlinked true inputs fault × Keeps taken.old taken.new
+abbrev pub IsImageFault : {A : Type 0} → ImageForm → List ℕ → List Input → Taken → ToolFault A → Type 0
+IsImageFault form bases inputs taken (Place fault) = HaveRead inputs (AreNotPlaced bases fault) × Keeps taken.old taken.new
+IsImageFault form bases inputs taken (Output written) = HaveRead inputs (IsImageCutShort form bases taken.old taken.new written) × IsTrue taken.failed
+IsImageFault form bases inputs taken fault = IsUnlinked true inputs fault × Keeps taken.old taken.new

@@ -10,6 +10,7 @@ use Rattle.hunk_loader.specs.ImageReader.{IsRefused}
 use Rattle.hunk_tool.specs.FileDecoder.{IsRefused as IsFileRefused}
 use Rattle.hunk_tool.specs.FileValue.{FileValue, IsOfItsKind}
 use Rattle.hunk_tool.specs.Load.{IsReported}
+use Rattle.hunk_tool.specs.declared.image_form.ImageForm.{ImageForm}
 
 -- What is rejected is not the beginning of a load file, and not one if it is rejected at its end.
 abbrev pub RefusedBeginsNone : Type 0
@@ -20,9 +21,11 @@ RefusedBeginsNone =
 abbrev pub RefusedForOne : Type 0
 RefusedForOne = (fault other : Fault) (ended also_ended : Bool) (bytes : List ℕ) → IsRefused fault ended bytes → IsRefused other also_ended bytes → fault ≡ other
 
--- What is reported has hunks that are placed, and is not rejected for its bases.
+-- What is written, in any form, has hunks that are placed, and is not rejected for its bases.
 abbrev pub ReportedIsPlaced : Type 0
-ReportedIsPlaced = (bases : List ℕ) (old new : Option (List ℕ)) (fault : PlaceFault) (bytes : List ℕ) → IsReported bases old new bytes → IsNotPlaced bases bytes fault → ⊥
+ReportedIsPlaced =
+    (form : ImageForm) (bases : List ℕ) (old new : Option (List ℕ)) (fault : PlaceFault) (bytes : List ℕ)
+    → IsReported form bases old new bytes → IsNotPlaced bases bytes fault → ⊥
 
 -- Bases are rejected for one fault.
 abbrev pub NotPlacedForOne : Type 0

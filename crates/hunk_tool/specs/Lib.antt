@@ -3,7 +3,9 @@ pub mod FaultLine
 pub mod Laws
 pub mod Load
 pub mod Phrase
-pub mod Report
+pub mod Record
+pub mod Rows
+pub mod ImageText
 pub mod ToolFault
 pub mod Counters
 pub mod FileValue

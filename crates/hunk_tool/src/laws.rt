@@ -36,8 +36,8 @@ pub fn loaded_is_direct()
 {}
 
 /// The headline, over bytes: whatever [`link_run`](crate::link_run) appends, read in any pieces and
-/// loaded by [`load_run`](crate::load_run), has the report that [`image_run`](crate::image_run)
-/// writes of the same inputs, and no other.
+/// loaded by [`load_run_with`](crate::load_run_with), has the image, in each form, that
+/// [`image_run_with`](crate::image_run_with) writes of the same inputs, and no other.
 pub fn linked_is_reported()
     ensures reported { LinkedIsReported }
     ensures one_report { ReportsAgree }

@@ -10,9 +10,13 @@
 //! - `inputs`: the object files that an operation reads.
 //! - `link`: links object files and writes the load file.
 //! - `link_options`: how object files are linked, and how their load file is written.
-//! - `image`: writes the report of the memory that object files define.
-//! - `load`: loads a file and writes the report of its memory.
-//! - `report`: the report of an image.
+//! - `image`: writes the memory that object files define.
+//! - `load`: loads a file and writes its image.
+//! - `image_form`: the forms in which an image is written.
+//! - `image_text`: writes an image in one of its forms.
+//! - `rows`: the lines that hold the bytes of a hunk.
+//! - `record`: the lines of S-records.
+//! - `hex_digits`: the hexadecimal digits of bytes.
 //! - `tool_fault`: why an operation failed.
 //! - `fault_line`: the line that reports why an operation failed.
 //! - `link_line`: the line that reports why units do not link.
@@ -26,7 +30,10 @@ mod counting;
 pub mod fault_line;
 mod file_decoder;
 mod first_bytes;
+mod hex_digits;
 pub mod image;
+pub mod image_form;
+mod image_text;
 mod inputs;
 pub mod laws;
 pub mod link;
@@ -34,7 +41,8 @@ mod link_line;
 pub mod link_options;
 pub mod load;
 pub mod phrase;
-mod report;
+mod record;
+mod rows;
 pub mod show;
 pub mod tool_fault;
 
@@ -43,10 +51,11 @@ pub use check::check_run;
 pub use counters::{LoadCounter, ObjectCounter};
 pub use fault_line::{write_fault, write_line};
 pub use hunk_loader::PlaceFault;
-pub use image::image_run;
+pub use image::{image_run, image_run_with};
+pub use image_form::ImageForm;
 pub use link::{link_inputs, link_run, link_to_vec};
 pub use link_options::LinkOptions;
-pub use load::load_run;
+pub use load::{load_run, load_run_with};
 pub use phrase::Phrase;
 pub use show::show_run;
 pub use tool_fault::{ToolFault, status_of};

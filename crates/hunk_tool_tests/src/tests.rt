@@ -8,6 +8,7 @@
 //! - `files`: the bytes of files, and what loading them writes.
 //! - `kept`: errors that are returned again.
 //! - `memory`: allocations that fail.
+//! - `records`: images as S-records.
 //! - `refusals`: addresses that are rejected.
 //! - `reports`: files that are loaded.
 //! - `streaming`: what `ImageLoader` allocates.
@@ -22,6 +23,7 @@ mod faults;
 mod files;
 mod kept;
 mod memory;
+mod records;
 mod refusals;
 mod reports;
 mod streaming;

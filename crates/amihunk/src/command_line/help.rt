@@ -17,7 +17,11 @@ For each hunk it prints a line with the hunk's number, address and size in bytes
 bytes, at most 16 in a line, after the address of the first of them. For example,
 `amihunk load --at 10000 FILE` prints for a file of one hunk
   hunk 0 at 00010000 size 4
-  00010000 4e754e71";
+  00010000 4e754e71
+and `amihunk load --at 10000 --srec FILE` the same bytes as S-records
+  S00A0000616D6968756E6B08
+  S309000100004E754E7173
+  S70500000000FA";
 
 /// The end of the help of `image`.
 pub const IMAGE: &str = "\

@@ -1,7 +1,9 @@
 use super::{Request, read_words};
-use hunk_tool::LinkOptions;
+use hunk_tool::{ImageForm, LinkOptions};
 use std::alloc::Global;
 use std::process::Abort;
+
+mod answers;
 
 fn options_of(strip: bool, short: bool, trim: bool) -> LinkOptions {
     LinkOptions { strip, short, trim }
@@ -128,22 +130,46 @@ fn reads_the_form_of_the_load_file(rt: HostRuntime) {
 
 #[test]
 fn reads_image(rt: HostRuntime) {
-    let lines: [(&[&str], &[&str]); 4] = [
-        (&["amihunk", "image", "--at", "0,100", "x"], &["x"]),
+    let report = ImageForm::Report;
+    let records = ImageForm::SRecords;
+    let lines: [(&[&str], ImageForm, &[&str]); 7] = [
+        (&["amihunk", "image", "--at", "0,100", "x"], report, &["x"]),
         (
             &["amihunk", "image", "--at", "0,100", "x", "y", "x"],
+            report,
             &["x", "y", "x"],
         ),
-        (&["amihunk", "image", "x", "--at=0,100", "y"], &["x", "y"]),
+        (
+            &["amihunk", "image", "x", "--at=0,100", "y"],
+            report,
+            &["x", "y"],
+        ),
         (
             &["amihunk", "image", "x", "y", "--at", "0,100", "--", "--at"],
+            report,
             &["x", "y", "--at"],
         ),
+        (
+            &["amihunk", "image", "--at", "0,100", "--srec", "x"],
+            records,
+            &["x"],
+        ),
+        (
+            &["amihunk", "image", "x", "y", "--srec", "--at=0,100"],
+            records,
+            &["x", "y"],
+        ),
+        (
+            &["amihunk", "image", "--at=0,100", "x", "--", "--srec"],
+            report,
+            &["x", "--srec"],
+        ),
     ];
-    for (words, names) in &lines {
+    for (words, wanted, names) in &lines {
         match read_words(rt.alloc(), words) {
-            Request::Image { list, files } => {
+            Request::Image { list, form, files } => {
                 assert!(rt; list == "0,100", "{words:?}");
+                assert_eq!(rt; form, *wanted, "{words:?}");
                 assert_eq!(rt; files.as_slice(), *names);
             }
             request => panic!(rt; "{words:?}: {request:?}"),
@@ -153,15 +179,23 @@ fn reads_image(rt: HostRuntime) {
 
 #[test]
 fn reads_load(rt: HostRuntime) {
-    let lines: [&[&str]; 3] = [
-        &["amihunk", "load", "--at", "10000", "x"],
-        &["amihunk", "load", "x", "--at=10000"],
-        &["amihunk", "load", "--at", "10000", "--", "x"],
+    let report = ImageForm::Report;
+    let records = ImageForm::SRecords;
+    let lines: [(&[&str], ImageForm); 5] = [
+        (&["amihunk", "load", "--at", "10000", "x"], report),
+        (&["amihunk", "load", "x", "--at=10000"], report),
+        (&["amihunk", "load", "--at", "10000", "--", "x"], report),
+        (
+            &["amihunk", "load", "--at", "10000", "--srec", "x"],
+            records,
+        ),
+        (&["amihunk", "load", "--srec", "x", "--at=10000"], records),
     ];
-    for words in &lines {
+    for (words, wanted) in &lines {
         match read_words(rt.alloc(), words) {
-            Request::Load { list, file } => {
+            Request::Load { list, form, file } => {
                 assert!(rt; list == "10000" && file == "x", "{words:?}");
+                assert_eq!(rt; form, *wanted, "{words:?}");
             }
             request => panic!(rt; "{words:?}: {request:?}"),
         }
@@ -178,210 +212,5 @@ fn reads_a_file_to_be_checked_or_shown(rt: HostRuntime) {
             _ => false,
         };
         assert!(rt; is_asked, "{words:?}");
-    }
-}
-
-#[test]
-fn refuses_what_is_no_command_line(rt: HostRuntime) {
-    let lines: [(&[&str], &str); 18] = [
-        (
-            &["amihunk"],
-            "error: 'amihunk' requires a subcommand but one was not provided\n  \
-             [subcommands: link, load, image, check, show]\n\nUsage: amihunk <COMMAND>\n\n\
-             For more information, try '--help'.\n",
-        ),
-        (
-            &["amihunk", "link", "x"],
-            "error: the following required arguments were not provided:\n  --out <OUT>\n\n\
-             Usage: amihunk link --out <OUT> <FILE>...\n\nFor more information, try '--help'.\n",
-        ),
-        (
-            &["amihunk", "link", "--out", "o", "--strip"],
-            "error: the following required arguments were not provided:\n  <FILE>...\n\n\
-             Usage: amihunk link --out <OUT> --strip <FILE>...\n\n\
-             For more information, try '--help'.\n",
-        ),
-        (
-            &["amihunk", "link", "x", "--out"],
-            "error: a value is required for '--out <OUT>' but none was supplied\n\n\
-             For more information, try '--help'.\n",
-        ),
-        (
-            &["amihunk", "link", "--out", "o", "x", "--out", "y"],
-            "error: the argument '--out <OUT>' cannot be used multiple times\n\n\
-             Usage: amihunk link [OPTIONS] --out <OUT> <FILE>...\n\n\
-             For more information, try '--help'.\n",
-        ),
-        (
-            &["amihunk", "link", "--out", "o", "--strip", "x", "--strip"],
-            "error: the argument '--strip' cannot be used multiple times\n\n\
-             Usage: amihunk link [OPTIONS] --out <OUT> <FILE>...\n\n\
-             For more information, try '--help'.\n",
-        ),
-        (
-            &["amihunk", "link", "--short", "--short", "--out", "o", "x"],
-            "error: the argument '--short' cannot be used multiple times\n\n\
-             Usage: amihunk link [OPTIONS] --out <OUT> <FILE>...\n\n\
-             For more information, try '--help'.\n",
-        ),
-        (
-            &[
-                "amihunk", "link", "--trim", "--out", "o", "--short", "--trim", "x",
-            ],
-            "error: the argument '--trim' cannot be used multiple times\n\n\
-             Usage: amihunk link [OPTIONS] --out <OUT> <FILE>...\n\n\
-             For more information, try '--help'.\n",
-        ),
-        (
-            &["amihunk", "link", "--out", "o", "--at", "0", "x"],
-            "error: unexpected argument '--at' found\n\n  \
-             tip: to pass '--at' as a value, use '-- --at'\n\n\
-             Usage: amihunk link --out <OUT> <FILE>...\n\nFor more information, try '--help'.\n",
-        ),
-        (
-            &["amihunk", "load", "x"],
-            "error: the following required arguments were not provided:\n  --at <LIST>\n\n\
-             Usage: amihunk load --at <LIST> <FILE>\n\nFor more information, try '--help'.\n",
-        ),
-        (
-            &["amihunk", "load", "--at", "10000", "x", "y"],
-            "error: unexpected argument 'y' found\n\n\
-             Usage: amihunk load --at <LIST> <FILE>\n\nFor more information, try '--help'.\n",
-        ),
-        (
-            &["amihunk", "load", "--at", "10000", "--fast", "x"],
-            "error: unexpected argument '--fast' found\n\n  \
-             tip: to pass '--fast' as a value, use '-- --fast'\n\n\
-             Usage: amihunk load --at <LIST> <FILE>\n\nFor more information, try '--help'.\n",
-        ),
-        (
-            &["amihunk", "image", "x", "y"],
-            "error: the following required arguments were not provided:\n  --at <LIST>\n\n\
-             Usage: amihunk image --at <LIST> <FILE>...\n\nFor more information, try '--help'.\n",
-        ),
-        (
-            &["amihunk", "image", "--at", "0"],
-            "error: the following required arguments were not provided:\n  <FILE>...\n\n\
-             Usage: amihunk image --at <LIST> <FILE>...\n\nFor more information, try '--help'.\n",
-        ),
-        (
-            &["amihunk", "check"],
-            "error: the following required arguments were not provided:\n  <FILE>\n\n\
-             Usage: amihunk check <FILE>\n\nFor more information, try '--help'.\n",
-        ),
-        (
-            &["amihunk", "check", "x", "y"],
-            "error: unexpected argument 'y' found\n\nUsage: amihunk check <FILE>\n\n\
-             For more information, try '--help'.\n",
-        ),
-        (
-            &["amihunk", "show"],
-            "error: the following required arguments were not provided:\n  <FILE>\n\n\
-             Usage: amihunk show <FILE>\n\nFor more information, try '--help'.\n",
-        ),
-        (
-            &["amihunk", "x"],
-            "error: unrecognized subcommand 'x'\n\nUsage: amihunk <COMMAND>\n\n\
-             For more information, try '--help'.\n",
-        ),
-    ];
-    for (words, text) in &lines {
-        let Request::Refused(told) = read_words(rt.alloc(), words) else {
-            panic!(rt; "{words:?}");
-        };
-        assert_eq!(rt; told.as_str(), *text);
-    }
-}
-
-#[test]
-fn gives_help(rt: HostRuntime) {
-    let lines: [(&[&str], &str); 6] = [
-        (
-            &["amihunk", "--help"],
-            "An Amiga hunk linker and loader\n\nUsage: amihunk <COMMAND>\n\nCommands:\n  \
-             link   Links object files, and writes the load file\n  \
-             load   Loads a file at addresses, and prints the bytes of its hunks\n  \
-             image  Links object files at addresses, and prints the bytes of their hunks\n  \
-             check  Checks a file, and prints which kind it is and how many units and hunks it has\n  \
-             show   Prints a listing of the units and hunks of a file, and of what is in them\n\n\
-             Options:\n  -h, --help  Print help\n",
-        ),
-        (
-            &["amihunk", "link", "--help"],
-            "Links object files, and writes the load file\n\n\
-             Usage: amihunk link [OPTIONS] --out <OUT> <FILE>...\n\n\
-             Arguments:\n  <FILE>...  Object files, in the order of linking\n\n\
-             Options:\n      \
-             --out <OUT>  The load file to write\n      \
-             --strip      Leaves out symbols and debug blocks\n      \
-             --short      Writes the short form, with relocations in 16-bit lists where they fit\n      \
-             --trim       Leaves out zero longwords at the end of each hunk\n  \
-             -h, --help       Print help\n\n\
-             It writes to OUT one load file with the hunks of all the object files, in the order of \
-             linking: the\nfiles in the order given, the units in the order of a file, and the hunks \
-             in the order of a unit.\n\n\
-             Neither `--short` nor `--trim` changes the bytes of the hunks in memory, but not every old \
-             loader\nreads the short form, which has blocks of type 1020.\n\n\
-             For example, this writes a short and trimmed load file without symbols and debug blocks:\n  \
-             amihunk link --out program --strip --short --trim startup.o main.o\n",
-        ),
-        (
-            &["amihunk", "load", "--help"],
-            "Loads a file at addresses, and prints the bytes of its hunks\n\n\
-             Usage: amihunk load --at <LIST> <FILE>\n\nArguments:\n  <FILE>  A load file\n\n\
-             Options:\n      \
-             --at <LIST>  The address of each hunk, in hexadecimal, with commas between\n  \
-             -h, --help       Print help\n\n\
-             For each hunk it prints a line with the hunk's number, address and size in bytes, and \
-             then the\nbytes, at most 16 in a line, after the address of the first of them. For \
-             example,\n`amihunk load --at 10000 FILE` prints for a file of one hunk\n  \
-             hunk 0 at 00010000 size 4\n  00010000 4e754e71\n",
-        ),
-        (
-            &["amihunk", "image", "--help"],
-            "Links object files at addresses, and prints the bytes of their hunks\n\n\
-             Usage: amihunk image --at <LIST> <FILE>...\n\n\
-             Arguments:\n  <FILE>...  Object files, in the order of linking\n\n\
-             Options:\n      \
-             --at <LIST>  The address of each hunk, in hexadecimal, with commas between\n  \
-             -h, --help       Print help\n\n\
-             It prints what `load` prints of the load file of the object files. LIST has one address \
-             for each hunk,\nin the order of linking: the files in the order given, the units in the \
-             order of a file, and the hunks\nin the order of a unit.\n",
-        ),
-        (
-            &["amihunk", "check", "--help"],
-            "Checks a file, and prints which kind it is and how many units and hunks it has\n\n\
-             Usage: amihunk check <FILE>\n\n\
-             Arguments:\n  <FILE>  An object file or a load file\n\n\
-             Options:\n  -h, --help  Print help\n\n\
-             It prints one line, which for an object file has the number of units, and of the hunks \
-             of all\nunits, for example\n  object file: 1 units, 2 hunks\nand for a load file\n  \
-             load file: 2 hunks\n",
-        ),
-        (
-            &["amihunk", "show", "--help"],
-            "Prints a listing of the units and hunks of a file, and of what is in them\n\n\
-             Usage: amihunk show <FILE>\n\n\
-             Arguments:\n  <FILE>  An object file or a load file\n\n\
-             Options:\n  -h, --help  Print help\n\n\
-             For example, it prints for an object file\n  object file: 1 units, 2 hunks\n  \
-             unit 0 \"test\"\n  hunk 0 code any 2 longwords \"CODE\"\n    \
-             00000002 adds hunk 1\n    define \"main\" at 00000000\n    \
-             symbol \"loop\" 00000006\n    debug 1\n  hunk 1 bss chip 2 longwords \"\"\n\
-             and for a load file\n  load file: 1 hunks\n  \
-             hunk 0 code any 2 longwords, 1 stored\n\n\
-             The first line is that of `check`. The line of a hunk has its number, kind, memory and \
-             size, and\nthen its name, or how many longwords of it the file stores. The lines below \
-             it are the offsets to\nwhich the address of a hunk or the value of a name is added, the \
-             names that the hunk defines, its\nsymbols, and the number of longwords in each debug \
-             block. Offsets, addresses and values are\nhexadecimal.\n",
-        ),
-    ];
-    for (words, text) in &lines {
-        let Request::Help(told) = read_words(rt.alloc(), words) else {
-            panic!(rt; "{words:?}");
-        };
-        assert_eq!(rt; told.as_str(), *text);
     }
 }

@@ -1,9 +1,9 @@
-//! The report of object files.
+//! The memory of object files.
 
 use crate::samples::{Broken, CALLEE, CALLER};
 use hunk_commands::Failure;
 use hunk_commands::image::image_to;
-use hunk_tool::{PlaceFault, ToolFault};
+use hunk_tool::{ImageForm, PlaceFault, ToolFault};
 use hunk_words::Watched;
 
 #[test]
@@ -15,28 +15,37 @@ fn reports_the_memory_of_object_files(rt: HostRuntime) {
         Watched::new(CALLER.as_slice()),
         Watched::new(CALLEE.as_slice()),
     ];
-    let text = image_to(alloc, &mut inputs, &[0x1_0000, 0x2_0000], Vec::new(alloc));
+    let bases = [0x1_0000, 0x2_0000];
+    let form = ImageForm::Report;
+    let text = image_to(alloc, &mut inputs, &bases, form, Vec::new(alloc));
     assert!(rt; text.is_ok_and(|bytes| bytes.as_slice() == lines.as_bytes()));
 }
 
 #[test]
 fn tells_why_there_is_no_report(rt: HostRuntime) {
     let alloc = rt.alloc();
+    let form = ImageForm::Report;
     let mut unlinked = [Watched::new(CALLER.as_slice())];
-    let text = image_to(alloc, &mut unlinked, &[0], Vec::new(alloc));
+    let text = image_to(alloc, &mut unlinked, &[0], form, Vec::new(alloc));
     assert!(rt; matches!(text, Err(Failure::Tool(ToolFault::Link(_)))));
     let mut unplaced = [Watched::new(CALLEE.as_slice())];
-    let text = image_to(alloc, &mut unplaced, &[], Vec::new(alloc));
+    let text = image_to(alloc, &mut unplaced, &[], form, Vec::new(alloc));
     assert_eq!(rt;
         text.err(),
         Some(Failure::Tool(ToolFault::Place(PlaceFault::WrongCount)))
     );
-    let text = image_to(alloc, &mut [Watched::new(Broken)], &[0], Vec::new(alloc));
+    let text = image_to(
+        alloc,
+        &mut [Watched::new(Broken)],
+        &[0],
+        form,
+        Vec::new(alloc),
+    );
     assert_eq!(rt;
         text.err(),
         Some(Failure::Tool(ToolFault::InputDevice { file: 0 }))
     );
     let mut unwritten = [Watched::new(CALLEE.as_slice())];
-    let text = image_to(alloc, &mut unwritten, &[0], Broken);
+    let text = image_to(alloc, &mut unwritten, &[0], form, Broken);
     assert_eq!(rt; text.err(), Some(Failure::Printing));
 }

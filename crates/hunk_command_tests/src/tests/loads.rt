@@ -1,16 +1,22 @@
-//! The report of a load file.
+//! The image of a load file.
 
 use crate::samples::{Broken, ONE_HUNK};
 use hunk_commands::Failure;
 use hunk_commands::load::load_to;
-use hunk_tool::ToolFault;
+use hunk_tool::{ImageForm, ToolFault};
 use hunk_words::{Fault, Reason};
 
 #[test]
 fn reports_a_file(rt: HostRuntime) {
     let alloc = rt.alloc();
     let lines = "hunk 0 at 00010000 size 4\n00010000 4e754e71\n";
-    let text = load_to(alloc, ONE_HUNK.as_slice(), &[0x1_0000], Vec::new(alloc));
+    let bases = [0x1_0000];
+    let report = ImageForm::Report;
+    let text = load_to(alloc, ONE_HUNK.as_slice(), &bases, report, Vec::new(alloc));
+    assert!(rt; text.is_ok_and(|bytes| bytes.as_slice() == lines.as_bytes()));
+    let lines = "S00A0000616D6968756E6B08\nS309000100004E754E7173\nS70500000000FA\n";
+    let records = ImageForm::SRecords;
+    let text = load_to(alloc, ONE_HUNK.as_slice(), &bases, records, Vec::new(alloc));
     assert!(rt; text.is_ok_and(|bytes| bytes.as_slice() == lines.as_bytes()));
 }
 
@@ -18,7 +24,8 @@ fn reports_a_file(rt: HostRuntime) {
 fn tells_why_there_is_no_report(rt: HostRuntime) {
     let alloc = rt.alloc();
     let bases = [0x1_0000];
-    let cut = load_to(alloc, &ONE_HUNK[..38], &bases, Vec::new(alloc));
+    let form = ImageForm::Report;
+    let cut = load_to(alloc, &ONE_HUNK[..38], &bases, form, Vec::new(alloc));
     let fault = Fault {
         place: 9,
         reason: Reason::PartialLongword,
@@ -27,11 +34,11 @@ fn tells_why_there_is_no_report(rt: HostRuntime) {
         cut.err(),
         Some(Failure::Tool(ToolFault::Input { file: 0, fault }))
     );
-    let unread = load_to(alloc, Broken, &bases, Vec::new(alloc));
+    let unread = load_to(alloc, Broken, &bases, form, Vec::new(alloc));
     assert_eq!(rt;
         unread.err(),
         Some(Failure::Tool(ToolFault::InputDevice { file: 0 }))
     );
-    let unwritten = load_to(alloc, ONE_HUNK.as_slice(), &bases, Broken);
+    let unwritten = load_to(alloc, ONE_HUNK.as_slice(), &bases, form, Broken);
     assert_eq!(rt; unwritten.err(), Some(Failure::Printing));
 }

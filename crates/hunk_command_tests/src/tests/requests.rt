@@ -3,6 +3,7 @@
 use crate::fake_files::{FakeFiles, Log};
 use crate::samples::PLAIN;
 use hunk_commands::{Request, answer};
+use hunk_tool::ImageForm;
 use hunk_words::Watched;
 use std::alloc::Global;
 use std::process::Abort;
@@ -63,6 +64,7 @@ fn tells_why_there_is_no_image(rt: HostRuntime) -> Result<(), Fail> {
     for (list, status, line) in lists {
         let request = Request::Image {
             list,
+            form: ImageForm::Report,
             files: ["no-such-file"].to_vec(rt.alloc())?,
         };
         let mut errors = Watched::new(Vec::new(rt.alloc()));

@@ -19,6 +19,15 @@ pub(crate) fn with_word(
     Ok(bytes_of(alloc, &other, &[])?)
 }
 
+/// The bytes of a load file of one hunk of this size, in longwords, and these longwords.
+pub(crate) fn one_hunk(alloc: Global, size: u32, content: &[u32]) -> Result<Vec<u8>, Fail> {
+    let mut words = [0x0000_03F3, 0, 1, 0, 0, size, 0x0000_03E9].to_vec(alloc)?;
+    words.push(u32::try_from(content.len())?)?;
+    words.extend_from_slice(content)?;
+    words.push(0x0000_03F2)?;
+    Ok(bytes_of(alloc, &words, &[])?)
+}
+
 /// Loads these bytes in pieces of each size, and compares the result and the text that was written.
 pub(crate) fn loads_to(
     rt: &impl Abort,

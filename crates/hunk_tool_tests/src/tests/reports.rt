@@ -1,6 +1,6 @@
 //! Files that are loaded.
 
-use super::files::{loads_to, with_word};
+use super::files::{loads_to, one_hunk, with_word};
 use hunk_test_support::load_words::{EVEN_WORDS, NO_WORDS, THREE_HUNKS, TWO_HUNKS, ZEROS};
 use hunk_test_support::words::{BEHIND_CONTENT, LINKED, LINKED_ALONE, SCATTERED, SHORT, WRITTEN};
 use hunk_test_support::{BASE, FILE, REPORT, bytes_of};
@@ -78,27 +78,11 @@ const OTHER_SIZES: [(u32, &[u32], u32, &str); 5] = [
     (0, &[], 0, "hunk 0 at 00000000 size 0\n"),
 ];
 
-// Loads a hunk of this size and these longwords.
-fn loads_hunk(
-    rt: &impl Abort,
-    alloc: Global,
-    size: u32,
-    content: &[u32],
-    base: u32,
-    text: &str,
-) -> Result<(), Fail> {
-    let mut words = [0x0000_03F3, 0, 1, 0, 0, size, 0x0000_03E9].to_vec(alloc)?;
-    words.push(u32::try_from(content.len())?)?;
-    words.extend_from_slice(content)?;
-    words.push(0x0000_03F2)?;
-    let bytes = bytes_of(alloc, &words, &[])?;
-    loads_to(rt, alloc, &bytes, &[base], Ok(()), text)
-}
-
 #[test]
 fn loads_hunks_of_other_sizes(rt: HostRuntime) -> Result<(), Fail> {
     for (size, content, base, text) in OTHER_SIZES {
-        loads_hunk(&rt, rt.alloc(), size, content, base, text)?;
+        let bytes = one_hunk(rt.alloc(), size, content)?;
+        loads_to(&rt, rt.alloc(), &bytes, &[base], Ok(()), text)?;
     }
     Ok(())
 }
@@ -107,8 +91,8 @@ fn loads_hunks_of_other_sizes(rt: HostRuntime) -> Result<(), Fail> {
 const SCATTERED_REPORT: &str = "hunk 0 at 00001000 size 12\n00001000 000020000000100000002004\n\
                                 hunk 1 at 00002000 size 4\n00002000 00000000\n";
 
-// An empty hunk between two others, the first of which adds the address of the last.
-const EMPTY_BETWEEN: [u32; 26] = [
+/// An empty hunk between two others, the first of which adds the address of the last.
+pub(crate) const EMPTY_BETWEEN: [u32; 26] = [
     0x3F3,
     0,
     3,

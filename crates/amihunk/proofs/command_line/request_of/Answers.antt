@@ -3,7 +3,8 @@ use Rattle.clap.specs.Walk.{texts}
 use Rattle.clap.specs.Words.{Text, found_of, one_text, rows_of, subcommand_rows_of}
 use Rattle.clap.specs.declared.parser.matches.Found.{Found}
 use Rattle.clap.proofs.WalkLemmas.{one_text-rows}
-use Rattle.amihunk.proofs.CommandLineValueLemmas.{Reads, says_image, says_link}
+use Rattle.amihunk.specs.CommandLine.{is_srec}
+use Rattle.amihunk.proofs.CommandLineValueLemmas.{Reads, says_image, says_link, says_load}
 use Rattle.amihunk.proofs.command_line.request_of.Goals as goal
 
 -- the value of a flag that was read, by the rows
@@ -30,19 +31,24 @@ returns-in_ok-files_of-in-Some-link-default c =
     files.ensures
 
 pub returns-in-Some-load-default : goal.returns-in-Some-load-default
-returns-in-Some-load-default c = record {
-  of_file = record {
-    rows = rows_of (found_of c.in-Some-load-default.values.now);
-    called = search rules;
-    file_is = c.value_of-in-Some-load-default-2.ensures;
-  };
-  list_is = c.value_of-in-Some-load-default.ensures;
-}
+returns-in-Some-load-default c =
+    let found = found_of c.in-Some-load-default.values.now in
+    let called : subcommand_rows_of c.args.matches.now ≡ Some (codes "load", rows_of found) = search rules in
+    let srec = c.get_flag-in-Some-load-default in
+    let form = c.form_of in
+    says_load (subcommand_rows_of c.args.matches.now) (rows_of found) c.requires called c.value_of-in-Some-load-default.result.now form.result
+    c.value_of-in-Some-load-default-2.result.now c.value_of-in-Some-load-default.ensures
+    (reads found (codes "srec") (is_srec form.result) (λ is. form.ensures ∙ srec.ensures.value is) (λ is. form.ensures ∙ srec.ensures.other is))
+    c.value_of-in-Some-load-default-2.ensures
 
 pub returns-in_ok-files_of-in-Some-image-default : goal.returns-in_ok-files_of-in-Some-image-default
 returns-in_ok-files_of-in-Some-image-default c =
     let found = found_of c.in-Some-image-default.values.now in
     let called : subcommand_rows_of c.args.matches.now ≡ Some (codes "image", rows_of found) = search rules in
+    let srec = c.get_flag-in-Some-image-default in
+    let form = c.form_of-in-Some-image-default in
     let files = c.in_ok-files_of-in-Some-image-default in
-    says_image (subcommand_rows_of c.args.matches.now) (rows_of found) c.requires called c.value_of-in-Some-image-default.result.now (texts files.field-0.items)
-    c.value_of-in-Some-image-default.ensures files.ensures
+    says_image (subcommand_rows_of c.args.matches.now) (rows_of found) c.requires called c.value_of-in-Some-image-default.result.now form.result
+    (texts files.field-0.items) c.value_of-in-Some-image-default.ensures
+    (reads found (codes "srec") (is_srec form.result) (λ is. form.ensures ∙ srec.ensures.value is) (λ is. form.ensures ∙ srec.ensures.other is))
+    files.ensures

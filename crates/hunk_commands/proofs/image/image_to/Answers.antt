@@ -5,7 +5,7 @@ use Rattle.hunk_commands.proofs.image.image_to.Goals as goal
 pub returns-in_err-writer-clause-err : goal.returns-in_err-writer-clause-err
 returns-in_err-writer-clause-err g c =
     let p = err_from_is_err_and c.from_residual.result c.from_residual.ensures.1 in
-    rw (p.1, p.2, c.in_err-writer.ensures.err) (report_not_begun c.args.bases.now _ (g.O.Write.contents c.args.output))
+    rw (p.1, p.2, c.in_err-writer.ensures.err) (report_not_begun c.args.form c.args.bases.now _ (g.O.Write.contents c.args.output))
 
 pub returns-clause-err : goal.returns-clause-err
 returns-clause-err g c = record { taken = _; old_is = c.in_ok-writer.ensures.ok; why = c.in-Err.ensures.err }

@@ -7,7 +7,7 @@ pub returns-in_err-writer-clause-err : goal.returns-in_err-writer-clause-err
 returns-in_err-writer-clause-err g c =
     let p = err_from_is_err_and c.from_residual.result c.from_residual.ensures.1 in
     rw (p.1, p.2, c.in_err-writer.ensures.err)
-    (load_stopped_at_once c.args.bases.now (g.I.Read.remaining c.args.input) (g.O.Write.contents c.args.output))
+    (load_stopped_at_once c.args.form c.args.bases.now (g.I.Read.remaining c.args.input) (g.O.Write.contents c.args.output))
 
 pub returns-clause-err : goal.returns-clause-err
 returns-clause-err g c =
