@@ -1,6 +1,7 @@
 -- What the arguments of a command line ask for.
-use Rattle.std.proofs.Common.{◌≡◌, ◌<◌, ◌≤◌, All, List, [], ◌⊎◌, arith, codes, IfOk, inl, inr, length, Err, Ok, refl, Result, subst, sym}
+use Rattle.std.proofs.Common.{◌≡◌, ◌<◌, ◌≤◌, All, List, [], ◌∷◌, ◌++◌, ◌⊎◌, ◌∙◌, arith, codes, IfOk, inl, inr, length, Err, Ok, refl, Result, subst, sym}
 use Rattle.std.proofs.lemmas.List.{length-append}
+use Rattle.clap.proofs.OnLiterals.{clap_on_literals}
 use Rattle.std.specs.Prelude.{⊤}
 use Rattle.std.specs.Result.{result_unwrap_or}
 use Rattle.std.specs.declared.alloc.AllocError.{AllocError}
@@ -11,17 +12,18 @@ use Rattle.clap.specs.declared.error.ErrorKind.{ErrorKind}
 use Rattle.clap.specs.declared.error.ErrorKind.TheVariants as error
 use Rattle.hunk_tool.specs.declared.link_options.LinkOptions.{LinkOptions}
 use Rattle.hunk_commands.specs.declared.request.Request.{Request}
-use Rattle.hunk_commands.specs.declared.request.Request.TheVariants.{Link, Load, Image, Check, Show, Help, Refused, OutOfMemory}
-use Rattle.amihunk.specs.CommandLine.{Answers, AsksCheck, AsksImage, AsksLink, AsksLoad, AsksShow, IsAskedBy, IsCalled, IsImage, IsLink, IsLoad, IsNoFlag, Says, Met, command_line, file_line, form_words, image_line, link_line, load_line, option_words}
+use Rattle.hunk_commands.specs.declared.request.Request.TheVariants.{Link, Load, Image, Check, Show, Version, Help, Refused, OutOfMemory}
+use Rattle.amihunk.specs.CommandLine.{Answers, AsksCheck, AsksImage, AsksLink, AsksLoad, AsksShow, AsksVersion, IsAskedBy, IsCalled, IsImage, IsLink, IsLoad, IsNoFlag, IsVersionWord, Says, Met, brief_link_line, brief_words, command_line, file_line, form_words, image_line, link_line, load_line, option_words, version_line}
 use Rattle.hunk_tool.specs.declared.image_form.ImageForm.{ImageForm}
 use Rattle.amihunk.proofs.CommandLineValueLemmas.{IsCalled-same, IsImage-same, IsLink-same, IsLoad-same, names_apart}
 use Rattle.amihunk.proofs.CommandLineFileLemmas.{calls-check, calls-show, fault_of-file_line, is_called-file_line}
 use Rattle.amihunk.proofs.CommandLineImageLemmas.{fault_of-image_line, is_image-image_line}
-use Rattle.amihunk.proofs.CommandLineLinkLemmas.{fault_of-link_line, is_link-link_line}
+use Rattle.amihunk.proofs.CommandLineLinkLemmas.{IsLinkFront, fault_of-link_words, front-brief, front-link, is_link-link_words}
 use Rattle.amihunk.proofs.CommandLineLoadLemmas.{fault_of-load_line, is_load-load_line}
 
--- the request is neither help nor a rejection
+-- the request is neither help nor the version nor a rejection
 abbrev IsNoAnswer : Request → Type 0
+IsNoAnswer Version = ⊥
 IsNoAnswer (Help text) = ⊥
 IsNoAnswer (Refused text) = ⊥
 IsNoAnswer _ = ⊤
@@ -34,10 +36,12 @@ asked_by_kind words (Load list form file) k has answers = absurd answers
 asked_by_kind words (Image list form files) k has answers = absurd answers
 asked_by_kind words (Check file) k has answers = absurd answers
 asked_by_kind words (Show file) k has answers = absurd answers
+asked_by_kind words Version k (inl none) answers = cc
+asked_by_kind words Version k (inr among) answers = subst (λ (x : ErrorKind). IsAmong x (fault_of command_line words)) answers among
 asked_by_kind words (Help text) k (inl none) answers = cc
 asked_by_kind words (Help text) k (inr among) answers = subst (λ (x : ErrorKind). IsAmong x (fault_of command_line words)) answers among
-asked_by_kind words (Refused text) k (inl none) answers = absurd (answers.1 none)
-asked_by_kind words (Refused text) k (inr among) answers = record { kind = k; among = among; no_help = answers.0 }
+asked_by_kind words (Refused text) k (inl none) answers = absurd (answers.2 none)
+asked_by_kind words (Refused text) k (inr among) answers = record { kind = k; among = among; no_help = answers.0; no_version = answers.1 }
 asked_by_kind words OutOfMemory k has answers = tt
 
 -- the request that matches what was found is what arguments ask for with which nothing is wrong
@@ -48,6 +52,7 @@ asked_by_met words met (Load list form file) quiet is load = (quiet, subst (λ m
 asked_by_met words met (Image list form files) quiet is image = (quiet, subst (λ m. IsImage m list.now form (texts files.items)) is image)
 asked_by_met words met (Check file) quiet is check = (quiet, subst (λ m. IsCalled m (codes "check") file.now) is check)
 asked_by_met words met (Show file) quiet is show = (quiet, subst (λ m. IsCalled m (codes "show") file.now) is show)
+asked_by_met words met Version quiet is nothing = absurd nothing
 asked_by_met words met (Help text) quiet is nothing = absurd nothing
 asked_by_met words met (Refused text) quiet is nothing = absurd nothing
 asked_by_met words met OutOfMemory quiet is nothing = absurd nothing
@@ -65,6 +70,7 @@ asks_no_help words (Load list form file) quiet asked = tt
 asks_no_help words (Image list form files) quiet asked = tt
 asks_no_help words (Check file) quiet asked = tt
 asks_no_help words (Show file) quiet asked = tt
+asks_no_help words Version quiet asked = subst (λ kinds. IsAmong error.DisplayVersion kinds) quiet asked
 asks_no_help words (Help text) quiet asked = subst (λ kinds. IsAmong error.DisplayHelp kinds) quiet asked
 asks_no_help words (Refused text) quiet asked = subst (λ kinds. IsAmong asked.kind kinds) quiet asked.among
 asks_no_help words OutOfMemory quiet asked = tt
@@ -77,6 +83,7 @@ asks_link words out options files quiet is (Load l form f) asked = absurd (names
 asks_link words out options files quiet is (Image l form fs) asked = absurd (names_apart _ (codes "image") (codes "link") _ _ asked.1.of_files.called is.of_files.called refl)
 asks_link words out options files quiet is (Check f) asked = absurd (names_apart _ (codes "check") (codes "link") _ _ asked.1.called is.of_files.called refl)
 asks_link words out options files quiet is (Show f) asked = absurd (names_apart _ (codes "show") (codes "link") _ _ asked.1.called is.of_files.called refl)
+asks_link words out options files quiet is Version asked = asks_no_help words Version quiet asked
 asks_link words out options files quiet is (Help text) asked = asks_no_help words (Help text) quiet asked
 asks_link words out options files quiet is (Refused text) asked = asks_no_help words (Refused text) quiet asked
 asks_link words out options files quiet is OutOfMemory asked = tt
@@ -89,6 +96,7 @@ asks_load words list wanted file quiet is (Load l form f) asked = IsLoad-same _ 
 asks_load words list wanted file quiet is (Image l form fs) asked = absurd (names_apart _ (codes "image") (codes "load") _ _ asked.1.of_files.called is.of_file.called refl)
 asks_load words list wanted file quiet is (Check f) asked = absurd (names_apart _ (codes "check") (codes "load") _ _ asked.1.called is.of_file.called refl)
 asks_load words list wanted file quiet is (Show f) asked = absurd (names_apart _ (codes "show") (codes "load") _ _ asked.1.called is.of_file.called refl)
+asks_load words list wanted file quiet is Version asked = asks_no_help words Version quiet asked
 asks_load words list wanted file quiet is (Help text) asked = asks_no_help words (Help text) quiet asked
 asks_load words list wanted file quiet is (Refused text) asked = asks_no_help words (Refused text) quiet asked
 asks_load words list wanted file quiet is OutOfMemory asked = tt
@@ -101,6 +109,7 @@ asks_image words list wanted files quiet is (Load l form f) asked = absurd (name
 asks_image words list wanted files quiet is (Image l form fs) asked = IsImage-same _ l.now list form wanted (texts fs.items) files asked.1 is
 asks_image words list wanted files quiet is (Check f) asked = absurd (names_apart _ (codes "check") (codes "image") _ _ asked.1.called is.of_files.called refl)
 asks_image words list wanted files quiet is (Show f) asked = absurd (names_apart _ (codes "show") (codes "image") _ _ asked.1.called is.of_files.called refl)
+asks_image words list wanted files quiet is Version asked = asks_no_help words Version quiet asked
 asks_image words list wanted files quiet is (Help text) asked = asks_no_help words (Help text) quiet asked
 asks_image words list wanted files quiet is (Refused text) asked = asks_no_help words (Refused text) quiet asked
 asks_image words list wanted files quiet is OutOfMemory asked = tt
@@ -113,6 +122,7 @@ asks_check words file quiet is (Load l form f) asked = absurd (names_apart _ (co
 asks_check words file quiet is (Image l form fs) asked = absurd (names_apart _ (codes "image") (codes "check") _ _ asked.1.of_files.called is.called refl)
 asks_check words file quiet is (Check f) asked = IsCalled-same _ (codes "check") (codes "check") f.now file asked.1 is
 asks_check words file quiet is (Show f) asked = absurd (names_apart _ (codes "show") (codes "check") _ _ asked.1.called is.called refl)
+asks_check words file quiet is Version asked = asks_no_help words Version quiet asked
 asks_check words file quiet is (Help text) asked = asks_no_help words (Help text) quiet asked
 asks_check words file quiet is (Refused text) asked = asks_no_help words (Refused text) quiet asked
 asks_check words file quiet is OutOfMemory asked = tt
@@ -125,22 +135,36 @@ asks_show words file quiet is (Load l form f) asked = absurd (names_apart _ (cod
 asks_show words file quiet is (Image l form fs) asked = absurd (names_apart _ (codes "image") (codes "show") _ _ asked.1.of_files.called is.called refl)
 asks_show words file quiet is (Check f) asked = absurd (names_apart _ (codes "check") (codes "show") _ _ asked.1.called is.called refl)
 asks_show words file quiet is (Show f) asked = IsCalled-same _ (codes "show") (codes "show") f.now file asked.1 is
+asks_show words file quiet is Version asked = asks_no_help words Version quiet asked
 asks_show words file quiet is (Help text) asked = asks_no_help words (Help text) quiet asked
 asks_show words file quiet is (Refused text) asked = asks_no_help words (Refused text) quiet asked
 asks_show words file quiet is OutOfMemory asked = tt
 
 -- the same, of the plain forms; there are at most 2 ^ 64 - 1 words
 
-line_fits : (program : Text) (options : LinkOptions) (out : Text) (files : List Text) → length (link_line program options out files) ≤ usize_max → length files ≤ usize_max
-line_fits program options out files fits = omega (arith, fits, length-append (option_words options) files)
+-- these words give OUT and the options of a link
+module _ (words : List Text) (request : Request) (fits : length words ≤ usize_max) (asked : IsAskedBy words request)
+    (program : Text) (options : LinkOptions) (out : Text) (given files : List Text) (front : IsLinkFront options out given)
+    (is_line : words ≡ program ∷ codes "link" ∷ (given ++ files)) (some : 0 < length files) (plain : All IsNoFlag files) where
+  asks_link_words : AsksLink out options files request
+  asks_link_words =
+      let line = program ∷ codes "link" ∷ (given ++ files) in
+      let line_fits : length line ≤ usize_max = subst (λ w. length w ≤ usize_max) is_line fits in
+      let few : length files ≤ usize_max = omega (arith, line_fits, length-append given files) in
+      asks_link line out options files (fault_of-link_words program options out given front files some plain few)
+      (is_link-link_words program options out given front files some plain) request (subst (λ w. IsAskedBy w request) is_line asked)
 
 pub asks_link_where : (words : List Text) (request : Request) → length words ≤ usize_max → IsAskedBy words request
     → (program : Text) (options : LinkOptions) (out : Text) (files : List Text) → words ≡ link_line program options out files
     → IsNoFlag out → 0 < length files → All IsNoFlag files → AsksLink out options files request
-asks_link_where words request fits asked program options out files is_line plain_out some plain_files =
-    let files_fit = line_fits program options out files (subst (λ w. length w ≤ usize_max) is_line fits) in
-    asks_link (link_line program options out files) out options files (fault_of-link_line program options out plain_out files some plain_files files_fit)
-    (is_link-link_line program options out plain_out files some plain_files) request (subst (λ w. IsAskedBy w request) is_line asked)
+asks_link_where words request fits asked program options out files is_line plain_out =
+    asks_link_words words request fits asked program options out (codes "--out" ∷ out ∷ option_words options) files (front-link options out plain_out) is_line
+
+pub asks_brief_where : (words : List Text) (request : Request) → length words ≤ usize_max → IsAskedBy words request
+    → (program : Text) (options : LinkOptions) (out : Text) (files : List Text) → words ≡ brief_link_line program options out files
+    → IsNoFlag out → 0 < length files → All IsNoFlag files → AsksLink out options files request
+asks_brief_where words request fits asked program options out files is_line plain_out =
+    asks_link_words words request fits asked program options out (codes "-o" ∷ out ∷ brief_words options) files (front-brief options out plain_out) is_line
 
 pub asks_load_where : (words : List Text) (request : Request) → IsAskedBy words request → (program list : Text) (form : ImageForm) (file : Text)
     → words ≡ load_line program list form file → IsNoFlag list → IsNoFlag file → AsksLoad list form file request
@@ -168,3 +192,33 @@ pub asks_show_where : (words : List Text) (request : Request) → IsAskedBy word
 asks_show_where words request asked program file is_line plain =
     asks_show (file_line program (codes "show") file) file (fault_of-file_line program (codes "show") file calls-show plain)
     (is_called-file_line program (codes "show") file calls-show plain) request (subst (λ w. IsAskedBy w request) is_line asked)
+
+-- ---- the version
+
+-- what arguments ask for whose only fault is that they ask for the version
+asks_version : (words : List Text) → fault_of command_line words ≡ error.DisplayVersion ∷ [] → (request : Request) → IsAskedBy words request → AsksVersion request
+asks_version words only (Link out options files) asked = let none : [] ≡ error.DisplayVersion ∷ [] = sym asked.0 ∙ only in cc
+asks_version words only (Load list form file) asked = let none : [] ≡ error.DisplayVersion ∷ [] = sym asked.0 ∙ only in cc
+asks_version words only (Image list form files) asked = let none : [] ≡ error.DisplayVersion ∷ [] = sym asked.0 ∙ only in cc
+asks_version words only (Check file) asked = let none : [] ≡ error.DisplayVersion ∷ [] = sym asked.0 ∙ only in cc
+asks_version words only (Show file) asked = let none : [] ≡ error.DisplayVersion ∷ [] = sym asked.0 ∙ only in cc
+asks_version words only Version asked = tt
+asks_version words only (Help text) asked = elim (subst (λ kinds. IsAmong error.DisplayHelp kinds) only asked) [
+  | inl other ↦ cc
+  | inr none ↦ none
+]
+asks_version words only (Refused text) asked = elim (subst (λ kinds. IsAmong asked.kind kinds) only asked.among) [
+  | inl is ↦ asked.no_version is
+  | inr none ↦ none
+]
+asks_version words only OutOfMemory asked = tt
+
+version_fault : (program word : Text) → IsVersionWord word → fault_of command_line (version_line program word) ≡ error.DisplayVersion ∷ []
+unfolding clap_on_literals
+version_fault program word (inl long) = rw long refl
+version_fault program word (inr short) = rw short refl
+
+pub asks_version_where : (words : List Text) (request : Request) → IsAskedBy words request → (program word : Text)
+    → words ≡ version_line program word → IsVersionWord word → AsksVersion request
+asks_version_where words request asked program word is_line is_word =
+    asks_version (version_line program word) (version_fault program word is_word) request (subst (λ w. IsAskedBy w request) is_line asked)

@@ -1,57 +1,70 @@
--- The plain form of a subcommand whose only argument is FILE.
-use Rattle.std.proofs.Common.{◌≡◌, ◌∙◌, ap, refl, false, List, [], ◌∷◌, codes, Some}
+-- The walk over FILE, a subcommand whose words end with it, and the plain form of one that has no
+-- other argument.
+use Rattle.std.proofs.Common.{◌≡◌, ◌∙◌, ap, refl, false, List, [], ◌∷◌, ◌++◌, codes, Some}
 use Rattle.std.proofs.lemmas.Bool.{ne_eqb}
-use Rattle.clap.specs.Words.{Row, Text, fault_of, first_of, subcommand_of}
-use Rattle.clap.specs.Walk.{Walk, nothing_held, finished, rows_after, walk, walked}
-use Rattle.clap.specs.Faults.{level_fault, turn_fault}
+use Rattle.clap.specs.Words.{Row, Rule, Shape, Text, fault_of, first_of, subcommand_of}
+use Rattle.clap.specs.Walk.{Held, Walk, arg_by_index, finished, is_pending, nothing_held, rows_after, settled, walk, walk_from, walked}
+use Rattle.clap.specs.Simple.{filled, with_index}
+use Rattle.clap.specs.Faults.{level_fault, settle_fault, turn_fault}
 use Rattle.clap.proofs.OnLiterals.{clap_on_literals}
 use Rattle.amihunk.proofs.CommandLineLemmas.{built_file}
-use Rattle.amihunk.proofs.CommandLineSubcommandLemmas.{Calls, at_start, fault_of-line, subcommand_of-line}
+use Rattle.amihunk.proofs.CommandLineFlagsLemmas.{IsFront, front-nothing}
+use Rattle.amihunk.proofs.CommandLineSubcommandLemmas.{Calls, fault_of-line, subcommand_of-line}
 use Rattle.amihunk.proofs.CommandLineWalkLemmas.{end_fault, level_fault-nil, walk_fault-cons, walk_fault-nil}
-use Rattle.amihunk.specs.CommandLine.{IsCalled, IsNoFlag, command_line, file_line}
+use Rattle.amihunk.specs.CommandLine.{IsCalled, IsNoFlag, command_line, file_line, file_rule}
 
-abbrev after_file : Text → Walk
-after_file file = record at_start {
-  held = record nothing_held { pending = Some (codes "file", file ∷ []); skip = 0 };
-  position = 2;
-}
+-- the argument as `clap` builds it
+abbrev pub built_one : Rule
+built_one = with_index 1 (filled file_rule)
 
-walked-file : (name file : Text) → IsNoFlag file → walked (built_file name).rules [] at_start file ≡ after_file file
+-- the walk after this file
+abbrev pub after_file : Held → Text → Walk
+after_file h file = record (walk_from (record h { pending = Some (codes "file", file ∷ []) })) { position = 2 }
+
+-- FILE may come after what is held
+pub record AwaitsFile (s : Shape) (held : Held) : Type 0 where
+  pub by_index : arg_by_index s.rules 1 ≡ Some built_one
+  pub other : is_pending built_one held.pending ≡ false
+  pub quiet : settle_fault s.rules s.args_override_self held ≡ []
+  pub late : (file : Text) → end_fault s (after_file (settled s.rules held) file).held ≡ []
+
+walked-file : (s : Shape) (held : Held) (file : Text) → AwaitsFile s held → IsNoFlag file → walked s.rules [] (walk_from held) file ≡ after_file (settled s.rules held) file
+unfolding walked
+walked-file s held [] awaits plain = rw (awaits.by_index, awaits.other) refl
+walked-file s held (c ∷ rest) awaits plain = rw (ne_eqb c 45 plain, ne_eqb c 45 plain, awaits.by_index, awaits.other) refl
+
+turn_fault-file : (s : Shape) (held : Held) (file : Text) → AwaitsFile s held → IsNoFlag file → turn_fault s [] (walk_from held) file ≡ []
+turn_fault-file s held [] awaits plain = rw (awaits.by_index, awaits.other, awaits.quiet) refl
+turn_fault-file s held (c ∷ rest) awaits plain = rw (ne_eqb c 45 plain, ne_eqb c 45 plain, awaits.by_index, awaits.other, awaits.quiet) refl
+
+-- the rows after the file
+abbrev pub file_rows : Shape → Held → Text → List Row
+file_rows s held file = finished s.rules (after_file (settled s.rules held) file).held
+
+module _ (s : Shape) (words : List Text) (held : Held) (front : IsFront s nothing_held words held) (awaits : AwaitsFile s held)
+    (file : Text) (plain : IsNoFlag file) where
+  walk-level : walk s.rules [] nothing_held (words ++ file ∷ []) ≡ after_file (settled s.rules held) file
+  walk-level = front.walks (file ∷ []) ∙ walked-file s held file awaits plain
+
+  pub rows_after-file : rows_after s.rules [] (words ++ file ∷ []) ≡ file_rows s held file
+  rows_after-file = ap (λ (w : Walk). finished s.rules w.held) walk-level
+
+  pub level_fault-file : level_fault s [] nothing_held (words ++ file ∷ []) false [] ≡ []
+  level_fault-file =
+      level_fault-nil s (words ++ file ∷ []) (after_file (settled s.rules held) file) walk-level
+      (front.quiet (file ∷ []) (walk_fault-cons s [] (walk_from held) (after_file (settled s.rules held) file) file [] (turn_fault-file s held file awaits plain)
+      (walked-file s held file awaits plain) (walk_fault-nil s [] (after_file (settled s.rules held) file))))
+      (awaits.late file)
+
+-- ---- a subcommand whose only argument is FILE
+
+awaits-only : (name : Text) → AwaitsFile (built_file name) nothing_held
 unfolding clap_on_literals
-walked-file name [] plain = refl
-walked-file name (c ∷ rest) plain = rw (ne_eqb c 45 plain, ne_eqb c 45 plain) refl
+awaits-only name = record { by_index = refl; other = refl; quiet = refl; late = λ file. refl }
 
-walk-file : (name file : Text) → IsNoFlag file → walk (built_file name).rules [] nothing_held (file ∷ []) ≡ after_file file
-walk-file name file plain = walked-file name file plain
-
-turn_fault-file : (name file : Text) → IsNoFlag file → turn_fault (built_file name) [] at_start file ≡ []
+only_file : (name file : Text) → first_of (codes "file") (file_rows (built_file name) nothing_held file) ≡ Some file
 unfolding clap_on_literals
-turn_fault-file name [] plain = refl
-turn_fault-file name (c ∷ rest) plain = rw (ne_eqb c 45 plain, ne_eqb c 45 plain) refl
-
-end_fault-file : (name file : Text) → end_fault (built_file name) (after_file file).held ≡ []
-unfolding clap_on_literals
-end_fault-file name file = refl
-
-level_fault-file : (name file : Text) → IsNoFlag file → level_fault (built_file name) [] nothing_held (file ∷ []) false [] ≡ []
-level_fault-file name file plain =
-    level_fault-nil (built_file name) (file ∷ []) (after_file file) (walk-file name file plain)
-    (walk_fault-cons (built_file name) [] at_start (after_file file) file [] (turn_fault-file name file plain) (walked-file name file plain)
-    (walk_fault-nil (built_file name) [] (after_file file)))
-    (end_fault-file name file)
-
-file_rows : Text → Text → List Row
-file_rows name file = finished (built_file name).rules (after_file file).held
-
-rows_after-file : (name file : Text) → IsNoFlag file → rows_after (built_file name).rules [] (file ∷ []) ≡ file_rows name file
-unfolding file_rows
-rows_after-file name file plain = ap (λ (w : Walk). finished (built_file name).rules w.held) (walk-file name file plain)
-
-first_of-file_rows : (name file : Text) → first_of (codes "file") (file_rows name file) ≡ Some file
-unfolding file_rows
-first_of-file_rows name file = refl
-
--- ---- the whole line
+only_file name file = refl
 
 pub calls-check : Calls (codes "check") (built_file (codes "check"))
 unfolding clap_on_literals
@@ -61,13 +74,16 @@ pub calls-show : Calls (codes "show") (built_file (codes "show"))
 unfolding clap_on_literals
 calls-show = record { met = refl; quiet = refl; found = refl; name_is = refl }
 
-pub fault_of-file_line : (program name file : Text) → Calls name (built_file name) → IsNoFlag file → fault_of command_line (file_line program name file) ≡ []
-fault_of-file_line program name file calls plain = fault_of-line program name (built_file name) (file ∷ []) calls (level_fault-file name file plain)
+module _ (program name file : Text) (calls : Calls name (built_file name)) (plain : IsNoFlag file) where
+  pub fault_of-file_line : fault_of command_line (file_line program name file) ≡ []
+  fault_of-file_line =
+      fault_of-line program name (built_file name) (file ∷ []) calls
+      (level_fault-file (built_file name) [] nothing_held (front-nothing (built_file name) nothing_held) (awaits-only name) file plain)
 
-pub is_called-file_line : (program name file : Text) → Calls name (built_file name) → IsNoFlag file
-    → IsCalled (subcommand_of command_line (file_line program name file)) name file
-is_called-file_line program name file calls plain = record {
-  rows = file_rows name file;
-  called = subcommand_of-line program name (built_file name) (file ∷ []) calls ∙ ap (λ rows. Some (name, rows)) (rows_after-file name file plain);
-  file_is = first_of-file_rows name file;
-}
+  pub is_called-file_line : IsCalled (subcommand_of command_line (file_line program name file)) name file
+  is_called-file_line = record {
+    rows = file_rows (built_file name) nothing_held file;
+    called = subcommand_of-line program name (built_file name) (file ∷ []) calls
+        ∙ ap (λ rows. Some (name, rows)) (rows_after-file (built_file name) [] nothing_held (front-nothing (built_file name) nothing_held) (awaits-only name) file plain);
+    file_is = only_file name file;
+  }

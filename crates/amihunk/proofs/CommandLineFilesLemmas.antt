@@ -1,4 +1,4 @@
--- The walk over `FILE...`.
+-- The walk over `FILE...`, and a subcommand whose words end with it.
 use Rattle.std.proofs.Common.{◌≡◌, ◌∙◌, ◌≤◌, All, ap, append-nil, append_assoc, arith, refl, sym, false, Bool, ℕ, List, [], ◌∷◌, ◌++◌, codes, le-ltb, length, Option, Some, suc}
 use Rattle.std.specs.Prelude.{◌==◌, fold, nat_lt}
 use Rattle.std.specs.Option.{option_map_or}
@@ -6,11 +6,12 @@ use Rattle.std.proofs.lemmas.Bool.{ne_eqb}
 use Rattle.std.proofs.lemmas.List.Elements.{All-tail}
 use Rattle.clap.specs.Lexer.{usize_max}
 use Rattle.clap.specs.Words.{Row, Rule, Shape, Text}
-use Rattle.clap.specs.Walk.{Held, Walk, arg_by_id, arg_by_index, is_pending, positional, settled, walk_from, walked}
+use Rattle.clap.specs.Walk.{Held, Walk, arg_by_id, arg_by_index, finished, is_pending, nothing_held, positional, rows_after, settled, walk, walk_from, walked}
 use Rattle.clap.specs.Simple.{filled, with_index}
-use Rattle.clap.specs.Faults.{settle_fault, turn_fault, use_fault, values_fault, walk_fault}
+use Rattle.clap.specs.Faults.{level_fault, settle_fault, turn_fault, use_fault, values_fault, walk_fault}
 use Rattle.clap.specs.Kinds.{or_else, range_kinds}
-use Rattle.amihunk.proofs.CommandLineWalkLemmas.{end_fault, late_fault, walk_fault-cons, walk_fault-nil}
+use Rattle.amihunk.proofs.CommandLineFlagsLemmas.{IsFront}
+use Rattle.amihunk.proofs.CommandLineWalkLemmas.{end_fault, late_fault, level_fault-nil, walk_fault-cons, walk_fault-nil}
 use Rattle.amihunk.specs.CommandLine.{IsNoFlag, files_rule}
 
 -- the argument as `clap` builds it
@@ -48,7 +49,7 @@ walk-more c h seen (file ∷ rest) has plain =
     ap (λ w. fold (walked c []) w rest) (walked-more c h seen file has (first_plain file rest plain))
     ∙ (walk-more c h (seen ++ file ∷ []) rest has (All-tail IsNoFlag file rest plain) ∙ ap (after_files h) (append_assoc seen (file ∷ []) rest))
 
-pub walk-files : (c : List Rule) (h : Held) (file : Text) (rest : List Text) → HasFiles c → is_pending built_files h.pending ≡ false
+walk-files : (c : List Rule) (h : Held) (file : Text) (rest : List Text) → HasFiles c → is_pending built_files h.pending ≡ false
     → All IsNoFlag (file ∷ rest) → fold (walked c []) (walk_from h) (file ∷ rest) ≡ after_files (settled c h) (file ∷ rest)
 walk-files c h file rest has other plain =
     ap (λ w. fold (walked c []) w rest) (walked-first c h file has other (first_plain file rest plain))
@@ -72,7 +73,7 @@ walk_fault-more s h seen (file ∷ rest) has plain =
     walk_fault-cons s [] (after_files h seen) (after_files h (seen ++ file ∷ [])) file rest (turn_fault-more s h seen file has first)
     (walked-more s.rules h seen file has first) (walk_fault-more s h (seen ++ file ∷ []) rest has (All-tail IsNoFlag file rest plain))
 
-pub walk_fault-files : (s : Shape) (h : Held) (file : Text) (rest : List Text) → HasFiles s.rules → is_pending built_files h.pending ≡ false
+walk_fault-files : (s : Shape) (h : Held) (file : Text) (rest : List Text) → HasFiles s.rules → is_pending built_files h.pending ≡ false
     → settle_fault s.rules s.args_override_self h ≡ [] → All IsNoFlag (file ∷ rest) → walk_fault s [] (walk_from h) (file ∷ rest) ≡ []
 walk_fault-files s h file rest has other quiet plain =
     let first = first_plain file rest plain in
@@ -103,7 +104,34 @@ settle_fault-files s h file rest has fits =
     ap (λ (o : Option Rule). option_map_or (λ a. use_fault s.args_override_self a (file ∷ rest) h.rows) o []) has.by_id
     ∙ use_fault-files s.args_override_self file rest h.rows fits
 
-pub end_fault-files : (s : Shape) (h : Held) (file : Text) (rest : List Text) → HasFiles s.rules → length (file ∷ rest) ≤ usize_max
+end_fault-files : (s : Shape) (h : Held) (file : Text) (rest : List Text) → HasFiles s.rules → length (file ∷ rest) ≤ usize_max
     → late_fault s (after_files h (file ∷ rest)).held ≡ [] → end_fault s (after_files h (file ∷ rest)).held ≡ []
 end_fault-files s h file rest has fits quiet =
     ap (λ kinds. or_else kinds (late_fault s (after_files h (file ∷ rest)).held)) (settle_fault-files s h file rest has fits) ∙ quiet
+
+-- ---- the whole level
+
+-- FILE... may come after what is held
+pub record AwaitsFiles (s : Shape) (held : Held) : Type 0 where
+  pub has : HasFiles s.rules
+  pub other : is_pending built_files held.pending ≡ false
+  pub quiet : settle_fault s.rules s.args_override_self held ≡ []
+  pub late : (file : Text) (rest : List Text) → late_fault s (after_files (settled s.rules held) (file ∷ rest)).held ≡ []
+
+-- the rows after the files
+abbrev pub files_rows : Shape → Held → List Text → List Row
+files_rows s held files = finished s.rules (after_files (settled s.rules held) files).held
+
+module _ (s : Shape) (words : List Text) (held : Held) (front : IsFront s nothing_held words held) (awaits : AwaitsFiles s held)
+    (file : Text) (rest : List Text) (plain : All IsNoFlag (file ∷ rest)) where
+  walk-level : walk s.rules [] nothing_held (words ++ file ∷ rest) ≡ after_files (settled s.rules held) (file ∷ rest)
+  walk-level = front.walks (file ∷ rest) ∙ walk-files s.rules held file rest awaits.has awaits.other plain
+
+  pub rows_after-files : rows_after s.rules [] (words ++ file ∷ rest) ≡ files_rows s held (file ∷ rest)
+  rows_after-files = ap (λ (w : Walk). finished s.rules w.held) walk-level
+
+  pub level_fault-files : length (file ∷ rest) ≤ usize_max → level_fault s [] nothing_held (words ++ file ∷ rest) false [] ≡ []
+  level_fault-files fits =
+      level_fault-nil s (words ++ file ∷ rest) (after_files (settled s.rules held) (file ∷ rest)) walk-level
+      (front.quiet (file ∷ rest) (walk_fault-files s held file rest awaits.has awaits.other awaits.quiet plain))
+      (end_fault-files s (settled s.rules held) file rest awaits.has fits (awaits.late file rest))

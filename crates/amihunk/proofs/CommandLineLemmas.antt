@@ -1,5 +1,5 @@
 -- Arguments with which nothing is wrong name a subcommand of the program, with its required values.
-use Rattle.std.proofs.Common.{◌≡◌, ◌||◌, Bool, true, false, not, cond, refl, inl, inr, arith, List, [], ◌∷◌, codes, drop, Option, Some, None, is_some}
+use Rattle.std.proofs.Common.{◌≡◌, ◌||◌, ℕ, Bool, true, false, not, cond, refl, inl, inr, arith, List, [], ◌∷◌, codes, drop, Option, Some, None, is_some}
 use Rattle.std.specs.Prelude.{⊤, find}
 use Rattle.std.specs.Option.{option_map, option_map_or}
 use Rattle.clap.specs.Words.{App, Row, Text, built, fault_of, subcommand_of, with_subcommand}
@@ -10,7 +10,7 @@ use Rattle.clap.specs.Faults.{check_fault, defaults_fault, entered_fault, level_
 use Rattle.clap.specs.Kinds.{check_kinds}
 use Rattle.amihunk.proofs.CommandLineUseLemmas.{AllDefaulting, Filled, HasDefault, IsDefaulted, IsFilling, filled-defaults, flag_read, has_row-defaults, is_flag, or_else-nil, value_given, values_given}
 use Rattle.amihunk.proofs.CommandLineRowLemmas.{AllFilling, filled-settled, filled-walk}
-use Rattle.amihunk.specs.CommandLine.{IsCalled, IsFlag, IsWhole, bare_shape, command_line, file_shape, flag_rule, image_shape, is_srec, link_shape, load_shape}
+use Rattle.amihunk.specs.CommandLine.{IsCalled, IsFlag, IsWhole, bare_shape, command_line, file_shape, flag_rule, image_shape, is_srec, letter_s, link_shape, load_shape}
 use Rattle.hunk_tool.specs.declared.image_form.ImageForm.{ImageForm}
 use Rattle.hunk_tool.specs.declared.image_form.ImageForm.TheVariants.{Report, SRecords}
 use Rattle.amihunk.specs.CommandLine.IsWhole.{link, load, image, check, show}
@@ -75,15 +75,15 @@ both_given false b e = cc
 
 -- `link`
 
-flag_filling : (name : Text) → IsFilling false (filled (flag_rule name))
-flag_filling name = inr (inr (record { action_is = refl; range_is = refl; missing_is = refl; reading_is = refl }, refl))
+flag_filling : (letter : Option ℕ) (name : Text) → IsFilling false (filled (record (flag_rule name) { short = letter }))
+flag_filling letter name = inr (inr (record { action_is = refl; range_is = refl; missing_is = refl; reading_is = refl }, refl))
 
 link_filling : AllFilling false built_link.rules
 link_filling = (
   inr (inl (inl refl, (omega arith, refl))),
   (
-    flag_filling (codes "strip"),
-    (flag_filling (codes "short"), (flag_filling (codes "trim"), (inr (inl (inr refl, (omega arith, refl))), (inl refl, tt)))),
+    flag_filling (Some letter_s) (codes "strip"),
+    (flag_filling None (codes "short"), (flag_filling None (codes "trim"), (inr (inl (inr refl, (omega arith, refl))), (inl refl, tt)))),
   ),
 )
 
@@ -91,17 +91,17 @@ link_defaults : AllDefaulting built_link.rules
 link_defaults = (inl refl, (inr (refl, refl), (inr (refl, refl), (inr (refl, refl), (inl refl, (inl refl, tt))))))
 
 -- a flag has a row, by its default
-flag_default : (name : Text) → HasDefault name (filled (flag_rule name))
-flag_default name = record { id_is = refl; first = codes "false"; others = []; defaults_are = refl }
+flag_default : (letter : Option ℕ) (name : Text) → HasDefault name (filled (record (flag_rule name) { short = letter }))
+flag_default letter name = record { id_is = refl; first = codes "false"; others = []; defaults_are = refl }
 
 strip_defaulted : IsDefaulted (codes "strip") built_link.rules
-strip_defaulted = inr (inl (flag_default (codes "strip")))
+strip_defaulted = inr (inl (flag_default (Some letter_s) (codes "strip")))
 
 short_defaulted : IsDefaulted (codes "short") built_link.rules
-short_defaulted = inr (inr (inl (flag_default (codes "short"))))
+short_defaulted = inr (inr (inl (flag_default None (codes "short"))))
 
 trim_defaulted : IsDefaulted (codes "trim") built_link.rules
-trim_defaulted = inr (inr (inr (inl (flag_default (codes "trim")))))
+trim_defaulted = inr (inr (inr (inl (flag_default None (codes "trim")))))
 
 sound_link : IsSound built_link
 sound_link words e =
@@ -136,13 +136,13 @@ form_read rows full has = go (flag_read (codes "srec") rows refl full has)
 -- `load`
 
 load_filling : AllFilling false built_load.rules
-load_filling = (inr (inl (inl refl, (omega arith, refl))), (flag_filling (codes "srec"), (inr (inl (inl refl, (omega arith, refl))), (inl refl, tt))))
+load_filling = (inr (inl (inl refl, (omega arith, refl))), (flag_filling None (codes "srec"), (inr (inl (inl refl, (omega arith, refl))), (inl refl, tt))))
 
 load_defaults : AllDefaulting built_load.rules
 load_defaults = (inl refl, (inr (refl, refl), (inl refl, (inl refl, tt))))
 
 load_srec : IsDefaulted (codes "srec") built_load.rules
-load_srec = inr (inl (flag_default (codes "srec")))
+load_srec = inr (inl (flag_default None (codes "srec")))
 
 sound_load : IsSound built_load
 sound_load words e =
@@ -157,13 +157,13 @@ sound_load words e =
 -- `image`
 
 image_filling : AllFilling false built_image.rules
-image_filling = (inr (inl (inl refl, (omega arith, refl))), (flag_filling (codes "srec"), (inr (inl (inr refl, (omega arith, refl))), (inl refl, tt))))
+image_filling = (inr (inl (inl refl, (omega arith, refl))), (flag_filling None (codes "srec"), (inr (inl (inr refl, (omega arith, refl))), (inl refl, tt))))
 
 image_defaults : AllDefaulting built_image.rules
 image_defaults = (inl refl, (inr (refl, refl), (inl refl, (inl refl, tt))))
 
 image_srec : IsDefaulted (codes "srec") built_image.rules
-image_srec = inr (inl (flag_default (codes "srec")))
+image_srec = inr (inl (flag_default None (codes "srec")))
 
 sound_image : IsSound built_image
 sound_image words e =

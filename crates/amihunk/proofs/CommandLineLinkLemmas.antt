@@ -1,30 +1,29 @@
--- The plain form of the subcommand `link`.
-use Rattle.std.proofs.Common.{◌≡◌, ◌∙◌, ◌<◌, ◌≤◌, All, ap, arith, refl, subst, sym, Bool, true, false, List, [], ◌∷◌, ◌++◌, codes, length, Some}
-use Rattle.std.specs.Prelude.{fold}
+-- The plain forms of the subcommand `link`.
+use Rattle.std.proofs.Common.{◌≡◌, ◌∙◌, ◌<◌, ◌≤◌, All, ap, arith, refl, Bool, true, false, List, [], ◌∷◌, ◌++◌, codes, length, Some}
 use Rattle.clap.specs.Lexer.{usize_max}
 use Rattle.clap.specs.Takes.{is_given}
 use Rattle.clap.specs.Values.{bool_text}
 use Rattle.clap.specs.Words.{Row, Text, all_of, fault_of, first_of, one_of, subcommand_of}
-use Rattle.clap.specs.Walk.{Held, Walk, is_pending, nothing_held, finished, settled, walk, walk_from, walked}
-use Rattle.clap.specs.Faults.{settle_fault, walk_fault}
+use Rattle.clap.specs.Walk.{Held, nothing_held, walk_from}
 use Rattle.clap.proofs.OnLiterals.{clap_on_literals}
 use Rattle.amihunk.proofs.CommandLineLemmas.{built_link}
-use Rattle.amihunk.proofs.CommandLineFilesLemmas.{HasFiles, after_files, built_files, end_fault-files, walk-files, walk_fault-files}
-use Rattle.amihunk.proofs.CommandLineFlagsLemmas.{IsQuiet, walk_fault-words, walk_on, walk_on-append}
-use Rattle.amihunk.proofs.CommandLineOptionLemmas.{IsOption, after_value, walk-option, walk_fault-option}
-use Rattle.amihunk.proofs.CommandLineSubcommandLemmas.{Calls, at_start, fault_of-line, subcommand_of-line}
-use Rattle.amihunk.proofs.CommandLineWalkLemmas.{end_fault, late_fault, level_fault-nil}
-use Rattle.amihunk.specs.CommandLine.{IsLink, IsNoFlag, command_line, link_line, option_words}
+use Rattle.amihunk.proofs.CommandLineFilesLemmas.{AwaitsFiles, HasFiles, files_rows, level_fault-files, rows_after-files}
+use Rattle.amihunk.proofs.CommandLineFlagsLemmas.{IsFront, Leave, front-flags, front-option, walk_on}
+use Rattle.amihunk.proofs.CommandLineOptionLemmas.{IsOption, value_held}
+use Rattle.amihunk.proofs.CommandLineSubcommandLemmas.{Calls, fault_of-line, subcommand_of-line}
+use Rattle.amihunk.specs.CommandLine.{IsLink, IsNoFlag, brief_words, command_line, option_words}
 use Rattle.hunk_tool.specs.declared.link_options.LinkOptions.{LinkOptions}
 
-is_out : IsOption built_link.rules (codes "--out") (codes "out")
-is_out = record { long_is = refl; no_end = refl; by_long = refl; by_id = refl }
+is_out : IsOption built_link nothing_held (codes "--out") (codes "out")
+unfolding clap_on_literals
+is_out = record { letter = Some 111; by_id = refl; met = refl; quiet = refl }
+
+is_brief_out : IsOption built_link nothing_held (codes "-o") (codes "out")
+unfolding clap_on_literals
+is_brief_out = record { letter = Some 111; by_id = refl; met = refl; quiet = refl }
 
 has_files : HasFiles built_link.rules
 has_files = record { by_index = refl; by_id = refl }
-
-abbrev link_words : LinkOptions → Text → List Text → List Text
-link_words options out files = codes "--out" ∷ out ∷ (option_words options ++ files)
 
 -- ---- the flags
 
@@ -48,80 +47,44 @@ each_choice P a b c d e f g h options = go options.strip options.short options.t
     go false false true = g
     go false false false = h
 
--- ---- the walk before the files
+-- ---- what `--out OUT` and the flags leave
 
-abbrev after_out : Text → Walk
-after_out = after_value (codes "out")
+abbrev out_held : Text → Held
+out_held = value_held built_link.rules nothing_held (codes "out")
 
 -- what is held before the files
 abbrev link_held : LinkOptions → Text → Held
-link_held options out = (walk_on built_link (after_out out) (option_words options)).held
+link_held options out = (walk_on built_link (walk_from (out_held out)) (option_words options)).held
 
-walked-options : (out : Text) (options : LinkOptions) → walk_on built_link (after_out out) (option_words options) ≡ walk_from (link_held options out)
+leave-options : (out : Text) (options : LinkOptions) → Leave built_link (out_held out) (option_words options) (link_held options out)
 unfolding clap_on_literals
-walked-options out = each_choice (λ options. walk_on built_link (after_out out) (option_words options) ≡ walk_from (link_held options out))
-    refl refl refl refl refl refl refl refl
-
-quiet-options : (out : Text) (options : LinkOptions) → IsQuiet built_link (after_out out) (option_words options)
-unfolding clap_on_literals
-quiet-options out = each_choice (λ options. IsQuiet built_link (after_out out) (option_words options))
-    (refl, (refl, (refl, tt))) (refl, (refl, tt)) (refl, (refl, tt)) (refl, tt)
-    (refl, (refl, tt)) (refl, tt) (refl, tt) tt
-
-walk-flags : (options : LinkOptions) (out : Text) (files : List Text) → IsNoFlag out
-    → fold (walked built_link.rules []) at_start (link_words options out files) ≡ fold (walked built_link.rules []) (walk_from (link_held options out)) files
-walk-flags options out files plain =
-    walk-option built_link.rules (codes "--out") (codes "out") out (option_words options ++ files) is_out plain
-    ∙ walk_on-append built_link (after_out out) (option_words options) files
-    ∙ ap (λ w. walk_on built_link w files) (walked-options out options)
-
-walk_fault-flags : (options : LinkOptions) (out : Text) (files : List Text) → IsNoFlag out → walk_fault built_link [] (walk_from (link_held options out)) files ≡ []
-    → walk_fault built_link [] at_start (link_words options out files) ≡ []
-walk_fault-flags options out files plain quiet =
-    walk_fault-option built_link (codes "--out") (codes "out") out (option_words options ++ files) is_out plain
-    (walk_fault-words built_link (after_out out) (option_words options) files (quiet-options out options)
-    (subst (λ w. walk_fault built_link [] w files ≡ []) (sym (walked-options out options)) quiet))
-
--- no file is pending yet, and nothing is wrong with what is
-abbrev IsBeforeFiles : LinkOptions → Text → Type 0
-IsBeforeFiles options out =
-    (is_pending built_files (link_held options out).pending ≡ false)
-    × (settle_fault built_link.rules built_link.args_override_self (link_held options out) ≡ [])
-
-before_files : (out : Text) (options : LinkOptions) → IsBeforeFiles options out
-unfolding clap_on_literals
-before_files out = each_choice (λ options. IsBeforeFiles options out)
+leave-options out = each_choice (λ options. Leave built_link (out_held out) (option_words options) (link_held options out))
     (refl, refl) (refl, refl) (refl, refl) (refl, refl) (refl, refl) (refl, refl) (refl, refl) (refl, refl)
 
--- ---- the whole walk
-
-abbrev after_link : LinkOptions → Text → Text → List Text → Walk
-after_link options out file rest = after_files (settled built_link.rules (link_held options out)) (file ∷ rest)
-
-module _ (options : LinkOptions) (out file : Text) (rest : List Text) (plain_out : IsNoFlag out) (plain_files : All IsNoFlag (file ∷ rest)) where
-  walk-link : walk built_link.rules [] nothing_held (link_words options out (file ∷ rest)) ≡ after_link options out file rest
-  walk-link =
-      walk-flags options out (file ∷ rest) plain_out
-      ∙ walk-files built_link.rules (link_held options out) file rest has_files (before_files out options).0 plain_files
-
-  walk_fault-link : walk_fault built_link [] at_start (link_words options out (file ∷ rest)) ≡ []
-  walk_fault-link =
-      walk_fault-flags options out (file ∷ rest) plain_out
-      (walk_fault-files built_link (link_held options out) file rest has_files (before_files out options).0 (before_files out options).1 plain_files)
-
--- ---- what is left after the walk
-
-late_fault-link : (out file : Text) (rest : List Text) (options : LinkOptions) → late_fault built_link (after_link options out file rest).held ≡ []
+leave-brief : (out : Text) (options : LinkOptions) → Leave built_link (out_held out) (brief_words options) (link_held options out)
 unfolding clap_on_literals
-late_fault-link out file rest = each_choice (λ options. late_fault built_link (after_link options out file rest).held ≡ [])
-    refl refl refl refl refl refl refl refl
+leave-brief out = each_choice (λ options. Leave built_link (out_held out) (brief_words options) (link_held options out))
+    (refl, refl) (refl, refl) (refl, refl) (refl, refl) (refl, refl) (refl, refl) (refl, refl) (refl, refl)
 
-end_fault-link : (options : LinkOptions) (out file : Text) (rest : List Text) → length (file ∷ rest) ≤ usize_max → end_fault built_link (after_link options out file rest).held ≡ []
-end_fault-link options out file rest fits =
-    end_fault-files built_link (settled built_link.rules (link_held options out)) file rest has_files fits (late_fault-link out file rest options)
+-- no file is pending yet, nothing is wrong with what is, and nothing will be after the files
+abbrev Awaits : Text → LinkOptions → Type 0
+Awaits out options = AwaitsFiles built_link (link_held options out)
 
-link_rows : LinkOptions → Text → Text → List Text → List Row
-link_rows options out file rest = finished built_link.rules (after_link options out file rest).held
+awaits-link : (out : Text) (options : LinkOptions) → Awaits out options
+unfolding clap_on_literals
+awaits-link out = each_choice (Awaits out)
+    (record { has = has_files; other = refl; quiet = refl; late = λ file rest. refl })
+    (record { has = has_files; other = refl; quiet = refl; late = λ file rest. refl })
+    (record { has = has_files; other = refl; quiet = refl; late = λ file rest. refl })
+    (record { has = has_files; other = refl; quiet = refl; late = λ file rest. refl })
+    (record { has = has_files; other = refl; quiet = refl; late = λ file rest. refl })
+    (record { has = has_files; other = refl; quiet = refl; late = λ file rest. refl })
+    (record { has = has_files; other = refl; quiet = refl; late = λ file rest. refl })
+    (record { has = has_files; other = refl; quiet = refl; late = λ file rest. refl })
+
+-- what the subcommand's own arguments yield
+abbrev link_rows : LinkOptions → Text → Text → List Text → List Row
+link_rows options out file rest = files_rows built_link (link_held options out) (file ∷ rest)
 
 -- whether the flag was given, and what is read of it
 abbrev IsRead : List Row → Text → Bool → Type 0
@@ -132,7 +95,7 @@ AreRead rows options =
     IsRead rows (codes "strip") options.strip × IsRead rows (codes "short") options.short × IsRead rows (codes "trim") options.trim
 
 flags-link : (out file : Text) (rest : List Text) (options : LinkOptions) → AreRead (link_rows options out file rest) options
-unfolding link_rows clap_on_literals
+unfolding clap_on_literals
 flags-link out file rest = each_choice (λ options. AreRead (link_rows options out file rest) options)
     ((refl, refl), (refl, refl), (refl, refl)) ((refl, refl), (refl, refl), (refl, refl))
     ((refl, refl), (refl, refl), (refl, refl)) ((refl, refl), (refl, refl), (refl, refl))
@@ -144,7 +107,7 @@ abbrev HasPaths : List Row → Text → List Text → Type 0
 HasPaths rows out files = (first_of (codes "out") rows ≡ Some out) × (all_of (codes "file") rows ≡ Some files)
 
 paths-link : (out file : Text) (rest : List Text) (options : LinkOptions) → HasPaths (link_rows options out file rest) out (file ∷ rest)
-unfolding link_rows clap_on_literals
+unfolding clap_on_literals
 paths-link out file rest = each_choice (λ options. HasPaths (link_rows options out file rest) out (file ∷ rest))
     (refl, refl) (refl, refl) (refl, refl) (refl, refl) (refl, refl) (refl, refl) (refl, refl) (refl, refl)
 
@@ -154,28 +117,40 @@ calls-link : Calls (codes "link") built_link
 unfolding clap_on_literals
 calls-link = record { met = refl; quiet = refl; found = refl; name_is = refl }
 
-module _ (program : Text) (options : LinkOptions) (out : Text) (plain_out : IsNoFlag out) where
-  pub fault_of-link_line : (files : List Text) → 0 < length files → All IsNoFlag files → length files ≤ usize_max
-      → fault_of command_line (link_line program options out files) ≡ []
-  fault_of-link_line [] some plain fits = absurd (omega arith)
-  fault_of-link_line (file ∷ rest) some plain fits =
-      fault_of-line program (codes "link") built_link (link_words options out (file ∷ rest)) calls-link
-      (level_fault-nil built_link (link_words options out (file ∷ rest)) (after_link options out file rest) (walk-link options out file rest plain_out plain)
-      (walk_fault-link options out file rest plain_out plain) (end_fault-link options out file rest fits))
+-- these words give OUT and the options
+abbrev pub IsLinkFront : LinkOptions → Text → List Text → Type 0
+IsLinkFront options out words = IsFront built_link nothing_held words (link_held options out)
 
-  -- `link --out OUT [--strip] [--short] [--trim] FILE...` is the subcommand `link`, with OUT, the options and FILE...
-  pub is_link-link_line : (files : List Text) → 0 < length files → All IsNoFlag files
-      → IsLink (subcommand_of command_line (link_line program options out files)) out options files
-  unfolding link_rows
-  is_link-link_line [] some plain = absurd (omega arith)
-  is_link-link_line (file ∷ rest) some plain =
+pub front-link : (options : LinkOptions) (out : Text) → IsNoFlag out → IsLinkFront options out (codes "--out" ∷ out ∷ option_words options)
+front-link options out plain =
+    front-option built_link nothing_held (codes "--out") (codes "out") out (option_words options) (link_held options out) is_out plain
+    (front-flags built_link (out_held out) (option_words options) (link_held options out) (leave-options out options))
+
+pub front-brief : (options : LinkOptions) (out : Text) → IsNoFlag out → IsLinkFront options out (codes "-o" ∷ out ∷ brief_words options)
+front-brief options out plain =
+    front-option built_link nothing_held (codes "-o") (codes "out") out (brief_words options) (link_held options out) is_brief_out plain
+    (front-flags built_link (out_held out) (brief_words options) (link_held options out) (leave-brief out options))
+
+module _ (program : Text) (options : LinkOptions) (out : Text) (words : List Text) (front : IsLinkFront options out words) where
+  pub fault_of-link_words : (files : List Text) → 0 < length files → All IsNoFlag files → length files ≤ usize_max
+      → fault_of command_line (program ∷ codes "link" ∷ (words ++ files)) ≡ []
+  fault_of-link_words [] some plain fits = absurd (omega arith)
+  fault_of-link_words (file ∷ rest) some plain fits =
+      fault_of-line program (codes "link") built_link (words ++ file ∷ rest) calls-link
+      (level_fault-files built_link words (link_held options out) front (awaits-link out options) file rest plain fits)
+
+  -- these words and FILE... are the subcommand `link`, with OUT, the options and FILE...
+  pub is_link-link_words : (files : List Text) → 0 < length files → All IsNoFlag files
+      → IsLink (subcommand_of command_line (program ∷ codes "link" ∷ (words ++ files))) out options files
+  is_link-link_words [] some plain = absurd (omega arith)
+  is_link-link_words (file ∷ rest) some plain =
       let paths = paths-link out file rest options in
       let flags = flags-link out file rest options in
       record {
         of_files = record {
           rows = link_rows options out file rest;
-          called = subcommand_of-line program (codes "link") built_link (link_words options out (file ∷ rest)) calls-link
-              ∙ ap (λ (w : Walk). Some (codes "link", finished built_link.rules w.held)) (walk-link options out file rest plain_out plain);
+          called = subcommand_of-line program (codes "link") built_link (words ++ file ∷ rest) calls-link
+              ∙ ap (λ rows. Some (codes "link", rows)) (rows_after-files built_link words (link_held options out) front (awaits-link out options) file rest plain);
           files_are = paths.1;
           some = some;
         };

@@ -1,16 +1,17 @@
 -- The status after the plain forms, and where memory ran out.
 use Rattle.std.proofs.Common.{◌∷◌, [], Bool, inl, inr, List, Option, refl, subst, ℕ}
-use Rattle.hunk_commands.specs.Request.{Ends, EndsImage, EndsLink, EndsLoad, EndsText}
-use Rattle.amihunk.specs.CommandLine.{AsksCheck, AsksImage, AsksLink, AsksLoad, AsksShow}
+use Rattle.hunk_commands.specs.Request.{Ends, EndsImage, EndsLink, EndsLoad, EndsText, EndsVersion}
+use Rattle.amihunk.specs.CommandLine.{AsksCheck, AsksImage, AsksLink, AsksLoad, AsksShow, AsksVersion}
 use Rattle.hunk_commands.specs.Image.{IsImageFailure}
 use Rattle.hunk_commands.specs.Link.{IsLinkFailure}
 use Rattle.hunk_commands.specs.Load.{IsLoadFailure}
 use Rattle.hunk_commands.specs.Text.{IsTextFailure}
+use Rattle.hunk_commands.specs.Version.{IsVersionFailure}
 use Rattle.hunk_commands.specs.declared.text.Text.TheVariants.{Line, Listing}
 use Rattle.hunk_tool.specs.declared.link_options.LinkOptions.{LinkOptions}
 use Rattle.hunk_commands.specs.declared.request.Request.{Request}
 use Rattle.hunk_tool.specs.declared.image_form.ImageForm.{ImageForm}
-use Rattle.hunk_commands.specs.declared.request.Request.TheVariants.{Load, Link, Image, Check, Show, Help, Refused, OutOfMemory}
+use Rattle.hunk_commands.specs.declared.request.Request.TheVariants.{Load, Link, Image, Check, Show, Version, Help, Refused, OutOfMemory}
 use Rattle.hunk_commands.proofs.RequestLemmas.{not_begun}
 
 pub ends_link : {W : Type 0} (taken : W → Option (List ℕ)) (failed : W → Bool) (old new : W) (out : List ℕ) (options : LinkOptions) (files : List (List ℕ)) (request : Request) (status : ℕ)
@@ -22,6 +23,7 @@ ends_link taken failed old new out options files (Load l asked f) status asks en
 ends_link taken failed old new out options files (Image l asked fs) status asks ends = absurd asks
 ends_link taken failed old new out options files (Check f) status asks ends = absurd asks
 ends_link taken failed old new out options files (Show f) status asks ends = absurd asks
+ends_link taken failed old new out options files Version status asks ends = absurd asks
 ends_link taken failed old new out options files (Help text) status asks ends = absurd asks
 ends_link taken failed old new out options files (Refused text) status asks ends = absurd asks
 ends_link taken failed old new out options files OutOfMemory status asks ends =
@@ -36,6 +38,7 @@ ends_image taken failed old new list form files (Link out options fs) status ask
 ends_image taken failed old new list form files (Load l asked f) status asks ends = absurd asks
 ends_image taken failed old new list form files (Check f) status asks ends = absurd asks
 ends_image taken failed old new list form files (Show f) status asks ends = absurd asks
+ends_image taken failed old new list form files Version status asks ends = absurd asks
 ends_image taken failed old new list form files (Help text) status asks ends = absurd asks
 ends_image taken failed old new list form files (Refused text) status asks ends = absurd asks
 ends_image taken failed old new list form files OutOfMemory status asks ends =
@@ -50,6 +53,7 @@ ends_load taken failed old new list form file (Check f) status asks ends = absur
 ends_load taken failed old new list form file (Show f) status asks ends = absurd asks
 ends_load taken failed old new list form file (Link out options files) status asks ends = absurd asks
 ends_load taken failed old new list form file (Image l asked files) status asks ends = absurd asks
+ends_load taken failed old new list form file Version status asks ends = absurd asks
 ends_load taken failed old new list form file (Help text) status asks ends = absurd asks
 ends_load taken failed old new list form file (Refused text) status asks ends = absurd asks
 ends_load taken failed old new list form file OutOfMemory status asks ends =
@@ -62,6 +66,7 @@ ends_check taken failed old new file (Check f) status asks ends = subst (λ x. E
 ends_check taken failed old new file (Show f) status asks ends = absurd asks
 ends_check taken failed old new file (Link out options files) status asks ends = absurd asks
 ends_check taken failed old new file (Image l asked files) status asks ends = absurd asks
+ends_check taken failed old new file Version status asks ends = absurd asks
 ends_check taken failed old new file (Help text) status asks ends = absurd asks
 ends_check taken failed old new file (Refused text) status asks ends = absurd asks
 ends_check taken failed old new file OutOfMemory status asks ends =
@@ -74,7 +79,21 @@ ends_show taken failed old new file (Check f) status asks ends = absurd asks
 ends_show taken failed old new file (Show f) status asks ends = subst (λ x. EndsText taken failed old new Listing x status) asks ends
 ends_show taken failed old new file (Link out options files) status asks ends = absurd asks
 ends_show taken failed old new file (Image l asked files) status asks ends = absurd asks
+ends_show taken failed old new file Version status asks ends = absurd asks
 ends_show taken failed old new file (Help text) status asks ends = absurd asks
 ends_show taken failed old new file (Refused text) status asks ends = absurd asks
 ends_show taken failed old new file OutOfMemory status asks ends =
     inr (not_begun taken failed old new (IsTextFailure Listing file) (file ∷ []) status (inl refl) ends)
+
+pub ends_version : {W : Type 0} (taken : W → Option (List ℕ)) (failed : W → Bool) (old new : W) (request : Request) (status : ℕ)
+    → AsksVersion request → Ends taken failed old new request status → EndsVersion taken failed old new status
+ends_version taken failed old new (Link out options files) status asks ends = absurd asks
+ends_version taken failed old new (Load l asked f) status asks ends = absurd asks
+ends_version taken failed old new (Image l asked files) status asks ends = absurd asks
+ends_version taken failed old new (Check f) status asks ends = absurd asks
+ends_version taken failed old new (Show f) status asks ends = absurd asks
+ends_version taken failed old new Version status asks ends = ends
+ends_version taken failed old new (Help text) status asks ends = absurd asks
+ends_version taken failed old new (Refused text) status asks ends = absurd asks
+ends_version taken failed old new OutOfMemory status asks ends =
+    inr (not_begun taken failed old new IsVersionFailure [] status (inr refl) ends)

@@ -1,5 +1,5 @@
 -- What the arguments of a command line ask for, as `clap` reads them.
-use Rattle.std.specs.Prelude.{◌≡◌, ◌≢◌, ◌<◌, ⊤, ◌∷◌, ◌++◌, Bool, List, [], true, false, codes, if◌then◌else◌, length, Option, Some}
+use Rattle.std.specs.Prelude.{◌≡◌, ◌≢◌, ◌<◌, ◌⊎◌, ⊤, ◌∷◌, ◌++◌, ℕ, Bool, List, [], true, false, codes, if◌then◌else◌, length, Option, Some}
 use Rattle.clap.specs.Lexer.{usize_max}
 use Rattle.clap.specs.Takes.{is_given}
 use Rattle.clap.specs.Values.{bool_text}
@@ -13,7 +13,7 @@ use Rattle.hunk_tool.specs.declared.image_form.ImageForm.{ImageForm}
 use Rattle.hunk_tool.specs.declared.image_form.ImageForm.TheVariants.{Report, SRecords}
 use Rattle.hunk_tool.specs.declared.link_options.LinkOptions.{LinkOptions}
 use Rattle.hunk_commands.specs.declared.request.Request.{Request}
-use Rattle.hunk_commands.specs.declared.request.Request.TheVariants.{Link, Load, Image, Check, Show, Help, Refused, OutOfMemory}
+use Rattle.hunk_commands.specs.declared.request.Request.TheVariants.{Link, Load, Image, Check, Show, Version, Help, Refused, OutOfMemory}
 
 -- `--NAME VALUE`, which is required
 abbrev pub option_rule : Text → Rule
@@ -23,6 +23,17 @@ option_rule name = record (new_rule name) { long = Some name; value_names = 1; r
 abbrev pub flag_rule : Text → Rule
 flag_rule name = record (new_rule name) { long = Some name; action = Some SetTrue }
 
+-- the same option or flag, with a letter for its name
+abbrev pub with_letter : ℕ → Rule → Rule
+with_letter letter rule = record rule { short = Some letter }
+
+-- the letters `o` and `s`
+abbrev pub letter_o : ℕ
+letter_o = 111
+
+abbrev pub letter_s : ℕ
+letter_s = 115
+
 -- `FILE`, which is required
 abbrev pub file_rule : Rule
 file_rule = record (new_rule (codes "file")) { value_names = 1; required = true }
@@ -31,11 +42,11 @@ file_rule = record (new_rule (codes "file")) { value_names = 1; required = true 
 abbrev pub files_rule : Rule
 files_rule = record file_rule { range = Some (record { start_inclusive = 1; end_inclusive = usize_max }) }
 
--- `link --out OUT [--strip] [--short] [--trim] FILE...`
+-- `link --out OUT [--strip] [--short] [--trim] FILE...`, where `-o` is `--out`, and `-s` is `--strip`
 abbrev pub link_shape : Shape
 link_shape = (with_rule (with_rule (with_rule (with_rule (with_rule
-    (new_app (codes "link")) (option_rule (codes "out")))
-    (flag_rule (codes "strip"))) (flag_rule (codes "short"))) (flag_rule (codes "trim"))) files_rule).top
+    (new_app (codes "link")) (with_letter letter_o (option_rule (codes "out"))))
+    (with_letter letter_s (flag_rule (codes "strip")))) (flag_rule (codes "short"))) (flag_rule (codes "trim"))) files_rule).top
 
 -- `load --at LIST [--srec] FILE`
 abbrev pub load_shape : Shape
@@ -47,9 +58,10 @@ abbrev pub image_shape : Shape
 image_shape = (with_rule (with_rule (with_rule
     (new_app (codes "image")) (option_rule (codes "at"))) (flag_rule (codes "srec"))) files_rule).top
 
--- the program, which requires a subcommand, and has none called `help`
+-- the program, which has a version, requires a subcommand, and has none called `help`
 abbrev pub bare_shape : Shape
 bare_shape = record (new_app (codes "amihunk")).top {
+  has_version = true;
   subcommand_required = true;
   disable_help_subcommand = true;
 }
@@ -134,18 +146,20 @@ Answers k (Load list form file) = ⊥
 Answers k (Image list form files) = ⊥
 Answers k (Check file) = ⊥
 Answers k (Show file) = ⊥
+Answers k Version = k ≡ error.DisplayVersion
 Answers k (Help text) = k ≡ error.DisplayHelp
-Answers k (Refused text) = (k ≢ error.DisplayHelp) × (k ≢ error.OutOfMemory)
+Answers k (Refused text) = (k ≢ error.DisplayHelp) × (k ≢ error.DisplayVersion) × (k ≢ error.OutOfMemory)
 Answers k OutOfMemory = ⊤
 
--- the arguments are rejected with one of the kinds, and do not ask for help
+-- the arguments are rejected with one of the kinds, and ask for neither help nor the version
 pub record IsRefusedBy (kinds : Kinds) : Type 0 where
   pub kind : ErrorKind
   pub among : IsAmong kind kinds
   pub no_help : kind ≢ error.DisplayHelp
+  pub no_version : kind ≢ error.DisplayVersion
 
--- what the arguments ask for: the subcommand that they name if nothing is wrong with them, help if
--- they ask for it, a rejection if something is wrong; nothing is said if memory runs out
+-- what the arguments ask for: the subcommand that they name if nothing is wrong with them, help or the
+-- version if they ask for it, a rejection if something is wrong; nothing is said if memory runs out
 abbrev pub IsAskedBy : List Text → Request → Type 0
 IsAskedBy words (Link out options files) = (fault_of command_line words ≡ [])
     × IsLink (subcommand_of command_line words) out.now options (texts files.items)
@@ -157,6 +171,7 @@ IsAskedBy words (Check file) = (fault_of command_line words ≡ [])
     × IsCalled (subcommand_of command_line words) (codes "check") file.now
 IsAskedBy words (Show file) = (fault_of command_line words ≡ [])
     × IsCalled (subcommand_of command_line words) (codes "show") file.now
+IsAskedBy words Version = IsAmong error.DisplayVersion (fault_of command_line words)
 IsAskedBy words (Help text) = IsAmong error.DisplayHelp (fault_of command_line words)
 IsAskedBy words (Refused text) = IsRefusedBy (fault_of command_line words)
 IsAskedBy words OutOfMemory = ⊤
@@ -186,6 +201,23 @@ option_words options =
 -- the arguments `PROGRAM link --out OUT [--strip] [--short] [--trim] FILE...`
 abbrev pub link_line : Text → LinkOptions → Text → List Text → List Text
 link_line program options out files = program ∷ codes "link" ∷ codes "--out" ∷ out ∷ (option_words options ++ files)
+
+-- the same words, with `-s` for `--strip`
+abbrev pub brief_words : LinkOptions → List Text
+brief_words options =
+    word_if options.strip (codes "-s") ++ (word_if options.short (codes "--short") ++ word_if options.trim (codes "--trim"))
+
+-- the arguments `PROGRAM link -o OUT [-s] [--short] [--trim] FILE...`
+abbrev pub brief_link_line : Text → LinkOptions → Text → List Text → List Text
+brief_link_line program options out files = program ∷ codes "link" ∷ codes "-o" ∷ out ∷ (brief_words options ++ files)
+
+-- the word is `--version` or `-V`
+abbrev pub IsVersionWord : Text → Type 0
+IsVersionWord word = (word ≡ codes "--version") ⊎ (word ≡ codes "-V")
+
+-- the arguments `PROGRAM WORD`
+abbrev pub version_line : Text → Text → List Text
+version_line program word = program ∷ word ∷ []
 
 -- the word `--srec`, if this form is asked for by it
 abbrev pub form_words : ImageForm → List Text
@@ -232,3 +264,9 @@ abbrev pub AsksShow : Text → Request → Type 0
 AsksShow file (Show f) = f.now ≡ file
 AsksShow file OutOfMemory = ⊤
 AsksShow file _ = ⊥
+
+-- the request is for the version, or memory ran out
+abbrev pub AsksVersion : Request → Type 0
+AsksVersion Version = ⊤
+AsksVersion OutOfMemory = ⊤
+AsksVersion _ = ⊥

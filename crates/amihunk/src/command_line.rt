@@ -5,7 +5,8 @@ ghost use Rattle.clap.specs.Words.{FailsBy, all_of, app_of, fault_of, first_of, 
 ghost use Rattle.clap.specs.Words.{rule_of, shape_of, subcommand_of, subcommand_rows_of};
 ghost use Rattle.clap.specs.declared.builder.command.Command.TheViews.{out-Command};
 ghost use Rattle.amihunk.specs.CommandLine.{Answers, AsksCheck, AsksImage, AsksLink, AsksLoad, AsksShow, IsAskedBy};
-ghost use Rattle.amihunk.specs.CommandLine.{IsNoFlag, IsRefusal, IsWhole, Says, command_line, file_line, file_rule, is_srec};
+ghost use Rattle.amihunk.specs.CommandLine.{IsNoFlag, IsRefusal, IsVersionWord, IsWhole, Says, brief_link_line, command_line};
+ghost use Rattle.amihunk.specs.CommandLine.{AsksVersion, file_line, file_rule, is_srec, version_line};
 ghost use Rattle.amihunk.specs.CommandLine.{file_shape, files_rule, flag_rule, image_line, image_shape, link_line, link_shape};
 ghost use Rattle.amihunk.specs.CommandLine.{load_line, load_shape, option_rule};
 ghost use Rattle.hunk_tool.specs.declared.image_form.ImageForm.{ImageForm};
@@ -13,7 +14,7 @@ ghost use Rattle.hunk_tool.specs.declared.link_options.LinkOptions.{LinkOptions}
 
 use clap::error::ErrorKind;
 use clap::{Arg, ArgAction, ArgMatches, Command, Error};
-use hunk_commands::Request;
+use hunk_commands::{Request, VERSION};
 use hunk_tool::{ImageForm, LinkOptions};
 use std::alloc::{AllocError, Global};
 use std::convert::AsStr;
@@ -23,6 +24,9 @@ pub fn read_words<'a, S: AsStr>(alloc: Global, words: &'a [S]) -> Request<'a>
     ensures answer { IsAskedBy (map S.text words.entry.now) result }
     ensures link { (program : List ℕ) (options : LinkOptions) (out : List ℕ) (files : List (List ℕ))
         → map S.text words.entry.now ≡ link_line program options out files
+        → IsNoFlag out → 0 < length files → All IsNoFlag files → AsksLink out options files result }
+    ensures brief { (program : List ℕ) (options : LinkOptions) (out : List ℕ) (files : List (List ℕ))
+        → map S.text words.entry.now ≡ brief_link_line program options out files
         → IsNoFlag out → 0 < length files → All IsNoFlag files → AsksLink out options files result }
     ensures load { (program list : List ℕ) (form : ImageForm) (file : List ℕ)
         → map S.text words.entry.now ≡ load_line program list form file
@@ -36,6 +40,8 @@ pub fn read_words<'a, S: AsStr>(alloc: Global, words: &'a [S]) -> Request<'a>
     ensures show { (program file : List ℕ)
         → map S.text words.entry.now ≡ file_line program (codes "show") file
         → IsNoFlag file → AsksShow file result }
+    ensures version { (program word : List ℕ)
+        → map S.text words.entry.now ≡ version_line program word → IsVersionWord word → AsksVersion result }
 {
     match matches_of(alloc, words) {
         Ok(matches) => request_of(alloc, &matches).unwrap_or(Request::OutOfMemory),
@@ -75,6 +81,7 @@ fn command<'a>(alloc: Global) -> Result<Command<'a>, AllocError>
 {
     Command::new(alloc, "amihunk")
         .about("An Amiga hunk linker and loader")
+        .version(VERSION)
         .disable_help_subcommand(true)
         .subcommand_required(true)
         .subcommand(link_command(alloc)?)?
@@ -84,7 +91,8 @@ fn command<'a>(alloc: Global) -> Result<Command<'a>, AllocError>
         .subcommand(show_command(alloc)?)
 }
 
-/// The subcommand `link --out OUT [--strip] [--short] [--trim] FILE...`.
+/// The subcommand `link --out OUT [--strip] [--short] [--trim] FILE...`, where `-o` is `--out`, and
+/// `-s` is `--strip`.
 fn link_command<'a>(alloc: Global) -> Result<Command<'a>, AllocError>
     ensures shape { IfOk result (λ c. shape_of c ≡ link_shape) }
     ensures local { IfOk result (λ c. (out-Command c).has_globals ≡ false) }
@@ -92,8 +100,8 @@ fn link_command<'a>(alloc: Global) -> Result<Command<'a>, AllocError>
     Command::new(alloc, "link")
         .about("Links object files, and writes the load file")
         .after_help(help::LINK)
-        .arg(option_argument(alloc, "out", "OUT", "The load file to write"))?
-        .arg(flag(alloc, "strip", "Leaves out symbols and debug blocks"))?
+        .arg(option_argument(alloc, "out", "OUT", "The load file to write").short('o'))?
+        .arg(flag(alloc, "strip", "Leaves out symbols and debug blocks").short('s'))?
         .arg(flag(
             alloc,
             "short",
@@ -284,7 +292,7 @@ fn files_of<'a>(alloc: Global, values: &ArgMatches<'a>) -> Result<Vec<&'a str>, 
     }
 }
 
-/// The request of a parse that failed: help, or a rejection.
+/// The request of a parse that failed: help, the version, or a rejection.
 fn answer_to<'a>(alloc: Global, error: &Error) -> Request<'a>
     ensures { Answers (kind_of error.now) result }
 {
@@ -293,6 +301,7 @@ fn answer_to<'a>(alloc: Global, error: &Error) -> Request<'a>
     };
     match error.kind() {
         ErrorKind::OutOfMemory => Request::OutOfMemory,
+        ErrorKind::DisplayVersion => Request::Version,
         ErrorKind::DisplayHelp => Request::Help(text),
         _ => Request::Refused(text),
     }

@@ -3,9 +3,9 @@ ghost use Rattle.std.specs.Prelude.{◌≡◌, ◌<◌, ◌≤◌, ℕ, List, co
 ghost use Rattle.std.specs.List.{All};
 ghost use Rattle.hunk_tool.specs.declared.image_form.ImageForm.{ImageForm};
 ghost use Rattle.hunk_tool.specs.declared.link_options.LinkOptions.{LinkOptions};
-ghost use Rattle.hunk_commands.specs.Request.{EndsImage, EndsLink, EndsLoad, EndsText};
+ghost use Rattle.hunk_commands.specs.Request.{EndsImage, EndsLink, EndsLoad, EndsText, EndsVersion};
 ghost use Rattle.amihunk.specs.Program.{EndsLine};
-ghost use Rattle.amihunk.specs.CommandLine.{IsNoFlag, file_line, image_line, link_line, load_line};
+ghost use Rattle.amihunk.specs.CommandLine.{IsNoFlag, IsVersionWord, brief_link_line, file_line, image_line, link_line, load_line, version_line};
 
 use crate::command_line::{read_words, refuse_bytes};
 use hunk_commands::{Request, Text, answer};
@@ -40,6 +40,9 @@ pub fn run<R: Files + Print + AllocGlobal, W: Sink, S: AsStr>(
     ensures link { (program : List ℕ) (options : LinkOptions) (out : List ℕ) (files : List (List ℕ))
         → map S.text words.now ≡ link_line program options out files
         → IsNoFlag out → 0 < length files → All IsNoFlag files → EndsLink W.taken W.failed errors.old errors.new out options files result }
+    ensures brief { (program : List ℕ) (options : LinkOptions) (out : List ℕ) (files : List (List ℕ))
+        → map S.text words.now ≡ brief_link_line program options out files
+        → IsNoFlag out → 0 < length files → All IsNoFlag files → EndsLink W.taken W.failed errors.old errors.new out options files result }
     ensures load { (program list : List ℕ) (form : ImageForm) (file : List ℕ)
         → map S.text words.now ≡ load_line program list form file
         → IsNoFlag list → IsNoFlag file → EndsLoad W.taken W.failed errors.old errors.new list form file result }
@@ -52,6 +55,8 @@ pub fn run<R: Files + Print + AllocGlobal, W: Sink, S: AsStr>(
     ensures show { (program file : List ℕ)
         → map S.text words.now ≡ file_line program (codes "show") file
         → IsNoFlag file → EndsText W.taken W.failed errors.old errors.new Text.Listing file result }
+    ensures version { (program word : List ℕ)
+        → map S.text words.now ≡ version_line program word → IsVersionWord word → EndsVersion W.taken W.failed errors.old errors.new result }
 {
     answer(rt, errors, read_words(rt.alloc(), words))
 }

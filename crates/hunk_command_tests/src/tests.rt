@@ -7,6 +7,7 @@
 //! - `loads`: the report of a load file.
 //! - `requests`: the status of each request, and the line of its failure.
 //! - `texts`: the texts about a file.
+//! - `versions`: the version of the program.
 
 mod failures;
 mod images;
@@ -15,3 +16,4 @@ mod links;
 mod loads;
 mod requests;
 mod texts;
+mod versions;

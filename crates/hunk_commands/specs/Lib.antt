@@ -7,3 +7,4 @@ pub mod Load
 pub mod Link
 pub mod Image
 pub mod Text
+pub mod Version

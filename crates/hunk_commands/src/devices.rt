@@ -83,7 +83,7 @@ pub fn write_file<'a, O: Write + Drop>(
 }
 
 /// Flushes `output`, and returns it.
-fn flush<'a, O: Write + Drop>(mut output: O) -> Result<O, Failure<'a>>
+pub fn flush<'a, O: Write + Drop>(mut output: O) -> Result<O, Failure<'a>>
     ensures ok { IfOk result (λ after. Keeps (O.contents output) (O.contents after)) }
     ensures err { IfErr result (λ failure. failure ≡ Failure.Printing) }
 {

@@ -10,6 +10,7 @@
 //! - `link`: the command `link`.
 //! - `image`: the command `image`.
 //! - `text`: the commands that print a text about a file.
+//! - `version`: the version of the program.
 #![tactic(auto)]
 
 mod bases;
@@ -21,8 +22,10 @@ pub mod link;
 pub mod load;
 mod request;
 mod text;
+mod version;
 
 pub use failure::{COMMAND_LINE, DEVICE, DONE, Failure, report_failure};
 pub use inputs::{Input, open_inputs};
 pub use request::{Request, answer};
 pub use text::{Text, print_text, print_text_to};
+pub use version::{VERSION, print_version, write_version};

@@ -8,6 +8,7 @@ use crate::image::image;
 use crate::link::link;
 use crate::load::load;
 use crate::text::{Text, print_text};
+use crate::version::print_version;
 use hunk_tool::{ImageForm, LinkOptions};
 use hunk_words::{Sink, write_all};
 use std::alloc::{AllocError, Global};
@@ -55,6 +56,8 @@ pub enum Request<'a> {
         /// The argument FILE.
         file: &'a str,
     },
+    /// `--version`: the version of the program.
+    Version,
     /// Help, and its text.
     Help(String),
     /// Arguments that `clap` rejects, and what it says about them.
@@ -84,6 +87,10 @@ pub fn answer<R: Files + Print + AllocGlobal, W: Sink>(
         }
         Request::Check { file } => answer_text(rt, errors, Text::Line, file),
         Request::Show { file } => answer_text(rt, errors, Text::Listing, file),
+        Request::Version => match print_version(rt) {
+            Ok(()) => DONE,
+            Err(failure) => report_failure(errors, &[], &failure),
+        },
         Request::Help(text) => match rt.print(text) {
             Ok(()) => DONE,
             Err(_) => report_failure(errors, &[], &Failure::Printing),

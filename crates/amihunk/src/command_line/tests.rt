@@ -129,6 +129,36 @@ fn reads_the_form_of_the_load_file(rt: HostRuntime) {
 }
 
 #[test]
+fn reads_the_letters_of_a_link(rt: HostRuntime) {
+    let lines: [(&[&str], bool); 6] = [
+        (&["amihunk", "link", "-o", "o", "x", "y"], false),
+        (&["amihunk", "link", "-s", "-o", "o", "x", "y"], true),
+        (&["amihunk", "link", "x", "-so", "o", "y"], true),
+        (&["amihunk", "link", "-oo", "x", "y", "-s"], true),
+        (&["amihunk", "link", "-o=o", "--strip", "x", "y"], true),
+        (&["amihunk", "link", "x", "-s", "--out", "o", "y"], true),
+    ];
+    for (words, strip) in &lines {
+        is_link(
+            &rt,
+            rt.alloc(),
+            words,
+            options_of(*strip, false, false),
+            &["x", "y"],
+        );
+    }
+}
+
+#[test]
+fn reads_that_the_version_is_asked_for(rt: HostRuntime) {
+    for word in ["--version", "-V"] {
+        let words = ["amihunk", word];
+        let request = read_words(rt.alloc(), &words);
+        assert!(rt; matches!(request, Request::Version), "{word}");
+    }
+}
+
+#[test]
 fn reads_image(rt: HostRuntime) {
     let report = ImageForm::Report;
     let records = ImageForm::SRecords;

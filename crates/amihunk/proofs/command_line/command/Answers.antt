@@ -11,12 +11,16 @@ without_help a = record { top = record a.top { disable_help_subcommand = true };
 abbrev asks_subcommand : App → App
 asks_subcommand a = record { top = record a.top { subcommand_required = true }; subs = a.subs }
 
+abbrev has_version : App → App
+has_version a = record { top = record a.top { has_version = true }; subs = a.subs }
+
 pub returns : goal.returns
 returns c =
     let named : app_of c.about.result ≡ new_app (codes "amihunk") = ap app_of_fields c.about.ensures ∙ c.new.ensures.app in
+    let versioned = ap app_of_fields c.version.ensures ∙ ap has_version named in
     let bare : app_of c.subcommand_required.result ≡ record { top = bare_shape; subs = [] } =
     ap app_of_fields c.subcommand_required.ensures
-    ∙ ap asks_subcommand (ap app_of_fields c.disable_help_subcommand.ensures ∙ ap without_help named) in
+    ∙ ap asks_subcommand (ap app_of_fields c.disable_help_subcommand.ensures ∙ ap without_help versioned) in
     let links = c.in_ok-subcommand.ensures.shape c.in_ok-link_command.ensures.local
     ∙ ap₂ with_subcommand bare c.in_ok-link_command.ensures.shape in
     let loads = c.in_ok-subcommand-2.ensures.shape c.in_ok-load_command.ensures.local

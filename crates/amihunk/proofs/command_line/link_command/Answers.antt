@@ -1,18 +1,28 @@
 use Rattle.std.proofs.Common.{◌≡◌, ◌∙◌, ◌||◌, Bool, ap, ap₂, codes, false}
 use Rattle.std.proofs.lemmas.Result.{IfOk-weaker}
-use Rattle.clap.specs.Words.{App, app_of, new_app, with_rule}
+use Rattle.clap.specs.Words.{App, app_of, new_app, rule_of, with_rule}
 use Rattle.clap.specs.Simple.{app_of_fields}
+use Rattle.clap.specs.declared.builder.arg.Arg.{Arg}
 use Rattle.clap.specs.declared.builder.command.Command.{Command}
 use Rattle.clap.specs.declared.builder.command.Command.TheOpen.{Command-F}
 use Rattle.clap.specs.declared.builder.command.Command.TheViews.{out-Command}
+use Rattle.amihunk.specs.CommandLine.{letter_o, letter_s, with_letter}
 use Rattle.amihunk.proofs.command_line.link_command.Goals as goal
 
+is_global : Arg → Bool
+is_global a = a.global
+
 pub returns-clause-shape : goal.returns-clause-shape
+unfolding is_global
 returns-clause-shape c =
     let named : app_of c.after_help.result ≡ new_app (codes "link") =
     ap app_of_fields c.after_help.ensures ∙ (ap app_of_fields c.about.ensures ∙ c.new.ensures.app) in
-    let out = c.in_ok-arg.ensures.shape c.option_argument.ensures.local ∙ ap₂ with_rule named c.option_argument.ensures.rule in
-    let strip = c.in_ok-arg-2.ensures.shape c.flag.ensures.local ∙ ap₂ with_rule out c.flag.ensures.rule in
+    let out_rule = ap rule_of c.short.ensures ∙ ap (with_letter letter_o) c.option_argument.ensures.rule in
+    let out_local = ap is_global c.short.ensures ∙ c.option_argument.ensures.local in
+    let out = c.in_ok-arg.ensures.shape out_local ∙ ap₂ with_rule named out_rule in
+    let strip_rule = ap rule_of c.short-2.ensures ∙ ap (with_letter letter_s) c.flag.ensures.rule in
+    let strip_local = ap is_global c.short-2.ensures ∙ c.flag.ensures.local in
+    let strip = c.in_ok-arg-2.ensures.shape strip_local ∙ ap₂ with_rule out strip_rule in
     let short = c.in_ok-arg-3.ensures.shape c.flag-2.ensures.local ∙ ap₂ with_rule strip c.flag-2.ensures.rule in
     let trim = c.in_ok-arg-4.ensures.shape c.flag-3.ensures.local ∙ ap₂ with_rule short c.flag-3.ensures.rule in
     IfOk-weaker c.arg-5.result _ _
@@ -24,12 +34,14 @@ any_global : Command-F Command → Bool
 any_global c = c.has_globals
 
 pub returns-clause-local : goal.returns-clause-local
-unfolding any_global
+unfolding any_global is_global
 returns-clause-local c =
     let named : (out-Command c.after_help.result).has_globals ≡ false =
     ap any_global c.after_help.ensures ∙ (ap any_global c.about.ensures ∙ c.new.ensures.local) in
-    let out = c.in_ok-arg.ensures.globals ∙ ap₂ ◌||◌ named c.option_argument.ensures.local in
-    let strip = c.in_ok-arg-2.ensures.globals ∙ ap₂ ◌||◌ out c.flag.ensures.local in
+    let out_local = ap is_global c.short.ensures ∙ c.option_argument.ensures.local in
+    let out = c.in_ok-arg.ensures.globals ∙ ap₂ ◌||◌ named out_local in
+    let strip_local = ap is_global c.short-2.ensures ∙ c.flag.ensures.local in
+    let strip = c.in_ok-arg-2.ensures.globals ∙ ap₂ ◌||◌ out strip_local in
     let short = c.in_ok-arg-3.ensures.globals ∙ ap₂ ◌||◌ strip c.flag-2.ensures.local in
     let trim = c.in_ok-arg-4.ensures.globals ∙ ap₂ ◌||◌ short c.flag-3.ensures.local in
     IfOk-weaker c.arg-5.result _ _

@@ -4,7 +4,7 @@ use Rattle.clap.specs.Lexer.{usize_max}
 use Rattle.clap.specs.Words.{kind_of}
 use Rattle.amihunk.specs.CommandLine.{IsWhole}
 use Rattle.amihunk.proofs.CommandLineLemmas.{whole_where_faultless}
-use Rattle.amihunk.proofs.CommandLineAnswerLemmas.{asked_by_kind, asked_by_result, asks_check_where, asks_image_where, asks_link_where, asks_load_where, asks_show_where}
+use Rattle.amihunk.proofs.CommandLineAnswerLemmas.{asked_by_kind, asked_by_result, asks_brief_where, asks_check_where, asks_image_where, asks_link_where, asks_load_where, asks_show_where, asks_version_where}
 use Rattle.amihunk.proofs.command_line.read_words.Goals as goal
 
 pub request_of-requires : goal.request_of-requires
@@ -19,10 +19,12 @@ returns-in-Ok g c =
     record {
       answer = answer;
       link = asks_link_where words c.unwrap_or.result fits answer;
+      brief = asks_brief_where words c.unwrap_or.result fits answer;
       load = asks_load_where words c.unwrap_or.result answer;
       image = asks_image_where words c.unwrap_or.result fits answer;
       check = asks_check_where words c.unwrap_or.result answer;
       show = asks_show_where words c.unwrap_or.result answer;
+      version = asks_version_where words c.unwrap_or.result answer;
     }
 
 pub returns-in-Err : goal.returns-in-Err
@@ -33,8 +35,10 @@ returns-in-Err g c =
     record {
       answer = answer;
       link = asks_link_where words c.answer_to.result fits answer;
+      brief = asks_brief_where words c.answer_to.result fits answer;
       load = asks_load_where words c.answer_to.result answer;
       image = asks_image_where words c.answer_to.result fits answer;
       check = asks_check_where words c.answer_to.result answer;
       show = asks_show_where words c.answer_to.result answer;
+      version = asks_version_where words c.answer_to.result answer;
     }

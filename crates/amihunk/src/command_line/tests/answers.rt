@@ -126,16 +126,16 @@ fn gives_help(rt: HostRuntime) {
              image  Links object files at addresses, and prints the bytes of their hunks\n  \
              check  Checks a file, and prints which kind it is and how many units and hunks it has\n  \
              show   Prints a listing of the units and hunks of a file, and of what is in them\n\n\
-             Options:\n  -h, --help  Print help\n",
+             Options:\n  -h, --help     Print help\n  -V, --version  Print version\n",
         ),
         (
             &["amihunk", "link", "--help"],
             "Links object files, and writes the load file\n\n\
              Usage: amihunk link [OPTIONS] --out <OUT> <FILE>...\n\n\
              Arguments:\n  <FILE>...  Object files, in the order of linking\n\n\
-             Options:\n      \
-             --out <OUT>  The load file to write\n      \
-             --strip      Leaves out symbols and debug blocks\n      \
+             Options:\n  \
+             -o, --out <OUT>  The load file to write\n  \
+             -s, --strip      Leaves out symbols and debug blocks\n      \
              --short      Writes the short form, with relocations in 16-bit lists where they fit\n      \
              --trim       Leaves out zero longwords at the end of each hunk\n  \
              -h, --help       Print help\n\n\
