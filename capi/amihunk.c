@@ -1,0 +1,271 @@
+/*
+ * The seam between amihunk.h and the exports of crates/amihunk_c: it says which memory a call
+ * takes, and passes no NULL on. All else is done, and proved, by the exports.
+ */
+#include "amihunk.h"
+
+#include <string.h>
+
+/*
+ * The exports. A handle is one pointer; items are a pointer that is never NULL, and their number.
+ */
+struct span {
+    const uint8_t *bytes;
+    uint64_t size;
+};
+
+uint32_t amihunk_c_open(void **session, const uint32_t *bases, size_t count);
+uint32_t amihunk_c_feed(void **session, const uint8_t *piece, size_t size, amihunk_answer *answer);
+uint32_t amihunk_c_finish(void **session, amihunk_answer *answer);
+uint64_t amihunk_c_hunk_count(void **session);
+uint32_t amihunk_c_get_hunk(void **session, uint64_t hunk, struct span *span, uint32_t *base);
+uint64_t amihunk_c_read(void **session, uint64_t hunk, uint64_t offset, uint8_t *into, size_t size);
+void amihunk_c_close(void **session);
+uint32_t amihunk_c_check_places(const uint32_t *sizes, size_t size_count, const uint32_t *bases,
+                                size_t base_count, amihunk_answer *answer);
+uint32_t amihunk_c_open_linker(void **session, bool strip, bool short_form, bool trim);
+uint32_t amihunk_c_feed_input(void **session, const uint8_t *piece, size_t size,
+                              amihunk_answer *answer);
+uint32_t amihunk_c_end_input(void **session, amihunk_answer *answer);
+uint32_t amihunk_c_link(void **session, amihunk_answer *answer);
+uint32_t amihunk_c_get_linked(void **session, struct span *span);
+uint64_t amihunk_c_read_linked(void **session, uint64_t offset, uint8_t *into, size_t size);
+uint64_t amihunk_c_refusal_name(void **session, uint8_t *into, size_t size);
+uint64_t amihunk_c_refusal_line(void **session, const uint8_t *file, size_t file_size,
+                                uint8_t *into, size_t size);
+
+/* The memory of the handle whose call runs on this thread. */
+static _Thread_local const amihunk_memory *current;
+
+/* Makes a memory the current one, and returns the one before, which `leave` puts back. */
+static const amihunk_memory *enter(const amihunk_memory *memory)
+{
+    const amihunk_memory *before = current;
+    current = memory;
+    return before;
+}
+
+static uint64_t leave(const amihunk_memory *before, uint64_t result)
+{
+    current = before;
+    return result;
+}
+
+/* What the exports get when they ask for memory: whether there is some, and where; never NULL. */
+struct taken {
+    uint64_t ok;
+    void *block;
+};
+
+static struct taken taken(void *block)
+{
+    static char nothing;
+    return (struct taken){block != NULL, block != NULL ? block : &nothing};
+}
+
+struct taken rattle_alloc(size_t size, size_t align)
+{
+    return taken(current->allocate(current->context, size != 0 ? size : align, align));
+}
+
+struct taken rattle_realloc(void *block, size_t kept, size_t size, size_t align)
+{
+    size = size != 0 ? size : align;
+    if (current->resize != NULL) {
+        return taken(current->resize(current->context, block, kept, size, align));
+    }
+    void *moved = current->allocate(current->context, size, align);
+    if (moved != NULL) {
+        memcpy(moved, block, kept);
+        current->release(current->context, block);
+    }
+    return taken(moved);
+}
+
+void rattle_dealloc(void *block)
+{
+    current->release(current->context, block);
+}
+
+/* Where no items are, and where none are written. */
+static uint32_t none[1];
+
+static const void *items(const void *given)
+{
+    return given != NULL ? given : none;
+}
+
+static void *room(void *given)
+{
+    return given != NULL ? given : none;
+}
+
+/* Of the room for a text, what is left without the zero byte after it. */
+static size_t text_room(size_t size)
+{
+    return size != 0 ? size - 1 : 0;
+}
+
+/* Writes that byte after a text of this length, or after what there was room for. */
+static size_t end_text(char *into, size_t size, uint64_t length)
+{
+    if (size != 0) {
+        into[length < size ? length : size - 1] = 0;
+    }
+    return length;
+}
+
+static size_t write_line(void **session, const amihunk_memory *memory, const char *file, char *into,
+                         size_t size)
+{
+    const amihunk_memory *before = enter(memory);
+    size_t file_size = file != NULL ? strlen(file) : 0;
+    uint64_t length = leave(before, amihunk_c_refusal_line(session, items(file), file_size,
+                                                           room(into), text_room(size)));
+    return end_text(into, size, length);
+}
+
+static void close_handle(void **session, amihunk_memory *memory)
+{
+    const amihunk_memory *before = enter(memory);
+    amihunk_c_close(session);
+    leave(before, 0);
+    *memory = (amihunk_memory){0};
+}
+
+amihunk_status amihunk_loader_open(amihunk_loader *loader, amihunk_memory memory,
+                                   const uint32_t *bases, size_t count)
+{
+    const amihunk_memory *before = enter(&memory);
+    uint32_t status = leave(before, amihunk_c_open(&loader->session, items(bases), count));
+    if (status == AMIHUNK_OK) {
+        loader->memory = memory;
+    }
+    return status;
+}
+
+amihunk_status amihunk_loader_feed(amihunk_loader *loader, const void *piece, size_t size,
+                                   amihunk_answer *answer)
+{
+    amihunk_answer unwanted;
+    const amihunk_memory *before = enter(&loader->memory);
+    return leave(before, amihunk_c_feed(&loader->session, items(piece), size,
+                                        answer != NULL ? answer : &unwanted));
+}
+
+amihunk_status amihunk_loader_finish(amihunk_loader *loader, amihunk_answer *answer)
+{
+    amihunk_answer unwanted;
+    const amihunk_memory *before = enter(&loader->memory);
+    return leave(before, amihunk_c_finish(&loader->session, answer != NULL ? answer : &unwanted));
+}
+
+size_t amihunk_loader_hunk_count(amihunk_loader *loader)
+{
+    const amihunk_memory *before = enter(&loader->memory);
+    return leave(before, amihunk_c_hunk_count(&loader->session));
+}
+
+amihunk_status amihunk_loader_get_hunk(amihunk_loader *loader, size_t hunk, amihunk_hunk *told)
+{
+    struct span span = {0};
+    uint32_t base = 0;
+    const amihunk_memory *before = enter(&loader->memory);
+    uint32_t status = leave(before, amihunk_c_get_hunk(&loader->session, hunk, &span, &base));
+    *told = (amihunk_hunk){span.bytes, span.size, base};
+    return status;
+}
+
+size_t amihunk_loader_read(amihunk_loader *loader, size_t hunk, uint64_t offset, void *into,
+                           size_t size)
+{
+    const amihunk_memory *before = enter(&loader->memory);
+    return leave(before, amihunk_c_read(&loader->session, hunk, offset, room(into), size));
+}
+
+size_t amihunk_loader_line(amihunk_loader *loader, const char *file, char *into, size_t size)
+{
+    return write_line(&loader->session, &loader->memory, file, into, size);
+}
+
+void amihunk_loader_close(amihunk_loader *loader)
+{
+    close_handle(&loader->session, &loader->memory);
+}
+
+amihunk_status amihunk_check_places(const uint32_t *sizes, size_t size_count, const uint32_t *bases,
+                                    size_t base_count, amihunk_answer *answer)
+{
+    amihunk_answer unwanted;
+    return amihunk_c_check_places(items(sizes), size_count, items(bases), base_count,
+                                  answer != NULL ? answer : &unwanted);
+}
+
+amihunk_status amihunk_linker_open(amihunk_linker *linker, amihunk_memory memory,
+                                   amihunk_options options)
+{
+    const amihunk_memory *before = enter(&memory);
+    uint32_t status = leave(before, amihunk_c_open_linker(&linker->session, options.strip,
+                                                          options.short_form, options.trim));
+    if (status == AMIHUNK_OK) {
+        linker->memory = memory;
+    }
+    return status;
+}
+
+amihunk_status amihunk_linker_feed(amihunk_linker *linker, const void *piece, size_t size,
+                                   amihunk_answer *answer)
+{
+    amihunk_answer unwanted;
+    const amihunk_memory *before = enter(&linker->memory);
+    return leave(before, amihunk_c_feed_input(&linker->session, items(piece), size,
+                                              answer != NULL ? answer : &unwanted));
+}
+
+amihunk_status amihunk_linker_end_input(amihunk_linker *linker, amihunk_answer *answer)
+{
+    amihunk_answer unwanted;
+    const amihunk_memory *before = enter(&linker->memory);
+    return leave(before,
+                 amihunk_c_end_input(&linker->session, answer != NULL ? answer : &unwanted));
+}
+
+amihunk_status amihunk_linker_finish(amihunk_linker *linker, amihunk_answer *answer)
+{
+    amihunk_answer unwanted;
+    const amihunk_memory *before = enter(&linker->memory);
+    return leave(before, amihunk_c_link(&linker->session, answer != NULL ? answer : &unwanted));
+}
+
+amihunk_status amihunk_linker_get_file(amihunk_linker *linker, amihunk_bytes *told)
+{
+    struct span span = {0};
+    const amihunk_memory *before = enter(&linker->memory);
+    uint32_t status = leave(before, amihunk_c_get_linked(&linker->session, &span));
+    *told = (amihunk_bytes){span.bytes, span.size};
+    return status;
+}
+
+size_t amihunk_linker_read(amihunk_linker *linker, uint64_t offset, void *into, size_t size)
+{
+    const amihunk_memory *before = enter(&linker->memory);
+    return leave(before, amihunk_c_read_linked(&linker->session, offset, room(into), size));
+}
+
+size_t amihunk_linker_name(amihunk_linker *linker, char *into, size_t size)
+{
+    const amihunk_memory *before = enter(&linker->memory);
+    uint64_t length =
+        leave(before, amihunk_c_refusal_name(&linker->session, room(into), text_room(size)));
+    return end_text(into, size, length);
+}
+
+size_t amihunk_linker_line(amihunk_linker *linker, const char *file, char *into, size_t size)
+{
+    return write_line(&linker->session, &linker->memory, file, into, size);
+}
+
+void amihunk_linker_close(amihunk_linker *linker)
+{
+    close_handle(&linker->session, &linker->memory);
+}

@@ -1,0 +1,419 @@
+/*
+ * amihunk.h: loads Amiga load files into memory, and links object files into load files.
+ *
+ * A load file is what LoadSeg reads, and an object file is what assemblers write. Two handles do
+ * the work:
+ *
+ *   amihunk_loader   takes the bytes of a load file, in pieces of any size, and makes the memory of
+ *                    its hunks at the addresses that you give, relocated;
+ *   amihunk_linker   takes object files, one after another and in pieces of any size, and makes one
+ *                    load file of them.
+ *
+ *     uint32_t bases[] = {0x10000};
+ *     amihunk_loader loader = {0};
+ *     amihunk_answer answer;
+ *     amihunk_loader_open(&loader, amihunk_from_malloc(), bases, 1);
+ *     amihunk_loader_feed(&loader, bytes, size, &answer);
+ *     if (amihunk_loader_finish(&loader, &answer) == AMIHUNK_OK) {
+ *         ...                  amihunk_loader_get_hunk and amihunk_loader_read tell what is in it
+ *     }
+ *     amihunk_loader_close(&loader);
+ *
+ * A handle that is refused answers the same to every later call that feeds or finishes it, so it is
+ * enough to look at the answer of the last one.
+ *
+ * Handles
+ *
+ *   A handle is yours: put it where you like. A handle of all zeros is closed, so begin with
+ *   `= {0}`. An open call opens a closed handle; a close call releases its memory and leaves zeros.
+ *   You may move a handle between two calls, but of two copies only one may be used afterwards.
+ *   Each call may be made on each handle: one that is out of turn changes nothing, and returns
+ *   AMIHUNK_WRONG_STATE, or 0 where it returns a number.
+ *
+ *   Nothing is kept outside the handles. Different handles may be used by different threads at the
+ *   same time, as far as their memories allow that. A handle stays on the thread that opened it.
+ *
+ * Pointers
+ *
+ *   What you pass is read or written during that call alone. Of what you pass nothing is kept but
+ *   the functions and the context of an amihunk_memory, which have to stay good until the handle is
+ *   closed. A pointer to items may be NULL if their number is 0, and the pointer to an answer if
+ *   you do not want it; no other pointer may be NULL. What a call writes to overlaps nothing else
+ *   that it is passed, and not the memory of a handle.
+ *
+ *   The pointers in an amihunk_hunk and in an amihunk_bytes lead into the memory of the handle, and
+ *   hold until it is closed. Do not write there: what is read later would be what you wrote.
+ *
+ * What it needs
+ *
+ *   An x86-64 processor of level 2 (SSE4.2 and POPCNT; this is not checked), 64-bit pointers,
+ *   thread-local variables, and of the C library memcpy, memmove, memset and strlen. A call takes
+ *   up to 16 KiB of stack. No call prints anything, reads a file or ends the program.
+ */
+#ifndef AMIHUNK_H
+#define AMIHUNK_H
+
+#include <stdbool.h>
+#include <stddef.h>
+#include <stdint.h>
+
+#ifdef __cplusplus
+extern "C" {
+#endif
+
+/* -------------------------------------------- Memory ----------------------------------------- */
+
+/*
+ * Where a handle takes its memory from: three functions over a context. They are called during the
+ * calls of that handle alone, and on its thread. They may use other handles, but not the one whose
+ * call runs, and they return: no longjmp, no exception.
+ */
+typedef struct amihunk_memory {
+    /*
+     * Returns a block of at least `size` bytes, at an address that is a multiple of `align`, or
+     * NULL if there is none. `size` is at least 1; `align` is a power of two, at most 16.
+     */
+    void *(*allocate)(void *context, size_t size, size_t align);
+    /*
+     * Makes the block `size` bytes long, longer or shorter than it is, and returns where it is
+     * then. Its first `kept` bytes are as before: that is at most its old length, and at most
+     * `size`. NULL if that cannot be done: then the block is as it was. `size` and `align` are as
+     * above.
+     *
+     * The function may be NULL. Then a new block is allocated, and the old one is released.
+     */
+    void *(*resize)(void *context, void *block, size_t kept, size_t size, size_t align);
+    /* Takes back a block. Once a handle is closed, all its blocks are released. */
+    void (*release)(void *context, void *block);
+    void *context;
+} amihunk_memory;
+
+/* The heap of the C library: malloc, realloc and free. */
+amihunk_memory amihunk_from_malloc(void);
+
+/*
+ * The `size` bytes at `buffer`, and none beside them. They are yours again once each handle that
+ * takes its memory there is closed. Several handles may share them, on one thread.
+ *
+ * Up to 31 bytes are taken at once. A block takes 16 bytes more than its length, rounded up to a
+ * multiple of 16; what was released is used again. If there is too little room, or `buffer` is
+ * NULL, each allocation fails. The time of an allocation grows with the number of gaps.
+ */
+amihunk_memory amihunk_in_buffer(void *buffer, size_t size);
+
+/* -------------------------------------------- Answers ---------------------------------------- */
+
+/*
+ * What a call returns. Each call says below which of these it returns, and when. The names after a
+ * colon are the fields of the answer that are then set.
+ */
+typedef enum amihunk_status {
+    AMIHUNK_OK = 0,
+
+    /* The bytes are not a file of their kind. The first offence: place, reason, number, input. */
+    AMIHUNK_BAD_FILE = 1,
+
+    /* The hunks cannot be placed at the bases, for the first of these reasons. */
+    /* There are fewer or more bases than hunks. */
+    AMIHUNK_WRONG_COUNT = 2,
+    /* A hunk ends after address 2^32 - 1. The lowest: hunk. */
+    AMIHUNK_PAST_END = 3,
+    /* Two hunks share an address. The lowest that shares one with an earlier one: other; and the
+       lowest of these earlier ones: hunk. */
+    AMIHUNK_OVERLAP = 4,
+
+    /* The units do not link, for the first of these reasons. */
+    /* They have no hunk. */
+    AMIHUNK_NO_HUNKS = 5,
+    /* They have more than 65,535 hunks. */
+    AMIHUNK_TOO_MANY_HUNKS = 6,
+    /* Their hunks have more than 2^24 longwords, or the symbols and debug blocks that are kept take
+       more than 2^27 longwords of the load file. */
+    AMIHUNK_TOO_LARGE = 7,
+    /* A relocation adds the base of a hunk that its unit does not have: unit, input, hunk; and
+       which it does not have: other. */
+    AMIHUNK_NO_SUCH_HUNK = 8,
+    /* A hunk defines a name that was defined before: unit, input, hunk; amihunk_linker_name. */
+    AMIHUNK_DUPLICATE_NAME = 9,
+    /* A hunk refers to a name that no hunk defines: unit, input, hunk; amihunk_linker_name. */
+    AMIHUNK_UNDEFINED_NAME = 10,
+
+    /* An allocation failed. */
+    AMIHUNK_OUT_OF_MEMORY = 11,
+    /* The call is out of turn. The handle is as it was. */
+    AMIHUNK_WRONG_STATE = 12,
+    /* There is no hunk with this number. */
+    AMIHUNK_OUT_OF_RANGE = 13
+} amihunk_status;
+
+/* Why a file is refused. The words after a colon say what `number` is; without them it is 0. */
+typedef enum amihunk_reason {
+    /* The status is not AMIHUNK_BAD_FILE. */
+    AMIHUNK_REASON_NONE = 0,
+    /* The file ends after one to three bytes of a longword. */
+    AMIHUNK_REASON_PARTIAL_LONGWORD = 1,
+    /* The file ends too early, at a whole longword. */
+    AMIHUNK_REASON_UNEXPECTED_END = 2,
+    /* No file of this kind begins with this longword. */
+    AMIHUNK_REASON_WRONG_START = 3,
+    /* A block of an unknown type: the type. */
+    AMIHUNK_REASON_UNKNOWN_TYPE = 4,
+    /* A block that is not allowed here: its type. */
+    AMIHUNK_REASON_MISPLACED_TYPE = 5,
+    /* A block of a type that is left out, such as an overlay: the type. */
+    AMIHUNK_REASON_UNSUPPORTED_BLOCK = 6,
+    /* An external symbol of a type that is left out, such as a common symbol: the type. */
+    AMIHUNK_REASON_UNSUPPORTED_EXT = 7,
+    /* A hunk asks for both chip memory and fast memory. */
+    AMIHUNK_REASON_BOTH_MEMORY_BITS = 8,
+    /* The header names resident libraries. */
+    AMIHUNK_REASON_RESIDENT_NAMES = 9,
+    /* The header has no hunks, or not those from 0 to the last one. */
+    AMIHUNK_REASON_HUNK_TABLE = 10,
+    /* The sizes in the header add up to more than 2^24 longwords, or the file has over 2^28. */
+    AMIHUNK_REASON_TOO_LARGE = 11,
+    /* The content of a hunk is longer than its size in the header. */
+    AMIHUNK_REASON_CONTENT_TOO_LONG = 12,
+    /* A relocation adds the base of a hunk that the load file does not have: the hunk. */
+    AMIHUNK_REASON_NO_SUCH_HUNK = 13,
+    /* A relocation or a reference is not inside its hunk: its offset, in bytes. */
+    AMIHUNK_REASON_SITE_OUTSIDE = 14,
+    /* A relocation or a reference shares a byte with an earlier one: its offset, in bytes. */
+    AMIHUNK_REASON_SITE_OVERLAP = 15,
+    /* A symbol of a kind other than 0: the kind. */
+    AMIHUNK_REASON_SYMBOL_KIND = 16,
+    /* Something follows the last hunk. */
+    AMIHUNK_REASON_TRAILING_DATA = 17
+} amihunk_reason;
+
+/*
+ * What a call has to tell beside its status. A call that is passed an answer writes each field; one
+ * that the status and the reason do not name is 0. Everything is counted from 0.
+ */
+typedef struct amihunk_answer {
+    uint64_t place;  /* a longword of the file; after a file that ends too early, the next one */
+    uint64_t input;  /* of a linker: the object file that is refused, or that has the unit */
+    uint64_t unit;   /* of a linker: a unit, counted over all object files */
+    uint64_t hunk;   /* a hunk of the load file, or of the unit */
+    uint64_t other;  /* another hunk */
+    uint32_t status; /* the amihunk_status that the call returned */
+    uint32_t reason; /* an amihunk_reason */
+    uint32_t number; /* what the reason is about */
+} amihunk_answer;
+
+/* -------------------------------------------- Loading ---------------------------------------- */
+
+/* A loader. It is closed, loading, loaded or refused. Leave its fields alone. */
+typedef struct amihunk_loader {
+    void *session;
+    amihunk_memory memory;
+} amihunk_loader;
+
+/* A hunk in memory. */
+typedef struct amihunk_hunk {
+    const uint8_t *bytes; /* its content and zeros after it, with a base added at each relocation */
+    uint64_t size;        /* how many bytes these are: 4 times its size in the header */
+    uint32_t base;        /* the address of the first one */
+} amihunk_hunk;
+
+/*
+ * Opens a closed loader for a load file whose hunk number i is to be at address bases[i]. Each
+ * address may be a base, also an odd one. The bases are copied. Whether the hunks can be placed at
+ * them is told by amihunk_loader_finish.
+ *
+ * AMIHUNK_OK: the loader is loading.
+ * AMIHUNK_OUT_OF_MEMORY: it is still closed.
+ * AMIHUNK_WRONG_STATE: it was not closed.
+ */
+amihunk_status amihunk_loader_open(amihunk_loader *loader, amihunk_memory memory,
+                                   const uint32_t *bases, size_t count);
+
+/*
+ * Takes the next `size` bytes of the file.
+ *
+ * AMIHUNK_OK: the bytes so far may be the beginning of a load file.
+ * AMIHUNK_BAD_FILE: they are not. This comes with the last byte of the longword at the place.
+ * AMIHUNK_OUT_OF_MEMORY: an allocation failed.
+ * AMIHUNK_WRONG_STATE: the loader is closed or loaded.
+ *
+ * With AMIHUNK_BAD_FILE and AMIHUNK_OUT_OF_MEMORY the loader is refused from then on: every later
+ * feed and finish gives the same answer.
+ */
+amihunk_status amihunk_loader_feed(amihunk_loader *loader, const void *piece, size_t size,
+                                   amihunk_answer *answer);
+
+/*
+ * Ends the file, and makes its hunks known. No memory is needed for that.
+ *
+ * AMIHUNK_OK: the loader is loaded.
+ * AMIHUNK_BAD_FILE: the file ends too early.
+ * AMIHUNK_WRONG_COUNT, AMIHUNK_PAST_END, AMIHUNK_OVERLAP: it is a load file, but its hunks cannot
+ * be placed at the bases.
+ * AMIHUNK_WRONG_STATE: the loader is closed or loaded.
+ *
+ * With all but the first and the last of these, the loader is refused from then on. A loader that
+ * was refused before gives the same answer as then.
+ */
+amihunk_status amihunk_loader_finish(amihunk_loader *loader, amihunk_answer *answer);
+
+/* The number of hunks of a loaded loader, 1 to 65,535; else 0. */
+size_t amihunk_loader_hunk_count(amihunk_loader *loader);
+
+/*
+ * Tells where the bytes of a hunk are, how many they are, and the base.
+ *
+ * AMIHUNK_OK: `told` is the hunk. The pointer is not NULL, also if there are no bytes.
+ * AMIHUNK_OUT_OF_RANGE: there is no such hunk.
+ * AMIHUNK_WRONG_STATE: the loader is not loaded.
+ *
+ * With the last two, `told` is all zeros.
+ */
+amihunk_status amihunk_loader_get_hunk(amihunk_loader *loader, size_t hunk, amihunk_hunk *told);
+
+/*
+ * Copies the bytes of a hunk from `offset` on, as many as there are and at most `size`, and returns
+ * how many. 0 if the loader is not loaded, or there is no such hunk, or nothing at that offset. The
+ * rest of `into` is as it was.
+ */
+size_t amihunk_loader_read(amihunk_loader *loader, size_t hunk, uint64_t offset, void *into,
+                           size_t size);
+
+/*
+ * Writes why the loader is refused: the line that the program `amihunk` prints, with its newline.
+ *
+ *     amihunk: hello: longword 7: block longer than its hunk
+ *     amihunk: places: hunks 0 and 1 overlap
+ *     amihunk: out of memory
+ *
+ * `file` is what the file is called: a text that ends with a zero byte, or NULL for an empty one.
+ * If `size` is not 0, as much of the line as fits is written, at most `size` - 1 bytes, and a zero
+ * byte after it. Returns the length of the whole line, as snprintf does, so that something is
+ * missing if that is `size` or more. The line is empty if the loader is not refused.
+ */
+size_t amihunk_loader_line(amihunk_loader *loader, const char *file, char *into, size_t size);
+
+/* Closes a loader, whatever it is doing, and releases its memory. */
+void amihunk_loader_close(amihunk_loader *loader);
+
+/*
+ * Checks whether hunks of these sizes, in longwords, can be placed at these bases. No memory is
+ * needed for that. A hunk of no longwords takes no address.
+ *
+ * AMIHUNK_OK: they can.
+ * AMIHUNK_WRONG_COUNT, AMIHUNK_PAST_END, AMIHUNK_OVERLAP: they cannot.
+ */
+amihunk_status amihunk_check_places(const uint32_t *sizes, size_t size_count, const uint32_t *bases,
+                                    size_t base_count, amihunk_answer *answer);
+
+/* -------------------------------------------- Linking ---------------------------------------- */
+
+/* A linker. It is closed, linking, linked or refused. Leave its fields alone. */
+typedef struct amihunk_linker {
+    void *session;
+    amihunk_memory memory;
+} amihunk_linker;
+
+/* Bytes in the memory of a handle. */
+typedef struct amihunk_bytes {
+    const uint8_t *bytes;
+    uint64_t size;
+} amihunk_bytes;
+
+/*
+ * How object files are linked, and how their load file is written. Whatever is chosen, it has the
+ * same bytes in memory.
+ */
+typedef struct amihunk_options {
+    bool strip;      /* leaves out symbols and debug blocks */
+    bool short_form; /* writes relocations at offsets up to 65,535 in 16 bits (block type 1020) */
+    bool trim;       /* leaves out zero longwords at the end of contents that are not relocated */
+} amihunk_options;
+
+/*
+ * Opens a closed linker.
+ *
+ * AMIHUNK_OK: the linker is linking, and waits for its first object file.
+ * AMIHUNK_OUT_OF_MEMORY: it is still closed.
+ * AMIHUNK_WRONG_STATE: it was not closed.
+ */
+amihunk_status amihunk_linker_open(amihunk_linker *linker, amihunk_memory memory,
+                                   amihunk_options options);
+
+/*
+ * Takes the next `size` bytes of an object file. The first call begins the first object file, and
+ * the first one after an amihunk_linker_end_input the next.
+ *
+ * AMIHUNK_OK: the bytes so far may be the beginning of an object file.
+ * AMIHUNK_BAD_FILE: they are not. This comes with the last byte of the longword at the place.
+ * AMIHUNK_OUT_OF_MEMORY: an allocation failed.
+ * AMIHUNK_WRONG_STATE: the linker is closed or linked.
+ *
+ * With AMIHUNK_BAD_FILE and AMIHUNK_OUT_OF_MEMORY the linker is refused from then on: every later
+ * feed, end_input and finish gives the same answer.
+ */
+amihunk_status amihunk_linker_feed(amihunk_linker *linker, const void *piece, size_t size,
+                                   amihunk_answer *answer);
+
+/*
+ * Ends the object file. One that was never fed is empty, and is refused.
+ *
+ * AMIHUNK_OK: it is an object file.
+ * AMIHUNK_BAD_FILE: it ends too early.
+ * AMIHUNK_OUT_OF_MEMORY, AMIHUNK_WRONG_STATE: as of amihunk_linker_feed.
+ *
+ * A linker that is refused stays so, as after amihunk_linker_feed.
+ */
+amihunk_status amihunk_linker_end_input(amihunk_linker *linker, amihunk_answer *answer);
+
+/*
+ * Links the units of all object files, in the order in which they came.
+ *
+ * AMIHUNK_OK: the linker is linked, and has the load file.
+ * AMIHUNK_NO_HUNKS to AMIHUNK_UNDEFINED_NAME: the units do not link.
+ * AMIHUNK_OUT_OF_MEMORY: an allocation failed.
+ * AMIHUNK_WRONG_STATE: the linker is closed or linked, or an object file has not ended.
+ *
+ * With all but the first and the last of these, the linker is refused from then on. A linker that
+ * was refused before gives the same answer as then.
+ */
+amihunk_status amihunk_linker_finish(amihunk_linker *linker, amihunk_answer *answer);
+
+/*
+ * Tells where the bytes of the load file are, and how many they are.
+ *
+ * AMIHUNK_OK: `told` is the load file.
+ * AMIHUNK_WRONG_STATE: the linker is not linked, and `told` is all zeros.
+ */
+amihunk_status amihunk_linker_get_file(amihunk_linker *linker, amihunk_bytes *told);
+
+/*
+ * Copies the bytes of the load file from `offset` on, as many as there are and at most `size`, and
+ * returns how many. 0 if the linker is not linked, or there is nothing at that offset. The rest of
+ * `into` is as it was.
+ */
+size_t amihunk_linker_read(amihunk_linker *linker, uint64_t offset, void *into, size_t size);
+
+/*
+ * Writes the name that AMIHUNK_DUPLICATE_NAME or AMIHUNK_UNDEFINED_NAME is about, and returns its
+ * length; `into` and `size` are as in amihunk_loader_line. It has no zero byte, and may be empty;
+ * it is empty if the linker is not refused with one of these.
+ */
+size_t amihunk_linker_name(amihunk_linker *linker, char *into, size_t size);
+
+/*
+ * Writes why the linker is refused, as amihunk_loader_line does. `file` is what the object file is
+ * called that is refused: number `input` of the answer.
+ *
+ *     amihunk: main.o: longword 15: site 00000004 overlaps another
+ *     amihunk: link: unit 0 hunk 0: "foo" not defined
+ */
+size_t amihunk_linker_line(amihunk_linker *linker, const char *file, char *into, size_t size);
+
+/* Closes a linker, whatever it is doing, and releases its memory. */
+void amihunk_linker_close(amihunk_linker *linker);
+
+#ifdef __cplusplus
+}
+#endif
+
+#endif

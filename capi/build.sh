@@ -1,0 +1,34 @@
+#!/usr/bin/env bash
+# Makes capi/out: libamihunk.a, amihunk.h and amihunk.pc, for `cc` and for pkg-config. The arguments are handed to
+# `rt lib`, which proves and builds crates/amihunk_c. It needs the toolchain, a C compiler ($CC, or cc) and binutils.
+#
+# Of the library no names are global but the calls of amihunk.h.
+set -eu
+cd "$(dirname "$0")"
+crate=../crates/amihunk_c
+cc="${CC:-cc}"
+flags=(-std=c11 -O2 -fPIC -Wall -Wextra -Werror)
+
+rm -rf out
+mkdir -p out/parts
+(cd "$crate" && rt lib "$@") > out/parts/rt.log 2>&1 || { cat out/parts/rt.log >&2; exit 1; }
+for part in amihunk buffer malloc; do
+    "$cc" "${flags[@]}" -c "$part.c" -o "out/parts/$part.o"
+done
+
+# The seam and the exports become one object, in which only the seam's calls stay global.
+ld -r -o out/parts/joined.o out/parts/amihunk.o "$crate/out/libamihunk_c.a"
+nm -g --defined-only out/parts/amihunk.o | awk '$3 ~ /^amihunk_/ { print $3 }' > out/parts/calls
+objcopy --keep-global-symbols=out/parts/calls --strip-unneeded out/parts/joined.o out/parts/amihunk.o
+
+ar rcsD out/libamihunk.a out/parts/amihunk.o out/parts/buffer.o out/parts/malloc.o
+cp amihunk.h out/amihunk.h
+cat > out/amihunk.pc << 'END'
+prefix=${pcfiledir}
+
+Name: amihunk
+Description: Loads Amiga load files into memory, and links object files
+Version: 0.1
+Cflags: -I${prefix}
+Libs: -L${prefix} -lamihunk
+END
