@@ -1,0 +1,163 @@
+#!/usr/bin/env bash
+# Builds the C library, its tests and its examples, and runs them: plainly, with the address and undefined behaviour
+# sanitizers, and in valgrind. The last two are left out where they are not installed; everything else that cannot be
+# built or run counts as failed. Each test that is passed is counted once for each way in which it was run.
+#
+# The last line is 'N passed, M failed', and the status is 0 if M is 0. It needs the toolchain, a C compiler ($CC, or cc), a
+# C++ compiler ($CXX, or c++) and binutils.
+set -u
+cd "$(dirname "$0")" || exit 1
+export LC_ALL=C
+cc="${CC:-cc}"
+cxx="${CXX:-c++}"
+warnings=(-Wall -Wextra -Werror -pedantic)
+tests=(loading reasons linking memory calls mutated)
+work=out/check
+passed=0
+failed=0
+
+# Counts what was tried, and shows why it failed: NAME COMMAND..
+attempt() {
+    local name="$1"
+    shift
+    if "$@" > "$work/log" 2>&1; then
+        passed=$((passed + 1))
+        return 0
+    fi
+    failed=$((failed + 1))
+    echo "FAILED: $name"
+    tail -n 40 "$work/log"
+    return 1
+}
+
+# Runs a test program, which lists its tests and then says how many they are: NAME COMMAND..
+run_tests() {
+    local name="$1" status good bad ran
+    shift
+    timeout 600 "$@" > "$work/log" 2>&1
+    status=$?
+    good="$(grep -c '^ok ' "$work/log")"
+    bad="$(grep -c '^FAILED ' "$work/log")"
+    ran="$(sed -n 's/^ran //p' "$work/log")"
+    passed=$((passed + good))
+    if [ "$status" -eq 0 ] && [ "$bad" -eq 0 ] && [ "$good" -gt 0 ] && [ "$ran" = "$good" ]; then
+        return
+    fi
+    failed=$((failed + (bad > 0 ? bad : 1)))
+    echo "FAILED: $name, status $status"
+    tail -n 40 "$work/log"
+}
+
+# Builds and runs all test programs in one way: NAME FLAGS.. -- WORDS.. (those that run a program)
+run_way() {
+    local way="$1" flags=() test
+    shift
+    while [ "$1" != -- ]; do
+        flags+=("$1")
+        shift
+    done
+    shift
+    for test in "${tests[@]}"; do
+        if attempt "build of $test, $way" "$cc" -std=c11 "${warnings[@]}" -Iout "${flags[@]}" "tests/$test.c" \
+            -o "$work/$test" out/libamihunk.a -pthread; then
+            run_tests "$test, $way" "$@" "$work/$test"
+        fi
+    done
+    if attempt "build of header, $way" "$cxx" -std=c++11 "${warnings[@]}" -Iout "${flags[@]}" tests/header.cpp \
+        -o "$work/header" out/libamihunk.a; then
+        run_tests "header, $way" "$@" "$work/header"
+    fi
+}
+
+# Whether the library defines no global names but the calls of the header, and needs none but C's.
+only_own_names() {
+    nm -g --defined-only out/libamihunk.a | awk 'NF == 3 { print $3 }' | sort > "$work/defined"
+    tr '\n' ' ' < amihunk.h | sed 's|/\*[^*]*\*\+\([^/*][^*]*\*\+\)*/||g' | grep -oE 'amihunk_[a-z_]+\(' | tr -d '(' \
+        | sort -u > "$work/declared"
+    diff "$work/declared" "$work/defined" || return 1
+    nm -u out/libamihunk.a | awk 'NF == 2 { print $2 }' | sort -u \
+        | grep -vxE 'mem(cpy|move|set)|malloc|realloc|free|strlen|__tls_get_addr|_GLOBAL_OFFSET_TABLE_|amihunk_[a-z_]+' && return 1
+    return 0
+}
+
+# Whether a command writes what is expected and ends with the status: STATUS OUT ERRORS COMMAND..
+writes() {
+    local status="$1" out="$2" errors="$3"
+    shift 3
+    "$@" > "$work/stdout" 2> "$work/stderr"
+    [ $? -eq "$status" ] || { cat "$work/stdout" "$work/stderr"; return 1; }
+    diff <(printf '%s' "$out") "$work/stdout" && diff <(printf '%s' "$errors") "$work/stderr"
+}
+
+example() { # NAME
+    "$cc" -std=c11 -O2 "${warnings[@]}" -Iout "../examples/c/$1.c" -o "$work/$1" -Lout -lamihunk
+}
+
+run_examples() {
+    if attempt "build of emulator" example emulator; then
+        # 81,920 bytes of memory, which the file asks for without any content.
+        printf '\0\0\3\363\0\0\0\0\0\0\0\1\0\0\0\0\0\0\0\0\0\0\120\0\0\0\3\353\0\0\120\0\0\0\3\362' > "$work/large.load"
+        printf '\0\0\3\363\0\0\0\1' > "$work/bad.load"
+        attempt "emulator loads a file" writes 0 "$emulator_output" "" \
+            "$work/emulator" ../examples/two-hunks.load 10000 20000
+        attempt "emulator refuses what does not fit" writes 1 "" "amihunk: out of memory
+" "$work/emulator" "$work/large.load" 10000
+        attempt "emulator refuses a bad file" writes 1 "" \
+            "amihunk: $work/bad.load: longword 1: resident library names not supported
+" "$work/emulator" "$work/bad.load" 10000
+        attempt "emulator refuses an address outside its machine" writes 1 "" \
+            "emulator: the machine has no memory for hunk 0
+" "$work/emulator" ../examples/one-hunk.load FFFFE
+    fi
+    if attempt "build of assembler" example assembler; then
+        attempt "assembler links and loads" writes 0 "$assembler_output" "" "$work/assembler" print
+        attempt "assembler names what is missing" writes 1 "" "amihunk: link: unit 0 hunk 0: \"draw\" not defined
+" "$work/assembler" draw
+    fi
+}
+
+emulator_output="hunk 0: 16 bytes at 00010000
+hunk 1: 8 bytes at 00020000
+the machine starts at 00010000: 207c
+"
+assembler_output="hunk 0 at 00010000: 4eb9000200044e75
+hunk 1 at 00020000: 4e714e7170004e75
+"
+
+finish() {
+    echo "$passed passed, $failed failed"
+    [ "$failed" -eq 0 ]
+    exit
+}
+
+# Whether a program can be built and run so: WORDS.. (those that run it) -- FLAGS..
+is_there() {
+    local words=()
+    while [ "$1" != -- ]; do
+        words+=("$1")
+        shift
+    done
+    shift
+    echo 'int main(void) { return 0; }' > "$work/nothing.c"
+    "$cc" "$@" "$work/nothing.c" -o "$work/nothing" 2> /dev/null && "${words[@]}" "$work/nothing" > /dev/null 2>&1
+}
+
+./build.sh || { failed=1; finish; }
+mkdir -p "$work"
+
+attempt "the names of the library" only_own_names
+run_way "plainly" -O2 --
+sanitizers=(-g -O1 -fsanitize=address,undefined -fno-sanitize-recover=all)
+if is_there -- "${sanitizers[@]}"; then
+    run_way "with sanitizers" "${sanitizers[@]}" --
+else
+    echo "The sanitizers are not installed, and were left out."
+fi
+valgrind=(valgrind --quiet --error-exitcode=99 --leak-check=full --show-leak-kinds=all --errors-for-leak-kinds=all)
+if is_there "${valgrind[@]}" -- -O1; then
+    run_way "in valgrind" -g -O1 -- "${valgrind[@]}"
+else
+    echo "Valgrind is not installed, and was left out."
+fi
+run_examples
+finish
