@@ -1,0 +1,12 @@
+pub mod Answers
+pub mod Codes
+pub mod Copying
+pub mod Handles
+pub mod InputNumbers
+pub mod LoadedHunks
+pub mod Loading
+pub mod PlacesAnswers
+pub mod Refusals
+pub mod Sessions
+pub mod Spans
+pub mod Turns

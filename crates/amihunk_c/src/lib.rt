@@ -1,0 +1,26 @@
+//! The loader and the linker of `amihunk` for programs in C, as a static library.
+//!
+//! - `loading`: the calls that load a file.
+//! - `places`: the call that checks whether hunks can be placed.
+//! - `handle`: what C holds between calls, and `parts`: a box taken apart.
+//! - `session`: what a handle is at.
+//! - `loader`: loading, step by step.
+//! - `image`: the hunks that were loaded.
+//! - `refused`: why a session is refused.
+//! - `answer`: what C is told of a call.
+//! - `codes`: the numbers of statuses and reasons.
+//! - `copying`: copying bytes into a buffer of the caller.
+//! - `span`: where bytes are.
+#![tactic(auto)]
+
+mod answer;
+mod codes;
+mod copying;
+mod handle;
+mod image;
+mod loader;
+pub mod loading;
+pub mod places;
+mod refused;
+mod session;
+mod span;
