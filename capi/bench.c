@@ -1,9 +1,10 @@
 /*
- * What bench/capi.sh measures. The first argument says what is done with the file that the second one names:
+ * What bench/capi.sh measures. The first argument says what is done with the file that the second
+ * one names:
  *
  *   read    it is read to its end, and nothing else;
  *   load    it is loaded while it is read, as a file of one hunk;
- *   memory  it is read first, and then loaded from memory five times; prints the least microseconds.
+ *   memory  it is read, and then loaded from memory five times; prints the least microseconds.
  */
 #include "amihunk.h"
 

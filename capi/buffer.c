@@ -50,8 +50,10 @@ static struct block *cut(struct block **link, size_t size)
     return block;
 }
 
-/* The link in the list of free blocks that leads, or would lead, to a block, and the block whose link
-   it is, if it is one's. */
+/*
+ * The link in the list of free blocks that leads, or would lead, to a block; and the free block
+ * that has this link, or NULL if it is the room's.
+ */
 static struct block **link_to(struct room *room, struct block *block, struct block **before)
 {
     struct block **link = &room->free;

@@ -76,7 +76,7 @@ only_own_names() {
         | sort -u > "$work/declared"
     diff "$work/declared" "$work/defined" || return 1
     nm -u out/libamihunk.a | awk 'NF == 2 { print $2 }' | sort -u \
-        | grep -vxE 'mem(cpy|move|set)|malloc|realloc|free|strlen|__tls_get_addr|_GLOBAL_OFFSET_TABLE_|amihunk_[a-z_]+' && return 1
+        | grep -vxE 'mem(cpy|move|set)|malloc|realloc|free|strlen|__tls_get_addr|_GLOBAL_OFFSET_TABLE_' && return 1
     return 0
 }
 

@@ -296,9 +296,10 @@ static void two_memories_are_used_in_turn(void)
     CHECK(amihunk_linker_end_input(&linker, NULL) == AMIHUNK_OK);
     CHECK(amihunk_linker_feed(&linker, files[1].bytes, files[1].size, NULL) == AMIHUNK_OK);
     amihunk_hunk told;
-    CHECK(amihunk_loader_get_hunk(&third, 0, &told) == AMIHUNK_OK);
-    CHECK(told.bytes >= room && told.bytes + told.size <= room + sizeof(room));
-    CHECK(memcmp(told.bytes, two_hunks_first, 16) == 0);
+    if (CHECK(amihunk_loader_get_hunk(&third, 0, &told) == AMIHUNK_OK)) {
+        CHECK(told.bytes >= room && told.bytes + told.size <= room + sizeof(room));
+        CHECK(memcmp(told.bytes, two_hunks_first, 16) == 0);
+    }
     CHECK(amihunk_loader_get_hunk(&one, 1, &told) == AMIHUNK_OK &&
           memcmp(told.bytes, two_hunks_second, 8) == 0);
     amihunk_loader_close(&one);
@@ -357,6 +358,44 @@ static void threads_have_their_own_memories(void)
     }
 }
 
+#ifdef __has_feature
+#if __has_feature(address_sanitizer)
+#define SANITIZED
+#endif
+#elif defined(__SANITIZE_ADDRESS__)
+#define SANITIZED
+#endif
+
+/* The stack of a thread that makes every call: 16 KiB for the calls, and 8 KiB for all else. */
+#ifdef SANITIZED
+enum { STACK = 256 * 1024 }; /* since the code of the tests takes more then */
+#else
+enum { STACK = 24 * 1024 };
+#endif
+
+static void *load_and_link(void *context)
+{
+    CHECK(load(counted_memory(context), 1) == AMIHUNK_OK);
+    CHECK(link_two(counted_memory(context), 1) == AMIHUNK_OK);
+    CHECK(link_clash(counted_memory(context), 1) == AMIHUNK_DUPLICATE_NAME);
+    return NULL;
+}
+
+static void a_small_stack_is_enough(void)
+{
+    struct counted counted = {0};
+    pthread_attr_t attributes;
+    pthread_t thread;
+    if (!CHECK(pthread_attr_init(&attributes) == 0) ||
+        !CHECK(pthread_attr_setstacksize(&attributes, STACK) == 0) ||
+        !CHECK(pthread_create(&thread, &attributes, load_and_link, &counted) == 0)) {
+        abort();
+    }
+    CHECK(pthread_join(thread, NULL) == 0);
+    CHECK(counted.asked != 0 && counted.blocks == 0);
+    pthread_attr_destroy(&attributes);
+}
+
 /* ------------------------------ Closing ------------------------------ */
 
 static void a_loader_may_be_closed_after_each_byte(void)
@@ -412,6 +451,7 @@ int main(void)
         TEST(two_memories_are_used_in_turn),
         TEST(a_memory_may_use_other_handles),
         TEST(threads_have_their_own_memories),
+        TEST(a_small_stack_is_enough),
         TEST(a_loader_may_be_closed_after_each_byte),
         TEST(a_linker_may_be_closed_after_each_byte),
     };
