@@ -47,8 +47,10 @@ static int move_in(amihunk_loader *loader)
 
 static void start(uint32_t address)
 {
-    const unsigned char *code = machine + address;
-    printf("the machine starts at %08x: %02x%02x\n", (unsigned)address, code[0], code[1]);
+    if (address <= sizeof(machine) - 2) {
+        const unsigned char *code = machine + address;
+        printf("the machine starts at %08x: %02x%02x\n", (unsigned)address, code[0], code[1]);
+    }
 }
 
 int main(int count, char **words)
