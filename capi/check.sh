@@ -1,7 +1,8 @@
 #!/usr/bin/env bash
-# Builds the C library, its tests and its examples, and runs them: plainly, with the address and undefined behaviour
-# sanitizers, and in valgrind. The last two are left out where they are not installed; everything else that cannot be
-# built or run counts as failed. Each test that is passed is counted once for each way in which it was run.
+# Builds the C library, its tests and its examples, and runs them: plainly, with the library as LLVM builds it and as
+# Rattle's own compiler does, with the address and undefined behaviour sanitizers, and in valgrind. The last two are
+# left out where they are not installed; everything else that cannot be built or run counts as failed. Each test that is
+# passed is counted once for each way in which it was run.
 #
 # The last line is 'N passed, M failed', and the status is 0 if M is 0. It needs the toolchain, a C compiler ($CC, or cc), a
 # C++ compiler ($CXX, or c++) and binutils.
@@ -12,7 +13,8 @@ cc="${CC:-cc}"
 cxx="${CXX:-c++}"
 warnings=(-Wall -Wextra -Werror -pedantic)
 tests=(loading reasons linking memory calls mutated)
-work=out/check
+work="$(mktemp -d)" || exit 1
+trap 'rm -rf "$work"' EXIT
 passed=0
 failed=0
 
@@ -93,6 +95,12 @@ example() { # NAME
     "$cc" -std=c11 -O2 "${warnings[@]}" -Iout "../examples/c/$1.c" -o "$work/$1" -Lout -lamihunk
 }
 
+example_by_pkg_config() {
+    local flags
+    read -r -a flags < <(PKG_CONFIG_PATH=out pkg-config --cflags --libs amihunk)
+    [ "${#flags[@]}" -gt 0 ] && "$cc" ../examples/c/assembler.c -o "$work/assembler" "${flags[@]}"
+}
+
 run_examples() {
     if attempt "build of emulator" example emulator; then
         # 81,920 bytes of memory, which the file asks for without any content.
@@ -108,6 +116,9 @@ run_examples() {
         attempt "emulator refuses an address outside its machine" writes 1 "" \
             "emulator: the machine has no memory for hunk 0
 " "$work/emulator" ../examples/one-hunk.load FFFFE
+    fi
+    if command -v pkg-config > /dev/null; then
+        attempt "build by pkg-config" example_by_pkg_config
     fi
     if attempt "build of assembler" example assembler; then
         attempt "assembler links and loads" writes 0 "$assembler_output" "" "$work/assembler" print
@@ -142,9 +153,10 @@ is_there() {
     "$cc" "$@" "$work/nothing.c" -o "$work/nothing" 2> /dev/null && "${words[@]}" "$work/nothing" > /dev/null 2>&1
 }
 
-./build.sh || { failed=1; finish; }
-mkdir -p "$work"
-
+if attempt "the library, by Rattle's own compiler" ./build.sh --backend rattle; then
+    run_way "by Rattle's own compiler" -O2 --
+fi
+attempt "the library" ./build.sh || finish
 attempt "the names of the library" only_own_names
 run_way "plainly" -O2 --
 sanitizers=(-g -O1 -fsanitize=address,undefined -fno-sanitize-recover=all)
