@@ -1,1 +1,3 @@
 pub mod HandleLemmas
+pub mod LinkerLemmas
+pub mod LinkingLemmas

@@ -3,10 +3,15 @@ pub mod Codes
 pub mod Copying
 pub mod Handles
 pub mod InputNumbers
+pub mod Lines
+pub mod LinkedBytes
+pub mod Linkers
+pub mod Linking
 pub mod LoadedHunks
 pub mod Loading
 pub mod PlacesAnswers
 pub mod Refusals
 pub mod Sessions
 pub mod Spans
+pub mod Texts
 pub mod Turns

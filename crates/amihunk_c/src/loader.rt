@@ -4,7 +4,7 @@ ghost use Rattle.amihunk_c.specs.Loading.{FeedsLoader, FinishesLoader};
 use crate::answer::Answer;
 use crate::codes::Status;
 use crate::refused::Refused;
-use crate::session::{Session, refuse};
+use crate::session::{Session, keep, refuse};
 use core::mem::replace;
 
 /// Feeds the next bytes of a load file.
@@ -17,7 +17,7 @@ pub(crate) fn feed_loader(session: &mut Session, piece: &[u8]) -> Answer
             Err(refusal) => Refused::load(refusal),
         },
         Session::Stopped(refused) => return refused.answer,
-        Session::Loaded(_) => return Answer::plain(Status::WrongState),
+        _ => return Answer::plain(Status::WrongState),
     };
     refuse(session, refused)
 }
@@ -28,10 +28,7 @@ pub(crate) fn finish_loader(session: &mut Session) -> Answer
 {
     match replace(session, Session::Stopped(Refused::memory())) {
         Session::Loading(loader) => match loader.finish() {
-            Ok(image) => {
-                *session = Session::Loaded(image);
-                Answer::plain(Status::Ok)
-            }
+            Ok(image) => keep(session, Session::Loaded(image)),
             Err(refusal) => refuse(session, Refused::load(refusal)),
         },
         Session::Stopped(refused) => refuse(session, refused),

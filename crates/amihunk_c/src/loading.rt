@@ -25,7 +25,7 @@ use std::alloc::Global;
 pub extern "C" fn amihunk_c_open(alloc: Global, handle: &mut Handle, bases: &[u32]) -> u32
     ensures { OpensHandle (BeginsLoader bases.now) handle.old.session handle.new.session result }
 {
-    let status = match handle.take(alloc) {
+    let begun = match handle.take(alloc) {
         Some(session) => {
             handle.put(session);
             Status::WrongState
@@ -35,7 +35,7 @@ pub extern "C" fn amihunk_c_open(alloc: Global, handle: &mut Handle, bases: &[u3
             Err(_) => Status::OutOfMemory,
         },
     };
-    status.code()
+    begun.code()
 }
 
 /// Takes the next bytes of the file, any number of them.

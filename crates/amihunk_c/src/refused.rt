@@ -1,9 +1,11 @@
 //! Why a session is refused.
 ghost use Rattle.std.specs.Prelude.{◌≡◌};
 ghost use Rattle.amihunk_c.specs.InputNumbers.{input_of};
+ghost use Rattle.amihunk_c.specs.Texts.{refusal_name};
 
 use crate::answer::Answer;
 use crate::codes::Status;
+use crate::session::Session;
 use hunk_link::LinkRefusal;
 use hunk_loader::{LoadRefusal, PlaceFault};
 use hunk_tool::ToolFault;
@@ -105,5 +107,20 @@ fn input_of(refusal: &LinkRefusal, ends: &[usize]) -> usize
         | LinkRefusal::TooManyHunks
         | LinkRefusal::TooLarge
         | LinkRefusal::OutOfMemory => 0,
+    }
+}
+
+/// The name that the refusal of a session tells; empty if it tells none.
+pub(crate) fn refusal_name(session: &Session) -> &[u8]
+    ensures { result.now ≡ refusal_name session.now }
+{
+    match session {
+        Session::Stopped(refused) => match &refused.fault {
+            ToolFault::Link(
+                LinkRefusal::DuplicateName { name, .. } | LinkRefusal::UndefinedName { name, .. },
+            ) => name.bytes(),
+            _ => &[],
+        },
+        _ => &[],
     }
 }

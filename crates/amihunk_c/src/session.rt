@@ -1,7 +1,11 @@
 //! What a handle is at.
 ghost use Rattle.std.specs.Prelude.{◌≡◌};
+ghost use Rattle.amihunk_c.specs.Answers.{plain_answer};
+ghost use Rattle.amihunk_c.specs.declared.codes.Status.{Status};
 
 use crate::answer::Answer;
+use crate::codes::Status;
+use crate::linker::Linker;
 use crate::refused::Refused;
 use hunk_loader::{Image, ImageLoader};
 
@@ -12,8 +16,21 @@ pub enum Session {
     Loading(ImageLoader),
     /// A load file is loaded.
     Loaded(Image),
-    /// Bytes or addresses were refused, or an allocation failed.
+    /// Object files are being fed.
+    Linking(Linker),
+    /// Object files are linked, to the bytes of this load file.
+    Linked(Vec<u8>),
+    /// Bytes, addresses or units were refused, or an allocation failed.
     Stopped(Refused),
+}
+
+/// Goes on to the next stage.
+pub(crate) fn keep(session: &mut Session, next: Session) -> Answer
+    ensures session { session.new ≡ next }
+    ensures answer { result ≡ plain_answer Status.Ok }
+{
+    *session = next;
+    Answer::plain(Status::Ok)
 }
 
 /// Ends the session with a refusal, and gives what C is told of it.
