@@ -15,6 +15,7 @@
 //! - `codes`: the numbers of statuses and reasons.
 //! - `copying`: copying bytes into a buffer of the caller.
 //! - `span`: where bytes are.
+//! - `tests`: the calls over a handle without a session.
 #![tactic(auto)]
 
 mod answer;
@@ -32,4 +33,6 @@ pub mod places;
 mod refused;
 mod session;
 mod span;
+#[cfg(test)]
+mod tests;
 pub mod texts;
