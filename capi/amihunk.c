@@ -115,14 +115,23 @@ static size_t end_text(char *into, size_t size, uint64_t length)
     return length;
 }
 
+/* Writes the line of a refusal. It is made in a buffer here, and where that is too small, in the
+   memory of the handle. */
 static size_t write_line(void **session, const amihunk_memory *memory, const char *file, char *into,
                          size_t size)
 {
-    const amihunk_memory *before = enter(memory);
+    char buffer[2048];
+    amihunk_memory short_line = amihunk_in_buffer(buffer, sizeof(buffer));
     size_t file_size = file != NULL ? strlen(file) : 0;
-    uint64_t length = leave(before, amihunk_c_refusal_line(session, items(file), file_size,
-                                                           room(into), text_room(size)));
-    return end_text(into, size, length);
+    const amihunk_memory *before = enter(&short_line);
+    uint64_t length =
+        amihunk_c_refusal_line(session, items(file), file_size, room(into), text_room(size));
+    if (length == 0) {
+        current = memory;
+        length =
+            amihunk_c_refusal_line(session, items(file), file_size, room(into), text_room(size));
+    }
+    return end_text(into, size, leave(before, length));
 }
 
 static void close_handle(void **session, amihunk_memory *memory)

@@ -288,7 +288,8 @@ size_t amihunk_loader_read(amihunk_loader *loader, size_t hunk, uint64_t offset,
  * `file` is what the file is called: a text that ends with a zero byte, or NULL for an empty one.
  * If `size` is not 0, as much of the line as fits is written, at most `size` - 1 bytes, and a zero
  * byte after it. Returns the length of the whole line, as snprintf does, so that something is
- * missing if that is `size` or more. The line is empty if the loader is not refused.
+ * missing if that is `size` or more. The line is empty if the loader is not refused. One of up to
+ * 500 bytes needs no memory; a longer one is empty too if the loader's memory has no room for it.
  */
 size_t amihunk_loader_line(amihunk_loader *loader, const char *file, char *into, size_t size);
 

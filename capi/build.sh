@@ -16,12 +16,12 @@ for part in amihunk buffer malloc; do
     "$cc" "${flags[@]}" -c "$part.c" -o "out/parts/$part.o"
 done
 
-# The seam and the exports become one object, in which only the seam's calls stay global.
-ld -r -o out/parts/joined.o out/parts/amihunk.o "$crate/out/libamihunk_c.a"
-nm -g --defined-only out/parts/amihunk.o | awk '$3 ~ /^amihunk_/ { print $3 }' > out/parts/calls
+# The seam, the buffers and the exports become one object, in which only the calls of the header stay global.
+ld -r -o out/parts/joined.o out/parts/amihunk.o out/parts/buffer.o "$crate/out/libamihunk_c.a"
+nm -g --defined-only out/parts/amihunk.o out/parts/buffer.o | awk '$3 ~ /^amihunk_/ { print $3 }' > out/parts/calls
 objcopy --keep-global-symbols=out/parts/calls --strip-unneeded out/parts/joined.o out/parts/amihunk.o
 
-ar rcsD out/libamihunk.a out/parts/amihunk.o out/parts/buffer.o out/parts/malloc.o
+ar rcsD out/libamihunk.a out/parts/amihunk.o out/parts/malloc.o
 cp amihunk.h out/amihunk.h
 cat > out/amihunk.pc << 'END'
 prefix=${pcfiledir}

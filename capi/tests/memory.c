@@ -147,6 +147,34 @@ static void blocks_that_cannot_be_resized_are_copied(void)
     }
 }
 
+/* A line of up to 500 bytes is there without memory; a longer one needs some. */
+static void lines_need_little_memory(void)
+{
+    static char file[3000], line[4000];
+    struct counted counted = {0};
+    amihunk_loader loader = {0};
+    CHECK(amihunk_loader_open(&loader, counted_memory(&counted), bases, 2) == AMIHUNK_OK);
+    CHECK(amihunk_loader_feed(&loader, "\0\0\3\xE7", 4, NULL) == AMIHUNK_BAD_FILE);
+    for (size_t size = 0; size < sizeof(file); size++) {
+        size_t whole = size + strlen("amihunk: : longword 0: wrong first longword\n");
+        memset(file, 'x', size);
+        file[size] = 0;
+        counted.refused = 0;
+        counted.all = 0;
+        CHECK(amihunk_loader_line(&loader, file, line, sizeof(line)) == whole);
+        CHECK(strlen(line) == whole && memcmp(line, "amihunk: ", 9) == 0);
+        CHECK(memcmp(line + 9, file, size) == 0);
+        CHECK(strcmp(line + 9 + size, ": longword 0: wrong first longword\n") == 0);
+        counted.refused = 1;
+        counted.all = 1;
+        size_t length = amihunk_loader_line(&loader, file, line, sizeof(line));
+        CHECK(length == whole || (length == 0 && whole > 500 && line[0] == 0));
+        CHECK(strlen(line) == length);
+    }
+    amihunk_loader_close(&loader);
+    CHECK(counted.blocks == 0);
+}
+
 /* ------------------------------ Buffers ------------------------------ */
 
 enum { MOST = 4096, GUARD = 32 };
@@ -443,6 +471,7 @@ int main(void)
         TEST(each_allocation_of_a_link_is_refused),
         TEST(each_allocation_of_a_refused_link_is_refused),
         TEST(blocks_that_cannot_be_resized_are_copied),
+        TEST(lines_need_little_memory),
         TEST(each_buffer_loads_or_is_too_small),
         TEST(each_buffer_links_or_is_too_small),
         TEST(each_buffer_refuses_a_name_or_is_too_small),
