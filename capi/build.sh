@@ -7,7 +7,7 @@ set -eu
 cd "$(dirname "$0")"
 crate=../crates/amihunk_c
 cc="${CC:-cc}"
-flags=(-std=c11 -O2 -fPIC -Wall -Wextra -Werror)
+flags=(-std=c11 -O2 -fPIC -ffunction-sections -Wall -Wextra -Werror)
 
 rm -rf out
 mkdir -p out/parts
