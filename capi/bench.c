@@ -2,7 +2,6 @@
  * What bench/capi.sh measures. The first argument says what is done with the file that the second
  * one names:
  *
- *   read    it is read to its end, and nothing else;
  *   load    it is loaded while it is read, as a file of one hunk;
  *   memory  it is read, and then loaded from memory five times; prints the least microseconds.
  */
@@ -24,18 +23,7 @@ static long microseconds(void)
     return now.tv_sec * 1000000L + now.tv_nsec / 1000;
 }
 
-static int read_file(FILE *file)
-{
-    static unsigned char piece[PIECE];
-    size_t total = 0, size;
-    while ((size = fread(piece, 1, PIECE, file)) != 0) {
-        total += size;
-    }
-    printf("%zu bytes\n", total);
-    return total != 0;
-}
-
-/* Ends the file; prints how many bytes it has in memory. */
+/* Ends the file. Whether it is loaded, and has bytes in memory. */
 static int finish(amihunk_loader *loader)
 {
     amihunk_hunk hunk = {0};
@@ -100,9 +88,7 @@ int main(int count, char **words)
     int good = 0;
     if (file != NULL) {
         setvbuf(file, NULL, _IONBF, 0);
-        if (strcmp(words[1], "read") == 0) {
-            good = read_file(file);
-        } else if (strcmp(words[1], "load") == 0) {
+        if (strcmp(words[1], "load") == 0) {
             good = load_file(file);
         } else if (strcmp(words[1], "memory") == 0) {
             good = measure_memory(file);
