@@ -1,7 +1,7 @@
 //! Where bytes are.
 ghost use denote.RawPtr.{InBlock};
 
-/// Bytes of a session, for C. They stay there until the handle is closed, or fed or finished.
+/// Bytes of a session, for C. They stay there until the handle is closed.
 #[repr(C)]
 #[derive(Drop)]
 pub struct Span {
