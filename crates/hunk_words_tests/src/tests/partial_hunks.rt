@@ -1,6 +1,8 @@
 //! The current hunk of a reader: its content and its sites.
 
+use hunk_test_support::Refusing;
 use hunk_words::{PartialHunk, SiteRefusal};
+use std::alloc::Global;
 use std::test::Fail;
 
 #[test]
@@ -39,5 +41,18 @@ fn content_stays_below_the_limit(rt: HostRuntime) -> Result<(), Fail> {
     hunk.fill()?;
     let (content, _) = hunk.into_parts();
     assert_eq!(rt; content.as_slice(), [1, 2, 3, 4, 0, 0].as_slice());
+    Ok(())
+}
+
+#[test]
+fn content_stays_as_it_was_where_it_cannot_be_filled(rt: HostRuntime) -> Result<(), Fail> {
+    let heap = Refusing::new(rt.alloc(), 0);
+    let mut hunk = PartialHunk::<u32, &Refusing<Global>>::new(&heap, 0);
+    assert!(rt; hunk.begin_content(&heap, 8));
+    assert!(rt; hunk.fill().is_err());
+    hunk.add_word(0x0102_0304)?;
+    hunk.fill()?;
+    let (content, _) = hunk.into_parts();
+    assert_eq!(rt; content.as_slice(), [1, 2, 3, 4, 0, 0, 0, 0].as_slice());
     Ok(())
 }
