@@ -1,0 +1,36 @@
+# Bash completion of amihunk: commands, options and files. Source it, or put it in the directory of bash-completion.
+
+_amihunk() {
+    local word="${COMP_WORDS[COMP_CWORD]}" before="${COMP_WORDS[COMP_CWORD - 1]}" command="" index
+    for ((index = 1; index < COMP_CWORD; index++)); do
+        case "${COMP_WORDS[index]}" in
+            -*) ;;
+            *) command="${COMP_WORDS[index]}" && break ;;
+        esac
+    done
+    COMPREPLY=()
+
+    case "$command $before" in
+        'load --at' | 'image --at') return ;; # a list of addresses
+        'link --out' | 'link -o')
+            mapfile -t COMPREPLY < <(compgen -f -- "$word")
+            return
+            ;;
+    esac
+
+    local options
+    case "$command" in
+        '') options='--help --version' ;;
+        link) options='--out --strip --short --trim --help' ;;
+        load | image) options='--at --srec --help' ;;
+        check | show) options='--help' ;;
+        *) return ;;
+    esac
+    case "$command $word" in
+        *' -'*) mapfile -t COMPREPLY < <(compgen -W "$options" -- "$word") ;;
+        ' '*) mapfile -t COMPREPLY < <(compgen -W 'link load image check show' -- "$word") ;;
+        *) mapfile -t COMPREPLY < <(compgen -f -- "$word") ;;
+    esac
+}
+
+complete -o filenames -F _amihunk amihunk
