@@ -81,8 +81,14 @@ fn is_out_of_memory_where_the_bytes_of_a_name_have_none(rt: HostRuntime) -> Resu
     assert!(rt; Name::from_words(&heap, &[0x666F_6F00]).is_err());
     let name = Name::from_words(&heap, &[0x666F_6F00])?;
     assert_eq!(rt; name.bytes(), b"foo".as_slice());
-    let later = Refusing::new(rt.alloc(), 0);
-    assert!(rt; name.words(&later).is_err());
-    assert_eq!(rt; name.words(&later)?.as_slice(), [0x666F_6F00].as_slice());
+    Ok(())
+}
+
+#[test]
+fn is_out_of_memory_where_the_longwords_of_a_name_have_none(rt: HostRuntime) -> Result<(), Fail> {
+    let heap = Refusing::new(rt.alloc(), 1);
+    let name = Name::from_words(&heap, &[0x666F_6F00])?;
+    assert!(rt; name.words(&heap).is_err());
+    assert_eq!(rt; name.words(&heap)?.as_slice(), [0x666F_6F00].as_slice());
     Ok(())
 }
