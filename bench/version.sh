@@ -2,12 +2,10 @@
 # Compares the version that `amihunk` prints with the newest entry of CHANGELOG.md. It ends with status 1 where they
 # differ. It needs the toolchain on the PATH.
 set -eu
-cd "$(dirname "$0")/../crates/amihunk"
-rt run -- --help > /dev/null 2>&1 || { echo "amihunk could not be built" >&2; exit 1; }
-newest="$(sed -n 's/^## \([0-9.]*\).*$/\1/p' ../../CHANGELOG.md | head -n 1)"
-missed=0
+. "$(dirname "$0")/common.sh"
+newest="$(sed -n 's/^## \([0-9.]*\).*$/\1/p' "$benches/../CHANGELOG.md" | head -n 1)"
 for word in --version -V; do
-    told="$(out/amihunk "$word")"
+    told="$("$amihunk" "$word")"
     if [ "$told" = "amihunk $newest" ]; then
         printf '%-40s %s\n' "$word" "$told"
     else
