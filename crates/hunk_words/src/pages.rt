@@ -78,14 +78,24 @@ fn grow_to<T: Copy, A: Allocator + Copy>(
     Ok(())
 }
 
-// How many sites the first allocation of a page has room for: one more than the page before has, since
-// most files spread their sites evenly. Where this room counts as memory of the page before, no page has
-// memory for more than three times its sites.
-fn room_of<T: Copy, A: Allocator + Copy>(pages: &[Page<T, A>], number: usize) -> usize {
-    match pages.get(number.wrapping_sub(1)) {
-        Some(before) => before.iter().len().saturating_add(1),
+// How many sites a page has, or 0 where there is no such page.
+fn count_in<T: Copy, A: Allocator + Copy>(pages: &[Page<T, A>], number: usize) -> usize {
+    match pages.get(number) {
+        Some(page) => page.iter().len(),
         None => 0,
     }
+}
+
+// How many sites the first allocation of a page has room for: one more than the page before has, since
+// most files spread their sites evenly. In a file whose offsets fall it is the pages after that have
+// sites: there it is one more than the fewer of the next two have. Where the room of a page counts as
+// memory of the one that it follows, no page has memory for more than about three times its sites: a
+// page with many sites and few in the page after it lends its count to that one alone.
+fn room_of<T: Copy, A: Allocator + Copy>(pages: &[Page<T, A>], number: usize) -> usize {
+    let before = count_in(pages, number.wrapping_sub(1));
+    let next = count_in(pages, number.wrapping_add(1));
+    let second = count_in(pages, number.wrapping_add(2));
+    before.max(next.min(second)).saturating_add(1)
 }
 
 /// Inserts a site at its place in its page. If an allocation fails, the sites stay as they were.
