@@ -1,6 +1,6 @@
 #!/usr/bin/env bash
 # Makes capi/out: libamihunk.a, amihunk.h and amihunk.pc, for `cc` and for pkg-config. The arguments are handed to
-# `rt lib`, which proves and builds crates/amihunk_c. It needs the toolchain, a C compiler ($CC, or cc) and binutils.
+# archive.sh, which proves and builds crates/amihunk_c. It needs the toolchain, a C compiler ($CC, or cc) and binutils.
 #
 # Of the library no names are global but the calls of amihunk.h.
 set -eu
@@ -11,7 +11,7 @@ flags=(-std=c11 -O2 -fPIC -ffunction-sections -Wall -Wextra -Werror)
 
 rm -rf out
 mkdir -p out/parts
-(cd "$crate" && rt lib "$@") > out/parts/rt.log 2>&1 || { cat out/parts/rt.log >&2; exit 1; }
+./archive.sh "$@" > out/parts/archive.log 2>&1 || { cat out/parts/archive.log >&2; exit 1; }
 for part in amihunk buffer malloc; do
     "$cc" "${flags[@]}" -c "$part.c" -o "out/parts/$part.o"
 done
@@ -23,12 +23,13 @@ objcopy --keep-global-symbols=out/parts/calls --strip-unneeded out/parts/joined.
 
 ar rcsD out/libamihunk.a out/parts/amihunk.o out/parts/malloc.o
 cp amihunk.h out/amihunk.h
-cat > out/amihunk.pc << 'END'
-prefix=${pcfiledir}
+version="$(sed -n 's/^## \([0-9.]*\).*/\1/p' ../CHANGELOG.md | sed -n 1p)"
+cat > out/amihunk.pc << END
+prefix=\${pcfiledir}
 
 Name: amihunk
 Description: Loads Amiga load files into memory, and links object files
-Version: 0.1
-Cflags: -I${prefix}
-Libs: -L${prefix} -lamihunk
+Version: $version
+Cflags: -I\${prefix}
+Libs: -L\${prefix} -lamihunk
 END

@@ -2,7 +2,7 @@
 # Builds the C library, its tests and its examples, and runs them: plainly, with the library as LLVM builds it and as
 # Rattle's own compiler does, with the address and undefined behaviour sanitizers, and in valgrind. The last two are
 # left out where they are not installed; everything else that cannot be built or run counts as failed. Each test that is
-# passed is counted once for each way in which it was run.
+# passed is counted once for each way in which it was run. The arguments are handed to archive.sh.
 #
 # The last line is 'N passed, M failed', and the status is 0 if M is 0. It needs the toolchain, a C compiler ($CC, or cc), a
 # C++ compiler ($CXX, or c++) and binutils.
@@ -153,10 +153,10 @@ is_there() {
     "$cc" "$@" "$work/nothing.c" -o "$work/nothing" 2> /dev/null && "${words[@]}" "$work/nothing" > /dev/null 2>&1
 }
 
-if attempt "the library, by Rattle's own compiler" ./build.sh --backend rattle; then
+if attempt "the library, by Rattle's own compiler" ./build.sh "$@" --backend rattle; then
     run_way "by Rattle's own compiler" -O2 --
 fi
-attempt "the library" ./build.sh || finish
+attempt "the library" ./build.sh "$@" || finish
 attempt "the names of the library" only_own_names
 run_way "plainly" -O2 --
 sanitizers=(-g -O1 -fsanitize=address,undefined -fno-sanitize-recover=all)

@@ -1,0 +1,46 @@
+#!/usr/bin/env bash
+# Makes crates/amihunk_c/out/libamihunk_c.a, by `rt lib`, which proves what it builds. The arguments are handed to it.
+#
+# With --after-gate as the first argument, it stands over the libraries that `rt ci` has just proved and left in a clone
+# that had none. `rt lib` takes no library of the gate, and would prove each once more; here crates/amihunk_c alone is
+# proved, the first time. Use it right after `rt ci`, with no file changed since: nothing compares the libraries with
+# their sources.
+set -eu
+cd "$(dirname "$0")/../crates/amihunk_c"
+
+# Whether all libraries here are the gate's: beside its own ones `rt lib` leaves a stamp.
+are_the_gates() {
+    local name
+    for name in $(sed -n 's/^amihunk_c staticlib: //p' ../../crates.txt); do
+        [ ! -d "../$name" ] || { [ -d "../$name/out/rlib/$name.rlib" ] && [ ! -e "../$name/out/rlib/stamp" ]; } || return 1
+    done
+}
+
+if [ "${1-}" != --after-gate ]; then
+    exec rt lib "$@"
+fi
+shift
+if ! are_the_gates; then
+    exec rt lib "$@"
+fi
+
+kit="$(dirname "$(rt doc)")"
+words=(--crate-name amihunk_c --crate-type staticlib src/lib.rt --extern "std=$kit/rlibs/std.rlib")
+words+=(--antt-project "$kit/rattle/logic/antt-project.json" -L "dependency=$kit/rlibs")
+for name in $(sed -n 's/^amihunk_c staticlib: //p' ../../crates.txt); do
+    if [ -d "../$name" ]; then
+        words+=(--extern "$name=../$name/out/rlib/$name.rlib")
+    else
+        words+=(--extern "$name=$kit/rlibs/$name.rlib")
+    fi
+done
+for folder in ../*/out/rlib; do
+    words+=(-L "dependency=$folder")
+done
+
+mkdir -p out
+if [ ! -d out/checked ]; then
+    rattle check "${words[@]}" --logic-built "$kit/logic_built" --jobs "$(nproc)" -o out/checked
+fi
+exec rattle build "${words[@]}" --crate-checked out/checked --toolchain "$kit/toolchain" "$@" \
+    -o out/libamihunk_c.a
