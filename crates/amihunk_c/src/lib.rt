@@ -15,7 +15,6 @@
 //! - `codes`: the numbers of statuses and reasons.
 //! - `copying`: copying bytes into a buffer of the caller.
 //! - `span`: where bytes are.
-//! - `tests`: the calls over a handle without a session.
 #![tactic(auto)]
 
 mod answer;
@@ -33,6 +32,4 @@ pub mod places;
 mod refused;
 mod session;
 mod span;
-#[cfg(test)]
-mod tests;
 pub mod texts;

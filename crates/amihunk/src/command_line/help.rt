@@ -9,7 +9,11 @@ Neither `--short` nor `--trim` changes the bytes of the hunks in memory, but not
 reads the short form, which has blocks of type 1020.
 
 For example, this writes a short and trimmed load file without symbols and debug blocks:
-  amihunk link --out program --strip --short --trim startup.o main.o";
+  amihunk link --out program --strip --short --trim startup.o main.o
+
+The exit status is 0 if OUT was written, 1 if a FILE is not an object file or the units do not link,
+2 if the command line is not understood, 3 if a FILE cannot be read or OUT cannot be written, and 4 if
+memory runs out.";
 
 /// The end of the help of `load`.
 pub const LOAD: &str = "\
@@ -21,13 +25,24 @@ bytes, at most 16 in a line, after the address of the first of them. For example
 and `amihunk load --at 10000 --srec FILE` the same bytes as S-records
   S00A0000616D6968756E6B08
   S309000100004E754E7173
-  S70500000000FA";
+  S70500000000FA
+An address is the number of a byte, from 0 to FFFFFFFF.
+
+The exit status is 0 if the bytes were printed, 1 if FILE is not a load file or its hunks cannot be
+placed at the addresses, 2 if LIST or the command line is not understood, 3 if FILE cannot be read or
+the bytes cannot be printed, and 4 if memory runs out.";
 
 /// The end of the help of `image`.
 pub const IMAGE: &str = "\
 It prints what `load` prints of the load file of the object files. LIST has one address for each hunk,
 in the order of linking: the files in the order given, the units in the order of a file, and the hunks
-in the order of a unit.";
+in the order of a unit. An address is the number of a byte, from 0 to FFFFFFFF. For example, this
+prints two hunks, the first of them at the address 10000:
+  amihunk image --at 10000,20000 startup.o main.o
+
+The exit status is 0 if the bytes were printed, 1 if a FILE is not an object file, or the units do not
+link, or their hunks cannot be placed at the addresses, 2 if LIST or the command line is not
+understood, 3 if a FILE cannot be read or the bytes cannot be printed, and 4 if memory runs out.";
 
 /// The end of the help of `check`.
 pub const CHECK: &str = "\
@@ -35,7 +50,11 @@ It prints one line, which for an object file has the number of units, and of the
 units, for example
   object file: 1 units, 2 hunks
 and for a load file
-  load file: 2 hunks";
+  load file: 2 hunks
+
+The exit status is 0 if FILE is an object file or a load file, 1 if it is neither, 2 if the command
+line is not understood, 3 if FILE cannot be read or the line cannot be printed, and 4 if memory runs
+out.";
 
 /// The end of the help of `show`.
 pub const SHOW: &str = "\
@@ -55,5 +74,9 @@ and for a load file
 The first line is that of `check`. The line of a hunk has its number, kind, memory and size, and
 then its name, or how many longwords of it the file stores. The lines below it are the offsets to
 which the address of a hunk or the value of a name is added, the names that the hunk defines, its
-symbols, and the number of longwords in each debug block. Offsets, addresses and values are
-hexadecimal.";
+symbols, and the number of longwords in each debug block. A longword has 4 bytes. Offsets, addresses
+and values are hexadecimal, and offsets and addresses count bytes.
+
+The exit status is 0 if the listing was printed, 1 if FILE is neither an object file nor a load file,
+2 if the command line is not understood, 3 if FILE cannot be read or the listing cannot be printed,
+and 4 if memory runs out.";

@@ -145,7 +145,10 @@ fn gives_help(rt: HostRuntime) {
              Neither `--short` nor `--trim` changes the bytes of the hunks in memory, but not every old \
              loader\nreads the short form, which has blocks of type 1020.\n\n\
              For example, this writes a short and trimmed load file without symbols and debug blocks:\n  \
-             amihunk link --out program --strip --short --trim startup.o main.o\n",
+             amihunk link --out program --strip --short --trim startup.o main.o\n\n\
+             The exit status is 0 if OUT was written, 1 if a FILE is not an object file or the units do \
+             not link,\n2 if the command line is not understood, 3 if a FILE cannot be read or OUT \
+             cannot be written, and 4 if\nmemory runs out.\n",
         ),
         (
             &["amihunk", "load", "--help"],
@@ -161,7 +164,11 @@ fn gives_help(rt: HostRuntime) {
              example,\n`amihunk load --at 10000 FILE` prints for a file of one hunk\n  \
              hunk 0 at 00010000 size 4\n  00010000 4e754e71\n\
              and `amihunk load --at 10000 --srec FILE` the same bytes as S-records\n  \
-             S00A0000616D6968756E6B08\n  S309000100004E754E7173\n  S70500000000FA\n",
+             S00A0000616D6968756E6B08\n  S309000100004E754E7173\n  S70500000000FA\n\
+             An address is the number of a byte, from 0 to FFFFFFFF.\n\n\
+             The exit status is 0 if the bytes were printed, 1 if FILE is not a load file or its hunks \
+             cannot be\nplaced at the addresses, 2 if LIST or the command line is not understood, 3 if \
+             FILE cannot be read or\nthe bytes cannot be printed, and 4 if memory runs out.\n",
         ),
         (
             &["amihunk", "image", "--help"],
@@ -174,7 +181,13 @@ fn gives_help(rt: HostRuntime) {
              -h, --help       Print help\n\n\
              It prints what `load` prints of the load file of the object files. LIST has one address \
              for each hunk,\nin the order of linking: the files in the order given, the units in the \
-             order of a file, and the hunks\nin the order of a unit.\n",
+             order of a file, and the hunks\nin the order of a unit. An address is the number of a \
+             byte, from 0 to FFFFFFFF. For example, this\nprints two hunks, the first of them at the \
+             address 10000:\n  amihunk image --at 10000,20000 startup.o main.o\n\n\
+             The exit status is 0 if the bytes were printed, 1 if a FILE is not an object file, or the \
+             units do not\nlink, or their hunks cannot be placed at the addresses, 2 if LIST or the \
+             command line is not\nunderstood, 3 if a FILE cannot be read or the bytes cannot be \
+             printed, and 4 if memory runs out.\n",
         ),
         (
             &["amihunk", "check", "--help"],
@@ -184,7 +197,10 @@ fn gives_help(rt: HostRuntime) {
              Options:\n  -h, --help  Print help\n\n\
              It prints one line, which for an object file has the number of units, and of the hunks \
              of all\nunits, for example\n  object file: 1 units, 2 hunks\nand for a load file\n  \
-             load file: 2 hunks\n",
+             load file: 2 hunks\n\n\
+             The exit status is 0 if FILE is an object file or a load file, 1 if it is neither, 2 if \
+             the command\nline is not understood, 3 if FILE cannot be read or the line cannot be \
+             printed, and 4 if memory runs\nout.\n",
         ),
         (
             &["amihunk", "show", "--help"],
@@ -202,7 +218,11 @@ fn gives_help(rt: HostRuntime) {
              size, and\nthen its name, or how many longwords of it the file stores. The lines below \
              it are the offsets to\nwhich the address of a hunk or the value of a name is added, the \
              names that the hunk defines, its\nsymbols, and the number of longwords in each debug \
-             block. Offsets, addresses and values are\nhexadecimal.\n",
+             block. A longword has 4 bytes. Offsets, addresses\nand values are hexadecimal, and offsets \
+             and addresses count bytes.\n\n\
+             The exit status is 0 if the listing was printed, 1 if FILE is neither an object file nor \
+             a load file,\n2 if the command line is not understood, 3 if FILE cannot be read or the \
+             listing cannot be printed,\nand 4 if memory runs out.\n",
         ),
     ];
     for (words, text) in &lines {
