@@ -1,0 +1,3 @@
+pub mod Assembler
+pub mod Debugger
+pub mod Emulator

@@ -1,0 +1,12 @@
+//! Programs that call the libraries, as their authors would write them; docs/CALLING.md quotes them.
+//!
+//! - `assembler`: an assembler that links what it has assembled, in memory.
+//! - `debugger`: a debugger that asks the memory of a program for bytes.
+//! - `emulator`: an emulator that loads a program inside a budget of memory.
+#![tactic(auto)]
+
+pub mod assembler;
+pub mod debugger;
+pub mod emulator;
+#[cfg(test)]
+mod tests;

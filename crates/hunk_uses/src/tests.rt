@@ -1,0 +1,137 @@
+//! Each caller on files whose bytes are written by hand.
+
+use crate::assembler::link_objects;
+use crate::debugger::{dump, longword_at};
+use crate::emulator::load_program;
+use hunk_link::LinkRefusal;
+use hunk_loader::{ImageFault, LoadRefusal, PlaceFault};
+use hunk_tool::ToolFault;
+use hunk_words::{Fault, Pieces, Reason};
+use linked_list_allocator::LocalHeap;
+use std::alloc::Global;
+use std::process::Abort;
+use std::test::Fail;
+
+/// An object file whose hunk calls `foo`.
+const CALLS: &[u8] =
+    b"\x00\x00\x03\xE7\x00\x00\x00\x00\x00\x00\x03\xE9\x00\x00\x00\x02\x4E\xB9\x00\x00\x00\x00\x4E\x75\x00\x00\x03\xEF\x81\x00\x00\x01\x66\x6F\x6F\x00\x00\x00\x00\x01\x00\x00\x00\x02\x00\x00\x00\x00\x00\x00\x03\xF2";
+
+/// An object file whose hunk defines `foo`, 4 bytes from its beginning.
+const DEFINES: &[u8] =
+    b"\x00\x00\x03\xE7\x00\x00\x00\x00\x00\x00\x03\xE9\x00\x00\x00\x02\x4E\x71\x4E\x71\x4E\x75\x4E\x71\x00\x00\x03\xEF\x01\x00\x00\x01\x66\x6F\x6F\x00\x00\x00\x00\x04\x00\x00\x00\x00\x00\x00\x03\xF2";
+
+/// The load file of the two: two hunks of two longwords each.
+const PROGRAM: &[u8] =
+    b"\x00\x00\x03\xF3\x00\x00\x00\x00\x00\x00\x00\x02\x00\x00\x00\x00\x00\x00\x00\x01\x00\x00\x00\x02\x00\x00\x00\x02\x00\x00\x03\xE9\x00\x00\x00\x02\x4E\xB9\x00\x00\x00\x04\x4E\x75\x00\x00\x03\xEC\x00\x00\x00\x01\x00\x00\x00\x01\x00\x00\x00\x02\x00\x00\x00\x00\x00\x00\x03\xF2\x00\x00\x03\xE9\x00\x00\x00\x02\x4E\x71\x4E\x71\x4E\x75\x4E\x71\x00\x00\x03\xF2";
+
+/// The memory of a small machine, in bytes.
+const BUDGET: usize = 4096;
+
+/// The bytes that the disk of the tests hands over at a time.
+const SECTOR: usize = 16;
+
+#[test]
+fn a_program_is_loaded_from_a_disk(rt: HostRuntime) -> Result<(), Fail> {
+    let budget = LocalHeap::new(rt.alloc(), BUDGET)?;
+    let mut disk = Pieces::new(PROGRAM.to_vec(rt.alloc())?, SECTOR, None);
+    let image = load_program(&budget, &mut disk, 0x1000)?;
+    let hunks = image.hunks();
+    assert_eq!(rt; hunks.len(), 2);
+    assert_eq!(rt; hunks[0].0, 0x1000);
+    assert_eq!(rt;
+        hunks[0].1.as_slice(),
+        b"\x4E\xB9\x00\x00\x10\x0C\x4E\x75".as_slice()
+    );
+    assert_eq!(rt; hunks[1].0, 0x1008);
+    assert_eq!(rt;
+        hunks[1].1.as_slice(),
+        b"\x4E\x71\x4E\x71\x4E\x75\x4E\x71".as_slice()
+    );
+    Ok(())
+}
+
+/// Checks that a disk with these bytes, whose read with the number `fails_at` fails, is refused.
+fn is_refused(
+    rt: &impl Abort,
+    alloc: Global,
+    disk: (&[u8], Option<u64>),
+    budget: usize,
+    first: u32,
+    fault: ImageFault,
+) -> Result<(), Fail> {
+    let budget = LocalHeap::new(alloc, budget)?;
+    let mut disk = Pieces::new(disk.0.to_vec(alloc)?, SECTOR, disk.1);
+    assert_eq!(rt; load_program(&budget, &mut disk, first).err(), Some(fault));
+    Ok(())
+}
+
+#[test]
+fn a_refusal_says_what_is_wrong(rt: HostRuntime) -> Result<(), Fail> {
+    let alloc = rt.alloc();
+    let early = ImageFault::Refused(LoadRefusal::File(Fault {
+        place: 21,
+        reason: Reason::UnexpectedEnd,
+    }));
+    let past = ImageFault::Refused(LoadRefusal::Place(PlaceFault::PastEnd(1)));
+    let memory = ImageFault::Refused(LoadRefusal::OutOfMemory);
+    is_refused(&rt, alloc, (&PROGRAM[..84], None), BUDGET, 0x1000, early)?;
+    is_refused(&rt, alloc, (PROGRAM, None), BUDGET, 0xFFFF_FFF8, past)?;
+    is_refused(&rt, alloc, (PROGRAM, None), 64, 0x1000, memory)?;
+    is_refused(
+        &rt,
+        alloc,
+        (PROGRAM, Some(2)),
+        BUDGET,
+        0x1000,
+        ImageFault::Device,
+    )
+}
+
+#[test]
+fn two_object_files_are_linked_in_memory(rt: HostRuntime) -> Result<(), Fail> {
+    let alloc = rt.alloc();
+    let objects = [CALLS.to_vec(alloc)?, DEFINES.to_vec(alloc)?];
+    assert_eq!(rt; link_objects(alloc, &objects)?.as_slice(), PROGRAM);
+    Ok(())
+}
+
+#[test]
+fn files_that_do_not_link_are_told(rt: HostRuntime) -> Result<(), Fail> {
+    let alloc = rt.alloc();
+    let undefined = [CALLS.to_vec(alloc)?];
+    match link_objects(alloc, &undefined) {
+        Err(ToolFault::Link(LinkRefusal::UndefinedName { unit, hunk, name })) => {
+            assert_eq!(rt; (unit, hunk), (0, 0));
+            assert_eq!(rt; name.bytes(), b"foo".as_slice());
+        }
+        _ => return Err(Fail::from("linked")),
+    }
+    let wrong = Fault {
+        place: 0,
+        reason: Reason::WrongStart,
+    };
+    let mixed = [CALLS.to_vec(alloc)?, PROGRAM.to_vec(alloc)?];
+    assert_eq!(rt;
+        link_objects(alloc, &mixed),
+        Err(ToolFault::Input {
+            file: 1,
+            fault: wrong
+        })
+    );
+    Ok(())
+}
+
+#[test]
+fn memory_is_shown_where_hunks_lie(rt: HostRuntime) -> Result<(), Fail> {
+    let alloc = rt.alloc();
+    let budget = LocalHeap::new(alloc, BUDGET)?;
+    let mut disk = Pieces::new(PROGRAM.to_vec(alloc)?, SECTOR, None);
+    let image = load_program(&budget, &mut disk, 0x1000)?;
+    assert_eq!(rt; longword_at(&image, 0x1002), Some(0x0000_100C));
+    assert_eq!(rt; longword_at(&image, 0x1006), Some(0x4E75_4E71));
+    assert_eq!(rt; longword_at(&image, 0x100D), None);
+    assert_eq!(rt; longword_at(&image, 0xFFFF_FFFE), None);
+    let shown = dump(alloc, &image, 0x100E..0x1011)?;
+    assert_eq!(rt; shown.as_slice(), [Some(0x4E), Some(0x71), None].as_slice());
+    Ok(())
+}
