@@ -5,7 +5,7 @@ It knows nothing of load files, and nothing of how the program links: the memory
 import random
 import struct
 
-UNIT, NAME, CODE, DATA, BSS, RELOC32, EXT, SYMBOL, DEBUG, END = *range(0x3E7, 0x3ED), *range(0x3EF, 0x3F3)
+UNIT, NAME, CODE, DATA, BSS, RELOC32, EXT, SYMBOL, DEBUG, END, HEADER = *range(0x3E7, 0x3ED), *range(0x3EF, 0x3F4)
 DEF, ABS, REF32 = 1, 2, 129
 KINDS = {CODE: "code", DATA: "data", BSS: "bss"}
 MODULUS = 1 << 32
@@ -20,6 +20,7 @@ class Hunk:
 
 
 def words(*numbers):
+    """Longwords as they are stored."""
     return struct.pack(f">{len(numbers)}I", *numbers)
 
 

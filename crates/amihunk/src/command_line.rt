@@ -308,5 +308,3 @@ fn answer_to<'a>(alloc: Global, error: &Error) -> Request<'a>
 }
 
 mod help;
-#[cfg(test)]
-mod tests;

@@ -1,0 +1,160 @@
+"""What the words of a command line mean, and what is told of those that mean nothing."""
+import os
+import re
+
+import model
+from harness import BAD_WORDS, equals, test
+from model import CODE, END, HEADER, RELOC32, SYMBOL, Hunk, words
+
+HERE = os.path.dirname(os.path.abspath(__file__))
+SHORT = 0x3FC
+# Files, some of which are named as an option or as a command, and the first longword of each one's hunk.
+FILES = {"x": 1, "y": 2, "z": 3, "link": 4, "strip": 5, "--strip": 6, "--short": 7, "--trim": 8, "--at": 9, "--srec": 10}
+
+
+def write_files(program):
+    """Each file has one hunk of two longwords, with a site for itself and a symbol."""
+    for name, number in FILES.items():
+        hunk = Hunk(CODE, [number, 0])
+        hunk.sites, hunk.symbols = [(0, 0)], [(b"s", 0)]
+        program.write(name, model.object_file([[hunk]]))
+
+
+def load_file(names, options):
+    """The load file of the files with these names, in which the options leave out or shorten what they are for."""
+    parts = [words(HEADER, 0, len(names), 0, len(names) - 1, *[2] * len(names))]
+    for hunk, name in enumerate(names):
+        parts.append(words(CODE, 1, FILES[name]) if "trim" in options else words(CODE, 2, FILES[name], 0))
+        parts.append(words(SHORT, 1 << 16 | hunk, 0) if "short" in options else words(RELOC32, 1, hunk, 0, 0))
+        if "strip" not in options:
+            parts.append(words(SYMBOL, 1) + b"s\0\0\0" + words(0, 0))
+        parts.append(words(END))
+    return b"".join(parts)
+
+
+# The words of a link into the file o, its options and its files.
+LINKS = (
+    ("--out o x", "", "x"),
+    ("--out o x y x", "", "x y x"),
+    ("--out o --strip x y", "strip", "x y"),
+    ("--strip --out=o x", "strip", "x"),
+    ("x --strip y --out o z", "strip", "x y z"),
+    ("x y --out=o --strip", "strip", "x y"),
+    ("--out o -- --strip x", "", "--strip x"),
+    ("--out o link strip", "", "link strip"),
+    ("--out o --short x y", "short", "x y"),
+    ("--out o --trim x y", "trim", "x y"),
+    ("x --short y --out=o", "short", "x y"),
+    ("x y --out=o --trim", "trim", "x y"),
+    ("--trim --short --out o x y", "short trim", "x y"),
+    ("--short x y --strip --out=o", "strip short", "x y"),
+    ("--out=o --strip --trim x y", "strip trim", "x y"),
+    ("--trim x --out=o --strip y --short", "strip short trim", "x y"),
+    ("--out o -- --short --trim", "", "--short --trim"),
+    ("-o o x y", "", "x y"),
+    ("-s -o o x y", "strip", "x y"),
+    ("x -so o y", "strip", "x y"),
+    ("-oo x y -s", "strip", "x y"),
+    ("-o=o --strip x y", "strip", "x y"),
+    ("x -s --out o y", "strip", "x y"),
+)
+
+
+@test
+def the_words_of_a_link_come_in_any_order(program):
+    write_files(program)
+    for line, options, names in LINKS:
+        program.write("o", b"")
+        program.prints("", "link", *line.split())
+        equals(program.read("o"), load_file(names.split(), options.split()), line)
+
+
+# The words of `image` at the addresses 0, 100 and 200, as many as there are files: the addresses are put in for LIST.
+IMAGES = (
+    ("--at LIST x", "x"),
+    ("--at LIST x y x", "x y x"),
+    ("x --at=LIST y", "x y"),
+    ("x y --at LIST -- --at", "x y --at"),
+    ("--at=LIST x -- --srec", "x --srec"),
+    ("--at LIST --srec x", "x"),
+    ("x y --srec --at=LIST", "x y"),
+)
+
+
+def memory(names):
+    bases = [0, 0x100, 0x200][: len(names)]
+    return bases, [words(FILES[name] + base, 0) for name, base in zip(names, bases)]
+
+
+def records(bases, contents):
+    """S-records of these contents, none of more than 32 bytes."""
+    rows = [(0, b"\0\0amihunk")] + [(3, words(base) + content) for base, content in zip(bases, contents)] + [(7, words(0))]
+    lines = []
+    for kind, bytes_ in rows:
+        counted = bytes([len(bytes_) + 1]) + bytes_
+        lines.append(f"S{kind}{counted.hex().upper()}{255 - sum(counted) % 256:02X}\n")
+    return "".join(lines)
+
+
+@test
+def the_words_of_an_image_come_in_any_order(program):
+    write_files(program)
+    for line, names in IMAGES:
+        bases, contents = memory(names.split())
+        options = line.split(" -- ")[0]
+        out = records(bases, contents) if "--srec" in options else model.report_of(bases, contents)
+        program.prints(out, "image", *line.replace("LIST", ",".join(f"{base:x}" for base in bases)).split())
+
+
+@test
+def the_words_of_a_load_come_in_any_order(program):
+    write_files(program)
+    program.write("x", load_file(["x"], []))
+    bases, contents = [0x10000], [words(0x10001, 0)]
+    for line in ("--at 10000 x", "x --at=10000", "--at 10000 -- x"):
+        program.prints(model.report_of(bases, contents), "load", *line.split())
+    for line in ("--at 10000 --srec x", "--srec x --at=00010000"):
+        program.prints(records(bases, contents), "load", *line.split())
+
+
+def lines_of(name):
+    """The command lines of a file, and the text below each."""
+    with open(f"{HERE}/{name}", encoding="utf-8") as file:
+        rows = [row.split("\n", 1) for row in file.read().split("\n$ amihunk")[1:]]
+    assert rows, name
+    return [(line.split(), text) for line, text in rows]
+
+
+@test
+def what_is_no_command_line_is_refused(program):
+    for line, text in lines_of("refused.txt"):
+        equals(program.run(*line), (BAD_WORDS, "", text), line)
+    # A word that is not UTF-8.
+    status, out, errors = program.run(b"check", b"\xff")
+    equals((status, out), (BAD_WORDS, ""))
+    assert "invalid UTF-8 was detected in one or more arguments" in errors, errors
+
+
+@test
+def help_is_printed(program):
+    for line, text in lines_of("help.txt"):
+        program.prints(text, *line)
+        program.prints(text, *line[:-1], "-h")
+
+
+@test
+def the_version_is_that_of_the_changelog(program):
+    with open(f"{HERE}/../CHANGELOG.md", encoding="utf-8") as file:
+        newest = re.search(r"^## ([0-9.]+)", file.read(), re.M)[1]
+    for word in ("--version", "-V"):
+        program.prints(f"amihunk {newest}\n", word)
+
+
+@test
+def a_list_that_is_none_is_refused(program):
+    write_files(program)
+    program.write("loaded", load_file(["x"], []))
+    for list_, part in (("", 0), ("x", 0), ("0,", 1), ("0,,1", 1), ("123456789", 0), ("0x1", 0), ("1 ", 0), ("0,1,-2", 2)):
+        line = f"--at: part {part} is not 1 to 8 hexadecimal digits"
+        program.fails(BAD_WORDS, line, "load", f"--at={list_}", "loaded")
+        program.fails(BAD_WORDS, line, "image", f"--at={list_}", "x")

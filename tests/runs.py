@@ -1,0 +1,242 @@
+"""The commands over real files: what they print and write, how they end, and what they leave as it was."""
+import os
+import random
+import re
+import resource
+
+import model
+from harness import BAD_WORDS, DEVICE, DONE, NO_MEMORY, REFUSED, equals, test
+from model import ABS, CODE, DATA, DEF, END, HEADER, Hunk, words
+
+# A load file of one hunk of one longword, and an object file of one.
+LOAD_FILE = words(HEADER, 0, 1, 0, 0, 1, CODE, 1, 0x4E754E71, END)
+OBJECT_FILE = model.object_file([[Hunk(CODE, [0x4E754E71])]])
+REPORT = "hunk 0 at 00010000 size 4\n00010000 4e754e71\n"
+RECORDS = "S00A0000616D6968756E6B08\nS309000100004E754E7173\nS70500000000FA\n"
+
+
+def addresses(bases):
+    return ",".join(f"{base:x}" for base in bases)
+
+
+def bytes_of_records(lines):
+    """The bytes that S-records hold by their addresses, once their checksums and their ends were compared."""
+    found, records = {}, lines.splitlines()
+    equals((records[0], records[-1]), ("S00A0000616D6968756E6B08", "S70500000000FA"))
+    for record in records[1:-1]:
+        assert re.fullmatch(r"S3([0-9A-F]{2})+", record), record
+        length, *bytes_ = bytes.fromhex(record[2:])
+        equals(length, len(bytes_), record)
+        equals((length + sum(bytes_)) % 256, 255, record)
+        address, content = int.from_bytes(bytes_[:4], "big"), bytes_[4:-1]
+        assert 1 <= len(content) <= 32, record
+        found.update({address + at: byte for at, byte in enumerate(content)})
+    return found
+
+
+@test
+def random_units_are_linked_and_loaded_as_their_memory(program):
+    for seed in range(400):
+        dice, units = random.Random(seed), model.random_units(seed)
+        bases = model.random_bases(seed, units)
+        memory = model.memory_of(units, bases)
+        report, at = model.report_of(bases, memory), addresses(bases)
+        # The units are dealt out to some files, in their order.
+        ends = sorted(dice.choices(range(1, len(units) + 1), k=dice.randrange(3))) + [len(units)]
+        starts = [0, *ends[:-1]]
+        files = []
+        for start, end in zip(starts, ends):
+            if start < end:
+                files.append(f"{seed}-{len(files)}.o")
+                program.write(files[-1], model.object_file(units[start:end]))
+        options = [it for it in ("--strip", "--short", "--trim") if dice.random() < 0.5]
+        program.prints("", "link", "--out", "out", *options, *files)
+        program.prints(report, "load", "--at", at, "out")
+        program.prints(report, "image", "--at", at, *files)
+        program.prints(f"load file: {len(bases)} hunks\n", "check", "out")
+        hunks = sum(map(len, units[: ends[0]]))
+        program.prints(f"object file: {ends[0]} units, {hunks} hunks\n", "check", files[0])
+        wanted = {base + it: byte for base, bytes_ in zip(bases, memory) for it, byte in enumerate(bytes_)}
+        for told in (program.run("load", "--at", at, "--srec", "out"), program.run("image", "--srec", "--at", at, *files)):
+            equals((told[0], bytes_of_records(told[1]), told[2]), (DONE, wanted, ""), seed)
+
+
+@test
+def a_listing_tells_what_is_in_a_file(program):
+    code, zeros = Hunk(CODE, [0, 0]), Hunk(model.BSS, [0, 0])
+    code.sites, code.definitions = [(2, 1)], [(DEF, b"main", 0), (ABS, b'a"b', 0x80000000)]
+    code.symbols, code.debugs = [(b"loop", 6)], [[7]]
+    program.write("x.o", model.object_file([[code, zeros]]))
+    listing = (
+        'object file: 1 units, 2 hunks\nunit 0 ""\nhunk 0 code any 2 longwords ""\n  00000002 adds hunk 1\n'
+        '  define "main" at 00000000\n  define "a\\x22b" as 80000000\n  symbol "loop" 00000006\n  debug 1\n'
+        'hunk 1 bss any 2 longwords ""\n'
+    )
+    program.prints(listing, "show", "x.o")
+    program.prints("", "link", "--out", "x", "x.o")
+    listing = (
+        "load file: 2 hunks\nhunk 0 code any 2 longwords, 2 stored\n  00000002 adds hunk 1\n"
+        '  symbol "loop" 00000006\n  debug 1\nhunk 1 bss any 2 longwords, 0 stored\n'
+    )
+    program.prints(listing, "show", "x")
+    program.prints("", "link", "--strip", "--trim", "--out", "x", "x.o")
+    listing = (
+        "load file: 2 hunks\nhunk 0 code any 2 longwords, 2 stored\n  00000002 adds hunk 1\n"
+        "hunk 1 bss any 2 longwords, 0 stored\n"
+    )
+    program.prints(listing, "show", "x")
+
+
+@test
+def files_that_are_refused_are_named_with_the_place(program):
+    rows = (
+        (b"", 0, "file ends too early"),
+        (LOAD_FILE[:-4], 9, "file ends too early"),
+        (LOAD_FILE[:-1], 9, "file ends inside a longword"),
+        (LOAD_FILE + words(0), 10, "data after the last hunk"),
+        (words(HEADER, 1), 1, "resident library names not supported"),
+        (words(HEADER, 0, 1, 0, 0, 1, CODE, 2, 0, 0, END), 7, "block longer than its hunk"),
+    )
+    name = "a file\xe9"
+    for bytes_, place, reason in rows:
+        program.write(name, bytes_)
+        for command in (["load", "--at", "0"], ["check"], ["show"]):
+            program.fails(REFUSED, f"{name.encode().decode('latin-1')}: longword {place}: {reason}", *command, name)
+
+
+@test
+def hunks_that_cannot_be_placed_are_refused(program):
+    program.write("x.o", model.object_file([[Hunk(CODE, [0]), Hunk(DATA, [0, 0])]]))
+    program.prints("", "link", "--out", "x", "x.o")
+    for list_, reason in (
+        ("0", "wrong number of addresses"),
+        ("0,4,8", "wrong number of addresses"),
+        ("fffffffd,0", "hunk 0 passes the end of memory"),
+        ("3,0", "hunks 0 and 1 overlap"),
+    ):
+        program.fails(REFUSED, f"places: {reason}", "load", "--at", list_, "x")
+        program.fails(REFUSED, f"places: {reason}", "image", "--at", list_, "x.o")
+    program.prints("hunk 0 at fffffffc size 4\nfffffffc 00000000\nhunk 1 at fffffff4 size 8\nfffffff4 0000000000000000\n",
+                   "load", "--at", "FFFFFFFC,fffffff4", "x")
+
+
+@test
+def units_that_do_not_link_are_refused_and_out_is_not_touched(program):
+    refers, defines = Hunk(CODE, [0]), Hunk(CODE, [0])
+    refers.sites, defines.definitions = [(0, b"draw")], [(DEF, b"draw", 0)]
+    far = Hunk(CODE, [0])
+    far.sites = [(0, 1)]
+    program.write("refers.o", model.object_file([[refers]]))
+    program.write("defines.o", model.object_file([[Hunk(DATA, []), defines]]))
+    program.write("far.o", model.object_file([[far]]))
+    program.write("none.o", model.object_file([[]]))
+    for files, reason in (
+        (["none.o"], "no hunks"),
+        (["none.o", "refers.o"], 'unit 1 hunk 0: "draw" not defined'),
+        (["defines.o", "refers.o", "defines.o"], 'unit 2 hunk 1: "draw" defined again'),
+        (["far.o"], "unit 0 hunk 0: no hunk 1 in its unit"),
+    ):
+        program.write("out", b"was here")
+        program.fails(REFUSED, f"link: {reason}", "link", "--out", "out", *files)
+        program.fails(REFUSED, f"link: {reason}", "image", "--at", "0", *files)
+        program.fails(REFUSED, f"link: {reason}", "link", "--out", "new", *files)
+        equals(program.read("out"), b"was here")
+        assert not os.path.exists(program.at("new"))
+
+
+@test
+def out_may_be_one_of_the_files_and_is_shortened(program):
+    program.write("x.o", OBJECT_FILE)
+    program.write("y", OBJECT_FILE + b"")
+    program.write("long", b"x" * 1000)
+    program.prints("", "link", "--out", "y", "y")
+    program.prints("", "link", "--out", "long", "x.o")
+    equals(program.read("y"), LOAD_FILE)
+    equals(program.read("long"), LOAD_FILE)
+
+
+@test
+def what_cannot_be_opened_or_created_is_named(program):
+    program.write("x.o", OBJECT_FILE)
+    program.write("bad.o", b"abc")
+    for command in (["check"], ["show"], ["load", "--at", "0"]):
+        program.fails(DEVICE, "missing: cannot be opened", *command, "missing")
+    # All files are opened, in order, before the first is read.
+    many = ["bad.o"] * 40
+    program.fails(DEVICE, "missing: cannot be opened", "image", "--at", "0", *many, "missing")
+    program.fails(DEVICE, "missing: cannot be opened", "link", "--out", "out", *many, "missing", "none")
+    program.fails(DEVICE, "no/out: cannot be opened", "link", "--out", "no/out", "x.o")
+    program.fails(REFUSED, "bad.o: longword 0: file ends inside a longword", "link", "--out", "no/out", "x.o", "bad.o")
+
+
+@test
+def a_failed_read_is_named(program):
+    os.mkdir(program.at("folder"))
+    for command in (["check"], ["show"], ["load", "--at", "0"], ["image", "--at", "0"], ["link", "--out", "out"]):
+        program.fails(DEVICE, "folder: read failed", *command, "folder")
+    assert not os.path.exists(program.at("out"))
+
+
+@test
+def a_failed_write_is_told(program):
+    program.write("x.o", OBJECT_FILE)
+    program.write("x", LOAD_FILE)
+    program.fails(DEVICE, "output: write failed", "link", "--out", "/dev/full", "x.o")
+    with open("/dev/full", "wb") as full:
+        for command in (["check", "x"], ["show", "x"], ["load", "--at", "0", "x"], ["load", "--srec", "--at", "0", "x"],
+                        ["image", "--at", "0", "x.o"], ["--version"]):
+            program.fails(DEVICE, "output: write failed", *command, stdout=full)
+
+
+@test
+def a_line_that_cannot_be_written_changes_no_status(program):
+    program.write("x", LOAD_FILE[:-1])
+    program.write("large", words(HEADER, 0, 1, 0, 0, 1 << 24, CODE, 0, END))
+    with open("/dev/full", "wb") as full:
+        equals(program.run("check", "x", stderr=full), (REFUSED, "", ""))
+        equals(program.run("check", "missing", stderr=full), (DEVICE, "", ""))
+        equals(program.run("load", "--at", "-", "x", stderr=full)[0], BAD_WORDS)
+        equals(program.run("load", "--at", "0", "large", stderr=full, limit=(resource.RLIMIT_AS, 40 << 20)), (NO_MEMORY, "", ""))
+
+
+@test
+def a_file_that_asks_for_too_much_memory_is_told(program):
+    # 64 MiB of zeros, of which the file holds none, where 40 MiB may be had.
+    program.write("large", words(HEADER, 0, 1, 0, 0, 1 << 24, CODE, 0, END))
+    program.fails(NO_MEMORY, "out of memory", "load", "--at", "0", "large", limit=(resource.RLIMIT_AS, 40 << 20))
+    # No image is made where none can be placed, and none to check a file.
+    limit = (resource.RLIMIT_AS, 40 << 20)
+    program.fails(REFUSED, "places: hunk 0 passes the end of memory", "load", "--at", "fffffff0", "large", limit=limit)
+    program.prints("load file: 1 hunks\n", "check", "large", limit=limit)
+
+
+@test
+def nothing_is_printed_of_a_file_with_a_bad_end(program):
+    long = Hunk(CODE, list(range(5000)))
+    program.write("x.o", model.object_file([[long]]))
+    program.prints("", "link", "--out", "x", "x.o")
+    program.write("x", program.read("x")[:-1])
+    program.write("x.o", program.read("x.o") + b"\0")
+    for command, name, place in ((["load", "--at", "0"], "x", 5008), (["show"], "x", 5008), (["image", "--at", "0"], "x.o", 5005)):
+        program.fails(REFUSED, f"{name}: longword {place}: file ends inside a longword", *command, name)
+
+
+@test
+def a_file_may_come_through_a_pipe(program):
+    program.prints(REPORT, "load", "--at", "10000", "/dev/stdin", input=LOAD_FILE)
+    program.prints(RECORDS, "image", "--srec", "--at", "10000", "/dev/stdin", input=OBJECT_FILE)
+    program.fails(REFUSED, "/dev/stdin: longword 9: file ends too early", "load", "--at", "0", "/dev/stdin", input=LOAD_FILE[:-4])
+
+
+@test
+def many_files_are_linked_with_few_open_at_once(program):
+    for number in range(200):
+        hunk = Hunk(CODE, [0, number])
+        hunk.sites, hunk.definitions = [(0, b"%d" % ((number + 1) % 200))], [(DEF, b"%d" % number, 4)]
+        program.write(f"{number}.o", model.object_file([[hunk]]))
+    files, limit = [f"{number}.o" for number in range(200)], (resource.RLIMIT_NOFILE, 48)
+    bases = list(range(0x1000, 0x1000 + 200 * 8, 8))
+    memory = [words(bases[(number + 1) % 200] + 4, number) for number in range(200)]
+    program.prints(model.report_of(bases, memory), "image", "--at", addresses(bases), *files, limit=limit)
+    program.prints("", "link", "--out", "out", *files, limit=limit)
+    program.prints(model.report_of(bases, memory), "load", "--at", addresses(bases), "out")
