@@ -1,5 +1,6 @@
 //! Load files from bytes to values and memory, by public calls only.
 //!
+//! - `asserts`: assertions as functions.
 //! - `builds`: hunks that make a load file, and hunks that don't.
 //! - `decoded`: load files as values.
 //! - `growths`: allocations that fail in the calls on load files.
@@ -12,6 +13,7 @@
 //! - `values`: the expected hunks of a load file.
 //! - `written`: load files that are written.
 
+mod asserts;
 mod builds;
 mod decoded;
 mod growths;

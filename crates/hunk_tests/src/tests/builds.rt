@@ -1,5 +1,6 @@
 //! Hunks that make a load file, and hunks that don't.
 
+use super::asserts::{equals, equals_at, holds};
 use hunk_loadfile::{BuildFault, HunkKind, LoadFile, LoadHunk, Memory};
 use hunk_words::{Name, Sites};
 use std::alloc::{AllocError, Global};
@@ -68,7 +69,7 @@ const FAR: Plan = Plan {
 fn hunk_of(rt: &impl Abort, alloc: Global, plan: &Plan) -> Result<LoadHunk, AllocError> {
     let mut sites = Sites::new(alloc, plan.limit);
     if let Some(target) = plan.target {
-        assert_eq!(rt; sites.try_add(0, target), Ok(()), "{plan:?}");
+        equals_at(rt, &plan, sites.try_add(0, target), Ok(()));
     }
     Ok(LoadHunk {
         kind: plan.kind,
@@ -83,13 +84,13 @@ fn hunk_of(rt: &impl Abort, alloc: Global, plan: &Plan) -> Result<LoadHunk, Allo
 
 // These hunks are those of the plans.
 fn are_planned(rt: &impl Abort, hunks: &[LoadHunk], plans: &[Plan]) {
-    assert_eq!(rt; hunks.len(), plans.len());
+    equals(rt, hunks.len(), plans.len());
     for (hunk, plan) in hunks.iter().zip(plans) {
-        assert_eq!(rt; hunk.kind, plan.kind, "{plans:?}");
-        assert_eq!(rt; hunk.size, plan.size, "{plans:?}");
-        assert_eq!(rt; hunk.content.len(), plan.content, "{plans:?}");
-        assert_eq!(rt; hunk.sites.limit(), plan.limit, "{plans:?}");
-        assert_eq!(rt; hunk.sites.get(0).copied(), plan.target, "{plans:?}");
+        equals_at(rt, &plans, hunk.kind, plan.kind);
+        equals_at(rt, &plans, hunk.size, plan.size);
+        equals_at(rt, &plans, hunk.content.len(), plan.content);
+        equals_at(rt, &plans, hunk.sites.limit(), plan.limit);
+        equals_at(rt, &plans, hunk.sites.get(0).copied(), plan.target);
     }
 }
 
@@ -107,11 +108,11 @@ fn is_built(
     }
     match LoadFile::new(hunks) {
         Ok(file) => {
-            assert_eq!(rt; fault, None, "{plans:?}");
+            equals_at(rt, &plans, fault, None);
             are_planned(rt, file.hunks(), plans);
         }
         Err(refusal) => {
-            assert_eq!(rt; Some(refusal.fault), fault, "{plans:?}");
+            equals_at(rt, &plans, Some(refusal.fault), fault);
             are_planned(rt, &refusal.hunks, plans);
         }
     }
@@ -201,13 +202,13 @@ fn counts_the_bytes_of_a_name(rt: HostRuntime) -> Result<(), Fail> {
     let file = LoadFile::new(hunks)?;
     for hunk in file.hunks() {
         for (name, _) in &hunk.symbols {
-            assert_eq!(rt; name.bytes().len(), 0x03FF_FFFC);
+            equals(&rt, name.bytes().len(), 0x03FF_FFFC);
         }
     }
     let hunks = vec![in alloc; named(&rt, alloc, 0x00FF_FFFF, 0x4100_0000)?]?;
     match LoadFile::new(hunks) {
-        Ok(_) => assert!(rt; false, "the name is too long"),
-        Err(refusal) => assert_eq!(rt; refusal.fault, BuildFault::LongName(0)),
+        Ok(_) => holds(&rt, &"the name is too long", false),
+        Err(refusal) => equals(&rt, refusal.fault, BuildFault::LongName(0)),
     }
     Ok(())
 }

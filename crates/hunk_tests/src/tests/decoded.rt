@@ -1,5 +1,6 @@
 //! Load files as values, as they are read.
 
+use super::asserts::{equals, equals_at};
 use super::values::{EMPTY, Hunk, SCATTERED_HUNKS, has_hunks};
 use hunk_loadfile::{HunkKind, LoadDecoder, Memory, read_load};
 use hunk_test_support::load_words::{THREE_HUNKS, TWO_HUNKS, ZEROS};
@@ -21,7 +22,7 @@ fn is_decoded_by(
     let mut decoder = LoadDecoder::new(alloc);
     assert!(rt; 1 <= chunk);
     for piece in bytes.chunks(chunk) {
-        assert_eq!(rt; decoder.feed(piece), Ok(()));
+        equals(rt, decoder.feed(piece), Ok(()));
     }
     has_hunks(rt, &decoder.finish()?, wanted);
     let mut reader = Pieces::new(bytes.to_vec(alloc)?, chunk, None);
@@ -148,9 +149,19 @@ fn fails_to_read(
     let mut reader = Pieces::new(bytes_of(alloc, &FILE, &[])?, chunk, Some(number));
     let got = read_load(alloc, &mut reader).err();
     let wanted = fails.then_some(ReadFault::Device);
-    assert_eq!(rt; got, wanted, "read {number} of {chunk}");
-    assert_eq!(rt; Source::failed(&reader), fails, "read {number} of {chunk}");
-    assert_eq!(rt; Source::ended(&reader), !fails, "read {number} of {chunk}");
+    equals_at(rt, &("read", number, "of", chunk), got, wanted);
+    equals_at(
+        rt,
+        &("read", number, "of", chunk),
+        Source::failed(&reader),
+        fails,
+    );
+    equals_at(
+        rt,
+        &("read", number, "of", chunk),
+        Source::ended(&reader),
+        !fails,
+    );
     Ok(())
 }
 

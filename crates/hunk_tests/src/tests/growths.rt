@@ -1,5 +1,6 @@
 //! Calls on load files with each of their allocations failing in turn.
 
+use super::asserts::{equals, holds};
 use super::loaded::has_bytes;
 use super::values::{SCATTERED_HUNKS, has_hunks};
 use super::written::file_of;
@@ -45,12 +46,12 @@ fn is_read(rt: &impl Abort, alloc: Global, bytes: &[u8], refused: u64) -> Result
     match read_load(&heap, &mut reader) {
         Ok(file) => has_hunks(rt, &file, &SCATTERED_HUNKS),
         Err(fault) => {
-            assert_eq!(rt; fault, ReadFault::Refused(Refusal::OutOfMemory));
-            assert!(rt; refused < heap.asked(), "growth {refused}");
+            equals(rt, fault, ReadFault::Refused(Refusal::OutOfMemory));
+            holds(rt, &("growth", refused), refused < heap.asked());
             return Ok(false);
         }
     }
-    assert!(rt; heap.asked() <= refused, "growth {refused}");
+    holds(rt, &("growth", refused), heap.asked() <= refused);
     Ok(true)
 }
 
@@ -60,12 +61,12 @@ fn is_image(rt: &impl Abort, alloc: Global, bytes: &[u8], refused: u64) -> Resul
     match read_image(&heap, &mut reader, &BASES) {
         Ok(image) => has_bytes(rt, &image, &BASES, &MEMORY),
         Err(fault) => {
-            assert_eq!(rt; fault, ImageFault::Refused(LoadRefusal::OutOfMemory));
-            assert!(rt; refused < heap.asked(), "growth {refused}");
+            equals(rt, fault, ImageFault::Refused(LoadRefusal::OutOfMemory));
+            holds(rt, &("growth", refused), refused < heap.asked());
             return Ok(false);
         }
     }
-    assert!(rt; heap.asked() <= refused, "growth {refused}");
+    holds(rt, &("growth", refused), heap.asked() <= refused);
     Ok(true)
 }
 
@@ -75,12 +76,12 @@ fn is_loaded(rt: &impl Abort, alloc: Global, bytes: &[u8], refused: u64) -> Resu
     match load(&heap, &file, &BASES) {
         Ok(image) => has_bytes(rt, &image, &BASES, &MEMORY),
         Err(refusal) => {
-            assert_eq!(rt; refusal, LoadRefusal::OutOfMemory);
-            assert!(rt; refused < heap.asked(), "growth {refused}");
+            equals(rt, refusal, LoadRefusal::OutOfMemory);
+            holds(rt, &("growth", refused), refused < heap.asked());
             return Ok(false);
         }
     }
-    assert!(rt; heap.asked() <= refused, "growth {refused}");
+    holds(rt, &("growth", refused), heap.asked() <= refused);
     Ok(true)
 }
 
@@ -90,16 +91,16 @@ fn is_written(rt: &impl Abort, alloc: Global, bytes: &[u8], refused: u64) -> Res
     let text = bytes_of(alloc, &WRITTEN, &[])?;
     let mut writer = Room::new(alloc, ROOM, ROOM, false)?;
     match write_load(&heap, &file, &mut writer) {
-        Ok(()) => assert_eq!(rt; writer.bytes(), text.as_slice()),
+        Ok(()) => equals(rt, writer.bytes(), text.as_slice()),
         Err(fault) => {
             let written = writer.bytes().len() as u64;
-            assert_eq!(rt; fault, WriteFault::OutOfMemory { written });
-            assert!(rt; text.starts_with(writer.bytes()), "growth {refused}");
-            assert!(rt; refused < heap.asked(), "growth {refused}");
+            equals(rt, fault, WriteFault::OutOfMemory { written });
+            holds(rt, &("growth", refused), text.starts_with(writer.bytes()));
+            holds(rt, &("growth", refused), refused < heap.asked());
             return Ok(false);
         }
     }
-    assert!(rt; heap.asked() <= refused, "growth {refused}");
+    holds(rt, &("growth", refused), heap.asked() <= refused);
     Ok(true)
 }
 
@@ -122,7 +123,7 @@ fn growths_of(rt: &impl Abort, alloc: Global, call: Call, bytes: &[u8]) -> Resul
             return Ok(number);
         }
     }
-    assert!(rt; false, "each of {MOST_GROWTHS} runs was refused a growth");
+    holds(rt, &("each run was refused a growth", MOST_GROWTHS), false);
     Ok(0)
 }
 
@@ -141,7 +142,7 @@ fn refuses_each_growth_of_a_call(rt: HostRuntime) -> Result<(), Fail> {
     ];
     for (call, least) in rows {
         let growths = growths_of(&rt, rt.alloc(), call, &bytes)?;
-        assert!(rt; least <= growths, "{call:?} met {growths} growths");
+        holds(&rt, &(call, "growths", growths), least <= growths);
     }
     Ok(())
 }

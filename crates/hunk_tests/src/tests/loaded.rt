@@ -1,5 +1,6 @@
 //! Load files in memory: by `ImageLoader`, by `read_image`, and by decoding whole and then loading.
 
+use super::asserts::{equals, equals_at};
 use hunk_loader::{Image, ImageLoader, load, read_image};
 use hunk_loadfile::{LoadDecoder, read_load};
 use hunk_test_support::load_words::{EVEN_WORDS, NO_WORDS, THREE_HUNKS, TWO_HUNKS, ZEROS};
@@ -21,13 +22,13 @@ pub(crate) fn has_bytes<A: Allocator + Copy>(
     wanted: &[&[u8]],
 ) {
     let hunks = image.hunks();
-    assert_eq!(rt; (hunks.len(), bases.len()), (wanted.len(), wanted.len()));
+    equals(rt, (hunks.len(), bases.len()), (wanted.len(), wanted.len()));
     for (((base, bytes), at), want) in hunks.iter().zip(bases).zip(wanted) {
-        assert_eq!(rt; *base, *at);
-        assert_eq!(rt; bytes.as_slice(), *want, "at {base:x}");
+        equals(rt, *base, *at);
+        equals_at(rt, &("at", base), bytes.as_slice(), *want);
         let mut address = *base;
         for byte in *want {
-            assert_eq!(rt; image.byte(address), Some(*byte), "at {address:x}");
+            equals_at(rt, &("at", address), image.byte(address), Some(*byte));
             address = address.wrapping_add(1);
         }
     }
@@ -44,7 +45,7 @@ fn streamed(
     let mut loader = ImageLoader::new(alloc, bases)?;
     assert!(rt; 1 <= chunk);
     for piece in bytes.chunks(chunk) {
-        assert_eq!(rt; loader.feed(piece), Ok(()));
+        equals(rt, loader.feed(piece), Ok(()));
     }
     Ok(loader.finish()?)
 }
@@ -60,7 +61,7 @@ fn decoded(
     let mut decoder = LoadDecoder::new(alloc);
     assert!(rt; 1 <= chunk);
     for piece in bytes.chunks(chunk) {
-        assert_eq!(rt; decoder.feed(piece), Ok(()));
+        equals(rt, decoder.feed(piece), Ok(()));
     }
     let file = decoder.finish()?;
     Ok(load(alloc, &file, bases)?)

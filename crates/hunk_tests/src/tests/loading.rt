@@ -1,5 +1,6 @@
 //! Load files that are made of hunks, in memory.
 
+use super::asserts::{equals, holds};
 use hunk_loader::{LoadRefusal, PlaceFault, load, load_file};
 use hunk_loadfile::{HunkKind, LoadFile, LoadHunk, Memory};
 use hunk_words::Sites;
@@ -30,12 +31,12 @@ fn fills_with_zeros_and_relocates_them(rt: HostRuntime) -> Result<(), Fail> {
     let image = load(alloc, &LoadFile::new(hunks)?, &[0x0001_0000])?;
     let want = [0x4E, 0x75, 0x4E, 0x71, 0, 0, 0, 0, 0, 1, 0, 0];
     for (base, bytes) in image.hunks() {
-        assert_eq!(rt; *base, 0x0001_0000);
-        assert_eq!(rt; bytes.as_slice(), want.as_slice());
+        equals(&rt, *base, 0x0001_0000);
+        equals(&rt, bytes.as_slice(), want.as_slice());
     }
-    assert_eq!(rt; image.byte(0x0001_0009), Some(1));
-    assert_eq!(rt; image.byte(0x0000_FFFF), None);
-    assert_eq!(rt; image.byte(0x0001_000C), None);
+    equals(&rt, image.byte(0x0001_0009), Some(1));
+    equals(&rt, image.byte(0x0000_FFFF), None);
+    equals(&rt, image.byte(0x0001_000C), None);
     Ok(())
 }
 
@@ -54,9 +55,9 @@ fn adds_the_bases_of_later_hunks(rt: HostRuntime) -> Result<(), Fail> {
         &[0, 3, 0, 8],
         &[],
     ];
-    assert_eq!(rt; image.hunks().len(), wants.len());
+    equals(&rt, image.hunks().len(), wants.len());
     for ((_, bytes), want) in image.hunks().iter().zip(wants) {
-        assert_eq!(rt; bytes.as_slice(), want);
+        equals(&rt, bytes.as_slice(), want);
     }
     Ok(())
 }
@@ -72,8 +73,8 @@ fn refuses_addresses_that_do_not_hold_the_hunks(rt: HostRuntime) -> Result<(), F
     ];
     for (bases, want) in rows {
         match load(alloc, &file, bases) {
-            Ok(_) => assert!(rt; false, "loaded at {bases:?}"),
-            Err(refusal) => assert_eq!(rt; refusal, LoadRefusal::Place(want)),
+            Ok(_) => holds(&rt, &("loaded at", bases), false),
+            Err(refusal) => equals(&rt, refusal, LoadRefusal::Place(want)),
         }
     }
     Ok(())
@@ -94,13 +95,13 @@ fn moves_content_and_relocates_the_zeros_after_it(rt: HostRuntime) -> Result<(),
         &[0, 1, 0, 8, 0, 3, 0, 0],
         &[],
     ];
-    assert_eq!(rt; image.hunks().len(), wants.len());
+    equals(&rt, image.hunks().len(), wants.len());
     for (((base, bytes), at), want) in image.hunks().iter().zip(&bases).zip(wants) {
-        assert_eq!(rt; *base, *at);
-        assert_eq!(rt; bytes.as_slice(), want);
+        equals(&rt, *base, *at);
+        equals(&rt, bytes.as_slice(), want);
     }
-    assert_eq!(rt; image.byte(0x0001_0009), Some(2));
-    assert_eq!(rt; image.byte(0x0001_000C), None);
+    equals(&rt, image.byte(0x0001_0009), Some(2));
+    equals(&rt, image.byte(0x0001_000C), None);
     Ok(())
 }
 
@@ -117,8 +118,8 @@ fn moves_nothing_to_addresses_that_do_not_hold_the_hunks(rt: HostRuntime) -> Res
         hunks.push(hunk(alloc, 2, &[0, 0, 0, 8], &[(4, 1)])?)?;
         hunks.push(hunk(alloc, 2, &[], &[])?)?;
         match load_file(alloc, LoadFile::new(hunks)?, bases) {
-            Ok(_) => assert!(rt; false, "loaded at {bases:?}"),
-            Err(refusal) => assert_eq!(rt; refusal, LoadRefusal::Place(want)),
+            Ok(_) => holds(&rt, &("loaded at", bases), false),
+            Err(refusal) => equals(&rt, refusal, LoadRefusal::Place(want)),
         }
     }
     Ok(())

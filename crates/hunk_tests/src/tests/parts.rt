@@ -1,5 +1,6 @@
 //! Each part of a load file, as it is written.
 
+use super::asserts::{equals, equals_at};
 use hunk_loadfile::{
     HunkKind, LoadFile, LoadForm, LoadHunk, Memory, write_load, write_load_with, written_bytes,
     written_length,
@@ -86,11 +87,12 @@ fn bytes(alloc: Global, form: LoadForm) -> Result<Vec<u8>, Fail> {
 fn writes_each_part_of_a_file(rt: HostRuntime) -> Result<(), Fail> {
     let want = bytes(rt.alloc(), LoadForm::Plain)?;
     let mut writer = Watched::new(Vec::new(rt.alloc()));
-    assert_eq!(rt;
+    equals(
+        &rt,
         write_load(rt.alloc(), &file(rt.alloc())?, &mut writer),
-        Ok(())
+        Ok(()),
     );
-    assert_eq!(rt; writer.into_inner().as_slice(), want.as_slice());
+    equals(&rt, writer.into_inner().as_slice(), want.as_slice());
     Ok(())
 }
 
@@ -102,10 +104,10 @@ fn writes_a_file_into_memory_that_holds_it_exactly(rt: HostRuntime) -> Result<()
     for form in FORMS {
         let want = bytes(rt.alloc(), form)?;
         let length = want.len() as u64;
-        assert_eq!(rt; written_length(rt.alloc(), &file, form), Ok(length));
+        equals(&rt, written_length(rt.alloc(), &file, form), Ok(length));
         let text = written_bytes(rt.alloc(), &file, form)?;
-        assert_eq!(rt; text.as_slice(), want.as_slice(), "{form:?}");
-        assert_eq!(rt; text.capacity(), want.len(), "{form:?}");
+        equals_at(&rt, &form, text.as_slice(), want.as_slice());
+        equals_at(&rt, &form, text.capacity(), want.len());
     }
     Ok(())
 }
@@ -122,8 +124,8 @@ fn tells_how_much_a_device_took(rt: HostRuntime) -> Result<(), Fail> {
                     written: room as u64,
                 };
                 let got = write_load_with(rt.alloc(), &file, form, &mut writer);
-                assert_eq!(rt; got, Err(fault), "{form:?}");
-                assert_eq!(rt; writer.bytes(), &want[..room], "{form:?}");
+                equals_at(&rt, &form, got, Err(fault));
+                equals_at(&rt, &form, writer.bytes(), &want[..room]);
             }
         }
     }

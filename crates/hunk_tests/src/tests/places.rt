@@ -1,5 +1,6 @@
 //! Addresses that hold the hunks of a file, and addresses that do not.
 
+use super::asserts::{equals, equals_at};
 use hunk_loader::{ImageFault, LoadRefusal, PlaceFault, check_places, read_image};
 use hunk_test_support::words::LINKED;
 use hunk_test_support::{BASE, bytes_of};
@@ -26,7 +27,7 @@ fn answers_the_worked_rows(rt: HostRuntime) {
         (&[1, 1], &[0x1004, 0x1000], Ok(())),
     ];
     for (sizes, bases, want) in rows {
-        assert_eq!(rt; check_places(sizes, bases), want, "{sizes:?} at {bases:?}");
+        equals_at(&rt, &(sizes, "at", bases), check_places(sizes, bases), want);
     }
 }
 
@@ -45,7 +46,7 @@ fn tells_each_fault(rt: HostRuntime) -> Result<(), Fail> {
     ];
     for (fault, want) in rows {
         let text = format!(in rt.alloc(); "{fault}")?;
-        assert_eq!(rt; text.as_str(), want);
+        equals(&rt, text.as_str(), want);
     }
     Ok(())
 }
@@ -92,7 +93,7 @@ fn tells_why_there_is_no_image(rt: HostRuntime) -> Result<(), Fail> {
         let bytes = file.get(..count).ok_or("no such bytes")?;
         let mut reader = Pieces::new(bytes.to_vec(rt.alloc())?, 25, fails_at);
         let got = read_image(rt.alloc(), &mut reader, bases).err();
-        assert_eq!(rt; got, Some(want));
+        equals(&rt, got, Some(want));
     }
     Ok(())
 }

@@ -1,5 +1,6 @@
 //! Load files with relocations in 16-bit words, as they are written.
 
+use super::asserts::equals;
 use super::loaded::has_bytes;
 use super::values::{EMPTY, Hunk, has_hunks};
 use super::written::{Text, fails_at_each_byte, file_of, is_written_up_to, writes};
@@ -150,10 +151,10 @@ fn is_written(rt: &impl Abort, alloc: Global, row: Row<'_>) -> Result<(), Fail> 
     let form = LoadForm::Short;
     let bytes = bytes_of(alloc, &words_of_row(alloc, row)?, &[])?;
     let length = bytes.len() as u64;
-    assert_eq!(rt; written_length(alloc, &file, form), Ok(length));
+    equals(rt, written_length(alloc, &file, form), Ok(length));
     let written = written_bytes(alloc, &file, form)?;
-    assert_eq!(rt; written.as_slice(), bytes.as_slice());
-    assert_eq!(rt; written.capacity(), bytes.len());
+    equals(rt, written.as_slice(), bytes.as_slice());
+    equals(rt, written.capacity(), bytes.len());
     for most in CHUNKS {
         let text = Text {
             file: &file,
@@ -233,7 +234,7 @@ fn writes_16_384_sites(rt: HostRuntime) -> Result<(), Fail> {
             sites.push((4 * place, place.checked_rem(targets).unwrap_or(0)))?;
         }
         let blocks = block_of_all(rt.alloc(), targets)?;
-        assert_eq!(rt; blocks.len(), longwords);
+        equals(&rt, blocks.len(), longwords);
         let row = Row {
             size: 16_384,
             sites: &sites,

@@ -1,5 +1,6 @@
 //! Load files without the zeros at the end of contents.
 
+use super::asserts::{equals, equals_at, holds};
 use super::loaded::has_bytes;
 use hunk_loader::load;
 use hunk_loadfile::{HunkKind, LoadFile, LoadHunk, Memory};
@@ -134,28 +135,21 @@ fn file_of_rows<A: Allocator + Copy>(alloc: A, rows: &[Row]) -> Result<LoadFile<
 
 // The hunks are those of the rows, with this much of each content.
 fn are_rows<A: Allocator + Copy>(rt: &impl Abort, hunks: &[LoadHunk<A>], rows: &[Row]) {
-    assert_eq!(rt; hunks.len(), rows.len());
+    equals(rt, hunks.len(), rows.len());
     for (hunk, row) in hunks.iter().zip(rows) {
-        assert_eq!(rt;
-            (hunk.kind, hunk.memory),
-            (row.kind, Memory::Chip),
-            "{row:?}"
-        );
-        assert_eq!(rt; hunk.size, row.size, "{row:?}");
-        assert_eq!(rt; hunk.sites.limit(), 4 * u64::from(row.size), "{row:?}");
-        assert!(rt; row.kept <= row.content.len(), "{row:?}");
-        assert_eq!(rt;
-            hunk.content.as_slice(),
-            &row.content[..row.kept],
-            "{row:?}"
-        );
+        equals_at(rt, &row, (hunk.kind, hunk.memory), (row.kind, Memory::Chip));
+        equals_at(rt, &row, hunk.size, row.size);
+        equals_at(rt, &row, hunk.sites.limit(), 4 * u64::from(row.size));
+        let kept = row.content.get(..row.kept);
+        equals_at(rt, &row, Some(hunk.content.as_slice()), kept);
         let mut sites = hunk.sites.walk();
-        assert_eq!(rt;
+        equals_at(
+            rt,
+            &row,
             sites.next().map(|(offset, target)| (offset, *target)),
             row.site.map(|offset| (offset, 0)),
-            "{row:?}"
         );
-        assert!(rt; sites.next().is_none(), "{row:?}");
+        holds(rt, &row, sites.next().is_none());
     }
 }
 
@@ -191,17 +185,18 @@ fn keeps_symbols_and_debug_blocks(rt: HostRuntime) -> Result<(), Fail> {
         hunk.debugs.push(vec![in alloc; 7, 0]?)?;
     }
     for hunk in LoadFile::new(hunks)?.trimmed().hunks() {
-        assert_eq!(rt;
+        equals(
+            &rt,
             hunk.content.as_slice(),
-            [0x4E, 0x71, 0x4E, 0x71].as_slice()
+            [0x4E, 0x71, 0x4E, 0x71].as_slice(),
         );
-        assert_eq!(rt; hunk.symbols.len(), 1);
+        equals(&rt, hunk.symbols.len(), 1);
         for (name, value) in hunk.symbols.iter() {
-            assert_eq!(rt; (name.bytes(), *value), (b"A".as_slice(), 8));
+            equals(&rt, (name.bytes(), *value), (b"A".as_slice(), 8));
         }
-        assert_eq!(rt; hunk.debugs.len(), 1);
+        equals(&rt, hunk.debugs.len(), 1);
         for debug in hunk.debugs.iter() {
-            assert_eq!(rt; debug.as_slice(), [7, 0].as_slice());
+            equals(&rt, debug.as_slice(), [7, 0].as_slice());
         }
     }
     Ok(())
@@ -224,12 +219,12 @@ fn is_the_same_in_memory(rt: HostRuntime) -> Result<(), Fail> {
     let bases = bases_of(alloc, &ROWS)?;
     let whole = load(alloc, &file_of_rows(alloc, &ROWS)?, &bases)?;
     let trimmed = load(alloc, &file_of_rows(alloc, &ROWS)?.trimmed(), &bases)?;
-    assert_eq!(rt; whole.hunks().len(), ROWS.len());
-    assert_eq!(rt; trimmed.hunks().len(), ROWS.len());
+    equals(&rt, whole.hunks().len(), ROWS.len());
+    equals(&rt, trimmed.hunks().len(), ROWS.len());
     for ((one, other), row) in whole.hunks().iter().zip(trimmed.hunks()).zip(&ROWS) {
-        assert_eq!(rt; one.0, other.0, "{row:?}");
-        assert_eq!(rt; one.1.as_slice(), other.1.as_slice(), "{row:?}");
-        assert_eq!(rt; other.1.len() as u64, 4 * u64::from(row.size), "{row:?}");
+        equals_at(&rt, &row, one.0, other.0);
+        equals_at(&rt, &row, one.1.as_slice(), other.1.as_slice());
+        equals_at(&rt, &row, other.1.len() as u64, 4 * u64::from(row.size));
     }
     Ok(())
 }
@@ -270,7 +265,7 @@ fn takes_no_memory(rt: HostRuntime) -> Result<(), Fail> {
     let file = file_of_rows(&heap, &ROWS)?;
     let asked = heap.asked();
     let trimmed = file.trimmed();
-    assert_eq!(rt; heap.asked(), asked);
+    equals(&rt, heap.asked(), asked);
     are_rows(&rt, trimmed.hunks(), &ROWS);
     Ok(())
 }

@@ -1,5 +1,6 @@
 //! The expected hunks of a load file, as plain values.
 
+use super::asserts::{equals, equals_at};
 use hunk_loadfile::{HunkKind, LoadFile, LoadHunk, Memory};
 use std::alloc::Allocator;
 use std::process::Abort;
@@ -52,31 +53,32 @@ pub(crate) const SCATTERED_HUNKS: [Hunk<'static>; 2] = [
 
 // The lists of a hunk for a debugger are these.
 fn carries<A: Allocator + Copy>(rt: &impl Abort, hunk: &LoadHunk<A>, wanted: &Hunk<'_>) {
-    assert_eq!(rt; hunk.symbols.len(), wanted.symbols.len(), "{wanted:?}");
+    equals_at(rt, &wanted, hunk.symbols.len(), wanted.symbols.len());
     for ((name, value), (bytes, number)) in hunk.symbols.iter().zip(wanted.symbols) {
-        assert_eq!(rt; name.bytes(), *bytes, "{wanted:?}");
-        assert_eq!(rt; *value, *number, "{wanted:?}");
+        equals_at(rt, &wanted, name.bytes(), *bytes);
+        equals_at(rt, &wanted, *value, *number);
     }
-    assert_eq!(rt; hunk.debugs.len(), wanted.debugs.len(), "{wanted:?}");
+    equals_at(rt, &wanted, hunk.debugs.len(), wanted.debugs.len());
     for (debug, words) in hunk.debugs.iter().zip(wanted.debugs) {
-        assert_eq!(rt; debug.as_slice(), *words, "{wanted:?}");
+        equals_at(rt, &wanted, debug.as_slice(), *words);
     }
 }
 
 // A hunk is this one.
 fn is_hunk<A: Allocator + Copy>(rt: &impl Abort, hunk: &LoadHunk<A>, wanted: &Hunk<'_>) {
-    assert_eq!(rt; hunk.kind, wanted.kind, "{wanted:?}");
-    assert_eq!(rt; hunk.memory, wanted.memory, "{wanted:?}");
-    assert_eq!(rt; hunk.size, wanted.size, "{wanted:?}");
-    assert_eq!(rt; hunk.content.as_slice(), wanted.content, "{wanted:?}");
-    assert_eq!(rt;
+    equals_at(rt, &wanted, hunk.kind, wanted.kind);
+    equals_at(rt, &wanted, hunk.memory, wanted.memory);
+    equals_at(rt, &wanted, hunk.size, wanted.size);
+    equals_at(rt, &wanted, hunk.content.as_slice(), wanted.content);
+    equals_at(
+        rt,
+        &wanted,
         hunk.sites.limit(),
         u64::from(wanted.size).saturating_mul(4),
-        "{wanted:?}"
     );
-    assert_eq!(rt; hunk.sites.walk().count(), wanted.sites.len(), "{wanted:?}");
+    equals_at(rt, &wanted, hunk.sites.walk().count(), wanted.sites.len());
     for ((offset, target), (at, number)) in hunk.sites.walk().zip(wanted.sites) {
-        assert_eq!(rt; (offset, *target), (*at, *number), "{wanted:?}");
+        equals_at(rt, &wanted, (offset, *target), (*at, *number));
     }
     carries(rt, hunk, wanted);
 }
@@ -87,7 +89,7 @@ pub(crate) fn are_hunks<A: Allocator + Copy>(
     hunks: &[LoadHunk<A>],
     wanted: &[Hunk<'_>],
 ) {
-    assert_eq!(rt; hunks.len(), wanted.len());
+    equals(rt, hunks.len(), wanted.len());
     for (hunk, want) in hunks.iter().zip(wanted) {
         is_hunk(rt, hunk, want);
     }

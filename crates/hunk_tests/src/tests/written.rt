@@ -1,5 +1,6 @@
 //! Load files that are written: their bytes, and writers that fail.
 
+use super::asserts::{equals, equals_at, holds};
 use super::growths::growths_of_reading;
 use hunk_loadfile::{LoadFile, LoadForm, read_load, write_load_with};
 use hunk_test_support::load_words::{THREE_HUNKS, TWO_HUNKS, ZEROS};
@@ -83,9 +84,9 @@ pub(crate) fn writes(
     assert!(rt; 1 <= most);
     let mut writer = Room::new(alloc, most, text.bytes.len(), false)?;
     let got = write_load_with(alloc, text.file, text.form, &mut writer);
-    assert_eq!(rt; got, Ok(()));
-    assert_eq!(rt; writer.bytes(), text.bytes, "{most} a write");
-    assert!(rt; !Sink::failed(&writer));
+    equals(rt, got, Ok(()));
+    equals_at(rt, &(most, "a write"), writer.bytes(), text.bytes);
+    holds(rt, &"!Sink::failed(&writer)", !Sink::failed(&writer));
     Ok(())
 }
 
@@ -118,13 +119,19 @@ fn fails_to_write(
     let mut writer = Room::new(alloc, most, room, zero)?;
     let got = write_load_with(alloc, text.file, text.form, &mut writer);
     let written = room as u64;
-    assert_eq!(rt; got, Err(WriteFault::Device { written }), "room for {room}");
-    assert_eq!(rt;
+    equals_at(
+        rt,
+        &("room for", room),
+        got,
+        Err(WriteFault::Device { written }),
+    );
+    equals_at(
+        rt,
+        &("room for", room),
         Some(writer.bytes()),
         text.bytes.get(..room),
-        "room for {room}"
     );
-    assert!(rt; Sink::failed(&writer));
+    holds(rt, &"Sink::failed(&writer)", Sink::failed(&writer));
     Ok(())
 }
 
@@ -146,7 +153,7 @@ pub(crate) fn fails_at_each_byte(
 fn tells_what_a_writer_took_of_a_file(rt: HostRuntime) -> Result<(), Fail> {
     let text = bytes_of(rt.alloc(), &LINKED, &[])?;
     let file = file_of(rt.alloc(), text.clone()?)?;
-    assert_eq!(rt; text.len(), 88);
+    equals(&rt, text.len(), 88);
     let text = Text {
         file: &file,
         form: LoadForm::Plain,
@@ -176,21 +183,27 @@ pub(crate) fn is_written_up_to(
         let mut writer = Room::new(alloc, 64, text.len(), false)?;
         let got = write_load_with(&heap, &file, form, &mut writer);
         if heap.asked() <= refused {
-            assert_eq!(rt; got, Ok(()));
-            assert_eq!(rt; writer.bytes(), text.as_slice());
+            equals(rt, got, Ok(()));
+            equals(rt, writer.bytes(), text.as_slice());
             growths = number;
             break;
         }
         let written = front as u64;
-        assert_eq!(rt;
+        equals_at(
+            rt,
+            &("growth", number),
             got,
             Err(WriteFault::OutOfMemory { written }),
-            "growth {number}"
         );
-        assert_eq!(rt; text.get(..front), Some(writer.bytes()), "growth {number}");
-        assert!(rt; !Sink::failed(&writer));
+        equals_at(
+            rt,
+            &("growth", number),
+            text.get(..front),
+            Some(writer.bytes()),
+        );
+        holds(rt, &"!Sink::failed(&writer)", !Sink::failed(&writer));
     }
-    assert!(rt; least <= growths, "{growths} growths");
+    holds(rt, &("growths", growths), least <= growths);
     Ok(())
 }
 
