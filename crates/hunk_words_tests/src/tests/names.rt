@@ -1,5 +1,6 @@
 //! Names: their bytes, their longwords, their order and their hashes.
 
+use super::asserts::{equals, holds};
 use hunk_test_support::Refusing;
 use hunk_words::{Name, OpenName};
 use std::collections::{BTreeSet, HashSet};
@@ -8,10 +9,11 @@ use std::test::Fail;
 #[test]
 fn ends_a_name_at_the_first_zero_byte(rt: HostRuntime) -> Result<(), Fail> {
     let name = Name::from_words(rt.alloc(), &[0x4100_4242, 0x4343_4343])?;
-    assert_eq!(rt; name.bytes(), b"A".as_slice());
-    assert_eq!(rt;
+    equals(&rt, name.bytes(), b"A".as_slice());
+    equals(
+        &rt,
         name.words(rt.alloc())?.as_slice(),
-        [0x4100_0000].as_slice()
+        [0x4100_0000].as_slice(),
     );
     Ok(())
 }
@@ -19,14 +21,15 @@ fn ends_a_name_at_the_first_zero_byte(rt: HostRuntime) -> Result<(), Fail> {
 #[test]
 fn writes_whole_longwords(rt: HostRuntime) -> Result<(), Fail> {
     let empty = Name::from_words(rt.alloc(), &[])?;
-    assert_eq!(rt; empty.words(rt.alloc())?.as_slice(), [0].as_slice());
+    equals(&rt, empty.words(rt.alloc())?.as_slice(), [0].as_slice());
     let main = Name::from_words(rt.alloc(), &[0x6D61_696E, 0])?;
-    assert_eq!(rt;
+    equals(
+        &rt,
         main.words(rt.alloc())?.as_slice(),
-        [0x6D61_696E].as_slice()
+        [0x6D61_696E].as_slice(),
     );
     let start = Name::from_words(rt.alloc(), &[0x5F73_7461, 0x7274_0000])?;
-    assert_eq!(rt; start.bytes(), b"_start".as_slice());
+    equals(&rt, start.bytes(), b"_start".as_slice());
     Ok(())
 }
 
@@ -35,9 +38,17 @@ fn compares_by_bytes(rt: HostRuntime) -> Result<(), Fail> {
     let foo = Name::from_words(rt.alloc(), &[0x666F_6F00])?;
     let food = Name::from_words(rt.alloc(), &[0x666F_6F64])?;
     let copy = foo.copy(rt.alloc())?;
-    assert!(rt; foo == copy && foo != food && foo < food);
+    holds(
+        &rt,
+        &"foo == copy && foo != food && foo < food",
+        foo == copy && foo != food && foo < food,
+    );
     let mut names = BTreeSet::new(rt.alloc());
-    assert!(rt; names.insert(food)? && names.insert(foo)? && !names.insert(copy)?);
+    holds(
+        &rt,
+        &"names.insert(food)? && names.insert(foo)? && !names.insert(copy)?",
+        names.insert(food)? && names.insert(foo)? && !names.insert(copy)?,
+    );
     Ok(())
 }
 
@@ -45,8 +56,16 @@ fn compares_by_bytes(rt: HostRuntime) -> Result<(), Fail> {
 fn hashes_equal_names_alike(rt: HostRuntime) -> Result<(), Fail> {
     let mut names = HashSet::new(rt.alloc());
     names.insert(Name::from_words(rt.alloc(), &[0x666F_6F00])?)?;
-    assert!(rt; names.contains(&Name::from_words(rt.alloc(), &[0x666F_6F00, 1])?));
-    assert!(rt; !names.contains(&Name::from_words(rt.alloc(), &[0x6261_7200])?));
+    holds(
+        &rt,
+        &"names.contains(&Name::from_words(rt.alloc(), &[0x666F_6F00, 1])?)",
+        names.contains(&Name::from_words(rt.alloc(), &[0x666F_6F00, 1])?),
+    );
+    holds(
+        &rt,
+        &"!names.contains(&Name::from_words(rt.alloc(), &[0x6261_7200])?)",
+        !names.contains(&Name::from_words(rt.alloc(), &[0x6261_7200])?),
+    );
     Ok(())
 }
 
@@ -58,8 +77,8 @@ fn takes_longwords_at_once_and_one_by_one(rt: HostRuntime) -> Result<(), Fail> {
     name.push_bytes(b"n_4\0ignored.")?;
     name.push_bytes(b"as well.")?;
     name.push(0x7468_6973)?;
-    assert_eq!(rt; name.len(), 19);
-    assert_eq!(rt; name.close().bytes(), b"module12_function_4".as_slice());
+    equals(&rt, name.len(), 19);
+    equals(&rt, name.close().bytes(), b"module12_function_4".as_slice());
     Ok(())
 }
 
@@ -68,19 +87,23 @@ fn allocates_once_for_a_run_and_the_longword_after_it(rt: HostRuntime) -> Result
     let heap = Refusing::new(rt.alloc(), u64::MAX);
     let mut name = OpenName::new(&heap);
     name.push_bytes(b"_start_of_")?;
-    assert_eq!(rt; heap.asked(), 1);
+    equals(&rt, heap.asked(), 1);
     name.push(0x7061_6765)?;
-    assert_eq!(rt; heap.asked(), 1);
-    assert_eq!(rt; name.close().bytes(), b"_start_of_page".as_slice());
+    equals(&rt, heap.asked(), 1);
+    equals(&rt, name.close().bytes(), b"_start_of_page".as_slice());
     Ok(())
 }
 
 #[test]
 fn is_out_of_memory_where_the_bytes_of_a_name_have_none(rt: HostRuntime) -> Result<(), Fail> {
     let heap = Refusing::new(rt.alloc(), 0);
-    assert!(rt; Name::from_words(&heap, &[0x666F_6F00]).is_err());
+    holds(
+        &rt,
+        &"Name::from_words(&heap, &[0x666F_6F00]).is_err()",
+        Name::from_words(&heap, &[0x666F_6F00]).is_err(),
+    );
     let name = Name::from_words(&heap, &[0x666F_6F00])?;
-    assert_eq!(rt; name.bytes(), b"foo".as_slice());
+    equals(&rt, name.bytes(), b"foo".as_slice());
     Ok(())
 }
 
@@ -88,7 +111,11 @@ fn is_out_of_memory_where_the_bytes_of_a_name_have_none(rt: HostRuntime) -> Resu
 fn is_out_of_memory_where_the_longwords_of_a_name_have_none(rt: HostRuntime) -> Result<(), Fail> {
     let heap = Refusing::new(rt.alloc(), 1);
     let name = Name::from_words(&heap, &[0x666F_6F00])?;
-    assert!(rt; name.words(&heap).is_err());
-    assert_eq!(rt; name.words(&heap)?.as_slice(), [0x666F_6F00].as_slice());
+    holds(
+        &rt,
+        &"name.words(&heap).is_err()",
+        name.words(&heap).is_err(),
+    );
+    equals(&rt, name.words(&heap)?.as_slice(), [0x666F_6F00].as_slice());
     Ok(())
 }

@@ -1,5 +1,6 @@
 //! Allocations of a map of sites that fail, each in turn.
 
+use super::asserts::{equals, holds};
 use hunk_test_support::Refusing;
 use hunk_words::{SiteRefusal, Sites};
 use std::alloc::{Allocator, Global};
@@ -26,19 +27,19 @@ fn has_sites<A: Allocator + Copy>(sites: &Sites<u32, A>, offsets: &[u32]) -> boo
 fn allocations_of_adding(rt: &impl Abort, alloc: Global, refused: u64) -> Result<u64, Fail> {
     let heap = Refusing::new(alloc, refused);
     let mut sites = Sites::new(&heap, 36004);
-    assert_eq!(rt; heap.asked(), 0);
+    equals(rt, heap.asked(), 0);
     for (number, offset) in OFFSETS.iter().enumerate() {
         let before = &OFFSETS[..number];
         match sites.try_add(*offset, *offset) {
             Ok(()) => {}
             Err(refusal) => {
-                assert_eq!(rt; refusal, SiteRefusal::OutOfMemory);
-                assert!(rt; has_sites(&sites, before), "allocation {refused}");
-                assert_eq!(rt; sites.try_add(*offset, *offset), Ok(()));
+                equals(rt, refusal, SiteRefusal::OutOfMemory);
+                holds(rt, &("allocation", refused), has_sites(&sites, before));
+                equals(rt, sites.try_add(*offset, *offset), Ok(()));
             }
         }
     }
-    assert!(rt; has_sites(&sites, &OFFSETS), "allocation {refused}");
+    holds(rt, &("allocation", refused), has_sites(&sites, &OFFSETS));
     Ok(heap.asked())
 }
 
@@ -47,13 +48,17 @@ fn adds_sites_with_each_allocation_refused(rt: HostRuntime) -> Result<(), Fail> 
     for refused in 0..MOST_ALLOCATIONS {
         if allocations_of_adding(&rt, rt.alloc(), refused)? <= refused {
             // the directory twice, its four pages, and two more blocks of the first page
-            assert!(rt; 7 <= refused, "{refused} allocations");
+            holds(&rt, &("allocations", refused), 7 <= refused);
             return Ok(());
         }
     }
-    assert!(rt;
+    holds(
+        &rt,
+        &(
+            "each of runs had an allocation that failed",
+            MOST_ALLOCATIONS,
+        ),
         false,
-        "each of {MOST_ALLOCATIONS} runs had an allocation that failed"
     );
     Ok(())
 }

@@ -1,5 +1,6 @@
 //! Sites, also across the ends of pages and beside a plain map.
 
+use super::asserts::{equals, equals_at};
 use hunk_words::{SiteRefusal, Sites};
 use std::collections::BTreeMap;
 use std::test::Fail;
@@ -7,41 +8,41 @@ use std::test::Fail;
 #[test]
 fn takes_sites_that_touch(rt: HostRuntime) -> Result<(), Fail> {
     let mut sites = Sites::new(rt.alloc(), 8);
-    assert_eq!(rt; sites.try_add(4, 'b'), Ok(()));
-    assert_eq!(rt; sites.try_add(0, 'a'), Ok(()));
-    assert_eq!(rt; sites.limit(), 8);
-    assert_eq!(rt; sites.get(4).copied(), Some('b'));
-    assert_eq!(rt; sites.get(2).copied(), None);
+    equals(&rt, sites.try_add(4, 'b'), Ok(()));
+    equals(&rt, sites.try_add(0, 'a'), Ok(()));
+    equals(&rt, sites.limit(), 8);
+    equals(&rt, sites.get(4).copied(), Some('b'));
+    equals(&rt, sites.get(2).copied(), None);
     let mut walked = Vec::new(rt.alloc());
     for (offset, target) in sites.walk() {
         walked.push((offset, *target))?;
     }
-    assert_eq!(rt; walked.as_slice(), [(0, 'a'), (4, 'b')].as_slice());
+    equals(&rt, walked.as_slice(), [(0, 'a'), (4, 'b')].as_slice());
     Ok(())
 }
 
 #[test]
 fn refuses_what_overlaps_or_stands_outside(rt: HostRuntime) -> Result<(), Fail> {
     let mut sites = Sites::new(rt.alloc(), 12);
-    assert_eq!(rt; sites.try_add(4, 1u32), Ok(()));
+    equals(&rt, sites.try_add(4, 1u32), Ok(()));
     for offset in [1, 2, 3, 4, 5, 6, 7] {
-        assert_eq!(rt; sites.try_add(offset, 2), Err(SiteRefusal::Overlap));
+        equals(&rt, sites.try_add(offset, 2), Err(SiteRefusal::Overlap));
     }
-    assert_eq!(rt; sites.try_add(9, 2), Err(SiteRefusal::Outside));
-    assert_eq!(rt; sites.try_add(u32::MAX, 2), Err(SiteRefusal::Outside));
+    equals(&rt, sites.try_add(9, 2), Err(SiteRefusal::Outside));
+    equals(&rt, sites.try_add(u32::MAX, 2), Err(SiteRefusal::Outside));
     let mut walk = sites.walk();
-    assert_eq!(rt; walk.next(), Some((4, &1)));
-    assert_eq!(rt; walk.next(), None);
+    equals(&rt, walk.next(), Some((4, &1)));
+    equals(&rt, walk.next(), None);
     Ok(())
 }
 
 #[test]
 fn judges_the_limit_before_an_overlap(rt: HostRuntime) -> Result<(), Fail> {
     let mut sites = Sites::new(rt.alloc(), 8);
-    assert_eq!(rt; sites.try_add(4, ()), Ok(()));
-    assert_eq!(rt; sites.try_add(5, ()), Err(SiteRefusal::Outside));
+    equals(&rt, sites.try_add(4, ()), Ok(()));
+    equals(&rt, sites.try_add(5, ()), Err(SiteRefusal::Outside));
     let text = format!(in rt.alloc(); "{}", SiteRefusal::Outside)?;
-    assert_eq!(rt; text.as_str(), "the site does not lie inside its hunk");
+    equals(&rt, text.as_str(), "the site does not lie inside its hunk");
     Ok(())
 }
 
@@ -50,11 +51,11 @@ fn finds_an_overlap_across_the_end_of_a_page(rt: HostRuntime) -> Result<(), Fail
     for (low, high) in [(4093, 4096), (4094, 4096), (4095, 4098), (8191, 8192)] {
         for (first, second) in [(low, high), (high, low)] {
             let mut sites = Sites::new(rt.alloc(), 16384);
-            assert_eq!(rt; sites.try_add(first, 'a'), Ok(()));
-            assert_eq!(rt; sites.try_add(second, 'b'), Err(SiteRefusal::Overlap));
+            equals(&rt, sites.try_add(first, 'a'), Ok(()));
+            equals(&rt, sites.try_add(second, 'b'), Err(SiteRefusal::Overlap));
             let mut walk = sites.walk();
-            assert_eq!(rt; walk.next(), Some((first, &'a')));
-            assert_eq!(rt; walk.next(), None);
+            equals(&rt, walk.next(), Some((first, &'a')));
+            equals(&rt, walk.next(), None);
         }
     }
     Ok(())
@@ -65,12 +66,12 @@ fn adds_sites_that_touch_across_the_end_of_a_page(rt: HostRuntime) -> Result<(),
     for (low, high) in [(4092, 4096), (4094, 4098), (4095, 4099)] {
         for (first, second) in [(low, high), (high, low)] {
             let mut sites = Sites::new(rt.alloc(), 16384);
-            assert_eq!(rt; sites.try_add(first, first), Ok(()));
-            assert_eq!(rt; sites.try_add(second, second), Ok(()));
+            equals(&rt, sites.try_add(first, first), Ok(()));
+            equals(&rt, sites.try_add(second, second), Ok(()));
             let mut walk = sites.walk();
-            assert_eq!(rt; walk.next(), Some((low, &low)));
-            assert_eq!(rt; walk.next(), Some((high, &high)));
-            assert_eq!(rt; walk.next(), None);
+            equals(&rt, walk.next(), Some((low, &low)));
+            equals(&rt, walk.next(), Some((high, &high)));
+            equals(&rt, walk.next(), None);
         }
     }
     Ok(())
@@ -112,13 +113,18 @@ fn agrees_with_a_plain_map_at_random_offsets(rt: HostRuntime) -> Result<(), Fail
         state = random_after(state);
         let offset = (state >> 8) % (LIMIT + 8);
         let answer = add_plainly(&mut plain, offset, target);
-        assert_eq!(rt; sites.try_add(offset, target), answer, "offset {offset}");
+        equals_at(
+            &rt,
+            &("offset", offset),
+            sites.try_add(offset, target),
+            answer,
+        );
     }
     let mut walk = sites.walk();
     for (offset, target) in &plain {
-        assert_eq!(rt; sites.get(*offset), Some(target));
-        assert_eq!(rt; walk.next(), Some((*offset, target)));
+        equals(&rt, sites.get(*offset), Some(target));
+        equals(&rt, walk.next(), Some((*offset, target)));
     }
-    assert_eq!(rt; walk.next(), None);
+    equals(&rt, walk.next(), None);
     Ok(())
 }
