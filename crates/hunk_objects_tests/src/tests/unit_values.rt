@@ -1,5 +1,6 @@
 //! The expected units of an object file, as plain values.
 
+use super::asserts::{equals, equals_at};
 use hunk_objects::{Adds, Definition, HunkKind, Memory, ProgramUnit, UnitHunk};
 use hunk_words::Name;
 use std::alloc::Allocator;
@@ -48,38 +49,34 @@ fn are_symbols<A: Allocator + Copy>(
     symbols: &[(Name<A>, u32)],
     wanted: &Hunk<'_>,
 ) {
-    assert_eq!(rt; symbols.len(), wanted.symbols.len(), "{wanted:?}");
+    equals_at(rt, &wanted, symbols.len(), wanted.symbols.len());
     for ((name, value), (bytes, number)) in symbols.iter().zip(wanted.symbols) {
-        assert_eq!(rt; name.bytes(), *bytes, "{wanted:?}");
-        assert_eq!(rt; *value, *number, "{wanted:?}");
+        equals_at(rt, &wanted, name.bytes(), *bytes);
+        equals_at(rt, &wanted, *value, *number);
     }
 }
 
 // These debug blocks are the expected ones.
 fn are_debugs<A: Allocator + Copy>(rt: &impl Abort, debugs: &[Vec<u32, A>], wanted: &Hunk<'_>) {
-    assert_eq!(rt; debugs.len(), wanted.debugs.len(), "{wanted:?}");
+    equals_at(rt, &wanted, debugs.len(), wanted.debugs.len());
     for (debug, words) in debugs.iter().zip(wanted.debugs) {
-        assert_eq!(rt; debug.as_slice(), *words, "{wanted:?}");
+        equals_at(rt, &wanted, debug.as_slice(), *words);
     }
 }
 
 // The sites of a hunk are the expected ones.
 fn has_sites<A: Allocator + Copy>(rt: &impl Abort, hunk: &UnitHunk<A>, wanted: &Hunk<'_>) {
-    assert_eq!(rt;
-        hunk.sites().walk().count(),
-        wanted.sites.len(),
-        "{wanted:?}"
-    );
+    equals_at(rt, &wanted, hunk.sites().walk().count(), wanted.sites.len());
     for ((offset, adds), (at, other)) in hunk.sites().walk().zip(wanted.sites) {
-        assert_eq!(rt; (offset, *adds), (*at, *other), "{wanted:?}");
+        equals_at(rt, &wanted, (offset, *adds), (*at, *other));
     }
 }
 
 // The names that a hunk refers to are the expected ones.
 fn are_references<A: Allocator + Copy>(rt: &impl Abort, references: &[Name<A>], wanted: &Hunk<'_>) {
-    assert_eq!(rt; references.len(), wanted.references.len(), "{wanted:?}");
+    equals_at(rt, &wanted, references.len(), wanted.references.len());
     for (name, bytes) in references.iter().zip(wanted.references) {
-        assert_eq!(rt; name.bytes(), *bytes, "{wanted:?}");
+        equals_at(rt, &wanted, name.bytes(), *bytes);
     }
 }
 
@@ -89,24 +86,25 @@ fn are_definitions<A: Allocator + Copy>(
     definitions: &[(Name<A>, Definition)],
     wanted: &Hunk<'_>,
 ) {
-    assert_eq!(rt; definitions.len(), wanted.definitions.len(), "{wanted:?}");
+    equals_at(rt, &wanted, definitions.len(), wanted.definitions.len());
     for ((name, definition), (bytes, other)) in definitions.iter().zip(wanted.definitions) {
-        assert_eq!(rt; name.bytes(), *bytes, "{wanted:?}");
-        assert_eq!(rt; *definition, *other, "{wanted:?}");
+        equals_at(rt, &wanted, name.bytes(), *bytes);
+        equals_at(rt, &wanted, *definition, *other);
     }
 }
 
 // A hunk is this one.
 fn is_hunk<A: Allocator + Copy>(rt: &impl Abort, hunk: &UnitHunk<A>, wanted: &Hunk<'_>) {
-    assert_eq!(rt; hunk.name().bytes(), wanted.name, "{wanted:?}");
-    assert_eq!(rt; hunk.kind(), wanted.kind, "{wanted:?}");
-    assert_eq!(rt; hunk.memory(), wanted.memory, "{wanted:?}");
-    assert_eq!(rt; hunk.size(), wanted.size, "{wanted:?}");
-    assert_eq!(rt; hunk.content(), wanted.content, "{wanted:?}");
-    assert_eq!(rt;
+    equals_at(rt, &wanted, hunk.name().bytes(), wanted.name);
+    equals_at(rt, &wanted, hunk.kind(), wanted.kind);
+    equals_at(rt, &wanted, hunk.memory(), wanted.memory);
+    equals_at(rt, &wanted, hunk.size(), wanted.size);
+    equals_at(rt, &wanted, hunk.content(), wanted.content);
+    equals_at(
+        rt,
+        &wanted,
         hunk.sites().limit(),
         wanted.content.len() as u64,
-        "{wanted:?}"
     );
     has_sites(rt, hunk, wanted);
     are_references(rt, hunk.references(), wanted);
@@ -132,10 +130,10 @@ pub(crate) fn are_units<A: Allocator + Copy>(
     units: &[ProgramUnit<A>],
     wanted: &[Unit<'_>],
 ) {
-    assert_eq!(rt; units.len(), wanted.len());
+    equals(rt, units.len(), wanted.len());
     for (unit, want) in units.iter().zip(wanted) {
-        assert_eq!(rt; unit.name().bytes(), want.name, "{want:?}");
-        assert_eq!(rt; unit.hunks().len(), want.hunks.len(), "{want:?}");
+        equals_at(rt, &want, unit.name().bytes(), want.name);
+        equals_at(rt, &want, unit.hunks().len(), want.hunks.len());
         for (hunk, other) in unit.hunks().iter().zip(want.hunks) {
             is_hunk(rt, hunk, other);
         }

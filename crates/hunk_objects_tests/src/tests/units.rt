@@ -1,5 +1,6 @@
 //! Program units, as they are read.
 
+use super::asserts::{equals, equals_at, holds};
 use super::unit_values::{EMPTY, Hunk, Unit, are_units, is_copied};
 use hunk_objects::{Adds, Definition, HunkKind, Memory, ObjectDecoder, hunk_total, read_object};
 use hunk_test_support::words::{
@@ -168,7 +169,7 @@ fn is_decoded_by(
     let mut decoder = ObjectDecoder::new(alloc);
     assert!(rt; 1 <= chunk);
     for piece in bytes.chunks(chunk) {
-        assert_eq!(rt; decoder.feed(piece), Ok(()));
+        equals(rt, decoder.feed(piece), Ok(()));
     }
     are_units(rt, &decoder.finish()?, wanted);
     let mut reader = Pieces::new(bytes.to_vec(alloc)?, chunk, None);
@@ -258,9 +259,9 @@ fn copies_symbols_and_debug_blocks(rt: HostRuntime) -> Result<(), Fail> {
 fn answers_again<A: Allocator + Copy>(rt: &impl Abort, begun: ObjectDecoder<A>, refusal: Refusal) {
     let mut decoder = begun;
     for piece in LATER_PIECES {
-        assert_eq!(rt; decoder.feed(piece), Err(refusal));
+        equals(rt, decoder.feed(piece), Err(refusal));
     }
-    assert_eq!(rt; decoder.finish().err(), Some(refusal));
+    equals(rt, decoder.finish().err(), Some(refusal));
 }
 
 // Whether a decoder took the file with an allocation failing. If not, it returns that error again.
@@ -275,7 +276,7 @@ fn is_taken<A: Allocator + Copy>(
         match decoder.feed(piece) {
             Ok(()) => {}
             Err(refusal) => {
-                assert_eq!(rt; refusal, Refusal::OutOfMemory);
+                equals(rt, refusal, Refusal::OutOfMemory);
                 answers_again(rt, decoder, refusal);
                 return Ok(false);
             }
@@ -299,7 +300,7 @@ fn is_read<A: Allocator + Copy>(
             true
         }
         Err(fault) => {
-            assert_eq!(rt; fault, ReadFault::Refused(Refusal::OutOfMemory));
+            equals(rt, fault, ReadFault::Refused(Refusal::OutOfMemory));
             false
         }
     }
@@ -318,14 +319,14 @@ fn refuses_each_growth_of(
     for number in 0..MOST_GROWTHS {
         let heap = Refusing::new(alloc, number);
         let taken = is_taken(rt, &heap, &bytes, wanted)?;
-        assert_eq!(rt; taken, heap.asked() <= number, "growth {number}");
-        assert!(rt; !taken || least <= number, "{number} growths");
+        equals_at(rt, &("growth", number), taken, heap.asked() <= number);
+        holds(rt, &("growths", number), !taken || least <= number);
         let heap = Refusing::new(alloc, number);
         let read = is_read(rt, &heap, bytes.clone()?, wanted);
-        assert_eq!(rt; read, heap.asked() <= number, "growth {number}");
+        equals_at(rt, &("growth", number), read, heap.asked() <= number);
         ended = [taken, read];
     }
-    assert_eq!(rt; ended, [true, true]);
+    equals(rt, ended, [true, true]);
     Ok(())
 }
 
@@ -349,9 +350,19 @@ fn fails_to_read(
     let mut reader = Pieces::new(bytes_of(alloc, &REFERS, &[])?, chunk, Some(number));
     let got = read_object(alloc, &mut reader).err();
     let wanted = fails.then_some(ReadFault::Device);
-    assert_eq!(rt; got, wanted, "read {number} of {chunk}");
-    assert_eq!(rt; Source::failed(&reader), fails, "read {number} of {chunk}");
-    assert_eq!(rt; Source::ended(&reader), !fails, "read {number} of {chunk}");
+    equals_at(rt, &("read", number, "of", chunk), got, wanted);
+    equals_at(
+        rt,
+        &("read", number, "of", chunk),
+        Source::failed(&reader),
+        fails,
+    );
+    equals_at(
+        rt,
+        &("read", number, "of", chunk),
+        Source::ended(&reader),
+        !fails,
+    );
     Ok(())
 }
 
@@ -370,7 +381,7 @@ fn tells_a_read_of_an_object_file_that_failed(rt: HostRuntime) -> Result<(), Fai
 #[test]
 fn allocates_for_what_has_come(rt: HostRuntime) -> Result<(), Fail> {
     let bytes = bytes_of(rt.alloc(), &ANNOUNCES, &[])?;
-    assert_eq!(rt; bytes.len(), 20);
+    equals(&rt, bytes.len(), 20);
     let early = Refusal::Fault(Fault {
         place: 5,
         reason: Reason::UnexpectedEnd,
@@ -378,11 +389,11 @@ fn allocates_for_what_has_come(rt: HostRuntime) -> Result<(), Fail> {
     let heap = Refusing::new(rt.alloc(), u64::MAX);
     let mut reader = Pieces::new(bytes.clone()?, ROOM, None);
     let got = read_object(&heap, &mut reader).err();
-    assert_eq!(rt; got, Some(ReadFault::Refused(early)));
-    assert!(rt; heap.asked() <= 4, "{} growths", heap.asked());
+    equals(&rt, got, Some(ReadFault::Refused(early)));
+    holds(&rt, &("growths", heap.asked()), heap.asked() <= 4);
     let small = LocalHeap::new(rt.alloc(), BUDGET)?;
     let mut decoder = ObjectDecoder::new(&small);
-    assert_eq!(rt; decoder.feed(&bytes), Ok(()));
-    assert_eq!(rt; decoder.finish().err(), Some(early));
+    equals(&rt, decoder.feed(&bytes), Ok(()));
+    equals(&rt, decoder.finish().err(), Some(early));
     Ok(())
 }
