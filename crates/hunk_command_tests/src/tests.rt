@@ -1,5 +1,6 @@
 //! Files, standard outputs and standard errors, by public calls only.
 //!
+//! - `asserts`: assertions as functions.
 //! - `failures`: the line of each failure, and its status.
 //! - `images`: the report of object files.
 //! - `inputs`: files that are open at once.
@@ -9,6 +10,7 @@
 //! - `texts`: the texts about a file.
 //! - `versions`: the version of the program.
 
+mod asserts;
 mod failures;
 mod images;
 mod inputs;

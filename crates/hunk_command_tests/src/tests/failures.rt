@@ -1,6 +1,7 @@
 //! The line of each failure, and its status.
 ghost use Rattle.hunk_commands.specs.Failure.{IsOfFiles};
 
+use super::asserts::equals;
 use hunk_commands::{Failure, report_failure};
 use hunk_tool::ToolFault;
 use hunk_words::{Room, Watched};
@@ -20,8 +21,8 @@ fn is_told(
 {
     let files = [String::from_str(alloc, "x")?];
     let mut errors = Watched::new(Vec::new(alloc));
-    assert_eq!(rt; report_failure(&mut errors, &files, failure), status);
-    assert_eq!(rt; errors.into_inner().as_slice(), line.as_bytes());
+    equals(rt, report_failure(&mut errors, &files, failure), status);
+    equals(rt, errors.into_inner().as_slice(), line.as_bytes());
     Ok(())
 }
 
@@ -44,7 +45,7 @@ fn tells_each_failure_in_a_line(rt: HostRuntime) -> Result<(), Fail> {
 fn ends_with_the_status_where_no_line_was_written(rt: HostRuntime) -> Result<(), Fail> {
     let mut errors = Room::new(rt.alloc(), 8, 10, false)?;
     let failure = Failure::out_of_memory();
-    assert_eq!(rt; report_failure(&mut errors, &[], &failure), 4);
-    assert_eq!(rt; errors.bytes(), b"amihunk: o".as_slice());
+    equals(&rt, report_failure(&mut errors, &[], &failure), 4);
+    equals(&rt, errors.bytes(), b"amihunk: o".as_slice());
     Ok(())
 }

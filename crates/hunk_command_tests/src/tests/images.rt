@@ -1,5 +1,6 @@
 //! The memory of object files.
 
+use super::asserts::{equals, holds};
 use crate::samples::{Broken, CALLEE, CALLER};
 use hunk_commands::Failure;
 use hunk_commands::image::image_to;
@@ -18,7 +19,11 @@ fn reports_the_memory_of_object_files(rt: HostRuntime) {
     let bases = [0x1_0000, 0x2_0000];
     let form = ImageForm::Report;
     let text = image_to(alloc, &mut inputs, &bases, form, Vec::new(alloc));
-    assert!(rt; text.is_ok_and(|bytes| bytes.as_slice() == lines.as_bytes()));
+    holds(
+        &rt,
+        &"text.is_ok_and(|bytes| bytes.as_slice() == lines.as_bytes())",
+        text.is_ok_and(|bytes| bytes.as_slice() == lines.as_bytes()),
+    );
 }
 
 #[test]
@@ -27,12 +32,17 @@ fn tells_why_there_is_no_report(rt: HostRuntime) {
     let form = ImageForm::Report;
     let mut unlinked = [Watched::new(CALLER.as_slice())];
     let text = image_to(alloc, &mut unlinked, &[0], form, Vec::new(alloc));
-    assert!(rt; matches!(text, Err(Failure::Tool(ToolFault::Link(_)))));
+    holds(
+        &rt,
+        &"matches!(text, Err(Failure::Tool(ToolFault::Link(_))))",
+        matches!(text, Err(Failure::Tool(ToolFault::Link(_)))),
+    );
     let mut unplaced = [Watched::new(CALLEE.as_slice())];
     let text = image_to(alloc, &mut unplaced, &[], form, Vec::new(alloc));
-    assert_eq!(rt;
+    equals(
+        &rt,
         text.err(),
-        Some(Failure::Tool(ToolFault::Place(PlaceFault::WrongCount)))
+        Some(Failure::Tool(ToolFault::Place(PlaceFault::WrongCount))),
     );
     let text = image_to(
         alloc,
@@ -41,11 +51,12 @@ fn tells_why_there_is_no_report(rt: HostRuntime) {
         form,
         Vec::new(alloc),
     );
-    assert_eq!(rt;
+    equals(
+        &rt,
         text.err(),
-        Some(Failure::Tool(ToolFault::InputDevice { file: 0 }))
+        Some(Failure::Tool(ToolFault::InputDevice { file: 0 })),
     );
     let mut unwritten = [Watched::new(CALLEE.as_slice())];
     let text = image_to(alloc, &mut unwritten, &[0], form, Broken);
-    assert_eq!(rt; text.err(), Some(Failure::Printing));
+    equals(&rt, text.err(), Some(Failure::Printing));
 }

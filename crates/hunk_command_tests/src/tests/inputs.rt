@@ -1,5 +1,6 @@
 //! Files that are open at once.
 
+use super::asserts::{equals, equals_at, holds};
 use crate::fake_files::{FakeFiles, Log};
 use hunk_commands::{Failure, open_inputs};
 use hunk_words::Source;
@@ -17,9 +18,9 @@ fn opens(rt: &impl Abort, alloc: Global, name: &str, open: usize) -> Result<(), 
     let inputs = open_inputs(&files, alloc, &[name; 40])
         .ok()
         .ok_or("inputs")?;
-    assert_eq!(rt; inputs.len(), 40);
-    assert_eq!(rt; log.open.get(), open);
-    assert_eq!(rt; log.reads.get(), 0);
+    equals(rt, inputs.len(), 40);
+    equals(rt, log.open.get(), open);
+    equals(rt, log.reads.get(), 0);
     Ok(())
 }
 
@@ -47,13 +48,14 @@ fn an_input_is_open_from_its_first_read_to_its_end(rt: HostRuntime) -> Result<()
     let mut last = inputs.pop().ok_or("inputs")?;
     let mut buffer = [0; 40];
     for (count, open) in [(40, 33), (4, 33), (0, 32), (0, 32)] {
-        assert!(rt;
+        holds(
+            &rt,
+            &count,
             last.read(&mut buffer).is_ok_and(|got| got == count),
-            "{count}"
         );
-        assert_eq!(rt; log.open.get(), open, "{count}");
+        equals_at(&rt, &count, log.open.get(), open);
     }
-    assert_eq!(rt; log.reads.get(), 3);
+    equals(&rt, log.reads.get(), 3);
     Ok(())
 }
 
@@ -66,8 +68,8 @@ fn the_first_file_that_cannot_be_opened_decides_before_any_is_read(rt: HostRunti
         log: &log,
     };
     let inputs = open_inputs(&files, alloc, &["directory", "x", "y", "loop"]);
-    assert_eq!(rt; inputs.err(), Some(Failure::Opening("x")));
-    assert_eq!(rt; log.opened.get(), 1);
-    assert_eq!(rt; log.reads.get(), 0);
-    assert_eq!(rt; log.open.get(), 0);
+    equals(&rt, inputs.err(), Some(Failure::Opening("x")));
+    equals(&rt, log.opened.get(), 1);
+    equals(&rt, log.reads.get(), 0);
+    equals(&rt, log.open.get(), 0);
 }

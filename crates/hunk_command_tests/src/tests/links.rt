@@ -1,5 +1,6 @@
 //! The load file of object files.
 
+use super::asserts::{equals, holds};
 use crate::fake_files::{FakeFiles, Log};
 use crate::samples::{PLAIN, PROGRAM};
 use hunk_commands::Failure;
@@ -38,10 +39,10 @@ fn is_written<'a>(
         openings: 100,
         log: &log,
     };
-    assert_eq!(rt; link(&(system, alloc), out, options, files), Ok(()));
-    assert_eq!(rt; log.created.get(), 1);
-    assert_eq!(rt; log.open.get(), 0);
-    assert_eq!(rt; log.written.into_inner().as_slice(), bytes);
+    equals(rt, link(&(system, alloc), out, options, files), Ok(()));
+    equals(rt, log.created.get(), 1);
+    equals(rt, log.open.get(), 0);
+    equals(rt, log.written.into_inner().as_slice(), bytes);
     Ok(())
 }
 
@@ -132,9 +133,9 @@ fn fails<'a>(
         openings: 40,
         log: &log,
     };
-    assert_eq!(rt; link(&(system, alloc), out, PLAIN, files), Err(failure));
-    assert_eq!(rt; log.created.get(), created);
-    assert_eq!(rt; log.open.get(), 0);
+    equals(rt, link(&(system, alloc), out, PLAIN, files), Err(failure));
+    equals(rt, log.created.get(), created);
+    equals(rt, log.open.get(), 0);
 }
 
 #[test]
@@ -157,8 +158,12 @@ fn out_is_not_touched_before_the_files_are_linked(rt: HostRuntime) {
     };
     let system = (files, alloc);
     let unlinked = link(&system, "out", PLAIN, &["caller"]);
-    assert!(rt; matches!(unlinked, Err(Failure::Tool(ToolFault::Link(_)))));
-    assert_eq!(rt; log.created.get(), 0);
+    holds(
+        &rt,
+        &"matches!(unlinked, Err(Failure::Tool(ToolFault::Link(_))))",
+        matches!(unlinked, Err(Failure::Tool(ToolFault::Link(_)))),
+    );
+    equals(&rt, log.created.get(), 0);
 }
 
 #[test]
@@ -184,10 +189,14 @@ fn at_most_33_of_40_regular_files_are_open_at_once(rt: HostRuntime) {
         openings: 48,
         log: &log,
     };
-    assert_eq!(rt; link(&(system, alloc), "out", PLAIN, &["loop"; 40]), Ok(()));
-    assert_eq!(rt; log.opened.get(), 48);
-    assert_eq!(rt; log.most_open.get(), 33);
-    assert_eq!(rt; log.open.get(), 0);
+    equals(
+        &rt,
+        link(&(system, alloc), "out", PLAIN, &["loop"; 40]),
+        Ok(()),
+    );
+    equals(&rt, log.opened.get(), 48);
+    equals(&rt, log.most_open.get(), 33);
+    equals(&rt, log.open.get(), 0);
 }
 
 #[test]

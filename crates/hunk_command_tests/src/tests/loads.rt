@@ -1,5 +1,6 @@
 //! The image of a load file.
 
+use super::asserts::{equals, holds};
 use crate::samples::{Broken, ONE_HUNK};
 use hunk_commands::Failure;
 use hunk_commands::load::load_to;
@@ -13,11 +14,19 @@ fn reports_a_file(rt: HostRuntime) {
     let bases = [0x1_0000];
     let report = ImageForm::Report;
     let text = load_to(alloc, ONE_HUNK.as_slice(), &bases, report, Vec::new(alloc));
-    assert!(rt; text.is_ok_and(|bytes| bytes.as_slice() == lines.as_bytes()));
+    holds(
+        &rt,
+        &"text.is_ok_and(|bytes| bytes.as_slice() == lines.as_bytes())",
+        text.is_ok_and(|bytes| bytes.as_slice() == lines.as_bytes()),
+    );
     let lines = "S00A0000616D6968756E6B08\nS309000100004E754E7173\nS70500000000FA\n";
     let records = ImageForm::SRecords;
     let text = load_to(alloc, ONE_HUNK.as_slice(), &bases, records, Vec::new(alloc));
-    assert!(rt; text.is_ok_and(|bytes| bytes.as_slice() == lines.as_bytes()));
+    holds(
+        &rt,
+        &"text.is_ok_and(|bytes| bytes.as_slice() == lines.as_bytes())",
+        text.is_ok_and(|bytes| bytes.as_slice() == lines.as_bytes()),
+    );
 }
 
 #[test]
@@ -30,15 +39,17 @@ fn tells_why_there_is_no_report(rt: HostRuntime) {
         place: 9,
         reason: Reason::PartialLongword,
     };
-    assert_eq!(rt;
+    equals(
+        &rt,
         cut.err(),
-        Some(Failure::Tool(ToolFault::Input { file: 0, fault }))
+        Some(Failure::Tool(ToolFault::Input { file: 0, fault })),
     );
     let unread = load_to(alloc, Broken, &bases, form, Vec::new(alloc));
-    assert_eq!(rt;
+    equals(
+        &rt,
         unread.err(),
-        Some(Failure::Tool(ToolFault::InputDevice { file: 0 }))
+        Some(Failure::Tool(ToolFault::InputDevice { file: 0 })),
     );
     let unwritten = load_to(alloc, ONE_HUNK.as_slice(), &bases, form, Broken);
-    assert_eq!(rt; unwritten.err(), Some(Failure::Printing));
+    equals(&rt, unwritten.err(), Some(Failure::Printing));
 }

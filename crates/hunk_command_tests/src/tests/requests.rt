@@ -1,5 +1,6 @@
 //! The status of each request, and the line of its failure.
 
+use super::asserts::equals;
 use crate::fake_files::{FakeFiles, Log};
 use crate::samples::PLAIN;
 use hunk_commands::{Request, answer};
@@ -29,8 +30,8 @@ fn link_ends<'a>(
         files: files.to_vec(alloc)?,
     };
     let mut errors = Watched::new(Vec::new(alloc));
-    assert_eq!(rt; answer(&(system, alloc), &mut errors, request), status);
-    assert_eq!(rt; errors.into_inner().as_slice(), line.as_bytes());
+    equals(rt, answer(&(system, alloc), &mut errors, request), status);
+    equals(rt, errors.into_inner().as_slice(), line.as_bytes());
     Ok(())
 }
 
@@ -68,8 +69,8 @@ fn tells_why_there_is_no_image(rt: HostRuntime) -> Result<(), Fail> {
             files: ["no-such-file"].to_vec(rt.alloc())?,
         };
         let mut errors = Watched::new(Vec::new(rt.alloc()));
-        assert_eq!(rt; answer(&rt, &mut errors, request), status);
-        assert_eq!(rt; errors.into_inner().as_slice(), line.as_bytes());
+        equals(&rt, answer(&rt, &mut errors, request), status);
+        equals(&rt, errors.into_inner().as_slice(), line.as_bytes());
     }
     Ok(())
 }

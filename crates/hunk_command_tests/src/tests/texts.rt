@@ -1,5 +1,6 @@
 //! The texts about a file.
 
+use super::asserts::{equals, holds};
 use crate::samples::{Broken, ONE_HUNK, ONE_UNIT};
 use hunk_commands::{Failure, Text, print_text_to};
 use hunk_tool::ToolFault;
@@ -14,9 +15,10 @@ fn tells_what_a_file_is(rt: HostRuntime) {
     ];
     for (file, line) in &files {
         let text = print_text_to(alloc, Text::Line, *file, Vec::new(alloc));
-        assert!(rt;
+        holds(
+            &rt,
+            &line,
             text.is_ok_and(|bytes| bytes.as_slice() == line.as_bytes()),
-            "{line}"
         );
     }
 }
@@ -39,9 +41,10 @@ fn lists_what_is_in_a_file(rt: HostRuntime) {
     ];
     for (file, lines) in &files {
         let text = print_text_to(alloc, Text::Listing, *file, Vec::new(alloc));
-        assert!(rt;
+        holds(
+            &rt,
+            &lines,
             text.is_ok_and(|bytes| bytes.as_slice() == lines.as_bytes()),
-            "{lines}"
         );
     }
 }
@@ -55,16 +58,18 @@ fn tells_why_there_is_no_text(rt: HostRuntime) {
             place: 31,
             reason: Reason::PartialLongword,
         };
-        assert_eq!(rt;
+        equals(
+            &rt,
             cut.err(),
-            Some(Failure::Tool(ToolFault::Input { file: 0, fault }))
+            Some(Failure::Tool(ToolFault::Input { file: 0, fault })),
         );
         let unread = print_text_to(alloc, text, Broken, Vec::new(alloc));
-        assert_eq!(rt;
+        equals(
+            &rt,
             unread.err(),
-            Some(Failure::Tool(ToolFault::InputDevice { file: 0 }))
+            Some(Failure::Tool(ToolFault::InputDevice { file: 0 })),
         );
         let unwritten = print_text_to(alloc, text, ONE_UNIT.as_slice(), Broken);
-        assert_eq!(rt; unwritten.err(), Some(Failure::Printing));
+        equals(&rt, unwritten.err(), Some(Failure::Printing));
     }
 }

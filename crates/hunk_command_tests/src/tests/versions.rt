@@ -1,5 +1,6 @@
 //! The version of the program.
 
+use super::asserts::{equals, holds};
 use crate::fake_files::{FakeFiles, Log};
 use crate::samples::Broken;
 use hunk_commands::{Failure, Request, VERSION, answer, write_version};
@@ -8,10 +9,14 @@ use hunk_words::Watched;
 #[test]
 fn tells_the_version(rt: HostRuntime) {
     let alloc = rt.alloc();
-    assert_eq!(rt; VERSION, "0.1.0");
+    equals(&rt, VERSION, "0.1.0");
     let told = write_version(Vec::new(alloc));
-    assert!(rt; told.is_ok_and(|bytes| bytes.as_slice() == b"amihunk 0.1.0\n".as_slice()));
-    assert_eq!(rt; write_version(Broken).err(), Some(Failure::Printing));
+    holds(
+        &rt,
+        &"the version is told",
+        told.is_ok_and(|bytes| bytes.as_slice() == b"amihunk 0.1.0\n".as_slice()),
+    );
+    equals(&rt, write_version(Broken).err(), Some(Failure::Printing));
 }
 
 #[test]
@@ -23,9 +28,10 @@ fn tells_that_the_version_was_not_printed(rt: HostRuntime) {
     };
     let mut errors = Watched::new(Vec::new(rt.alloc()));
     let status = answer(&(system, rt.alloc()), &mut errors, Request::Version);
-    assert_eq!(rt; status, 3);
-    assert_eq!(rt;
+    equals(&rt, status, 3);
+    equals(
+        &rt,
         errors.into_inner().as_slice(),
-        b"amihunk: output: write failed\n".as_slice()
+        b"amihunk: output: write failed\n".as_slice(),
     );
 }
