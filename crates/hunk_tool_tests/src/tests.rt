@@ -1,5 +1,6 @@
 //! Files from bytes to reports and texts, by public calls only.
 //!
+//! - `asserts`: assertions as functions.
 //! - `bases`: lists of addresses.
 //! - `decoders`: what checks the bytes of a file.
 //! - `devices`: readers and writers that fail.
@@ -15,6 +16,7 @@
 //! - `texts`: the texts that are written about files.
 //! - `vectors`: files of both kinds through everything that reads them.
 
+mod asserts;
 mod bases;
 mod decoders;
 mod devices;

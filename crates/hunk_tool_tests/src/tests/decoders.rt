@@ -1,5 +1,6 @@
 //! What checks the bytes of a file: where it rejects them, why, and when.
 
+use super::asserts::{equals, equals_at};
 use super::texts::Text;
 use hunk_loader::{ImageLoader, LoadRefusal, PlaceFault};
 use hunk_loadfile::{LoadDecoder, read_load};
@@ -99,14 +100,15 @@ fn answers_in_time<J: Judge>(
     for piece in bytes.chunks(chunk) {
         fed = fed.saturating_add(piece.len() as u64);
         let wanted = if fed < known { Ok(()) } else { refused };
-        assert_eq!(rt;
+        equals_at(
+            rt,
+            &(bytes, fed, "fed by", chunk),
             judge.judge(piece),
             wanted,
-            "{bytes:?}, {fed} fed by {chunk}"
         );
-        assert_eq!(rt; judge.judge(&[]), wanted, "{bytes:?}, {fed} fed by {chunk}");
+        equals_at(rt, &(bytes, fed, "fed by", chunk), judge.judge(&[]), wanted);
     }
-    assert_eq!(rt; judge.close(), refused, "{bytes:?} by {chunk}");
+    equals_at(rt, &(bytes, "by", chunk), judge.close(), refused);
 }
 
 // What comes after a whole load file for hunks at these addresses: whether there is one for each of
@@ -137,7 +139,7 @@ fn is_read_so(
         Object => read_object(alloc, &mut reader).err(),
         Load => read_load(alloc, &mut reader).err(),
     };
-    assert_eq!(rt; got, wanted, "{bytes:?} read by {chunk}");
+    equals_at(rt, &(bytes, "read by", chunk), got, wanted);
     Ok(())
 }
 
@@ -160,11 +162,12 @@ fn is_run_so(
     let mut reader = Pieces::new(bytes.to_vec(alloc)?, chunk, None);
     let mut writer = Room::new(alloc, ROOM, ROOM, false)?;
     let got = load_run(alloc, &mut reader, &[BASE], &mut writer);
-    assert_eq!(rt; got, wanted, "{bytes:?} run by {chunk}");
-    assert_eq!(rt;
+    equals_at(rt, &(bytes, "run by", chunk), &got, &wanted);
+    equals_at(
+        rt,
+        &(bytes, "run by", chunk),
         writer.bytes().is_empty(),
         got.is_err(),
-        "{bytes:?} run by {chunk}"
     );
     Ok(())
 }
@@ -194,9 +197,9 @@ fn is_text_so(
     let mut reader = Pieces::new(bytes.to_vec(alloc)?, chunk, None);
     let mut writer = Room::new(alloc, ROOM, ROOM, false)?;
     let got = text.run(alloc, &mut reader, &mut writer);
-    assert_eq!(rt; got, wanted, "{text:?} of {bytes:?} by {chunk}");
+    equals_at(rt, &(text, "of", bytes, "by", chunk), &got, &wanted);
     let nothing = writer.bytes().is_empty();
-    assert_eq!(rt; nothing, got.is_err(), "{text:?} of {bytes:?} by {chunk}");
+    equals_at(rt, &(text, "of", bytes, "by", chunk), nothing, got.is_err());
     Ok(())
 }
 
@@ -274,7 +277,7 @@ pub(crate) fn is_judged(
 pub(crate) fn answers_again<J: Judge>(rt: &impl Abort, begun: J, refusal: LoadRefusal) {
     let mut judge = begun;
     for piece in LATER_PIECES {
-        assert_eq!(rt; judge.judge(piece), Err(refusal));
+        equals(rt, judge.judge(piece), Err(refusal));
     }
-    assert_eq!(rt; judge.close(), Err(refusal));
+    equals(rt, judge.close(), Err(refusal));
 }

@@ -1,5 +1,6 @@
 //! Readers and writers that fail.
 
+use super::asserts::{equals, equals_at, holds};
 use hunk_test_support::{BASE, FILE, REPORT, Refusing, bytes_of};
 use hunk_tool::{ToolFault, load_run};
 use hunk_words::{Pieces, Room, Sink, Source, Watched};
@@ -23,9 +24,14 @@ fn reads(
     let mut writer = Room::new(alloc, 64, 64, false)?;
     let got = load_run(alloc, &mut reader, &[BASE], &mut writer);
     let text = if wanted.is_ok() { REPORT } else { "" };
-    assert_eq!(rt; Source::failed(&reader), wanted.is_err());
-    assert_eq!(rt; got, wanted, "read {number} of {chunk}");
-    assert_eq!(rt; writer.bytes(), text.as_bytes(), "read {number} of {chunk}");
+    equals(rt, Source::failed(&reader), wanted.is_err());
+    equals_at(rt, &("read", number, "of", chunk), got, wanted);
+    equals_at(
+        rt,
+        &("read", number, "of", chunk),
+        writer.bytes(),
+        text.as_bytes(),
+    );
     Ok(())
 }
 
@@ -57,10 +63,15 @@ fn fails_to_write(
     let mut writer = Room::new(alloc, most, room, zero)?;
     let got = load_run(alloc, &mut reader, &[BASE], &mut writer);
     let written = room as u64;
-    assert_eq!(rt; got, Err(ToolFault::Output { written }), "room for {room}");
+    equals_at(
+        rt,
+        &("room for", room),
+        got,
+        Err(ToolFault::Output { written }),
+    );
     let taken = REPORT.as_bytes().get(..room);
-    assert_eq!(rt; Some(writer.bytes()), taken, "room for {room}");
-    assert!(rt; Sink::failed(&writer));
+    equals_at(rt, &("room for", room), Some(writer.bytes()), taken);
+    holds(rt, &"Sink::failed(&writer)", Sink::failed(&writer));
     Ok(())
 }
 
@@ -68,7 +79,7 @@ fn fails_to_write(
 #[test]
 fn tells_what_a_writer_took(rt: HostRuntime) -> Result<(), Fail> {
     let bytes = bytes_of(rt.alloc(), &FILE, &[])?;
-    assert_eq!(rt; REPORT.len(), 44);
+    equals(&rt, REPORT.len(), 44);
     for room in 0..44 {
         for (most, zero) in [(64, false), (64, true), (1, false), (7, true)] {
             fails_to_write(&rt, rt.alloc(), &bytes, room, most, zero)?;
@@ -93,10 +104,14 @@ fn watches_readers_and_writers_of_std(rt: HostRuntime) -> Result<(), Fail> {
     let mut reader = Watched::new(bytes.as_slice());
     let mut writer = Watched::new(Vec::new(rt.alloc()));
     let got = load_run(rt.alloc(), &mut reader, &[BASE], &mut writer);
-    assert_eq!(rt; got, Ok(()));
-    assert!(rt; Source::ended(&reader) && !Source::failed(&reader));
-    assert!(rt; !Sink::failed(&writer));
-    assert_eq!(rt; writer.into_inner().as_slice(), REPORT.as_bytes());
+    equals(&rt, got, Ok(()));
+    holds(
+        &rt,
+        &"Source::ended(&reader) && !Source::failed(&reader)",
+        Source::ended(&reader) && !Source::failed(&reader),
+    );
+    holds(&rt, &"!Sink::failed(&writer)", !Sink::failed(&writer));
+    equals(&rt, writer.into_inner().as_slice(), REPORT.as_bytes());
     Ok(())
 }
 
@@ -107,8 +122,8 @@ fn watches_a_writer_of_std_that_fails(rt: HostRuntime) -> Result<(), Fail> {
     let mut reader = Watched::new(bytes.as_slice());
     let mut writer = Watched::new(Vec::new(&heap));
     let got = load_run(rt.alloc(), &mut reader, &[BASE], &mut writer);
-    assert_eq!(rt; got, Err(ToolFault::Output { written: 0 }));
-    assert!(rt; Sink::failed(&writer));
+    equals(&rt, got, Err(ToolFault::Output { written: 0 }));
+    holds(&rt, &"Sink::failed(&writer)", Sink::failed(&writer));
     Ok(())
 }
 
@@ -117,8 +132,12 @@ fn watches_a_reader_of_std_that_fails(rt: HostRuntime) -> Result<(), Fail> {
     let mut reader = Watched::new(Broken);
     let mut writer = Room::new(rt.alloc(), 64, 64, false)?;
     let got = load_run(rt.alloc(), &mut reader, &[BASE], &mut writer);
-    assert_eq!(rt; got, Err(ToolFault::InputDevice { file: 0 }));
-    assert!(rt; Source::failed(&reader) && !Source::ended(&reader));
-    assert!(rt; writer.bytes().is_empty());
+    equals(&rt, got, Err(ToolFault::InputDevice { file: 0 }));
+    holds(
+        &rt,
+        &"Source::failed(&reader) && !Source::ended(&reader)",
+        Source::failed(&reader) && !Source::ended(&reader),
+    );
+    holds(&rt, &"writer.bytes().is_empty()", writer.bytes().is_empty());
     Ok(())
 }

@@ -1,5 +1,6 @@
 //! A reader that never ends.
 
+use super::asserts::equals;
 use hunk_test_support::{BASE, FILE, bytes_of};
 use hunk_tool::{ToolFault, load_run};
 use hunk_words::{DeviceFault, Fault, Reason, Room, Source};
@@ -50,7 +51,7 @@ fn stops_at_the_longest_file(rt: HostRuntime) -> Result<(), Fail> {
         reason: Reason::TooLarge,
     };
     let got = load_run(rt.alloc(), &mut reader, &[BASE], &mut writer);
-    assert_eq!(rt; got, Err(ToolFault::Input { file: 0, fault }));
-    assert_eq!(rt; writer.bytes(), b"".as_slice());
+    equals(&rt, got, Err(ToolFault::Input { file: 0, fault }));
+    equals(&rt, writer.bytes(), b"".as_slice());
     Ok(())
 }

@@ -3,6 +3,7 @@
 ghost use Rattle.std.specs.Prelude.{◌≤◌, ◌^◌, length};
 ghost use Rattle.hunk_tool.specs.FaultLine.{HasShortName, IsOfInputs};
 
+use super::asserts::{equals, equals_at};
 use hunk_link::LinkRefusal;
 use hunk_tool::{PlaceFault, ToolFault, status_of, write_fault};
 use hunk_words::{Fault, Name, Reason, Room};
@@ -27,8 +28,8 @@ fn is_told(rt: &impl Abort, alloc: Global, fault: ToolFault, line: &str)
         String::from_str(alloc, "y").expect(rt, "a name"),
     ];
     let mut room = Room::new(alloc, 7, 100, false).expect(rt, "room");
-    assert_eq!(rt; write_fault(&files, &fault, &mut room), Ok(()));
-    assert_eq!(rt; room.bytes(), line.as_bytes());
+    equals(rt, write_fault(&files, &fault, &mut room), Ok(()));
+    equals(rt, room.bytes(), line.as_bytes());
 }
 
 fn is_told_of_link(rt: &impl Abort, alloc: Global, refusal: LinkRefusal, line: &str)
@@ -150,6 +151,6 @@ fn has_a_status_for_each_fault(rt: HostRuntime) {
         (ToolFault::OutOfMemory { written: 0 }, 4),
     ];
     for (fault, status) in rows {
-        assert_eq!(rt; status_of(&fault), status, "{fault:?}");
+        equals_at(&rt, &fault, status_of(&fault), status);
     }
 }

@@ -1,5 +1,6 @@
 //! The bytes of files, and what loading them writes.
 
+use super::asserts::equals_at;
 use hunk_test_support::{CHUNKS, ROOM, bytes_of};
 use hunk_tool::{ToolFault, load_run};
 use hunk_words::{Pieces, Room};
@@ -42,11 +43,12 @@ pub(crate) fn loads_to(
         let mut reader = Pieces::new(bytes.to_vec(alloc)?, chunk, None);
         let mut writer = Room::new(alloc, chunk, ROOM, false)?;
         let got = load_run(alloc, &mut reader, bases, &mut writer);
-        assert_eq!(rt; got, answer, "{bytes:?}, {chunk} a read");
-        assert_eq!(rt;
+        equals_at(rt, &(bytes, chunk, "a read"), &got, &answer);
+        equals_at(
+            rt,
+            &(bytes, chunk, "a read"),
             writer.bytes(),
             text.as_bytes(),
-            "{bytes:?}, {chunk} a read"
         );
     }
     Ok(())

@@ -1,5 +1,6 @@
 //! What decoders and loaders keep: errors that are returned again, and allocations that fail.
 
+use super::asserts::{equals, equals_at, holds};
 use super::decoders::{Judge, answers_again};
 use hunk_loader::{ImageLoader, LoadRefusal};
 use hunk_loadfile::LoadDecoder;
@@ -22,7 +23,7 @@ fn answers_a_refusal_again(rt: HostRuntime) -> Result<(), Fail> {
         reason: Reason::SiteOutside(5),
     });
     let mut decoder = Decoder::new(ObjectCounter::new(rt.alloc()));
-    assert_eq!(rt; decoder.judge(&bytes), Err(refusal));
+    equals(&rt, decoder.judge(&bytes), Err(refusal));
     answers_again(&rt, decoder, refusal);
 
     let bytes = bytes_of(rt.alloc(), &FILE, &[0, 0, 3, 0xF5])?;
@@ -31,10 +32,10 @@ fn answers_a_refusal_again(rt: HostRuntime) -> Result<(), Fail> {
         reason: Reason::UnsupportedBlock(1013),
     });
     let mut decoder = LoadDecoder::new(rt.alloc());
-    assert_eq!(rt; decoder.judge(&bytes), Err(refusal));
+    equals(&rt, decoder.judge(&bytes), Err(refusal));
     answers_again(&rt, decoder, refusal);
     let mut loader = ImageLoader::new(rt.alloc(), &[BASE])?;
-    assert_eq!(rt; loader.judge(&bytes), Err(refusal));
+    equals(&rt, loader.judge(&bytes), Err(refusal));
     answers_again(&rt, loader, refusal);
     Ok(())
 }
@@ -46,13 +47,13 @@ fn is_taken<J: Judge>(rt: &impl Abort, begun: J, bytes: &[u8]) -> bool {
         match judge.judge(piece) {
             Ok(()) => {}
             Err(refusal) => {
-                assert_eq!(rt; refusal, LoadRefusal::OutOfMemory);
+                equals(rt, refusal, LoadRefusal::OutOfMemory);
                 answers_again(rt, judge, refusal);
                 return false;
             }
         }
     }
-    assert_eq!(rt; judge.close(), Ok(()));
+    equals(rt, judge.close(), Ok(()));
     true
 }
 
@@ -88,15 +89,15 @@ fn refuses_each_growth(rt: HostRuntime) -> Result<(), Fail> {
     for number in 0..MOST_GROWTHS {
         let heap = Refusing::new(rt.alloc(), number);
         let taken = is_taken(&rt, Decoder::new(ObjectCounter::new(&heap)), &object);
-        assert_eq!(rt; taken, heap.asked() <= number, "growth {number}");
-        assert!(rt; !taken || 1 <= number, "the sites grow");
+        equals_at(&rt, &("growth", number), taken, heap.asked() <= number);
+        holds(&rt, &"the sites grow", !taken || 1 <= number);
         let heap = Refusing::new(rt.alloc(), number);
         let also = is_taken(&rt, Decoder::new(LoadCounter::new(&heap)), &load);
-        assert_eq!(rt; also, heap.asked() <= number, "growth {number}");
-        assert!(rt; !also || 2 <= number, "the sizes and the sites grow");
+        equals_at(&rt, &("growth", number), also, heap.asked() <= number);
+        holds(&rt, &"the sizes and the sites grow", !also || 2 <= number);
         ended = [taken, also];
     }
-    assert_eq!(rt; ended, [true, true]);
+    equals(&rt, ended, [true, true]);
     Ok(())
 }
 
@@ -112,18 +113,19 @@ fn is_judged_with_each_growth_refused(
     for number in 0..MOST_GROWTHS {
         let heap = Refusing::new(alloc, number);
         let decoded = is_taken(rt, LoadDecoder::new(&heap), bytes);
-        assert_eq!(rt; decoded, heap.asked() <= number, "growth {number}");
-        assert!(rt; !decoded || least <= number, "{number} growths");
+        equals_at(rt, &("growth", number), decoded, heap.asked() <= number);
+        holds(rt, &("growths", number), !decoded || least <= number);
         let heap = Refusing::new(alloc, number);
         let loaded = is_loaded(rt, &heap, bases, bytes);
-        assert_eq!(rt; loaded, heap.asked() <= number, "growth {number}");
-        assert!(rt;
+        equals_at(rt, &("growth", number), loaded, heap.asked() <= number);
+        holds(
+            rt,
+            &"the bases, the sizes and the image grow",
             !loaded || 3 <= number,
-            "the bases, the sizes and the image grow"
         );
         ended = [decoded, loaded];
     }
-    assert_eq!(rt; ended, [true, true]);
+    equals(rt, ended, [true, true]);
 }
 
 #[test]
@@ -145,8 +147,12 @@ fn twice<T: Copy>(value: T) -> (T, T) {
 #[test]
 fn copies_what_stands_beside_the_taker(rt: HostRuntime) {
     let (mut one, other) = twice(Splitter::new());
-    assert_eq!(rt; one.push(1), None);
-    assert_eq!(rt; (one.rest(), other.rest()), (1, 0));
+    equals(&rt, one.push(1), None);
+    equals(&rt, (one.rest(), other.rest()), (1, 0));
     let (state, same) = twice(None::<CoreState>);
-    assert!(rt; state.is_none() && same.is_none());
+    holds(
+        &rt,
+        &"state.is_none() && same.is_none()",
+        state.is_none() && same.is_none(),
+    );
 }

@@ -1,5 +1,6 @@
 //! Allocations that fail, each in turn.
 
+use super::asserts::{equals, equals_at, holds};
 use hunk_test_support::words::SCATTERED;
 use hunk_test_support::{BASE, FILE, REPORT, Refusing, bytes_of};
 use hunk_tool::{BasesFault, ToolFault, load_run, parse_bases};
@@ -22,13 +23,13 @@ pub(crate) fn is_done<A: Allocator + Copy>(
     text: &str,
 ) -> bool {
     if heap.asked() <= refused {
-        assert!(rt; got.is_ok(), "growth {refused}");
-        assert_eq!(rt; written, text.as_bytes());
+        holds(rt, &("growth", refused), got.is_ok());
+        equals(rt, written, text.as_bytes());
         return true;
     }
     let out_of_memory = matches!(got, Err(ToolFault::OutOfMemory { written: 0 }));
-    assert!(rt; out_of_memory, "growth {refused}");
-    assert!(rt; written.is_empty(), "growth {refused}");
+    holds(rt, &("growth", refused), out_of_memory);
+    holds(rt, &("growth", refused), written.is_empty());
     false
 }
 
@@ -63,7 +64,7 @@ fn growths_of(
             return Ok(refused);
         }
     }
-    assert!(rt; false, "each of {MOST_GROWTHS} runs was refused a growth");
+    holds(rt, &("each run was refused a growth", MOST_GROWTHS), false);
     Ok(0)
 }
 
@@ -96,7 +97,7 @@ const RUNS: [(&[u32], &[u32], &str, u64); 3] = [
 fn loads_with_each_growth_refused(rt: HostRuntime) -> Result<(), Fail> {
     for (words, bases, text, least) in RUNS {
         let growths = growths_of(&rt, rt.alloc(), words, bases, text)?;
-        assert!(rt; least <= growths, "{growths} growths");
+        holds(&rt, &("growths", growths), least <= growths);
     }
     Ok(())
 }
@@ -107,33 +108,50 @@ fn is_parsed(rt: &impl Abort, alloc: Global, refused: u64) -> bool {
     let got = parse_bases(&heap, "10000,FfFffff8");
     if heap.asked() <= refused {
         let bases = [0x0001_0000, 0xFFFF_FFF8];
-        assert_eq!(rt; got.as_deref(), Ok(bases.as_slice()));
+        equals(rt, got.as_deref(), Ok(bases.as_slice()));
         return true;
     }
-    assert_eq!(rt;
+    equals_at(
+        rt,
+        &("growth", refused),
         got.err(),
         Some(BasesFault::OutOfMemory),
-        "growth {refused}"
     );
     false
 }
 
 #[test]
 fn parses_with_each_growth_refused(rt: HostRuntime) {
-    assert!(rt; !is_parsed(&rt, rt.alloc(), 0));
+    holds(
+        &rt,
+        &"!is_parsed(&rt, rt.alloc(), 0)",
+        !is_parsed(&rt, rt.alloc(), 0),
+    );
     for refused in 1..MOST_GROWTHS {
         if is_parsed(&rt, rt.alloc(), refused) {
             return;
         }
     }
-    assert!(rt; false, "each of {MOST_GROWTHS} calls was refused a growth");
+    holds(
+        &rt,
+        &("each call was refused a growth", MOST_GROWTHS),
+        false,
+    );
 }
 
 #[test]
 fn makes_room_with_a_growth_refused(rt: HostRuntime) -> Result<(), Fail> {
     let heap = Refusing::new(rt.alloc(), 0);
-    assert!(rt; Room::new(&heap, 1, 1, false).is_err());
-    assert!(rt; Room::new(&heap, 1, 1, false)?.bytes().is_empty());
-    assert_eq!(rt; heap.asked(), 2);
+    holds(
+        &rt,
+        &"Room::new(&heap, 1, 1, false).is_err()",
+        Room::new(&heap, 1, 1, false).is_err(),
+    );
+    holds(
+        &rt,
+        &"Room::new(&heap, 1, 1, false)?.bytes().is_empty()",
+        Room::new(&heap, 1, 1, false)?.bytes().is_empty(),
+    );
+    equals(&rt, heap.asked(), 2);
     Ok(())
 }

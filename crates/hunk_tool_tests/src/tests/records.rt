@@ -1,5 +1,6 @@
 //! Images as S-records.
 
+use super::asserts::{equals, equals_at, holds};
 use super::files::one_hunk;
 use super::reports::EMPTY_BETWEEN;
 use hunk_test_support::load_words::TWO_HUNKS;
@@ -27,11 +28,12 @@ fn loads_to_records(
         let mut writer = Room::new(alloc, chunk, ROOM, false)?;
         let form = ImageForm::SRecords;
         let got = load_run_with(alloc, &mut reader, bases, form, &mut writer);
-        assert_eq!(rt; got, Ok(()), "{bytes:?}, {chunk} a read");
-        assert_eq!(rt;
+        equals_at(rt, &(bytes, chunk, "a read"), got, Ok(()));
+        equals_at(
+            rt,
+            &(bytes, chunk, "a read"),
             writer.bytes(),
             text.as_bytes(),
-            "{bytes:?}, {chunk} a read"
         );
     }
     Ok(())
@@ -144,9 +146,9 @@ fn writes_the_records_of_long_hunks(rt: HostRuntime) -> Result<(), Fail> {
         let mut writer = Room::new(alloc, ROOM, 8192, false)?;
         let form = ImageForm::SRecords;
         let got = load_run_with(alloc, &mut reader, &[0], form, &mut writer);
-        assert_eq!(rt; got, Ok(()));
+        equals(&rt, got, Ok(()));
         let text = records_of_zeros(alloc, size)?;
-        assert_eq!(rt; writer.bytes(), text.as_slice(), "{size}");
+        equals_at(&rt, &size, writer.bytes(), text.as_slice());
     }
     Ok(())
 }
@@ -164,10 +166,15 @@ fn tells_what_a_writer_took_of_the_records(rt: HostRuntime) -> Result<(), Fail> 
             let form = ImageForm::SRecords;
             let got = load_run_with(alloc, &mut reader, &[BASE], form, &mut writer);
             let written = room as u64;
-            assert_eq!(rt; got, Err(ToolFault::Output { written }), "room for {room}");
+            equals_at(
+                &rt,
+                &("room for", room),
+                got,
+                Err(ToolFault::Output { written }),
+            );
             let taken = RECORDS.as_bytes().get(..room);
-            assert_eq!(rt; Some(writer.bytes()), taken, "room for {room}");
-            assert!(rt; Sink::failed(&writer));
+            equals_at(&rt, &("room for", room), Some(writer.bytes()), taken);
+            holds(&rt, &"Sink::failed(&writer)", Sink::failed(&writer));
         }
     }
     Ok(())

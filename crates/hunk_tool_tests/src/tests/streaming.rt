@@ -1,5 +1,6 @@
 //! What `ImageLoader` allocates, and which of two errors it returns.
 
+use super::asserts::{equals, equals_at, holds};
 use super::decoders::Judge;
 use hunk_loader::{ImageLoader, LoadRefusal, PlaceFault, load};
 use hunk_loadfile::LoadDecoder;
@@ -23,8 +24,8 @@ fn growths(
 ) -> Result<u64, Fail> {
     let heap = Refusing::new(alloc, u64::MAX);
     let mut loader = ImageLoader::new(&heap, bases)?;
-    assert_eq!(rt; loader.judge(bytes), Ok(()));
-    assert_eq!(rt; loader.close(), answer, "{bases:?}");
+    equals(rt, loader.judge(bytes), Ok(()));
+    equals_at(rt, &bases, loader.close(), answer);
     Ok(heap.asked())
 }
 
@@ -33,8 +34,12 @@ fn growths_of_run(rt: &impl Abort, alloc: Global, bytes: &[u8]) -> Result<u64, F
     let heap = Refusing::new(alloc, u64::MAX);
     let mut reader = Pieces::new(bytes.to_vec(alloc)?, 4096, None);
     let mut writer = Room::new(alloc, ROOM, ROOM, false)?;
-    assert!(rt; load_run(&heap, &mut reader, &[BASE], &mut writer).is_ok());
-    assert_eq!(rt; writer.bytes(), REPORT.as_bytes());
+    holds(
+        rt,
+        &"load_run(&heap, &mut reader, &[BASE], &mut writer).is_ok()",
+        load_run(&heap, &mut reader, &[BASE], &mut writer).is_ok(),
+    );
+    equals(rt, writer.bytes(), REPORT.as_bytes());
     Ok(heap.asked())
 }
 
@@ -60,7 +65,7 @@ fn takes_no_image_that_cannot_be_placed(rt: HostRuntime) -> Result<(), Fail> {
     let past = Err(LoadRefusal::Place(PlaceFault::PastEnd(0)));
     let refused = growths(&rt, rt.alloc(), &bytes, &[0xFFFF_FFFE], past)?;
     let placed = growths(&rt, rt.alloc(), &bytes, &[BASE], Ok(()))?;
-    assert!(rt; refused < placed, "{refused} of {placed} growths");
+    holds(&rt, &(refused, "of", placed, "growths"), refused < placed);
     Ok(())
 }
 
@@ -74,14 +79,16 @@ fn keeps_no_debug_block(rt: HostRuntime) -> Result<(), Fail> {
     }
     words.push(0x0000_03F2)?;
     let longer = bytes_of(rt.alloc(), &words, &[])?;
-    assert_eq!(rt; longer.len(), 400_048);
-    assert_eq!(rt;
+    equals(&rt, longer.len(), 400_048);
+    equals(
+        &rt,
         growths(&rt, rt.alloc(), &bytes, &[BASE], Ok(()))?,
-        growths(&rt, rt.alloc(), &longer, &[BASE], Ok(()))?
+        growths(&rt, rt.alloc(), &longer, &[BASE], Ok(()))?,
     );
-    assert_eq!(rt;
+    equals(
+        &rt,
         growths_of_run(&rt, rt.alloc(), &bytes)?,
-        growths_of_run(&rt, rt.alloc(), &longer)?
+        growths_of_run(&rt, rt.alloc(), &longer)?,
     );
     Ok(())
 }
@@ -101,12 +108,12 @@ fn is_refused(
     let mut loader = ImageLoader::new(alloc, bases)?;
     let mut decoder = LoadDecoder::new(alloc);
     for piece in bytes.chunks(chunk) {
-        assert_eq!(rt; loader.feed(piece), Ok(()));
-        assert_eq!(rt; decoder.feed(piece), Ok(()));
+        equals(rt, loader.feed(piece), Ok(()));
+        equals(rt, decoder.feed(piece), Ok(()));
     }
-    assert_eq!(rt; loader.finish().err(), want, "{bases:?}");
+    equals_at(rt, &bases, loader.finish().err(), want);
     let file = decoder.finish()?;
-    assert_eq!(rt; load(alloc, &file, bases).err(), want, "{bases:?}");
+    equals_at(rt, &bases, load(alloc, &file, bases).err(), want);
     Ok(())
 }
 

@@ -1,5 +1,6 @@
 //! The texts that are written about files: what they are, and what stops them.
 
+use super::asserts::{equals, equals_at, holds};
 use super::memory::is_done;
 use hunk_test_support::words::{ASSEMBLED, LINKED_ALONE, TWO_NAMES};
 use hunk_test_support::{CHUNKS, ROOM, Refusing, bytes_of};
@@ -132,8 +133,8 @@ fn writes(
     assert!(rt; 1 <= chunk);
     let mut reader = Pieces::new(bytes.to_vec(alloc)?, chunk, None);
     let mut writer = Room::new(alloc, chunk, ROOM, false)?;
-    assert_eq!(rt; text.run(alloc, &mut reader, &mut writer), Ok(()));
-    assert_eq!(rt; writer.bytes(), wanted.as_bytes(), "{text:?} by {chunk}");
+    equals(rt, text.run(alloc, &mut reader, &mut writer), Ok(()));
+    equals_at(rt, &(text, "by", chunk), writer.bytes(), wanted.as_bytes());
     Ok(())
 }
 
@@ -238,7 +239,7 @@ fn growths_of(
             return Ok(refused);
         }
     }
-    assert!(rt; false, "each of {MOST_GROWTHS} runs was refused a growth");
+    holds(rt, &("each run was refused a growth", MOST_GROWTHS), false);
     Ok(0)
 }
 
@@ -259,7 +260,7 @@ fn refuses_each_growth_of_a_text(rt: HostRuntime) -> Result<(), Fail> {
     for (text, words, listing, least) in GROWTHS {
         let bytes = bytes_of(rt.alloc(), words, &[])?;
         let growths = growths_of(&rt, rt.alloc(), text, &bytes, text.of(listing)?)?;
-        assert!(rt; least <= growths, "{text:?} met {growths} growths");
+        holds(&rt, &(text, "growths", growths), least <= growths);
     }
     Ok(())
 }
@@ -279,9 +280,9 @@ fn fails_to_read(
     let mut reader = Pieces::new(bytes, chunk, Some(number));
     let mut writer = Room::new(alloc, ROOM, ROOM, false)?;
     let got = text.run(alloc, &mut reader, &mut writer);
-    assert_eq!(rt; got, wanted, "{text:?}, read {number} of {chunk}");
+    equals_at(rt, &(text, "read", number, "of", chunk), &got, &wanted);
     let nothing = writer.bytes().is_empty();
-    assert_eq!(rt; nothing, got.is_err(), "read {number} of {chunk}");
+    equals_at(rt, &("read", number, "of", chunk), nothing, got.is_err());
     Ok(())
 }
 
@@ -323,8 +324,18 @@ fn fails_to_write(
     let mut writer = Room::new(alloc, 7, room, zero)?;
     let got = text.run(alloc, &mut reader, &mut writer);
     let written = room as u64;
-    assert_eq!(rt; got, Err(ToolFault::Output { written }), "room for {room}");
-    assert_eq!(rt; Some(writer.bytes()), wanted.get(..room), "room for {room}");
+    equals_at(
+        rt,
+        &("room for", room),
+        got,
+        Err(ToolFault::Output { written }),
+    );
+    equals_at(
+        rt,
+        &("room for", room),
+        Some(writer.bytes()),
+        wanted.get(..room),
+    );
     Ok(())
 }
 

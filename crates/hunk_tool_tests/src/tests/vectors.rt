@@ -1,5 +1,6 @@
 //! Files of both kinds through everything that reads them: where they are rejected, why, and when.
 
+use super::asserts::equals;
 use super::decoders::{Answer, is_judged};
 use super::files::with_word;
 use hunk_test_support::words::{
@@ -35,7 +36,7 @@ const FRONTS: [(FileKind, &[u32], &[usize]); 3] = [
 fn judges_each_front(rt: HostRuntime) -> Result<(), Fail> {
     for (kind, words, whole) in FRONTS {
         let bytes = bytes_of(rt.alloc(), words, &[])?;
-        assert_eq!(rt; whole.last().copied(), Some(bytes.len()));
+        equals(&rt, whole.last().copied(), Some(bytes.len()));
         for count in 0..=bytes.len() {
             let place = count as u64 / 4;
             let answer = if whole.contains(&count) {
