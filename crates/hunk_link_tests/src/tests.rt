@@ -1,6 +1,7 @@
 //! Object files and what they link to, by public calls only.
 //!
 //! - `answers`: what units link to is compared with what it is to be.
+//! - `asserts`: assertions as functions.
 //! - `cases`: files that link, by every call.
 //! - `choices`: how files may be linked.
 //! - `devices`: readers and writers that fail.
@@ -26,6 +27,7 @@
 //! - `words`: the longwords of object files, and reports.
 
 mod answers;
+mod asserts;
 mod cases;
 mod choices;
 mod devices;

@@ -1,5 +1,6 @@
 //! What units link to is compared with what it is to be.
 
+use super::asserts::{equals, equals_at, holds};
 use hunk_link::{LinkRefusal, link, link_units};
 use hunk_loadfile::{LoadFile, LoadForm, write_load_with};
 use hunk_objects::{ProgramUnit, read_object};
@@ -52,8 +53,8 @@ pub(crate) fn is_file<A: Allocator + Copy>(
     let bytes = bytes_of(global, words)?;
     let mut writer = Room::new(global, PIECE, bytes.len(), false)?;
     let got = write_load_with(alloc, file, form, &mut writer);
-    assert_eq!(rt; got, Ok(()), "{words:?}");
-    assert_eq!(rt; writer.bytes(), bytes.as_slice(), "{words:?}");
+    equals_at(rt, &words, got, Ok(()));
+    equals_at(rt, &words, writer.bytes(), bytes.as_slice());
     Ok(())
 }
 
@@ -70,9 +71,9 @@ fn is_answer(
             let file = options.trimmed(file);
             is_file(rt, alloc, alloc, &file, options.form(), words)?;
         }
-        (Err(refusal), Err(other)) => assert_eq!(rt; refusal, *other),
-        (Ok(_), Err(other)) => assert!(rt; false, "a file in place of {other:?}"),
-        (Err(refusal), Ok(words)) => assert!(rt; false, "{refusal:?} in place of {words:?}"),
+        (Err(refusal), Err(other)) => equals(rt, &refusal, other),
+        (Ok(_), Err(other)) => holds(rt, &("a file in place of", other), false),
+        (Err(refusal), Ok(words)) => holds(rt, &(refusal, "in place of", words), false),
     }
     Ok(())
 }

@@ -1,6 +1,7 @@
 //! Object files that link, and what becomes of them.
 
 use super::answers::{bytes_of, links_to};
+use super::asserts::equals_at;
 use super::choices::CHOICES;
 use super::runs::{Run, inputs_of, loads_to, writes};
 use hunk_tool::{LinkOptions, link_run};
@@ -74,7 +75,7 @@ fn loads_alike(
     let mut inputs = inputs_of(rt, alloc, case.objects, 4096, None)?;
     let mut writer = Watched::new(Vec::new(alloc));
     let got = link_run(alloc, &mut inputs, options, &mut writer);
-    assert_eq!(rt; got, Ok(()), "{options:?}");
+    equals_at(rt, &options, got, Ok(()));
     let linked = writer.into_inner();
     let run = Run::LinkToVec { options };
     writes(rt, alloc, case.objects, run, 4096, &linked)?;

@@ -1,6 +1,7 @@
 //! Readers and writers that fail.
 
 use super::answers::bytes_of;
+use super::asserts::{equals_at, holds};
 use super::cases::BASES;
 use super::choices::{PLAIN, SHORT_TRIM};
 use super::forms::{FORMS, ZEROS_LAST};
@@ -27,7 +28,7 @@ fn fails_to_read(
     let mut writer = Room::new(alloc, 4096, 4096, false)?;
     let got = run.of(alloc, &mut inputs, &mut writer);
     fails_with(rt, got, &ToolFault::InputDevice { file: failing.0 }, 3);
-    assert!(rt; writer.bytes().is_empty(), "{run:?}, {failing:?} of {most}");
+    holds(rt, &(run, failing, "of", most), writer.bytes().is_empty());
     Ok(())
 }
 
@@ -77,7 +78,7 @@ fn fails_to_write(
     let got = run.of(alloc, &mut inputs, &mut writer);
     let written = room as u64;
     fails_with(rt, got, &ToolFault::Output { written }, 3);
-    assert_eq!(rt; Some(writer.bytes()), text.get(..room), "{run:?}");
+    equals_at(rt, &run, Some(writer.bytes()), text.get(..room));
     Ok(())
 }
 

@@ -1,6 +1,7 @@
 //! Links with each of their allocations failing in turn.
 
 use super::answers::{is_file, units_of};
+use super::asserts::holds;
 use super::words::{ASSEMBLED, DEFINES, LINKED, LINKED_ALONE, REFERS};
 use hunk_link::{LinkRefusal, link, link_units};
 use hunk_loadfile::LoadForm;
@@ -38,16 +39,17 @@ fn is_linked(
     };
     match linked {
         Ok(file) => {
-            assert!(rt; heap.asked() <= refused, "growth {refused}");
+            holds(rt, &("growth", refused), heap.asked() <= refused);
             is_file(rt, alloc, &unlimited, &file, LoadForm::Plain, wanted)?;
             Ok(true)
         }
         Err(refusal) => {
-            assert!(rt;
+            holds(
+                rt,
+                &("growth", refused),
                 matches!(&refusal, LinkRefusal::OutOfMemory),
-                "growth {refused}"
             );
-            assert!(rt; refused < heap.asked(), "growth {refused}");
+            holds(rt, &("growth", refused), refused < heap.asked());
             Ok(false)
         }
     }
@@ -67,7 +69,7 @@ fn growths_of(
             return Ok(number);
         }
     }
-    assert!(rt; false, "each of {MOST_GROWTHS} links was refused a growth");
+    holds(rt, &("each link was refused a growth", MOST_GROWTHS), false);
     Ok(0)
 }
 
@@ -89,7 +91,7 @@ fn refuses_each_growth_of_a_link(rt: HostRuntime) -> Result<(), Fail> {
     ];
     for (call, objects, wanted, least) in rows {
         let growths = growths_of(&rt, rt.alloc(), call, objects, wanted)?;
-        assert!(rt; least <= growths, "{call:?} met {growths} growths");
+        holds(&rt, &(call, "growths", growths), least <= growths);
     }
     Ok(())
 }

@@ -1,6 +1,7 @@
 //! Both calls that load a load file, with each of their allocations failing in turn.
 
 use super::answers::bytes_of;
+use super::asserts::{equals, equals_at, holds};
 use hunk_loader::{Image, LoadRefusal, load, load_file};
 use hunk_loadfile::{LoadFile, read_load};
 use hunk_test_support::Refusing;
@@ -57,10 +58,10 @@ fn allocations_of_reading(alloc: Global) -> Result<u64, Fail> {
 // The image is the memory of the load file.
 fn is_memory<A: Allocator + Copy>(rt: &impl Abort, image: &Image<A>) {
     let hunks = image.hunks();
-    assert_eq!(rt; hunks.len(), MEMORY.len());
+    equals(rt, hunks.len(), MEMORY.len());
     for (((base, bytes), at), want) in hunks.iter().zip(&BASES).zip(MEMORY) {
-        assert_eq!(rt; *base, *at);
-        assert_eq!(rt; bytes.as_slice(), want, "at {base:x}");
+        equals(rt, *base, *at);
+        equals_at(rt, &("at", base), bytes.as_slice(), want);
     }
 }
 
@@ -74,13 +75,13 @@ fn is_loaded(rt: &impl Abort, alloc: Global, call: Call, refused: u64) -> Result
     };
     match loaded {
         Ok(image) => {
-            assert!(rt; heap.asked() <= refused, "{call:?}, allocation {refused}");
+            holds(rt, &(call, "allocation", refused), heap.asked() <= refused);
             is_memory(rt, &image);
             Ok(true)
         }
         Err(refusal) => {
-            assert_eq!(rt; refusal, LoadRefusal::OutOfMemory);
-            assert!(rt; refused < heap.asked(), "{call:?}, allocation {refused}");
+            equals(rt, refusal, LoadRefusal::OutOfMemory);
+            holds(rt, &(call, "allocation", refused), refused < heap.asked());
             Ok(false)
         }
     }
@@ -95,7 +96,11 @@ fn allocations_of(rt: &impl Abort, alloc: Global, call: Call) -> Result<u64, Fai
             return Ok(number);
         }
     }
-    assert!(rt; false, "each of {MOST_ALLOCATIONS} calls was out of memory");
+    holds(
+        rt,
+        &("each call was out of memory", MOST_ALLOCATIONS),
+        false,
+    );
     Ok(0)
 }
 
@@ -109,7 +114,7 @@ fn is_out_of_memory_at_each_allocation_of_a_load(rt: HostRuntime) -> Result<(), 
     ];
     for (call, wanted) in rows {
         let allocations = allocations_of(&rt, rt.alloc(), call)?;
-        assert_eq!(rt; allocations, wanted, "{call:?}");
+        equals_at(&rt, &call, allocations, wanted);
     }
     Ok(())
 }

@@ -1,6 +1,7 @@
 //! Runs with each of their allocations failing in turn.
 
 use super::answers::bytes_of;
+use super::asserts::{equals, equals_at, holds};
 use super::cases::BASES;
 use super::choices::{PLAIN, STRIP};
 use super::forms::{FORM_BASES, FORM_REPORT, FORMS, ZEROS_LAST};
@@ -35,15 +36,15 @@ fn is_whole<A: Allocator + Copy>(
     text: &[u8],
 ) -> bool {
     let Err(fault) = got else {
-        assert_eq!(rt; taken, text);
+        equals(rt, taken, text);
         return true;
     };
-    assert_eq!(rt; status_of(&fault), 4);
+    equals(rt, status_of(&fault), 4);
     match fault {
-        ToolFault::OutOfMemory { written } => assert_eq!(rt; written, taken.len() as u64),
-        _ => assert!(rt; false, "another fault"),
+        ToolFault::OutOfMemory { written } => equals(rt, written, taken.len() as u64),
+        _ => holds(rt, &"another fault", false),
     }
-    assert!(rt; text.starts_with(taken));
+    holds(rt, &"text.starts_with(taken)", text.starts_with(taken));
     false
 }
 
@@ -61,7 +62,11 @@ fn is_done<A: Allocator + Copy>(
     let done = is_whole(rt, got, writer.bytes(), job.text);
     match job.run {
         Run::Link { .. } => {}
-        _ => assert!(rt; done || writer.bytes().is_empty()),
+        _ => holds(
+            rt,
+            &"done || writer.bytes().is_empty()",
+            done || writer.bytes().is_empty(),
+        ),
     }
     Ok(done)
 }
@@ -79,9 +84,10 @@ fn is_done_from_there(
     let second = Refusing::new(&third, refused);
     let first = Refusing::new(&second, refused);
     let done = is_done(rt, alloc, &first, job)?;
-    assert!(rt;
+    holds(
+        rt,
+        &("growth", refused),
         first.asked() <= refused.saturating_add(3),
-        "growth {refused}"
     );
     Ok(done)
 }
@@ -92,17 +98,18 @@ fn growths_of(rt: &impl Abort, alloc: Global, job: Job<'_>) -> Result<u64, Fail>
     for number in 0..MOST_GROWTHS {
         let heap = Refusing::new(alloc, number);
         let done = is_done(rt, alloc, &heap, job)?;
-        assert_eq!(rt; done, heap.asked() <= number, "growth {number}");
-        assert_eq!(rt;
+        equals_at(rt, &("growth", number), done, heap.asked() <= number);
+        equals_at(
+            rt,
+            &("growth", number),
             is_done_from_there(rt, alloc, number, job)?,
             done,
-            "growth {number}"
         );
         if done {
             return Ok(number);
         }
     }
-    assert!(rt; false, "each of {MOST_GROWTHS} runs was refused a growth");
+    holds(rt, &("each run was refused a growth", MOST_GROWTHS), false);
     Ok(0)
 }
 
@@ -126,7 +133,7 @@ fn refuses_each_growth_of_a_run(rt: HostRuntime) -> Result<(), Fail> {
         let growths = growths_of(&rt, rt.alloc(), Job { objects, run, text })?;
         // for each unit its hunks, and of a hunk its content and its sites; the hunks in order, the
         // names, what references add, and the hunks of the load file
-        assert!(rt; 8 <= growths, "{run:?} met {growths} growths");
+        holds(&rt, &(run, "growths", growths), 8 <= growths);
     }
     Ok(())
 }
@@ -144,15 +151,16 @@ fn refuses_each_growth_with_every_choice(rt: HostRuntime) -> Result<(), Fail> {
                 text: &text,
             };
             let growths = growths_of(&rt, rt.alloc(), job)?;
-            assert!(rt; 8 <= growths, "{run:?} met {growths} growths");
+            holds(&rt, &(run, "growths", growths), 8 <= growths);
             counts.push(growths)?;
         }
     }
-    assert_eq!(rt; counts.len(), 16);
-    assert_eq!(rt;
+    equals(&rt, counts.len(), 16);
+    equals_at(
+        &rt,
+        &"trimming asks for no allocation",
         counts.get(..8),
         counts.get(8..),
-        "trimming asks for no allocation"
     );
     Ok(())
 }
@@ -174,7 +182,11 @@ fn is_loaded<A: Allocator + Copy>(
     let mut writer = Room::new(alloc, 4096, report.len(), false)?;
     let got = load_run(heap, &mut reader, bases, &mut writer);
     let done = is_whole(rt, got, writer.bytes(), report);
-    assert!(rt; done || writer.bytes().is_empty());
+    holds(
+        rt,
+        &"done || writer.bytes().is_empty()",
+        done || writer.bytes().is_empty(),
+    );
     Ok(done)
 }
 
@@ -190,12 +202,12 @@ fn loads_once_none_fails(
     for number in 0..MOST_GROWTHS {
         let heap = Refusing::new(alloc, number);
         let done = is_loaded(rt, alloc, &heap, job, bases, report)?;
-        assert_eq!(rt; done, heap.asked() <= number, "growth {number}");
+        equals_at(rt, &("growth", number), done, heap.asked() <= number);
         if done {
             return Ok(());
         }
     }
-    assert!(rt; false, "each of {MOST_GROWTHS} runs was refused a growth");
+    holds(rt, &("each run was refused a growth", MOST_GROWTHS), false);
     Ok(())
 }
 

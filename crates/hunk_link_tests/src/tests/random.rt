@@ -1,6 +1,7 @@
 //! Units made at random are linked, loaded and reported.
 
 use super::answers::links_to;
+use super::asserts::holds;
 use super::cases::{Case, runs_to};
 use super::choices::{
     CHOICES, PLAIN, SHORT, SHORT_TRIM, STRIP, STRIP_SHORT, STRIP_SHORT_TRIM, STRIP_TRIM, TRIM,
@@ -104,8 +105,8 @@ fn links_units_made_at_random(rt: HostRuntime) -> Result<(), Fail> {
         }
         tally.count_smaller(rt.alloc(), &plans);
     }
-    assert!(rt; tally.is_mixed(LEAST), "{tally:?}");
-    assert!(rt; tally.has_smaller(LEAST), "{tally:?}");
+    holds(&rt, &tally, tally.is_mixed(LEAST));
+    holds(&rt, &tally, tally.has_smaller(LEAST));
     Ok(())
 }
 
@@ -222,7 +223,7 @@ fn reports_sets(rt: &impl Abort, alloc: Global, options: LinkOptions) -> Result<
         };
         runs_as_wanted(rt, alloc, set, options, &mut tally)?;
     }
-    assert!(rt; tally.is_mixed(5 * LEAST), "{tally:?}");
+    holds(rt, &tally, tally.is_mixed(5 * LEAST));
     Ok(())
 }
 

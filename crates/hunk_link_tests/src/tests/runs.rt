@@ -1,6 +1,7 @@
 //! Links and images from readers to writers.
 
 use super::answers::bytes_of;
+use super::asserts::{equals, equals_at, holds};
 use hunk_tool::{LinkOptions, ToolFault, image_run, link_run, link_to_vec, load_run, status_of};
 use hunk_words::{Pieces, Room, Sink, write_all};
 use std::alloc::{AllocError, Allocator, Global};
@@ -73,8 +74,8 @@ pub(crate) fn writes(
     let mut inputs = inputs_of(rt, alloc, objects, most, None)?;
     let mut writer = Room::new(alloc, most, text.len(), false)?;
     let got = run.of(alloc, &mut inputs, &mut writer);
-    assert_eq!(rt; got, Ok(()), "{run:?}");
-    assert_eq!(rt; writer.bytes(), text, "{run:?}");
+    equals_at(rt, &run, got, Ok(()));
+    equals_at(rt, &run, writer.bytes(), text);
     Ok(())
 }
 
@@ -92,8 +93,8 @@ pub(crate) fn loads_to(
     let mut reader = Pieces::new(file.to_vec(alloc)?, most, None);
     let mut writer = Room::new(alloc, most, report.len(), false)?;
     let got = load_run(alloc, &mut reader, bases, &mut writer);
-    assert_eq!(rt; got, Ok(()), "{bases:?}");
-    assert_eq!(rt; writer.bytes(), report, "{bases:?}");
+    equals_at(rt, &bases, got, Ok(()));
+    equals_at(rt, &bases, writer.bytes(), report);
     Ok(())
 }
 
@@ -105,10 +106,10 @@ pub(crate) fn fails_with(
     status: u8,
 ) {
     match got {
-        Ok(()) => assert!(rt; false, "no fault in place of {fault:?}"),
+        Ok(()) => holds(rt, &("no fault in place of", fault), false),
         Err(other) => {
-            assert_eq!(rt; other, *fault);
-            assert_eq!(rt; status_of(&other), status, "{fault:?}");
+            equals(rt, &other, fault);
+            equals_at(rt, &fault, status_of(&other), status);
         }
     }
 }
@@ -126,6 +127,6 @@ pub(crate) fn refuses(
     let mut writer = Room::new(alloc, 1, 0, false)?;
     let got = run.of(alloc, &mut inputs, &mut writer);
     fails_with(rt, got, fault, 1);
-    assert!(rt; !writer.failed(), "{run:?}");
+    holds(rt, &run, !writer.failed());
     Ok(())
 }
