@@ -30,10 +30,11 @@ class Program:
         return os.path.join(self.folder, name)
 
     def run(self, *words_, stdout=subprocess.PIPE, stderr=subprocess.PIPE, stdin=subprocess.DEVNULL, limit=None, input=None):
-        """Runs it with these words, under a limit of a resource, and returns its status and what it wrote."""
+        """Runs it as `amihunk` with these words, under a limit of a resource, and returns its status and what it wrote."""
         how = {"input": input} if input is not None else {"stdin": stdin}
         limited = (lambda: resource.setrlimit(limit[0], (limit[1], limit[1]))) if limit else None
-        ran = subprocess.run([self.path, *words_], cwd=self.folder, stdout=stdout, stderr=stderr, preexec_fn=limited, timeout=60, **how)
+        how |= {"executable": self.path, "cwd": self.folder, "preexec_fn": limited, "timeout": 60}
+        ran = subprocess.run(["amihunk", *words_], stdout=stdout, stderr=stderr, **how)
         return ran.returncode, *((it or b"").decode("latin-1") for it in (ran.stdout, ran.stderr))
 
     def prints(self, out, *words_, **how):
