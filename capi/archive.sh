@@ -8,26 +8,29 @@
 set -eu
 cd "$(dirname "$0")/../crates/amihunk_c"
 
-# Whether all libraries here are the gate's: beside its own ones `rt lib` leaves a stamp.
+libraries="$(sed -n 's/^amihunk_c staticlib: //p' ../../crates.txt)"
+
+# Whether all libraries of the repository here are the gate's: beside its own ones `rt lib` leaves a stamp.
 are_the_gates() {
     local name
-    for name in $(sed -n 's/^amihunk_c staticlib: //p' ../../crates.txt); do
+    for name in $libraries; do
         [ ! -d "../$name" ] || { [ -d "../$name/out/rlib/$name.rlib" ] && [ ! -e "../$name/out/rlib/stamp" ]; } || return 1
     done
 }
 
-if [ "${1-}" != --after-gate ]; then
-    exec rt lib "$@"
+after_gate=no
+if [ "${1-}" = --after-gate ]; then
+    after_gate=yes
+    shift
 fi
-shift
-if ! are_the_gates; then
+if [ "$after_gate" = no ] || ! are_the_gates; then
     exec rt lib "$@"
 fi
 
 kit="$(dirname "$(rt doc)")"
 words=(--crate-name amihunk_c --crate-type staticlib src/lib.rt --extern "std=$kit/rlibs/std.rlib")
 words+=(--antt-project "$kit/rattle/logic/antt-project.json" -L "dependency=$kit/rlibs")
-for name in $(sed -n 's/^amihunk_c staticlib: //p' ../../crates.txt); do
+for name in $libraries; do
     if [ -d "../$name" ]; then
         words+=(--extern "$name=../$name/out/rlib/$name.rlib")
     else
