@@ -44,7 +44,7 @@ fn is_whole<A: Allocator + Copy>(
         ToolFault::OutOfMemory { written } => equals(rt, written, taken.len() as u64),
         _ => holds(rt, &"another fault", false),
     }
-    holds(rt, &"text.starts_with(taken)", text.starts_with(taken));
+    assert!(rt; text.starts_with(taken));
     false
 }
 
@@ -62,11 +62,7 @@ fn is_done<A: Allocator + Copy>(
     let done = is_whole(rt, got, writer.bytes(), job.text);
     match job.run {
         Run::Link { .. } => {}
-        _ => holds(
-            rt,
-            &"done || writer.bytes().is_empty()",
-            done || writer.bytes().is_empty(),
-        ),
+        _ => assert!(rt; done || writer.bytes().is_empty()),
     }
     Ok(done)
 }
@@ -182,11 +178,7 @@ fn is_loaded<A: Allocator + Copy>(
     let mut writer = Room::new(alloc, 4096, report.len(), false)?;
     let got = load_run(heap, &mut reader, bases, &mut writer);
     let done = is_whole(rt, got, writer.bytes(), report);
-    holds(
-        rt,
-        &"done || writer.bytes().is_empty()",
-        done || writer.bytes().is_empty(),
-    );
+    assert!(rt; done || writer.bytes().is_empty());
     Ok(done)
 }
 

@@ -2,7 +2,7 @@
 
 use super::asserts::{equals, equals_at, holds};
 use super::unit_values::{EMPTY, Hunk, Unit, are_units, is_copied};
-use hunk_objects::{Adds, Definition, HunkKind, Memory, ObjectDecoder, hunk_total, read_object};
+use hunk_objects::{Adds, Definition, HunkKind, Memory, ObjectDecoder, read_object};
 use hunk_test_support::words::{
     ADDRESS, ASSEMBLED, CHIP, DEFINES, DEFINES_LONGER, REFERS, TWO_NAMES,
 };
@@ -348,21 +348,10 @@ fn fails_to_read(
 ) -> Result<(), Fail> {
     assert!(rt; 1 <= chunk);
     let mut reader = Pieces::new(bytes_of(alloc, &REFERS, &[])?, chunk, Some(number));
-    let got = read_object(alloc, &mut reader).err();
-    let wanted = fails.then_some(ReadFault::Device);
+    let fault = read_object(alloc, &mut reader).err();
+    let got = (fault, Source::failed(&reader), Source::ended(&reader));
+    let wanted = (fails.then_some(ReadFault::Device), fails, !fails);
     equals_at(rt, &("read", number, "of", chunk), got, wanted);
-    equals_at(
-        rt,
-        &("read", number, "of", chunk),
-        Source::failed(&reader),
-        fails,
-    );
-    equals_at(
-        rt,
-        &("read", number, "of", chunk),
-        Source::ended(&reader),
-        !fails,
-    );
     Ok(())
 }
 

@@ -147,21 +147,10 @@ fn fails_to_read(
 ) -> Result<(), Fail> {
     assert!(rt; 1 <= chunk);
     let mut reader = Pieces::new(bytes_of(alloc, &FILE, &[])?, chunk, Some(number));
-    let got = read_load(alloc, &mut reader).err();
-    let wanted = fails.then_some(ReadFault::Device);
+    let fault = read_load(alloc, &mut reader).err();
+    let got = (fault, Source::failed(&reader), Source::ended(&reader));
+    let wanted = (fails.then_some(ReadFault::Device), fails, !fails);
     equals_at(rt, &("read", number, "of", chunk), got, wanted);
-    equals_at(
-        rt,
-        &("read", number, "of", chunk),
-        Source::failed(&reader),
-        fails,
-    );
-    equals_at(
-        rt,
-        &("read", number, "of", chunk),
-        Source::ended(&reader),
-        !fails,
-    );
     Ok(())
 }
 

@@ -1,6 +1,6 @@
 //! Calls on load files with each of their allocations failing in turn.
 
-use super::asserts::{equals, holds};
+use super::asserts::{equals, equals_at, holds};
 use super::loaded::has_bytes;
 use super::values::{SCATTERED_HUNKS, has_hunks};
 use super::written::file_of;
@@ -38,69 +38,76 @@ pub(crate) fn growths_of_reading(alloc: Global, bytes: &[u8]) -> Result<u64, Fai
     Ok(heap.asked())
 }
 
-// Whether the file was read with this allocation failing. If not, memory ran out; likewise for the
-// other calls.
-fn is_read(rt: &impl Abort, alloc: Global, bytes: &[u8], refused: u64) -> Result<bool, Fail> {
-    let heap = Refusing::new(alloc, refused);
+// Whether the file was read. If not, memory ran out; likewise for the other calls.
+fn is_read(
+    rt: &impl Abort,
+    alloc: Global,
+    heap: &Refusing<Global>,
+    bytes: &[u8],
+) -> Result<bool, Fail> {
     let mut reader = Pieces::new(bytes.to_vec(alloc)?, ROOM, None);
-    match read_load(&heap, &mut reader) {
+    match read_load(heap, &mut reader) {
         Ok(file) => has_hunks(rt, &file, &SCATTERED_HUNKS),
         Err(fault) => {
             equals(rt, fault, ReadFault::Refused(Refusal::OutOfMemory));
-            holds(rt, &("growth", refused), refused < heap.asked());
             return Ok(false);
         }
     }
-    holds(rt, &("growth", refused), heap.asked() <= refused);
     Ok(true)
 }
 
-fn is_image(rt: &impl Abort, alloc: Global, bytes: &[u8], refused: u64) -> Result<bool, Fail> {
-    let heap = Refusing::new(alloc, refused);
+fn is_image(
+    rt: &impl Abort,
+    alloc: Global,
+    heap: &Refusing<Global>,
+    bytes: &[u8],
+) -> Result<bool, Fail> {
     let mut reader = Pieces::new(bytes.to_vec(alloc)?, ROOM, None);
-    match read_image(&heap, &mut reader, &BASES) {
+    match read_image(heap, &mut reader, &BASES) {
         Ok(image) => has_bytes(rt, &image, &BASES, &MEMORY),
         Err(fault) => {
             equals(rt, fault, ImageFault::Refused(LoadRefusal::OutOfMemory));
-            holds(rt, &("growth", refused), refused < heap.asked());
             return Ok(false);
         }
     }
-    holds(rt, &("growth", refused), heap.asked() <= refused);
     Ok(true)
 }
 
-fn is_loaded(rt: &impl Abort, alloc: Global, bytes: &[u8], refused: u64) -> Result<bool, Fail> {
-    let heap = Refusing::new(alloc, refused);
-    let file = file_of(&heap, bytes.to_vec(alloc)?)?;
-    match load(&heap, &file, &BASES) {
+fn is_loaded(
+    rt: &impl Abort,
+    alloc: Global,
+    heap: &Refusing<Global>,
+    bytes: &[u8],
+) -> Result<bool, Fail> {
+    let file = file_of(heap, bytes.to_vec(alloc)?)?;
+    match load(heap, &file, &BASES) {
         Ok(image) => has_bytes(rt, &image, &BASES, &MEMORY),
         Err(refusal) => {
             equals(rt, refusal, LoadRefusal::OutOfMemory);
-            holds(rt, &("growth", refused), refused < heap.asked());
             return Ok(false);
         }
     }
-    holds(rt, &("growth", refused), heap.asked() <= refused);
     Ok(true)
 }
 
-fn is_written(rt: &impl Abort, alloc: Global, bytes: &[u8], refused: u64) -> Result<bool, Fail> {
-    let heap = Refusing::new(alloc, refused);
-    let file = file_of(&heap, bytes.to_vec(alloc)?)?;
+fn is_written(
+    rt: &impl Abort,
+    alloc: Global,
+    heap: &Refusing<Global>,
+    bytes: &[u8],
+) -> Result<bool, Fail> {
+    let file = file_of(heap, bytes.to_vec(alloc)?)?;
     let text = bytes_of(alloc, &WRITTEN, &[])?;
     let mut writer = Room::new(alloc, ROOM, ROOM, false)?;
-    match write_load(&heap, &file, &mut writer) {
+    match write_load(heap, &file, &mut writer) {
         Ok(()) => equals(rt, writer.bytes(), text.as_slice()),
         Err(fault) => {
             let written = writer.bytes().len() as u64;
             equals(rt, fault, WriteFault::OutOfMemory { written });
-            holds(rt, &("growth", refused), text.starts_with(writer.bytes()));
-            holds(rt, &("growth", refused), refused < heap.asked());
+            assert!(rt; text.starts_with(writer.bytes()));
             return Ok(false);
         }
     }
-    holds(rt, &("growth", refused), heap.asked() <= refused);
     Ok(true)
 }
 
@@ -113,12 +120,19 @@ fn growths_of(rt: &impl Abort, alloc: Global, call: Call, bytes: &[u8]) -> Resul
     };
     for number in 0..MOST_GROWTHS {
         let refused = before.saturating_add(number);
+        let heap = Refusing::new(alloc, refused);
         let done = match call {
-            Call::Read => is_read(rt, alloc, bytes, refused)?,
-            Call::Image => is_image(rt, alloc, bytes, refused)?,
-            Call::Load => is_loaded(rt, alloc, bytes, refused)?,
-            Call::Write => is_written(rt, alloc, bytes, refused)?,
+            Call::Read => is_read(rt, alloc, &heap, bytes)?,
+            Call::Image => is_image(rt, alloc, &heap, bytes)?,
+            Call::Load => is_loaded(rt, alloc, &heap, bytes)?,
+            Call::Write => is_written(rt, alloc, &heap, bytes)?,
         };
+        equals_at(
+            rt,
+            &(call, "growth", refused),
+            done,
+            heap.asked() <= refused,
+        );
         if done {
             return Ok(number);
         }

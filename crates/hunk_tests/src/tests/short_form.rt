@@ -3,13 +3,13 @@
 use super::asserts::equals;
 use super::loaded::has_bytes;
 use super::values::{EMPTY, Hunk, has_hunks};
-use super::written::{Text, fails_at_each_byte, file_of, is_written_up_to, writes};
+use super::written::{Text, fails_at_each_byte, file_of, is_written_up_to, writes_in_pieces};
 use hunk_loader::load;
 use hunk_loadfile::{
     HunkKind, LoadFile, LoadForm, LoadHunk, Memory, written_bytes, written_length,
 };
 use hunk_test_support::words::LINKED;
-use hunk_test_support::{BASE, CHUNKS, bytes_of};
+use hunk_test_support::{BASE, bytes_of};
 use hunk_words::Sites;
 use std::alloc::{AllocError, Global};
 use std::process::Abort;
@@ -155,14 +155,12 @@ fn is_written(rt: &impl Abort, alloc: Global, row: Row<'_>) -> Result<(), Fail> 
     let written = written_bytes(alloc, &file, form)?;
     equals(rt, written.as_slice(), bytes.as_slice());
     equals(rt, written.capacity(), bytes.len());
-    for most in CHUNKS {
-        let text = Text {
-            file: &file,
-            form,
-            bytes: &bytes,
-        };
-        writes(rt, alloc, text, most)?;
-    }
+    let text = Text {
+        file: &file,
+        form,
+        bytes: &bytes,
+    };
+    writes_in_pieces(rt, alloc, text)?;
     let zeros = Hunk {
         kind: HunkKind::Bss,
         ..EMPTY
@@ -278,10 +276,7 @@ fn writes_a_linked_file(rt: HostRuntime) -> Result<(), Fail> {
         form: LoadForm::Short,
         bytes: &bytes,
     };
-    for most in CHUNKS {
-        writes(&rt, rt.alloc(), text, most)?;
-    }
-    Ok(())
+    writes_in_pieces(&rt, rt.alloc(), text)
 }
 
 #[test]
@@ -323,9 +318,7 @@ fn is_trimmed_to(
             form,
             bytes: &bytes,
         };
-        for most in CHUNKS {
-            writes(rt, alloc, text, most)?;
-        }
+        writes_in_pieces(rt, alloc, text)?;
     }
     Ok(())
 }

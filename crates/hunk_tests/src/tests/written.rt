@@ -74,19 +74,22 @@ pub(crate) struct Text<'a> {
     pub(crate) bytes: &'a [u8],
 }
 
-/// The file is written as these bytes, at most `most` bytes per write.
-pub(crate) fn writes(
-    rt: &impl Abort,
-    alloc: Global,
-    text: Text<'_>,
-    most: usize,
-) -> Result<(), Fail> {
+// The file is written as these bytes, at most `most` bytes per write.
+fn writes(rt: &impl Abort, alloc: Global, text: Text<'_>, most: usize) -> Result<(), Fail> {
     assert!(rt; 1 <= most);
     let mut writer = Room::new(alloc, most, text.bytes.len(), false)?;
     let got = write_load_with(alloc, text.file, text.form, &mut writer);
     equals(rt, got, Ok(()));
     equals_at(rt, &(most, "a write"), writer.bytes(), text.bytes);
-    holds(rt, &"!Sink::failed(&writer)", !Sink::failed(&writer));
+    assert!(rt; !Sink::failed(&writer));
+    Ok(())
+}
+
+/// The file is written as these bytes, however many of them a write takes.
+pub(crate) fn writes_in_pieces(rt: &impl Abort, alloc: Global, text: Text<'_>) -> Result<(), Fail> {
+    for most in CHUNKS {
+        writes(rt, alloc, text, most)?;
+    }
     Ok(())
 }
 
@@ -100,9 +103,7 @@ fn writes_files(rt: HostRuntime) -> Result<(), Fail> {
             form: LoadForm::Plain,
             bytes: &bytes,
         };
-        for most in CHUNKS {
-            writes(&rt, rt.alloc(), text, most)?;
-        }
+        writes_in_pieces(&rt, rt.alloc(), text)?;
     }
     Ok(())
 }
@@ -131,7 +132,7 @@ fn fails_to_write(
         Some(writer.bytes()),
         text.bytes.get(..room),
     );
-    holds(rt, &"Sink::failed(&writer)", Sink::failed(&writer));
+    assert!(rt; Sink::failed(&writer));
     Ok(())
 }
 
@@ -201,7 +202,7 @@ pub(crate) fn is_written_up_to(
             text.get(..front),
             Some(writer.bytes()),
         );
-        holds(rt, &"!Sink::failed(&writer)", !Sink::failed(&writer));
+        assert!(rt; !Sink::failed(&writer));
     }
     holds(rt, &("growths", growths), least <= growths);
     Ok(())

@@ -1,6 +1,6 @@
 //! Names: their bytes, their longwords, their order and their hashes.
 
-use super::asserts::{equals, holds};
+use super::asserts::equals;
 use hunk_test_support::Refusing;
 use hunk_words::{Name, OpenName};
 use std::collections::{BTreeSet, HashSet};
@@ -38,17 +38,9 @@ fn compares_by_bytes(rt: HostRuntime) -> Result<(), Fail> {
     let foo = Name::from_words(rt.alloc(), &[0x666F_6F00])?;
     let food = Name::from_words(rt.alloc(), &[0x666F_6F64])?;
     let copy = foo.copy(rt.alloc())?;
-    holds(
-        &rt,
-        &"foo == copy && foo != food && foo < food",
-        foo == copy && foo != food && foo < food,
-    );
+    assert!(rt; foo == copy && foo != food && foo < food);
     let mut names = BTreeSet::new(rt.alloc());
-    holds(
-        &rt,
-        &"names.insert(food)? && names.insert(foo)? && !names.insert(copy)?",
-        names.insert(food)? && names.insert(foo)? && !names.insert(copy)?,
-    );
+    assert!(rt; names.insert(food)? && names.insert(foo)? && !names.insert(copy)?);
     Ok(())
 }
 
@@ -56,16 +48,8 @@ fn compares_by_bytes(rt: HostRuntime) -> Result<(), Fail> {
 fn hashes_equal_names_alike(rt: HostRuntime) -> Result<(), Fail> {
     let mut names = HashSet::new(rt.alloc());
     names.insert(Name::from_words(rt.alloc(), &[0x666F_6F00])?)?;
-    holds(
-        &rt,
-        &"names.contains(&Name::from_words(rt.alloc(), &[0x666F_6F00, 1])?)",
-        names.contains(&Name::from_words(rt.alloc(), &[0x666F_6F00, 1])?),
-    );
-    holds(
-        &rt,
-        &"!names.contains(&Name::from_words(rt.alloc(), &[0x6261_7200])?)",
-        !names.contains(&Name::from_words(rt.alloc(), &[0x6261_7200])?),
-    );
+    assert!(rt; names.contains(&Name::from_words(rt.alloc(), &[0x666F_6F00, 1])?));
+    assert!(rt; !names.contains(&Name::from_words(rt.alloc(), &[0x6261_7200])?));
     Ok(())
 }
 
@@ -97,11 +81,7 @@ fn allocates_once_for_a_run_and_the_longword_after_it(rt: HostRuntime) -> Result
 #[test]
 fn is_out_of_memory_where_the_bytes_of_a_name_have_none(rt: HostRuntime) -> Result<(), Fail> {
     let heap = Refusing::new(rt.alloc(), 0);
-    holds(
-        &rt,
-        &"Name::from_words(&heap, &[0x666F_6F00]).is_err()",
-        Name::from_words(&heap, &[0x666F_6F00]).is_err(),
-    );
+    assert!(rt; Name::from_words(&heap, &[0x666F_6F00]).is_err());
     let name = Name::from_words(&heap, &[0x666F_6F00])?;
     equals(&rt, name.bytes(), b"foo".as_slice());
     Ok(())
@@ -111,11 +91,7 @@ fn is_out_of_memory_where_the_bytes_of_a_name_have_none(rt: HostRuntime) -> Resu
 fn is_out_of_memory_where_the_longwords_of_a_name_have_none(rt: HostRuntime) -> Result<(), Fail> {
     let heap = Refusing::new(rt.alloc(), 1);
     let name = Name::from_words(&heap, &[0x666F_6F00])?;
-    holds(
-        &rt,
-        &"name.words(&heap).is_err()",
-        name.words(&heap).is_err(),
-    );
+    assert!(rt; name.words(&heap).is_err());
     equals(&rt, name.words(&heap)?.as_slice(), [0x666F_6F00].as_slice());
     Ok(())
 }

@@ -1,6 +1,6 @@
 //! The current hunk of a reader: its content and its sites.
 
-use super::asserts::{equals, holds};
+use super::asserts::equals;
 use hunk_test_support::Refusing;
 use hunk_words::{PartialHunk, SiteRefusal};
 use std::alloc::Global;
@@ -10,11 +10,7 @@ use std::test::Fail;
 fn keeps_content_alone(rt: HostRuntime) -> Result<(), Fail> {
     let mut hunk = PartialHunk::<u32>::new(rt.alloc(), 0);
     hunk.add_word(0x0102_0304)?;
-    holds(
-        &rt,
-        &"hunk.begin_content(rt.alloc(), 8)",
-        hunk.begin_content(rt.alloc(), 8),
-    );
+    assert!(rt; hunk.begin_content(rt.alloc(), 8));
     hunk.add_word(0x4E71_4E75)?;
     hunk.end_content();
     hunk.add_word(0x0506_0708)?;
@@ -29,19 +25,11 @@ fn keeps_content_alone(rt: HostRuntime) -> Result<(), Fail> {
 fn begins_once(rt: HostRuntime) -> Result<(), Fail> {
     let mut hunk = PartialHunk::new(rt.alloc(), 4);
     equals(&rt, hunk.add_site(0, 'a'), Ok(()));
-    holds(
-        &rt,
-        &"!hunk.begin_content(rt.alloc(), 8)",
-        !hunk.begin_content(rt.alloc(), 8),
-    );
+    assert!(rt; !hunk.begin_content(rt.alloc(), 8));
     equals(&rt, hunk.limit(), 4);
     let mut hunk = PartialHunk::<char>::with_capacity(rt.alloc(), 4, 4)?;
     hunk.add_word(1)?;
-    holds(
-        &rt,
-        &"!hunk.begin_content(rt.alloc(), 8)",
-        !hunk.begin_content(rt.alloc(), 8),
-    );
+    assert!(rt; !hunk.begin_content(rt.alloc(), 8));
     equals(&rt, hunk.add_site(1, 'b'), Err(SiteRefusal::Outside));
     Ok(())
 }
@@ -50,11 +38,7 @@ fn begins_once(rt: HostRuntime) -> Result<(), Fail> {
 fn content_stays_below_the_limit(rt: HostRuntime) -> Result<(), Fail> {
     let mut hunk = PartialHunk::<u32>::with_capacity(rt.alloc(), 6, 0)?;
     hunk.add_word(0x0102_0304)?;
-    holds(
-        &rt,
-        &"hunk.add_word(0x0506_0708).is_err()",
-        hunk.add_word(0x0506_0708).is_err(),
-    );
+    assert!(rt; hunk.add_word(0x0506_0708).is_err());
     hunk.fill()?;
     let (content, _) = hunk.into_parts();
     equals(&rt, content.as_slice(), [1, 2, 3, 4, 0, 0].as_slice());
@@ -65,12 +49,8 @@ fn content_stays_below_the_limit(rt: HostRuntime) -> Result<(), Fail> {
 fn content_stays_as_it_was_where_it_cannot_be_filled(rt: HostRuntime) -> Result<(), Fail> {
     let heap = Refusing::new(rt.alloc(), 0);
     let mut hunk = PartialHunk::<u32, &Refusing<Global>>::new(&heap, 0);
-    holds(
-        &rt,
-        &"hunk.begin_content(&heap, 8)",
-        hunk.begin_content(&heap, 8),
-    );
-    holds(&rt, &"hunk.fill().is_err()", hunk.fill().is_err());
+    assert!(rt; hunk.begin_content(&heap, 8));
+    assert!(rt; hunk.fill().is_err());
     hunk.add_word(0x0102_0304)?;
     hunk.fill()?;
     let (content, _) = hunk.into_parts();
