@@ -23,12 +23,12 @@ _amihunk() {
         '') options='--help --version' ;;
         link) options='--out --strip --short --trim --help' ;;
         load | image) options='--at --srec --help' ;;
-        check | show) options='--help' ;;
+        check | show | survey) options='--help' ;;
         *) return ;;
     esac
     case "$command $word" in
         *' -'*) mapfile -t COMPREPLY < <(compgen -W "$options" -- "$word") ;;
-        ' '*) mapfile -t COMPREPLY < <(compgen -W 'link load image check show' -- "$word") ;;
+        ' '*) mapfile -t COMPREPLY < <(compgen -W 'link load image check show survey' -- "$word") ;;
         *) mapfile -t COMPREPLY < <(compgen -f -- "$word") ;;
     esac
 }

@@ -86,24 +86,14 @@ def memory(names):
     return bases, [words(FILES[name] + base, 0) for name, base in zip(names, bases)]
 
 
-def records(bases, contents):
-    """S-records of these contents, none of more than 32 bytes."""
-    rows = [(0, b"\0\0amihunk")] + [(3, words(base) + content) for base, content in zip(bases, contents)] + [(7, words(0))]
-    lines = []
-    for kind, bytes_ in rows:
-        counted = bytes([len(bytes_) + 1]) + bytes_
-        lines.append(f"S{kind}{counted.hex().upper()}{255 - sum(counted) % 256:02X}\n")
-    return "".join(lines)
-
-
 @test
 def the_words_of_an_image_come_in_any_order(program):
     write_files(program)
     for line, names in IMAGES:
         bases, contents = memory(names.split())
         options = line.split(" -- ")[0]
-        out = records(bases, contents) if "--srec" in options else model.report_of(bases, contents)
-        program.prints(out, "image", *line.replace("LIST", ",".join(f"{base:x}" for base in bases)).split())
+        printed_of = model.records_of if "--srec" in options else model.report_of
+        program.prints(printed_of(bases, contents), "image", *line.replace("LIST", model.addresses(bases)).split())
 
 
 @test
@@ -114,7 +104,7 @@ def the_words_of_a_load_come_in_any_order(program):
     for line in ("--at 10000 x", "x --at=10000", "--at 10000 -- x"):
         program.prints(model.report_of(bases, contents), "load", *line.split())
     for line in ("--at 10000 --srec x", "--srec x --at=00010000"):
-        program.prints(records(bases, contents), "load", *line.split())
+        program.prints(model.records_of(bases, contents), "load", *line.split())
 
 
 def lines_of(name):

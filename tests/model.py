@@ -98,6 +98,22 @@ def report_of(bases, memory):
     return "".join(f"{line}\n" for line in lines)
 
 
+def records_of(bases, memory):
+    """What they print of it with `--srec`."""
+    parts = [(base + at, bytes_[at : at + 32]) for base, bytes_ in zip(bases, memory) for at in range(0, len(bytes_), 32)]
+    rows = [(0, b"\0\0amihunk"), *((3, words(address) + part) for address, part in parts), (7, words(0))]
+    lines = []
+    for kind, bytes_ in rows:
+        counted = bytes([len(bytes_) + 1]) + bytes_
+        lines.append(f"S{kind}{counted.hex().upper()}{255 - sum(counted) % 256:02X}\n")
+    return "".join(lines)
+
+
+def addresses(bases):
+    """Bases as `--at` takes them."""
+    return ",".join(f"{base:x}" for base in bases)
+
+
 def random_hunk(dice, hunks, names):
     kind = dice.choice(list(KINDS))
     size = dice.choice([0, 1, 2, 3, 5, 8, 40])

@@ -1,37 +1,20 @@
 """The commands over real files: what they print and write, how they end, and what they leave as it was."""
 import os
 import random
-import re
 import resource
 
 import model
-from harness import BAD_WORDS, DEVICE, DONE, NO_MEMORY, REFUSED, equals, test
+from harness import BAD_WORDS, DEVICE, NO_MEMORY, REFUSED, equals, test
 from model import ABS, CODE, DATA, DEF, END, HEADER, Hunk, words
 
 # A load file of one hunk of one longword, and an object file of one.
 LOAD_FILE = words(HEADER, 0, 1, 0, 0, 1, CODE, 1, 0x4E754E71, END)
 OBJECT_FILE = model.object_file([[Hunk(CODE, [0x4E754E71])]])
 REPORT = "hunk 0 at 00010000 size 4\n00010000 4e754e71\n"
+# A load file of 64 MiB of zeros, of which it holds none, and less memory than that.
+LARGE_FILE = words(HEADER, 0, 1, 0, 0, 1 << 24, CODE, 0, END)
+LITTLE_MEMORY = (resource.RLIMIT_AS, 40 << 20)
 RECORDS = "S00A0000616D6968756E6B08\nS309000100004E754E7173\nS70500000000FA\n"
-
-
-def addresses(bases):
-    return ",".join(f"{base:x}" for base in bases)
-
-
-def bytes_of_records(lines):
-    """The bytes that S-records hold by their addresses, once their checksums and their ends were compared."""
-    found, records = {}, lines.splitlines()
-    equals((records[0], records[-1]), ("S00A0000616D6968756E6B08", "S70500000000FA"))
-    for record in records[1:-1]:
-        assert re.fullmatch(r"S3([0-9A-F]{2})+", record), record
-        length, *bytes_ = bytes.fromhex(record[2:])
-        equals(length, len(bytes_), record)
-        equals((length + sum(bytes_)) % 256, 255, record)
-        address, content = int.from_bytes(bytes_[:4], "big"), bytes_[4:-1]
-        assert 1 <= len(content) <= 32, record
-        found.update({address + at: byte for at, byte in enumerate(content)})
-    return found
 
 
 @test
@@ -40,7 +23,7 @@ def random_units_are_linked_and_loaded_as_their_memory(program):
         dice, units = random.Random(seed), model.random_units(seed)
         bases = model.random_bases(seed, units)
         memory = model.memory_of(units, bases)
-        report, at = model.report_of(bases, memory), addresses(bases)
+        report, records, at = model.report_of(bases, memory), model.records_of(bases, memory), model.addresses(bases)
         # The units are dealt out to some files, in their order.
         ends = sorted(dice.choices(range(1, len(units) + 1), k=dice.randrange(3))) + [len(units)]
         starts = [0, *ends[:-1]]
@@ -56,9 +39,8 @@ def random_units_are_linked_and_loaded_as_their_memory(program):
         program.prints(f"load file: {len(bases)} hunks\n", "check", "out")
         hunks = sum(map(len, units[: ends[0]]))
         program.prints(f"object file: {ends[0]} units, {hunks} hunks\n", "check", files[0])
-        wanted = {base + it: byte for base, bytes_ in zip(bases, memory) for it, byte in enumerate(bytes_)}
-        for told in (program.run("load", "--at", at, "--srec", "out"), program.run("image", "--srec", "--at", at, *files)):
-            equals((told[0], bytes_of_records(told[1]), told[2]), (DONE, wanted, ""), seed)
+        program.prints(records, "load", "--at", at, "--srec", "out")
+        program.prints(records, "image", "--srec", "--at", at, *files)
 
 
 @test
@@ -85,6 +67,28 @@ def a_listing_tells_what_is_in_a_file(program):
         "hunk 1 bss any 2 longwords, 0 stored\n"
     )
     program.prints(listing, "show", "x")
+
+
+@test
+def a_survey_tells_what_each_file_is(program):
+    program.write("a.o", OBJECT_FILE)
+    program.write("a", LOAD_FILE)
+    program.write("text", b"no hunk file")
+    program.write("cut", LOAD_FILE[:-1])
+    os.mkdir(program.at("folder"))
+    hunks = "a.o: object file: 1 units, 1 hunks\na: load file: 1 hunks\n"
+    totals = "2 files: 1 object files, 1 load files, 0 refused, 0 unreadable\n"
+    program.prints(hunks + totals, "survey", "a.o", "a")
+    refused = "text: longword 0: wrong first longword\ncut: longword 9: file ends inside a longword\n"
+    totals = "4 files: 1 object files, 1 load files, 2 refused, 0 unreadable\n"
+    equals(program.run("survey", "text", "cut", "a.o", "a"), (REFUSED, refused + hunks + totals, ""))
+    unread = "folder: read failed\nmissing: cannot be opened\n"
+    totals = "6 files: 1 object files, 1 load files, 2 refused, 2 unreadable\n"
+    words_ = ("survey", "folder", "missing", "text", "cut", "a.o", "--", "a")
+    equals(program.run(*words_), (DEVICE, unread + refused + hunks + totals, ""))
+    files, limit = ["a"] * 200, (resource.RLIMIT_NOFILE, 16)
+    totals = "200 files: 0 object files, 200 load files, 0 refused, 0 unreadable\n"
+    program.prints("a: load file: 1 hunks\n" * 200 + totals, "survey", *files, limit=limit)
 
 
 @test
@@ -184,30 +188,28 @@ def a_failed_write_is_told(program):
     program.fails(DEVICE, "output: write failed", "link", "--out", "/dev/full", "x.o")
     with open("/dev/full", "wb") as full:
         for command in (["check", "x"], ["show", "x"], ["load", "--at", "0", "x"], ["load", "--srec", "--at", "0", "x"],
-                        ["image", "--at", "0", "x.o"], ["--version"]):
+                        ["image", "--at", "0", "x.o"], ["survey", "x", "x.o"], ["--version"]):
             program.fails(DEVICE, "output: write failed", *command, stdout=full)
 
 
 @test
 def a_line_that_cannot_be_written_changes_no_status(program):
     program.write("x", LOAD_FILE[:-1])
-    program.write("large", words(HEADER, 0, 1, 0, 0, 1 << 24, CODE, 0, END))
+    program.write("large", LARGE_FILE)
     with open("/dev/full", "wb") as full:
         equals(program.run("check", "x", stderr=full), (REFUSED, "", ""))
         equals(program.run("check", "missing", stderr=full), (DEVICE, "", ""))
         equals(program.run("load", "--at", "-", "x", stderr=full)[0], BAD_WORDS)
-        equals(program.run("load", "--at", "0", "large", stderr=full, limit=(resource.RLIMIT_AS, 40 << 20)), (NO_MEMORY, "", ""))
+        equals(program.run("load", "--at", "0", "large", stderr=full, limit=LITTLE_MEMORY), (NO_MEMORY, "", ""))
 
 
 @test
 def a_file_that_asks_for_too_much_memory_is_told(program):
-    # 64 MiB of zeros, of which the file holds none, where 40 MiB may be had.
-    program.write("large", words(HEADER, 0, 1, 0, 0, 1 << 24, CODE, 0, END))
-    program.fails(NO_MEMORY, "out of memory", "load", "--at", "0", "large", limit=(resource.RLIMIT_AS, 40 << 20))
+    program.write("large", LARGE_FILE)
+    program.fails(NO_MEMORY, "out of memory", "load", "--at", "0", "large", limit=LITTLE_MEMORY)
     # No image is made where none can be placed, and none to check a file.
-    limit = (resource.RLIMIT_AS, 40 << 20)
-    program.fails(REFUSED, "places: hunk 0 passes the end of memory", "load", "--at", "fffffff0", "large", limit=limit)
-    program.prints("load file: 1 hunks\n", "check", "large", limit=limit)
+    program.fails(REFUSED, "places: hunk 0 passes the end of memory", "load", "--at", "fffffff0", "large", limit=LITTLE_MEMORY)
+    program.prints("load file: 1 hunks\n", "check", "large", limit=LITTLE_MEMORY)
 
 
 @test
@@ -237,6 +239,6 @@ def many_files_are_linked_with_few_open_at_once(program):
     files, limit = [f"{number}.o" for number in range(200)], (resource.RLIMIT_NOFILE, 48)
     bases = list(range(0x1000, 0x1000 + 200 * 8, 8))
     memory = [words(bases[(number + 1) % 200] + 4, number) for number in range(200)]
-    program.prints(model.report_of(bases, memory), "image", "--at", addresses(bases), *files, limit=limit)
+    program.prints(model.report_of(bases, memory), "image", "--at", model.addresses(bases), *files, limit=limit)
     program.prints("", "link", "--out", "out", *files, limit=limit)
-    program.prints(model.report_of(bases, memory), "load", "--at", addresses(bases), "out")
+    program.prints(model.report_of(bases, memory), "load", "--at", model.addresses(bases), "out")

@@ -12,14 +12,15 @@ use Rattle.clap.specs.declared.error.ErrorKind.{ErrorKind}
 use Rattle.clap.specs.declared.error.ErrorKind.TheVariants as error
 use Rattle.hunk_tool.specs.declared.link_options.LinkOptions.{LinkOptions}
 use Rattle.hunk_commands.specs.declared.request.Request.{Request}
-use Rattle.hunk_commands.specs.declared.request.Request.TheVariants.{Link, Load, Image, Check, Show, Version, Help, Refused, OutOfMemory}
-use Rattle.amihunk.specs.CommandLine.{Answers, AsksCheck, AsksImage, AsksLink, AsksLoad, AsksShow, AsksVersion, IsAskedBy, IsCalled, IsImage, IsLink, IsLoad, IsNoFlag, IsVersionWord, Says, Met, brief_link_line, brief_words, command_line, file_line, form_words, image_line, link_line, load_line, option_words, version_line}
+use Rattle.hunk_commands.specs.declared.request.Request.TheVariants.{Link, Load, Image, Check, Show, Survey, Version, Help, Refused, OutOfMemory}
+use Rattle.amihunk.specs.CommandLine.{Answers, AsksCheck, AsksImage, AsksLink, AsksLoad, AsksShow, AsksSurvey, AsksVersion, IsAskedBy, IsCalled, IsCalledOn, IsImage, IsLink, IsLoad, IsNoFlag, IsVersionWord, Says, Met, brief_link_line, brief_words, command_line, file_line, form_words, image_line, link_line, load_line, option_words, survey_line, version_line}
 use Rattle.hunk_tool.specs.declared.image_form.ImageForm.{ImageForm}
-use Rattle.amihunk.proofs.CommandLineValueLemmas.{IsCalled-same, IsImage-same, IsLink-same, IsLoad-same, names_apart}
+use Rattle.amihunk.proofs.CommandLineValueLemmas.{IsCalled-same, IsCalledOn-same, IsImage-same, IsLink-same, IsLoad-same, names_apart}
 use Rattle.amihunk.proofs.CommandLineFileLemmas.{calls-check, calls-show, fault_of-file_line, is_called-file_line}
 use Rattle.amihunk.proofs.CommandLineImageLemmas.{fault_of-image_line, is_image-image_line}
 use Rattle.amihunk.proofs.CommandLineLinkLemmas.{IsLinkFront, fault_of-link_words, front-brief, front-link, is_link-link_words}
 use Rattle.amihunk.proofs.CommandLineLoadLemmas.{fault_of-load_line, is_load-load_line}
+use Rattle.amihunk.proofs.CommandLineSurveyLemmas.{fault_of-survey_line, is_called-survey_line}
 
 -- the request is neither help nor the version nor a rejection
 abbrev IsNoAnswer : Request → Type 0
@@ -36,6 +37,7 @@ asked_by_kind words (Load list form file) k has answers = absurd answers
 asked_by_kind words (Image list form files) k has answers = absurd answers
 asked_by_kind words (Check file) k has answers = absurd answers
 asked_by_kind words (Show file) k has answers = absurd answers
+asked_by_kind words (Survey files) k has answers = absurd answers
 asked_by_kind words Version k (inl none) answers = cc
 asked_by_kind words Version k (inr among) answers = subst (λ (x : ErrorKind). IsAmong x (fault_of command_line words)) answers among
 asked_by_kind words (Help text) k (inl none) answers = cc
@@ -52,6 +54,7 @@ asked_by_met words met (Load list form file) quiet is load = (quiet, subst (λ m
 asked_by_met words met (Image list form files) quiet is image = (quiet, subst (λ m. IsImage m list.now form (texts files.items)) is image)
 asked_by_met words met (Check file) quiet is check = (quiet, subst (λ m. IsCalled m (codes "check") file.now) is check)
 asked_by_met words met (Show file) quiet is show = (quiet, subst (λ m. IsCalled m (codes "show") file.now) is show)
+asked_by_met words met (Survey files) quiet is survey = (quiet, subst (λ m. IsCalledOn m (codes "survey") (texts files.items)) is survey)
 asked_by_met words met Version quiet is nothing = absurd nothing
 asked_by_met words met (Help text) quiet is nothing = absurd nothing
 asked_by_met words met (Refused text) quiet is nothing = absurd nothing
@@ -70,6 +73,7 @@ asks_no_help words (Load list form file) quiet asked = tt
 asks_no_help words (Image list form files) quiet asked = tt
 asks_no_help words (Check file) quiet asked = tt
 asks_no_help words (Show file) quiet asked = tt
+asks_no_help words (Survey files) quiet asked = tt
 asks_no_help words Version quiet asked = subst (λ kinds. IsAmong error.DisplayVersion kinds) quiet asked
 asks_no_help words (Help text) quiet asked = subst (λ kinds. IsAmong error.DisplayHelp kinds) quiet asked
 asks_no_help words (Refused text) quiet asked = subst (λ kinds. IsAmong asked.kind kinds) quiet asked.among
@@ -83,6 +87,7 @@ asks_link words out options files quiet is (Load l form f) asked = absurd (names
 asks_link words out options files quiet is (Image l form fs) asked = absurd (names_apart _ (codes "image") (codes "link") _ _ asked.1.of_files.called is.of_files.called refl)
 asks_link words out options files quiet is (Check f) asked = absurd (names_apart _ (codes "check") (codes "link") _ _ asked.1.called is.of_files.called refl)
 asks_link words out options files quiet is (Show f) asked = absurd (names_apart _ (codes "show") (codes "link") _ _ asked.1.called is.of_files.called refl)
+asks_link words out options files quiet is (Survey fs) asked = absurd (names_apart _ (codes "survey") (codes "link") _ _ asked.1.called is.of_files.called refl)
 asks_link words out options files quiet is Version asked = asks_no_help words Version quiet asked
 asks_link words out options files quiet is (Help text) asked = asks_no_help words (Help text) quiet asked
 asks_link words out options files quiet is (Refused text) asked = asks_no_help words (Refused text) quiet asked
@@ -96,6 +101,7 @@ asks_load words list wanted file quiet is (Load l form f) asked = IsLoad-same _ 
 asks_load words list wanted file quiet is (Image l form fs) asked = absurd (names_apart _ (codes "image") (codes "load") _ _ asked.1.of_files.called is.of_file.called refl)
 asks_load words list wanted file quiet is (Check f) asked = absurd (names_apart _ (codes "check") (codes "load") _ _ asked.1.called is.of_file.called refl)
 asks_load words list wanted file quiet is (Show f) asked = absurd (names_apart _ (codes "show") (codes "load") _ _ asked.1.called is.of_file.called refl)
+asks_load words list wanted file quiet is (Survey fs) asked = absurd (names_apart _ (codes "survey") (codes "load") _ _ asked.1.called is.of_file.called refl)
 asks_load words list wanted file quiet is Version asked = asks_no_help words Version quiet asked
 asks_load words list wanted file quiet is (Help text) asked = asks_no_help words (Help text) quiet asked
 asks_load words list wanted file quiet is (Refused text) asked = asks_no_help words (Refused text) quiet asked
@@ -109,6 +115,7 @@ asks_image words list wanted files quiet is (Load l form f) asked = absurd (name
 asks_image words list wanted files quiet is (Image l form fs) asked = IsImage-same _ l.now list form wanted (texts fs.items) files asked.1 is
 asks_image words list wanted files quiet is (Check f) asked = absurd (names_apart _ (codes "check") (codes "image") _ _ asked.1.called is.of_files.called refl)
 asks_image words list wanted files quiet is (Show f) asked = absurd (names_apart _ (codes "show") (codes "image") _ _ asked.1.called is.of_files.called refl)
+asks_image words list wanted files quiet is (Survey fs) asked = absurd (names_apart _ (codes "survey") (codes "image") _ _ asked.1.called is.of_files.called refl)
 asks_image words list wanted files quiet is Version asked = asks_no_help words Version quiet asked
 asks_image words list wanted files quiet is (Help text) asked = asks_no_help words (Help text) quiet asked
 asks_image words list wanted files quiet is (Refused text) asked = asks_no_help words (Refused text) quiet asked
@@ -122,6 +129,7 @@ asks_check words file quiet is (Load l form f) asked = absurd (names_apart _ (co
 asks_check words file quiet is (Image l form fs) asked = absurd (names_apart _ (codes "image") (codes "check") _ _ asked.1.of_files.called is.called refl)
 asks_check words file quiet is (Check f) asked = IsCalled-same _ (codes "check") (codes "check") f.now file asked.1 is
 asks_check words file quiet is (Show f) asked = absurd (names_apart _ (codes "show") (codes "check") _ _ asked.1.called is.called refl)
+asks_check words file quiet is (Survey fs) asked = absurd (names_apart _ (codes "survey") (codes "check") _ _ asked.1.called is.called refl)
 asks_check words file quiet is Version asked = asks_no_help words Version quiet asked
 asks_check words file quiet is (Help text) asked = asks_no_help words (Help text) quiet asked
 asks_check words file quiet is (Refused text) asked = asks_no_help words (Refused text) quiet asked
@@ -135,10 +143,25 @@ asks_show words file quiet is (Load l form f) asked = absurd (names_apart _ (cod
 asks_show words file quiet is (Image l form fs) asked = absurd (names_apart _ (codes "image") (codes "show") _ _ asked.1.of_files.called is.called refl)
 asks_show words file quiet is (Check f) asked = absurd (names_apart _ (codes "check") (codes "show") _ _ asked.1.called is.called refl)
 asks_show words file quiet is (Show f) asked = IsCalled-same _ (codes "show") (codes "show") f.now file asked.1 is
+asks_show words file quiet is (Survey fs) asked = absurd (names_apart _ (codes "survey") (codes "show") _ _ asked.1.called is.called refl)
 asks_show words file quiet is Version asked = asks_no_help words Version quiet asked
 asks_show words file quiet is (Help text) asked = asks_no_help words (Help text) quiet asked
 asks_show words file quiet is (Refused text) asked = asks_no_help words (Refused text) quiet asked
 asks_show words file quiet is OutOfMemory asked = tt
+
+-- what arguments that are `survey` with these files ask for
+asks_survey : (words : List Text) (files : List Text) → fault_of command_line words ≡ [] → IsCalledOn (subcommand_of command_line words) (codes "survey") files
+    → (request : Request) → IsAskedBy words request → AsksSurvey files request
+asks_survey words files quiet is (Link o s fs) asked = absurd (names_apart _ (codes "link") (codes "survey") _ _ asked.1.of_files.called is.called refl)
+asks_survey words files quiet is (Load l form f) asked = absurd (names_apart _ (codes "load") (codes "survey") _ _ asked.1.of_file.called is.called refl)
+asks_survey words files quiet is (Image l form fs) asked = absurd (names_apart _ (codes "image") (codes "survey") _ _ asked.1.of_files.called is.called refl)
+asks_survey words files quiet is (Check f) asked = absurd (names_apart _ (codes "check") (codes "survey") _ _ asked.1.called is.called refl)
+asks_survey words files quiet is (Show f) asked = absurd (names_apart _ (codes "show") (codes "survey") _ _ asked.1.called is.called refl)
+asks_survey words files quiet is (Survey fs) asked = IsCalledOn-same _ (codes "survey") (codes "survey") (texts fs.items) files asked.1 is
+asks_survey words files quiet is Version asked = asks_no_help words Version quiet asked
+asks_survey words files quiet is (Help text) asked = asks_no_help words (Help text) quiet asked
+asks_survey words files quiet is (Refused text) asked = asks_no_help words (Refused text) quiet asked
+asks_survey words files quiet is OutOfMemory asked = tt
 
 -- the same, of the plain forms; there are at most 2 ^ 64 - 1 words
 
@@ -193,6 +216,15 @@ asks_show_where words request asked program file is_line plain =
     asks_show (file_line program (codes "show") file) file (fault_of-file_line program (codes "show") file calls-show plain)
     (is_called-file_line program (codes "show") file calls-show plain) request (subst (λ w. IsAskedBy w request) is_line asked)
 
+pub asks_survey_where : (words : List Text) (request : Request) → length words ≤ usize_max → IsAskedBy words request
+    → (program : Text) (files : List Text) → words ≡ survey_line program files
+    → 0 < length files → All IsNoFlag files → AsksSurvey files request
+asks_survey_where words request fits asked program files is_line some plain =
+    let line_fit : length (survey_line program files) ≤ usize_max = subst (λ w. length w ≤ usize_max) is_line fits in
+    let few : length files ≤ usize_max = omega (arith, line_fit) in
+    asks_survey (survey_line program files) files (fault_of-survey_line program files some plain few)
+    (is_called-survey_line program files some plain) request (subst (λ w. IsAskedBy w request) is_line asked)
+
 -- ---- the version
 
 -- what arguments ask for whose only fault is that they ask for the version
@@ -202,6 +234,7 @@ asks_version words only (Load list form file) asked = let none : [] ≡ error.Di
 asks_version words only (Image list form files) asked = let none : [] ≡ error.DisplayVersion ∷ [] = sym asked.0 ∙ only in cc
 asks_version words only (Check file) asked = let none : [] ≡ error.DisplayVersion ∷ [] = sym asked.0 ∙ only in cc
 asks_version words only (Show file) asked = let none : [] ≡ error.DisplayVersion ∷ [] = sym asked.0 ∙ only in cc
+asks_version words only (Survey files) asked = let none : [] ≡ error.DisplayVersion ∷ [] = sym asked.0 ∙ only in cc
 asks_version words only Version asked = tt
 asks_version words only (Help text) asked = elim (subst (λ kinds. IsAmong error.DisplayHelp kinds) only asked) [
   | inl other ↦ cc

@@ -10,10 +10,10 @@ use Rattle.clap.specs.Faults.{check_fault, defaults_fault, entered_fault, level_
 use Rattle.clap.specs.Kinds.{check_kinds}
 use Rattle.amihunk.proofs.CommandLineUseLemmas.{AllDefaulting, Filled, HasDefault, IsDefaulted, IsFilling, filled-defaults, flag_read, has_row-defaults, is_flag, or_else-nil, value_given, values_given}
 use Rattle.amihunk.proofs.CommandLineRowLemmas.{AllFilling, filled-settled, filled-walk}
-use Rattle.amihunk.specs.CommandLine.{IsCalled, IsFlag, IsWhole, bare_shape, command_line, file_shape, flag_rule, image_shape, is_srec, letter_s, link_shape, load_shape}
+use Rattle.amihunk.specs.CommandLine.{IsCalled, IsFlag, IsWhole, bare_shape, command_line, file_shape, flag_rule, image_shape, is_srec, letter_s, link_shape, load_shape, survey_shape}
 use Rattle.hunk_tool.specs.declared.image_form.ImageForm.{ImageForm}
 use Rattle.hunk_tool.specs.declared.image_form.ImageForm.TheVariants.{Report, SRecords}
-use Rattle.amihunk.specs.CommandLine.IsWhole.{link, load, image, check, show}
+use Rattle.amihunk.specs.CommandLine.IsWhole.{link, load, image, check, show, survey}
 
 -- ---- one level
 
@@ -57,6 +57,9 @@ built_image = built_below image_shape
 
 abbrev pub built_file : Text → Shape
 built_file name = built_below (file_shape name)
+
+abbrev pub built_survey : Shape
+built_survey = built_below survey_shape
 
 -- where nothing is wrong with the arguments of the subcommand, it is whole
 abbrev IsSound : Shape → Type 0
@@ -209,6 +212,21 @@ sound_show words e =
     let called = called_file (codes "show") words e in
     show called.0 called.1
 
+-- `survey`
+
+survey_filling : AllFilling false built_survey.rules
+survey_filling = (inr (inl (inr refl, (omega arith, refl))), (inl refl, tt))
+
+survey_defaults : AllDefaulting built_survey.rules
+survey_defaults = (inl refl, (inl refl, tt))
+
+sound_survey : IsSound built_survey
+sound_survey words e =
+    let rows = rows_after built_survey.rules [] words in
+    let right = right_where_faultless built_survey words survey_filling survey_defaults e in
+    let files = values_given (codes "file") rows right.filled (one_given (is_given (codes "file") rows) right.checked) in
+    survey files.0 (record { rows = rows; called = refl; files_are = files.2; some = files.1 })
+
 -- ---- the command line
 
 -- the command line as `clap` builds it
@@ -242,7 +260,7 @@ whole_where_entered : (stop : Option (Text × List Text)) (rows : List Row) → 
     → check_fault line.top rows (is_some (entered line stop)) ≡ [] → IsWhole (entered line stop)
 whole_where_entered None rows below checked = absurd (asked_for rows checked)
 whole_where_entered (Some p) rows below checked =
-    whole_where_found (λ s. answers_to p.0 (label_of s)) p.1 rows line.subs (sound_link, (sound_load, (sound_image, (sound_check, (sound_show, tt))))) below checked
+    whole_where_found (λ s. answers_to p.0 (label_of s)) p.1 rows line.subs (sound_link, (sound_load, (sound_image, (sound_check, (sound_show, (sound_survey, tt)))))) below checked
 
 pub whole_where_faultless : (words : List Text) → fault_of command_line words ≡ [] → IsWhole (subcommand_of command_line words)
 whole_where_faultless words e =

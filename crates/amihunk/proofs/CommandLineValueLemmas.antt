@@ -11,7 +11,7 @@ use Rattle.amihunk.specs.CommandLine.{IsCalled, IsCalledOn, IsFlag, IsImage, IsL
 use Rattle.hunk_tool.specs.declared.image_form.ImageForm.{ImageForm}
 use Rattle.hunk_tool.specs.declared.image_form.ImageForm.TheVariants.{Report, SRecords}
 use Rattle.hunk_tool.specs.declared.link_options.LinkOptions.{LinkOptions}
-use Rattle.amihunk.specs.CommandLine.IsWhole.{link, load, image, check, show}
+use Rattle.amihunk.specs.CommandLine.IsWhole.{link, load, image, check, show, survey}
 
 name_met : Met → Text
 name_met met = option_map_or (λ p. p.0) met []
@@ -35,7 +35,7 @@ IsCalled-same met a b x y h k =
     let values : Some x ≡ Some y = sym h.file_is ∙ (ap (first_of (codes "file")) same ∙ k.file_is) in
     cc
 
-IsCalledOn-same : (met : Met) (a b : Text) (xs ys : List Text) → IsCalledOn met a xs → IsCalledOn met b ys → xs ≡ ys
+pub IsCalledOn-same : (met : Met) (a b : Text) (xs ys : List Text) → IsCalledOn met a xs → IsCalledOn met b ys → xs ≡ ys
 IsCalledOn-same met a b xs ys h k =
     let same = rows_same met a b h.rows k.rows h.called k.called in
     let values : Some xs ≡ Some ys = sym h.files_are ∙ (ap (all_of (codes "file")) same ∙ k.files_are) in
@@ -129,6 +129,8 @@ says_link met rows (check f is) called out options files out_is strip short trim
     absurd (names_apart met (codes "check") (codes "link") is.rows rows is.called called refl)
 says_link met rows (show f is) called out options files out_is strip short trim files_are =
     absurd (names_apart met (codes "show") (codes "link") is.rows rows is.called called refl)
+says_link met rows (survey fs is) called out options files out_is strip short trim files_are =
+    absurd (names_apart met (codes "survey") (codes "link") is.rows rows is.called called refl)
 
 pub says_load : (met : Met) (rows : List Row) → IsWhole met → met ≡ Some (codes "load", rows) → (list : Text) (form : ImageForm) (file : Text)
     → first_of (codes "at") rows ≡ Some list → Reads rows (codes "srec") (is_srec form) → first_of (codes "file") rows ≡ Some file → IsLoad met list form file
@@ -147,6 +149,8 @@ says_load met rows (check f is) called list form file list_is srec file_is =
     absurd (names_apart met (codes "check") (codes "load") is.rows rows is.called called refl)
 says_load met rows (show f is) called list form file list_is srec file_is =
     absurd (names_apart met (codes "show") (codes "load") is.rows rows is.called called refl)
+says_load met rows (survey fs is) called list form file list_is srec file_is =
+    absurd (names_apart met (codes "survey") (codes "load") is.rows rows is.called called refl)
 
 pub says_image : (met : Met) (rows : List Row) → IsWhole met → met ≡ Some (codes "image", rows) → (list : Text) (form : ImageForm) (files : List Text)
     → first_of (codes "at") rows ≡ Some list → Reads rows (codes "srec") (is_srec form) → all_of (codes "file") rows ≡ Some files → IsImage met list form files
@@ -166,3 +170,19 @@ says_image met rows (check f is) called list form files list_is srec files_are =
     absurd (names_apart met (codes "check") (codes "image") is.rows rows is.called called refl)
 says_image met rows (show f is) called list form files list_is srec files_are =
     absurd (names_apart met (codes "show") (codes "image") is.rows rows is.called called refl)
+says_image met rows (survey fs is) called list form files list_is srec files_are =
+    absurd (names_apart met (codes "survey") (codes "image") is.rows rows is.called called refl)
+
+pub says_survey : (met : Met) (rows : List Row) → IsWhole met → met ≡ Some (codes "survey", rows) → (files : List Text)
+    → all_of (codes "file") rows ≡ Some files → IsCalledOn met (codes "survey") files
+says_survey met rows (survey fs is) called files files_are = called_on met (codes "survey") rows files fs called files_are is
+says_survey met rows (link o s fs is) called files files_are =
+    absurd (names_apart met (codes "link") (codes "survey") is.of_files.rows rows is.of_files.called called refl)
+says_survey met rows (load l form f is) called files files_are =
+    absurd (names_apart met (codes "load") (codes "survey") is.of_file.rows rows is.of_file.called called refl)
+says_survey met rows (image l form fs is) called files files_are =
+    absurd (names_apart met (codes "image") (codes "survey") is.of_files.rows rows is.of_files.called called refl)
+says_survey met rows (check f is) called files files_are =
+    absurd (names_apart met (codes "check") (codes "survey") is.rows rows is.called called refl)
+says_survey met rows (show f is) called files files_are =
+    absurd (names_apart met (codes "show") (codes "survey") is.rows rows is.called called refl)

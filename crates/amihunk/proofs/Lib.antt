@@ -13,3 +13,4 @@ pub mod CommandLineFlagsLemmas
 pub mod CommandLineFilesLemmas
 pub mod CommandLineImageLemmas
 pub mod CommandLineLinkLemmas
+pub mod CommandLineSurveyLemmas

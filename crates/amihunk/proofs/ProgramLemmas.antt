@@ -1,7 +1,8 @@
 -- The status after the plain forms, and where memory ran out.
 use Rattle.std.proofs.Common.{◌∷◌, [], Bool, inl, inr, List, Option, refl, subst, ℕ}
-use Rattle.hunk_commands.specs.Request.{Ends, EndsImage, EndsLink, EndsLoad, EndsText, EndsVersion}
-use Rattle.amihunk.specs.CommandLine.{AsksCheck, AsksImage, AsksLink, AsksLoad, AsksShow, AsksVersion}
+use Rattle.hunk_commands.specs.Request.{Ends, EndsImage, EndsLink, EndsLoad, EndsSurvey, EndsText, EndsVersion}
+use Rattle.amihunk.specs.CommandLine.{AsksCheck, AsksImage, AsksLink, AsksLoad, AsksShow, AsksSurvey, AsksVersion}
+use Rattle.hunk_commands.specs.Devices.{IsCutShort}
 use Rattle.hunk_commands.specs.Image.{IsImageFailure}
 use Rattle.hunk_commands.specs.Link.{IsLinkFailure}
 use Rattle.hunk_commands.specs.Load.{IsLoadFailure}
@@ -11,7 +12,7 @@ use Rattle.hunk_commands.specs.declared.text.Text.TheVariants.{Line, Listing}
 use Rattle.hunk_tool.specs.declared.link_options.LinkOptions.{LinkOptions}
 use Rattle.hunk_commands.specs.declared.request.Request.{Request}
 use Rattle.hunk_tool.specs.declared.image_form.ImageForm.{ImageForm}
-use Rattle.hunk_commands.specs.declared.request.Request.TheVariants.{Load, Link, Image, Check, Show, Version, Help, Refused, OutOfMemory}
+use Rattle.hunk_commands.specs.declared.request.Request.TheVariants.{Load, Link, Image, Check, Show, Survey, Version, Help, Refused, OutOfMemory}
 use Rattle.hunk_commands.proofs.RequestLemmas.{not_begun}
 
 pub ends_link : {W : Type 0} (taken : W → Option (List ℕ)) (failed : W → Bool) (old new : W) (out : List ℕ) (options : LinkOptions) (files : List (List ℕ)) (request : Request) (status : ℕ)
@@ -23,6 +24,7 @@ ends_link taken failed old new out options files (Load l asked f) status asks en
 ends_link taken failed old new out options files (Image l asked fs) status asks ends = absurd asks
 ends_link taken failed old new out options files (Check f) status asks ends = absurd asks
 ends_link taken failed old new out options files (Show f) status asks ends = absurd asks
+ends_link taken failed old new out options files (Survey fs) status asks ends = absurd asks
 ends_link taken failed old new out options files Version status asks ends = absurd asks
 ends_link taken failed old new out options files (Help text) status asks ends = absurd asks
 ends_link taken failed old new out options files (Refused text) status asks ends = absurd asks
@@ -38,6 +40,7 @@ ends_image taken failed old new list form files (Link out options fs) status ask
 ends_image taken failed old new list form files (Load l asked f) status asks ends = absurd asks
 ends_image taken failed old new list form files (Check f) status asks ends = absurd asks
 ends_image taken failed old new list form files (Show f) status asks ends = absurd asks
+ends_image taken failed old new list form files (Survey fs) status asks ends = absurd asks
 ends_image taken failed old new list form files Version status asks ends = absurd asks
 ends_image taken failed old new list form files (Help text) status asks ends = absurd asks
 ends_image taken failed old new list form files (Refused text) status asks ends = absurd asks
@@ -53,6 +56,7 @@ ends_load taken failed old new list form file (Check f) status asks ends = absur
 ends_load taken failed old new list form file (Show f) status asks ends = absurd asks
 ends_load taken failed old new list form file (Link out options files) status asks ends = absurd asks
 ends_load taken failed old new list form file (Image l asked files) status asks ends = absurd asks
+ends_load taken failed old new list form file (Survey files) status asks ends = absurd asks
 ends_load taken failed old new list form file Version status asks ends = absurd asks
 ends_load taken failed old new list form file (Help text) status asks ends = absurd asks
 ends_load taken failed old new list form file (Refused text) status asks ends = absurd asks
@@ -66,6 +70,7 @@ ends_check taken failed old new file (Check f) status asks ends = subst (λ x. E
 ends_check taken failed old new file (Show f) status asks ends = absurd asks
 ends_check taken failed old new file (Link out options files) status asks ends = absurd asks
 ends_check taken failed old new file (Image l asked files) status asks ends = absurd asks
+ends_check taken failed old new file (Survey files) status asks ends = absurd asks
 ends_check taken failed old new file Version status asks ends = absurd asks
 ends_check taken failed old new file (Help text) status asks ends = absurd asks
 ends_check taken failed old new file (Refused text) status asks ends = absurd asks
@@ -79,11 +84,26 @@ ends_show taken failed old new file (Check f) status asks ends = absurd asks
 ends_show taken failed old new file (Show f) status asks ends = subst (λ x. EndsText taken failed old new Listing x status) asks ends
 ends_show taken failed old new file (Link out options files) status asks ends = absurd asks
 ends_show taken failed old new file (Image l asked files) status asks ends = absurd asks
+ends_show taken failed old new file (Survey files) status asks ends = absurd asks
 ends_show taken failed old new file Version status asks ends = absurd asks
 ends_show taken failed old new file (Help text) status asks ends = absurd asks
 ends_show taken failed old new file (Refused text) status asks ends = absurd asks
 ends_show taken failed old new file OutOfMemory status asks ends =
     inr (not_begun taken failed old new (IsTextFailure Listing file) (file ∷ []) status (inl refl) ends)
+
+pub ends_survey : {W : Type 0} (taken : W → Option (List ℕ)) (failed : W → Bool) (old new : W) (files : List (List ℕ)) (request : Request) (status : ℕ)
+    → AsksSurvey files request → Ends taken failed old new request status → EndsSurvey taken failed old new files status
+ends_survey taken failed old new files (Survey fs) status asks ends = subst (λ x. EndsSurvey taken failed old new x status) asks ends
+ends_survey taken failed old new files (Link out options fs) status asks ends = absurd asks
+ends_survey taken failed old new files (Load l asked f) status asks ends = absurd asks
+ends_survey taken failed old new files (Image l asked fs) status asks ends = absurd asks
+ends_survey taken failed old new files (Check f) status asks ends = absurd asks
+ends_survey taken failed old new files (Show f) status asks ends = absurd asks
+ends_survey taken failed old new files Version status asks ends = absurd asks
+ends_survey taken failed old new files (Help text) status asks ends = absurd asks
+ends_survey taken failed old new files (Refused text) status asks ends = absurd asks
+ends_survey taken failed old new files OutOfMemory status asks ends =
+    inr (not_begun taken failed old new IsCutShort [] status refl ends)
 
 pub ends_version : {W : Type 0} (taken : W → Option (List ℕ)) (failed : W → Bool) (old new : W) (request : Request) (status : ℕ)
     → AsksVersion request → Ends taken failed old new request status → EndsVersion taken failed old new status
@@ -92,6 +112,7 @@ ends_version taken failed old new (Load l asked f) status asks ends = absurd ask
 ends_version taken failed old new (Image l asked files) status asks ends = absurd asks
 ends_version taken failed old new (Check f) status asks ends = absurd asks
 ends_version taken failed old new (Show f) status asks ends = absurd asks
+ends_version taken failed old new (Survey files) status asks ends = absurd asks
 ends_version taken failed old new Version status asks ends = ends
 ends_version taken failed old new (Help text) status asks ends = absurd asks
 ends_version taken failed old new (Refused text) status asks ends = absurd asks

@@ -13,7 +13,7 @@ use Rattle.hunk_tool.specs.declared.image_form.ImageForm.{ImageForm}
 use Rattle.hunk_tool.specs.declared.image_form.ImageForm.TheVariants.{Report, SRecords}
 use Rattle.hunk_tool.specs.declared.link_options.LinkOptions.{LinkOptions}
 use Rattle.hunk_commands.specs.declared.request.Request.{Request}
-use Rattle.hunk_commands.specs.declared.request.Request.TheVariants.{Link, Load, Image, Check, Show, Version, Help, Refused, OutOfMemory}
+use Rattle.hunk_commands.specs.declared.request.Request.TheVariants.{Link, Load, Image, Check, Show, Survey, Version, Help, Refused, OutOfMemory}
 
 -- `--NAME VALUE`, which is required
 abbrev pub option_rule : Text → Rule
@@ -70,10 +70,14 @@ bare_shape = record (new_app (codes "amihunk")).top {
 abbrev pub file_shape : Text → Shape
 file_shape name = (with_rule (new_app name) file_rule).top
 
+-- `survey FILE...`
+abbrev pub survey_shape : Shape
+survey_shape = (with_rule (new_app (codes "survey")) files_rule).top
+
 abbrev pub command_line : App
-command_line = with_subcommand (with_subcommand (with_subcommand (with_subcommand (with_subcommand
+command_line = with_subcommand (with_subcommand (with_subcommand (with_subcommand (with_subcommand (with_subcommand
     (record { top = bare_shape; subs = [] }) link_shape) load_shape) image_shape)
-    (file_shape (codes "check"))) (file_shape (codes "show"))
+    (file_shape (codes "check"))) (file_shape (codes "show"))) survey_shape
 
 -- a subcommand's name, and what was found for its arguments
 abbrev pub Met : Type 0
@@ -129,6 +133,7 @@ pub data IsWhole (met : Met) : Type 0 where
   image : (list : Text) (form : ImageForm) (files : List Text) → IsImage met list form files → IsWhole met
   check : (file : Text) → IsCalled met (codes "check") file → IsWhole met
   show : (file : Text) → IsCalled met (codes "show") file → IsWhole met
+  survey : (files : List Text) → IsCalledOn met (codes "survey") files → IsWhole met
 
 -- the request matches what was found
 abbrev pub Says : Met → Request → Type 0
@@ -137,6 +142,7 @@ Says met (Load list form file) = IsLoad met list.now form file.now
 Says met (Image list form files) = IsImage met list.now form (texts files.items)
 Says met (Check file) = IsCalled met (codes "check") file.now
 Says met (Show file) = IsCalled met (codes "show") file.now
+Says met (Survey files) = IsCalledOn met (codes "survey") (texts files.items)
 Says met _ = ⊥
 
 -- the request for arguments that `clap` rejects with this kind of error
@@ -146,6 +152,7 @@ Answers k (Load list form file) = ⊥
 Answers k (Image list form files) = ⊥
 Answers k (Check file) = ⊥
 Answers k (Show file) = ⊥
+Answers k (Survey files) = ⊥
 Answers k Version = k ≡ error.DisplayVersion
 Answers k (Help text) = k ≡ error.DisplayHelp
 Answers k (Refused text) = (k ≢ error.DisplayHelp) × (k ≢ error.DisplayVersion) × (k ≢ error.OutOfMemory)
@@ -171,6 +178,8 @@ IsAskedBy words (Check file) = (fault_of command_line words ≡ [])
     × IsCalled (subcommand_of command_line words) (codes "check") file.now
 IsAskedBy words (Show file) = (fault_of command_line words ≡ [])
     × IsCalled (subcommand_of command_line words) (codes "show") file.now
+IsAskedBy words (Survey files) = (fault_of command_line words ≡ [])
+    × IsCalledOn (subcommand_of command_line words) (codes "survey") (texts files.items)
 IsAskedBy words Version = IsAmong error.DisplayVersion (fault_of command_line words)
 IsAskedBy words (Help text) = IsAmong error.DisplayHelp (fault_of command_line words)
 IsAskedBy words (Refused text) = IsRefusedBy (fault_of command_line words)
@@ -235,6 +244,10 @@ image_line program list form files = program ∷ codes "image" ∷ codes "--at" 
 abbrev pub file_line : Text → Text → Text → List Text
 file_line program name file = program ∷ name ∷ file ∷ []
 
+-- the arguments `PROGRAM survey FILE...`
+abbrev pub survey_line : Text → List Text → List Text
+survey_line program files = program ∷ codes "survey" ∷ files
+
 -- the request is `link` with this OUT, these options, and these files in this order; or memory ran out
 abbrev pub AsksLink : Text → LinkOptions → List Text → Request → Type 0
 AsksLink out options files (Link o s fs) = (o.now ≡ out) × (s ≡ options) × (texts fs.items ≡ files)
@@ -264,6 +277,12 @@ abbrev pub AsksShow : Text → Request → Type 0
 AsksShow file (Show f) = f.now ≡ file
 AsksShow file OutOfMemory = ⊤
 AsksShow file _ = ⊥
+
+-- the request is `survey` with these files in this order, or memory ran out
+abbrev pub AsksSurvey : List Text → Request → Type 0
+AsksSurvey files (Survey fs) = texts fs.items ≡ files
+AsksSurvey files OutOfMemory = ⊤
+AsksSurvey files _ = ⊥
 
 -- the request is for the version, or memory ran out
 abbrev pub AsksVersion : Request → Type 0

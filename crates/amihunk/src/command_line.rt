@@ -6,9 +6,9 @@ ghost use Rattle.clap.specs.Words.{rule_of, shape_of, subcommand_of, subcommand_
 ghost use Rattle.clap.specs.declared.builder.command.Command.TheViews.{out-Command};
 ghost use Rattle.amihunk.specs.CommandLine.{Answers, AsksCheck, AsksImage, AsksLink, AsksLoad, AsksShow, IsAskedBy};
 ghost use Rattle.amihunk.specs.CommandLine.{IsNoFlag, IsRefusal, IsVersionWord, IsWhole, Says, brief_link_line, command_line};
-ghost use Rattle.amihunk.specs.CommandLine.{AsksVersion, file_line, file_rule, is_srec, version_line};
+ghost use Rattle.amihunk.specs.CommandLine.{AsksSurvey, AsksVersion, file_line, file_rule, is_srec, version_line};
 ghost use Rattle.amihunk.specs.CommandLine.{file_shape, files_rule, flag_rule, image_line, image_shape, link_line, link_shape};
-ghost use Rattle.amihunk.specs.CommandLine.{load_line, load_shape, option_rule};
+ghost use Rattle.amihunk.specs.CommandLine.{load_line, load_shape, option_rule, survey_line, survey_shape};
 ghost use Rattle.hunk_tool.specs.declared.image_form.ImageForm.{ImageForm};
 ghost use Rattle.hunk_tool.specs.declared.link_options.LinkOptions.{LinkOptions};
 
@@ -40,6 +40,9 @@ pub fn read_words<'a, S: AsStr>(alloc: Global, words: &'a [S]) -> Request<'a>
     ensures show { (program file : List ℕ)
         → map S.text words.entry.now ≡ file_line program (codes "show") file
         → IsNoFlag file → AsksShow file result }
+    ensures survey { (program : List ℕ) (files : List (List ℕ))
+        → map S.text words.entry.now ≡ survey_line program files
+        → 0 < length files → All IsNoFlag files → AsksSurvey files result }
     ensures version { (program word : List ℕ)
         → map S.text words.entry.now ≡ version_line program word → IsVersionWord word → AsksVersion result }
 {
@@ -88,7 +91,8 @@ fn command<'a>(alloc: Global) -> Result<Command<'a>, AllocError>
         .subcommand(load_command(alloc)?)?
         .subcommand(image_command(alloc)?)?
         .subcommand(check_command(alloc)?)?
-        .subcommand(show_command(alloc)?)
+        .subcommand(show_command(alloc)?)?
+        .subcommand(survey_command(alloc)?)
 }
 
 /// The subcommand `link --out OUT [--strip] [--short] [--trim] FILE...`, where `-o` is `--out`, and
@@ -112,7 +116,7 @@ fn link_command<'a>(alloc: Global) -> Result<Command<'a>, AllocError>
             "trim",
             "Leaves out zero longwords at the end of each hunk",
         ))?
-        .arg(files_argument(alloc))
+        .arg(files_argument(alloc, "Object files, in the order of linking"))
 }
 
 /// The flag `--NAME`.
@@ -158,7 +162,7 @@ fn image_command<'a>(alloc: Global) -> Result<Command<'a>, AllocError>
         .after_help(help::IMAGE)
         .arg(list_argument(alloc))?
         .arg(srec_flag(alloc))?
-        .arg(files_argument(alloc))
+        .arg(files_argument(alloc, "Object files, in the order of linking"))
 }
 
 /// The subcommand `check FILE`.
@@ -181,6 +185,17 @@ fn show_command<'a>(alloc: Global) -> Result<Command<'a>, AllocError>
         .about("Prints a listing of the units and hunks of a file, and of what is in them")
         .after_help(help::SHOW)
         .arg(file_argument(alloc, "An object file or a load file"))
+}
+
+/// The subcommand `survey FILE...`.
+fn survey_command<'a>(alloc: Global) -> Result<Command<'a>, AllocError>
+    ensures shape { IfOk result (λ c. shape_of c ≡ survey_shape) }
+    ensures local { IfOk result (λ c. (out-Command c).has_globals ≡ false) }
+{
+    Command::new(alloc, "survey")
+        .about("Tells of each file what it is, and how many there are of each kind")
+        .after_help(help::SURVEY)
+        .arg(files_argument(alloc, "Object files, load files and any others"))
 }
 
 /// The argument `--at LIST`.
@@ -216,11 +231,11 @@ fn file_argument<'a>(alloc: Global, help: &'a str) -> Arg<'a>
 }
 
 /// The arguments FILE..., for one file or more.
-fn files_argument<'a>(alloc: Global) -> Arg<'a>
+fn files_argument<'a>(alloc: Global, help: &'a str) -> Arg<'a>
     ensures rule { rule_of result ≡ files_rule }
     ensures local { result.global ≡ false }
 {
-    file_argument(alloc, "Object files, in the order of linking").num_args(1..)
+    file_argument(alloc, help).num_args(1..)
 }
 
 /// The request of a parse that found a subcommand.
@@ -253,6 +268,9 @@ fn request_of<'a>(alloc: Global, matches: &ArgMatches<'a>) -> Result<Request<'a>
         }),
         Some(("show", values)) => Ok(Request::Show {
             file: value_of(values, "file"),
+        }),
+        Some(("survey", values)) => Ok(Request::Survey {
+            files: files_of(alloc, values)?,
         }),
         _ => unreachable!(),
     }

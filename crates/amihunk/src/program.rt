@@ -3,9 +3,9 @@ ghost use Rattle.std.specs.Prelude.{◌≡◌, ◌<◌, ◌≤◌, ℕ, List, co
 ghost use Rattle.std.specs.List.{All};
 ghost use Rattle.hunk_tool.specs.declared.image_form.ImageForm.{ImageForm};
 ghost use Rattle.hunk_tool.specs.declared.link_options.LinkOptions.{LinkOptions};
-ghost use Rattle.hunk_commands.specs.Request.{EndsImage, EndsLink, EndsLoad, EndsText, EndsVersion};
+ghost use Rattle.hunk_commands.specs.Request.{EndsImage, EndsLink, EndsLoad, EndsSurvey, EndsText, EndsVersion};
 ghost use Rattle.amihunk.specs.Program.{EndsLine};
-ghost use Rattle.amihunk.specs.CommandLine.{IsNoFlag, IsVersionWord, brief_link_line, file_line, image_line, link_line, load_line, version_line};
+ghost use Rattle.amihunk.specs.CommandLine.{IsNoFlag, IsVersionWord, brief_link_line, file_line, image_line, link_line, load_line, survey_line, version_line};
 
 use crate::command_line::{read_words, refuse_bytes};
 use hunk_commands::{Request, Text, answer};
@@ -55,6 +55,9 @@ pub fn run<R: Files + Print + AllocGlobal, W: Sink, S: AsStr>(
     ensures show { (program file : List ℕ)
         → map S.text words.now ≡ file_line program (codes "show") file
         → IsNoFlag file → EndsText W.taken W.failed errors.old errors.new Text.Listing file result }
+    ensures survey { (program : List ℕ) (files : List (List ℕ))
+        → map S.text words.now ≡ survey_line program files
+        → 0 < length files → All IsNoFlag files → EndsSurvey W.taken W.failed errors.old errors.new files result }
     ensures version { (program word : List ℕ)
         → map S.text words.now ≡ version_line program word → IsVersionWord word → EndsVersion W.taken W.failed errors.old errors.new result }
 {

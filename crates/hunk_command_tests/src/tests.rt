@@ -7,6 +7,7 @@
 //! - `links`: the load file of object files.
 //! - `loads`: the report of a load file.
 //! - `requests`: the status of each request, and the line of its failure.
+//! - `surveys`: what a survey tells of files.
 //! - `texts`: the texts about a file.
 //! - `versions`: the version of the program.
 
@@ -17,5 +18,6 @@ mod inputs;
 mod links;
 mod loads;
 mod requests;
+mod surveys;
 mod texts;
 mod versions;

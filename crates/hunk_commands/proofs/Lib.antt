@@ -4,3 +4,4 @@ pub mod ImageLemmas
 pub mod InputsLemmas
 pub mod LinkLemmas
 pub mod RequestLemmas
+pub mod SurveyLemmas

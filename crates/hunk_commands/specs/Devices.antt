@@ -40,7 +40,7 @@ pub record StoppedBy (Holds : Ends → ToolFault Global → Type 0) (fault : Too
   pub taken : Option (List ℕ)
   pub stopped : Stopped Holds left taken fault
 
--- why a load file was not written in full: a write failed, or out of memory
+-- why what was to be written was not written in full: a write failed, or out of memory
 abbrev pub IsCutShort : Failure → Type 0
 IsCutShort Printing = ⊤
 IsCutShort (Tool fault) = fault ≡ OutOfMemory 0

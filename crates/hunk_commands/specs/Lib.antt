@@ -6,5 +6,6 @@ pub mod Bases
 pub mod Load
 pub mod Link
 pub mod Image
+pub mod Survey
 pub mod Text
 pub mod Version

@@ -8,6 +8,8 @@ use Rattle.hunk_commands.specs.Failure.{failure_line, status_of, TellsLine}
 use Rattle.hunk_commands.specs.Load.{IsLoadFailure, IsLoaded}
 use Rattle.hunk_commands.specs.Link.{IsLinkFailure, IsMade}
 use Rattle.hunk_commands.specs.Image.{AreImaged, IsImageFailure}
+use Rattle.hunk_commands.specs.Devices.{IsCutShort}
+use Rattle.hunk_commands.specs.Survey.{IsSurveyedSomewhere}
 use Rattle.hunk_commands.specs.Text.{IsTextFailure, IsTold}
 use Rattle.hunk_commands.specs.Version.{IsVersionFailure}
 use Rattle.hunk_commands.specs.declared.failure.Failure.{Failure}
@@ -15,7 +17,7 @@ use Rattle.hunk_commands.specs.declared.failure.Failure.TheVariants.{Tool}
 use Rattle.hunk_commands.specs.declared.text.Text.{Text}
 use Rattle.hunk_commands.specs.declared.text.Text.TheVariants.{Line, Listing}
 use Rattle.hunk_commands.specs.declared.request.Request.{Request}
-use Rattle.hunk_commands.specs.declared.request.Request.TheVariants.{Load, Link, Image, Check, Show, Version, Help, Refused, OutOfMemory}
+use Rattle.hunk_commands.specs.declared.request.Request.TheVariants.{Load, Link, Image, Check, Show, Survey, Version, Help, Refused, OutOfMemory}
 
 -- a request for some files was not done, for a reason of which this holds; the status is that of the
 -- failure, and its line went to the writer, or a write to it failed
@@ -45,6 +47,11 @@ abbrev pub EndsText : {W : Type 0} (taken : W → Option (List ℕ)) (failed : W
 EndsText taken failed old new text file status =
     ((status ≡ 0) × IsTold text) ⊎ IsFailed taken failed old new (IsTextFailure text file) (file ∷ []) status
 
+-- the status after `survey`: no file stops it
+abbrev pub EndsSurvey : {W : Type 0} (taken : W → Option (List ℕ)) (failed : W → Bool) (old new : W) (files : List (List ℕ)) → ℕ → Type 0
+EndsSurvey taken failed old new files status =
+    IsSurveyedSomewhere files status ⊎ IsFailed taken failed old new IsCutShort [] status
+
 -- the status after `--version`; nothing is known of the standard output
 abbrev pub EndsVersion : {W : Type 0} (taken : W → Option (List ℕ)) (failed : W → Bool) (old new : W) → ℕ → Type 0
 EndsVersion taken failed old new status =
@@ -57,6 +64,7 @@ Ends taken failed old new (Link out options files) status = EndsLink taken faile
 Ends taken failed old new (Image list form files) status = EndsImage taken failed old new list.now form (file_names files.items) status
 Ends taken failed old new (Check file) status = EndsText taken failed old new Line file.now status
 Ends taken failed old new (Show file) status = EndsText taken failed old new Listing file.now status
+Ends taken failed old new (Survey files) status = EndsSurvey taken failed old new (file_names files.items) status
 Ends taken failed old new Version status = EndsVersion taken failed old new status
 Ends taken failed old new (Help text) status = (status ≡ 0) ⊎ (status ≡ 3)
 Ends taken failed old new (Refused text) status = status ≡ 2

@@ -9,6 +9,7 @@
 //! - `load`: the command `load`.
 //! - `link`: the command `link`.
 //! - `image`: the command `image`.
+//! - `survey`: the command `survey`.
 //! - `text`: the commands that print a text about a file.
 //! - `version`: the version of the program.
 #![tactic(auto)]
@@ -21,6 +22,7 @@ mod inputs;
 pub mod link;
 pub mod load;
 mod request;
+pub mod survey;
 mod text;
 mod version;
 

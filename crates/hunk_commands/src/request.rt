@@ -1,12 +1,13 @@
 //! What a command line asks for, and doing it.
 ghost use Rattle.std.specs.Prelude.{◌≡◌, IfOk, map, string_bytes};
 ghost use Rattle.hunk_commands.specs.Inputs.{file_names};
-ghost use Rattle.hunk_commands.specs.Request.{Ends, EndsImage, EndsLink, EndsLoad, EndsText};
+ghost use Rattle.hunk_commands.specs.Request.{Ends, EndsImage, EndsLink, EndsLoad, EndsSurvey, EndsText};
 
 use crate::failure::{COMMAND_LINE, DONE, Failure, report_failure};
 use crate::image::image;
 use crate::link::link;
 use crate::load::load;
+use crate::survey::survey;
 use crate::text::{Text, print_text};
 use crate::version::print_version;
 use hunk_tool::{ImageForm, LinkOptions};
@@ -56,6 +57,11 @@ pub enum Request<'a> {
         /// The argument FILE.
         file: &'a str,
     },
+    /// `survey FILE...`: a line about each of FILE..., and one with their numbers.
+    Survey {
+        /// The arguments FILE..., in the order given, of which there is at least one.
+        files: Vec<&'a str>,
+    },
     /// `--version`: the version of the program.
     Version,
     /// Help, and its text.
@@ -87,6 +93,7 @@ pub fn answer<R: Files + Print + AllocGlobal, W: Sink>(
         }
         Request::Check { file } => answer_text(rt, errors, Text::Line, file),
         Request::Show { file } => answer_text(rt, errors, Text::Listing, file),
+        Request::Survey { files } => answer_survey(rt, errors, files.as_slice()),
         Request::Version => match print_version(rt) {
             Ok(()) => DONE,
             Err(failure) => report_failure(errors, &[], &failure),
@@ -157,6 +164,20 @@ fn answer_image<R: Files + Print + AllocGlobal, W: Sink>(
     match image(rt, list, form, files) {
         Ok(()) => DONE,
         Err(failure) => report_failure(errors, names.as_slice(), &failure),
+    }
+}
+
+/// Does `survey FILE...`, and returns the exit status.
+fn answer_survey<R: Files + Print + AllocGlobal, W: Sink>(
+    rt: &R,
+    errors: &mut W,
+    files: &[&str],
+) -> u8
+    ensures { EndsSurvey W.taken W.failed errors.old errors.new (file_names files.now) result }
+{
+    match survey(rt, files) {
+        Ok(status) => status,
+        Err(failure) => report_failure(errors, &[], &failure),
     }
 }
 

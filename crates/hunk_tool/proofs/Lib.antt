@@ -14,6 +14,7 @@ pub mod FileTextLemmas
 pub mod CountingLemmas
 pub mod CheckLemmas
 pub mod ShowLemmas
+pub mod SurveyLemmas
 pub mod HeadlineLemmas
 pub mod LinkLineLemmas
 pub mod InputsLemmas

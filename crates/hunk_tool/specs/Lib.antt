@@ -13,6 +13,7 @@ pub mod FileDecoder
 pub mod FileText
 pub mod Check
 pub mod Show
+pub mod Survey
 pub mod Direct
 pub mod Inputs
 pub mod LinkOptions

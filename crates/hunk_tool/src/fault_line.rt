@@ -62,7 +62,7 @@ pub fn write_line<W: Sink>(
 }
 
 /// Writes the rest of a line.
-fn write_end<W: Sink>(
+pub(crate) fn write_end<W: Sink>(
     writer: &mut W,
     written: u64,
     first: &Phrase,
@@ -141,7 +141,7 @@ fn place_phrases(fault: PlaceFault) -> (Phrase, Phrase)
 }
 
 /// Why a longword is rejected.
-fn reason_phrase(reason: Reason) -> Phrase
+pub(crate) fn reason_phrase(reason: Reason) -> Phrase
     ensures { phrase_text result ≡ reason_text reason }
 {
     match reason {

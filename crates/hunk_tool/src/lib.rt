@@ -4,6 +4,7 @@
 //! - `laws`: laws about the outcomes of the operations.
 //! - `check`: checks a file of either kind and writes what it is.
 //! - `show`: reads a file of either kind and writes its listing.
+//! - `survey`: what files are, the line about each, and their numbers.
 //! - `counters`: takers that check sites, and count what a file has.
 //! - `file_decoder`: reads a file of either kind; `first_bytes` tell which.
 //! - `counting`: decoders that check a file and count what it has.
@@ -44,6 +45,7 @@ pub mod phrase;
 mod record;
 mod rows;
 pub mod show;
+pub mod survey;
 pub mod tool_fault;
 
 pub use bases::{BasesFault, parse_bases};
@@ -58,4 +60,5 @@ pub use link_options::LinkOptions;
 pub use load::{load_run, load_run_with};
 pub use phrase::Phrase;
 pub use show::show_run;
+pub use survey::{Finding, survey_file, survey_status, write_finding, write_totals};
 pub use tool_fault::{ToolFault, status_of};

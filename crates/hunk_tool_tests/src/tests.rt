@@ -13,6 +13,7 @@
 //! - `refusals`: addresses that are rejected.
 //! - `reports`: files that are loaded.
 //! - `streaming`: what `ImageLoader` allocates.
+//! - `surveys`: what a survey finds of files, and the lines that it writes.
 //! - `texts`: the texts that are written about files.
 //! - `vectors`: files of both kinds through everything that reads them.
 
@@ -29,5 +30,6 @@ mod records;
 mod refusals;
 mod reports;
 mod streaming;
+mod surveys;
 mod texts;
 mod vectors;

@@ -80,3 +80,17 @@ and values are hexadecimal, and offsets and addresses count bytes.
 The exit status is 0 if the listing was printed, 1 if FILE is neither an object file nor a load file,
 2 if the command line is not understood, 3 if FILE cannot be read or the listing cannot be printed,
 and 4 if memory runs out.";
+
+/// The end of the help of `survey`.
+pub const SURVEY: &str = "\
+It prints a line about each FILE, in the order given, with its name and what `check` prints, or why the
+FILE is refused or cannot be read, and goes on with the next one. The last line has the number of
+files, and how many are of each kind. For example, `amihunk survey disk/*` prints for three files
+  disk/main.o: object file: 1 units, 2 hunks
+  disk/program: load file: 2 hunks
+  disk/readme: longword 0: wrong first longword
+  3 files: 1 object files, 1 load files, 1 refused, 0 unreadable
+
+The exit status is 0 if each FILE is an object file or a load file, 1 if one is neither and each was
+read, 2 if the command line is not understood, 3 if a FILE cannot be read or the lines cannot be
+printed, and 4 if memory runs out.";

@@ -1,6 +1,6 @@
 //! The memory of object files.
 
-use super::asserts::{equals, holds};
+use super::asserts::equals;
 use crate::samples::{Broken, CALLEE, CALLER};
 use hunk_commands::Failure;
 use hunk_commands::image::image_to;
@@ -19,11 +19,7 @@ fn reports_the_memory_of_object_files(rt: HostRuntime) {
     let bases = [0x1_0000, 0x2_0000];
     let form = ImageForm::Report;
     let text = image_to(alloc, &mut inputs, &bases, form, Vec::new(alloc));
-    holds(
-        &rt,
-        &"text.is_ok_and(|bytes| bytes.as_slice() == lines.as_bytes())",
-        text.is_ok_and(|bytes| bytes.as_slice() == lines.as_bytes()),
-    );
+    assert!(rt; text.is_ok_and(|bytes| bytes.as_slice() == lines.as_bytes()));
 }
 
 #[test]
@@ -32,11 +28,7 @@ fn tells_why_there_is_no_report(rt: HostRuntime) {
     let form = ImageForm::Report;
     let mut unlinked = [Watched::new(CALLER.as_slice())];
     let text = image_to(alloc, &mut unlinked, &[0], form, Vec::new(alloc));
-    holds(
-        &rt,
-        &"matches!(text, Err(Failure::Tool(ToolFault::Link(_))))",
-        matches!(text, Err(Failure::Tool(ToolFault::Link(_)))),
-    );
+    assert!(rt; matches!(text, Err(Failure::Tool(ToolFault::Link(_)))));
     let mut unplaced = [Watched::new(CALLEE.as_slice())];
     let text = image_to(alloc, &mut unplaced, &[], form, Vec::new(alloc));
     equals(

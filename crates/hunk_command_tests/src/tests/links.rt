@@ -1,6 +1,6 @@
 //! The load file of object files.
 
-use super::asserts::{equals, holds};
+use super::asserts::equals;
 use crate::fake_files::{FakeFiles, Log};
 use crate::samples::{PLAIN, PROGRAM};
 use hunk_commands::Failure;
@@ -158,11 +158,7 @@ fn out_is_not_touched_before_the_files_are_linked(rt: HostRuntime) {
     };
     let system = (files, alloc);
     let unlinked = link(&system, "out", PLAIN, &["caller"]);
-    holds(
-        &rt,
-        &"matches!(unlinked, Err(Failure::Tool(ToolFault::Link(_))))",
-        matches!(unlinked, Err(Failure::Tool(ToolFault::Link(_)))),
-    );
+    assert!(rt; matches!(unlinked, Err(Failure::Tool(ToolFault::Link(_)))));
     equals(&rt, log.created.get(), 0);
 }
 

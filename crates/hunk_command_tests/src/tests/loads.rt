@@ -1,6 +1,6 @@
 //! The image of a load file.
 
-use super::asserts::{equals, holds};
+use super::asserts::equals;
 use crate::samples::{Broken, ONE_HUNK};
 use hunk_commands::Failure;
 use hunk_commands::load::load_to;
@@ -14,19 +14,11 @@ fn reports_a_file(rt: HostRuntime) {
     let bases = [0x1_0000];
     let report = ImageForm::Report;
     let text = load_to(alloc, ONE_HUNK.as_slice(), &bases, report, Vec::new(alloc));
-    holds(
-        &rt,
-        &"text.is_ok_and(|bytes| bytes.as_slice() == lines.as_bytes())",
-        text.is_ok_and(|bytes| bytes.as_slice() == lines.as_bytes()),
-    );
+    assert!(rt; text.is_ok_and(|bytes| bytes.as_slice() == lines.as_bytes()));
     let lines = "S00A0000616D6968756E6B08\nS309000100004E754E7173\nS70500000000FA\n";
     let records = ImageForm::SRecords;
     let text = load_to(alloc, ONE_HUNK.as_slice(), &bases, records, Vec::new(alloc));
-    holds(
-        &rt,
-        &"text.is_ok_and(|bytes| bytes.as_slice() == lines.as_bytes())",
-        text.is_ok_and(|bytes| bytes.as_slice() == lines.as_bytes()),
-    );
+    assert!(rt; text.is_ok_and(|bytes| bytes.as_slice() == lines.as_bytes()));
 }
 
 #[test]

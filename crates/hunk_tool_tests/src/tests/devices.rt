@@ -1,6 +1,6 @@
 //! Readers and writers that fail.
 
-use super::asserts::{equals, equals_at, holds};
+use super::asserts::{equals, equals_at};
 use hunk_test_support::{BASE, FILE, REPORT, Refusing, bytes_of};
 use hunk_tool::{ToolFault, load_run};
 use hunk_words::{Pieces, Room, Sink, Source, Watched};
@@ -71,7 +71,7 @@ fn fails_to_write(
     );
     let taken = REPORT.as_bytes().get(..room);
     equals_at(rt, &("room for", room), Some(writer.bytes()), taken);
-    holds(rt, &"Sink::failed(&writer)", Sink::failed(&writer));
+    assert!(rt; Sink::failed(&writer));
     Ok(())
 }
 
@@ -105,12 +105,8 @@ fn watches_readers_and_writers_of_std(rt: HostRuntime) -> Result<(), Fail> {
     let mut writer = Watched::new(Vec::new(rt.alloc()));
     let got = load_run(rt.alloc(), &mut reader, &[BASE], &mut writer);
     equals(&rt, got, Ok(()));
-    holds(
-        &rt,
-        &"Source::ended(&reader) && !Source::failed(&reader)",
-        Source::ended(&reader) && !Source::failed(&reader),
-    );
-    holds(&rt, &"!Sink::failed(&writer)", !Sink::failed(&writer));
+    assert!(rt; Source::ended(&reader) && !Source::failed(&reader));
+    assert!(rt; !Sink::failed(&writer));
     equals(&rt, writer.into_inner().as_slice(), REPORT.as_bytes());
     Ok(())
 }
@@ -123,7 +119,7 @@ fn watches_a_writer_of_std_that_fails(rt: HostRuntime) -> Result<(), Fail> {
     let mut writer = Watched::new(Vec::new(&heap));
     let got = load_run(rt.alloc(), &mut reader, &[BASE], &mut writer);
     equals(&rt, got, Err(ToolFault::Output { written: 0 }));
-    holds(&rt, &"Sink::failed(&writer)", Sink::failed(&writer));
+    assert!(rt; Sink::failed(&writer));
     Ok(())
 }
 
@@ -133,11 +129,7 @@ fn watches_a_reader_of_std_that_fails(rt: HostRuntime) -> Result<(), Fail> {
     let mut writer = Room::new(rt.alloc(), 64, 64, false)?;
     let got = load_run(rt.alloc(), &mut reader, &[BASE], &mut writer);
     equals(&rt, got, Err(ToolFault::InputDevice { file: 0 }));
-    holds(
-        &rt,
-        &"Source::failed(&reader) && !Source::ended(&reader)",
-        Source::failed(&reader) && !Source::ended(&reader),
-    );
-    holds(&rt, &"writer.bytes().is_empty()", writer.bytes().is_empty());
+    assert!(rt; Source::failed(&reader) && !Source::ended(&reader));
+    assert!(rt; writer.bytes().is_empty());
     Ok(())
 }

@@ -150,9 +150,5 @@ fn copies_what_stands_beside_the_taker(rt: HostRuntime) {
     equals(&rt, one.push(1), None);
     equals(&rt, (one.rest(), other.rest()), (1, 0));
     let (state, same) = twice(None::<CoreState>);
-    holds(
-        &rt,
-        &"state.is_none() && same.is_none()",
-        state.is_none() && same.is_none(),
-    );
+    assert!(rt; state.is_none() && same.is_none());
 }

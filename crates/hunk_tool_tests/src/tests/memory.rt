@@ -122,11 +122,7 @@ fn is_parsed(rt: &impl Abort, alloc: Global, refused: u64) -> bool {
 
 #[test]
 fn parses_with_each_growth_refused(rt: HostRuntime) {
-    holds(
-        &rt,
-        &"!is_parsed(&rt, rt.alloc(), 0)",
-        !is_parsed(&rt, rt.alloc(), 0),
-    );
+    assert!(rt; !is_parsed(&rt, rt.alloc(), 0));
     for refused in 1..MOST_GROWTHS {
         if is_parsed(&rt, rt.alloc(), refused) {
             return;
@@ -142,16 +138,8 @@ fn parses_with_each_growth_refused(rt: HostRuntime) {
 #[test]
 fn makes_room_with_a_growth_refused(rt: HostRuntime) -> Result<(), Fail> {
     let heap = Refusing::new(rt.alloc(), 0);
-    holds(
-        &rt,
-        &"Room::new(&heap, 1, 1, false).is_err()",
-        Room::new(&heap, 1, 1, false).is_err(),
-    );
-    holds(
-        &rt,
-        &"Room::new(&heap, 1, 1, false)?.bytes().is_empty()",
-        Room::new(&heap, 1, 1, false)?.bytes().is_empty(),
-    );
+    assert!(rt; Room::new(&heap, 1, 1, false).is_err());
+    assert!(rt; Room::new(&heap, 1, 1, false)?.bytes().is_empty());
     equals(&rt, heap.asked(), 2);
     Ok(())
 }

@@ -1,6 +1,6 @@
 //! Images as S-records.
 
-use super::asserts::{equals, equals_at, holds};
+use super::asserts::{equals, equals_at};
 use super::files::one_hunk;
 use super::reports::EMPTY_BETWEEN;
 use hunk_test_support::load_words::TWO_HUNKS;
@@ -174,7 +174,7 @@ fn tells_what_a_writer_took_of_the_records(rt: HostRuntime) -> Result<(), Fail> 
             );
             let taken = RECORDS.as_bytes().get(..room);
             equals_at(&rt, &("room for", room), Some(writer.bytes()), taken);
-            holds(&rt, &"Sink::failed(&writer)", Sink::failed(&writer));
+            assert!(rt; Sink::failed(&writer));
         }
     }
     Ok(())

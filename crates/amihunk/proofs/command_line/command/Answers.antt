@@ -29,6 +29,8 @@ returns c =
     ∙ ap₂ with_subcommand loads c.in_ok-image_command.ensures.shape in
     let checks = c.in_ok-subcommand-4.ensures.shape c.in_ok-check_command.ensures.local
     ∙ ap₂ with_subcommand images c.in_ok-check_command.ensures.shape in
-    IfOk-weaker c.subcommand-5.result _ _
-    (λ r added. added.shape c.in_ok-show_command.ensures.local ∙ ap₂ with_subcommand checks c.in_ok-show_command.ensures.shape)
-    c.subcommand-5.ensures
+    let shows = c.in_ok-subcommand-5.ensures.shape c.in_ok-show_command.ensures.local
+    ∙ ap₂ with_subcommand checks c.in_ok-show_command.ensures.shape in
+    IfOk-weaker c.subcommand-6.result _ _
+    (λ r added. added.shape c.in_ok-survey_command.ensures.local ∙ ap₂ with_subcommand shows c.in_ok-survey_command.ensures.shape)
+    c.subcommand-6.ensures

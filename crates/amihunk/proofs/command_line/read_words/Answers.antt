@@ -4,7 +4,7 @@ use Rattle.clap.specs.Lexer.{usize_max}
 use Rattle.clap.specs.Words.{kind_of}
 use Rattle.amihunk.specs.CommandLine.{IsWhole}
 use Rattle.amihunk.proofs.CommandLineLemmas.{whole_where_faultless}
-use Rattle.amihunk.proofs.CommandLineAnswerLemmas.{asked_by_kind, asked_by_result, asks_brief_where, asks_check_where, asks_image_where, asks_link_where, asks_load_where, asks_show_where, asks_version_where}
+use Rattle.amihunk.proofs.CommandLineAnswerLemmas.{asked_by_kind, asked_by_result, asks_brief_where, asks_check_where, asks_image_where, asks_link_where, asks_load_where, asks_show_where, asks_survey_where, asks_version_where}
 use Rattle.amihunk.proofs.command_line.read_words.Goals as goal
 
 pub request_of-requires : goal.request_of-requires
@@ -24,6 +24,7 @@ returns-in-Ok g c =
       image = asks_image_where words c.unwrap_or.result fits answer;
       check = asks_check_where words c.unwrap_or.result answer;
       show = asks_show_where words c.unwrap_or.result answer;
+      survey = asks_survey_where words c.unwrap_or.result fits answer;
       version = asks_version_where words c.unwrap_or.result answer;
     }
 
@@ -40,5 +41,6 @@ returns-in-Err g c =
       image = asks_image_where words c.answer_to.result fits answer;
       check = asks_check_where words c.answer_to.result answer;
       show = asks_show_where words c.answer_to.result answer;
+      survey = asks_survey_where words c.answer_to.result fits answer;
       version = asks_version_where words c.answer_to.result answer;
     }

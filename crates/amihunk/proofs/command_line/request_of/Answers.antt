@@ -4,7 +4,7 @@ use Rattle.clap.specs.Words.{Text, found_of, one_text, rows_of, subcommand_rows_
 use Rattle.clap.specs.declared.parser.matches.Found.{Found}
 use Rattle.clap.proofs.WalkLemmas.{one_text-rows}
 use Rattle.amihunk.specs.CommandLine.{is_srec}
-use Rattle.amihunk.proofs.CommandLineValueLemmas.{Reads, says_image, says_link, says_load}
+use Rattle.amihunk.proofs.CommandLineValueLemmas.{Reads, says_image, says_link, says_load, says_survey}
 use Rattle.amihunk.proofs.command_line.request_of.Goals as goal
 
 -- the value of a flag that was read, by the rows
@@ -52,3 +52,10 @@ returns-in_ok-files_of-in-Some-image-default c =
     (texts files.field-0.items) c.value_of-in-Some-image-default.ensures
     (reads found (codes "srec") (is_srec form.result) (λ is. form.ensures ∙ srec.ensures.value is) (λ is. form.ensures ∙ srec.ensures.other is))
     files.ensures
+
+pub returns-in_ok-files_of-in-Some-survey-default : goal.returns-in_ok-files_of-in-Some-survey-default
+returns-in_ok-files_of-in-Some-survey-default c =
+    let found = found_of c.in-Some-survey-default.values.now in
+    let called : subcommand_rows_of c.args.matches.now ≡ Some (codes "survey", rows_of found) = search rules in
+    let files = c.in_ok-files_of-in-Some-survey-default in
+    says_survey (subcommand_rows_of c.args.matches.now) (rows_of found) c.requires called (texts files.field-0.items) files.ensures

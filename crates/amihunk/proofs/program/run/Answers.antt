@@ -1,4 +1,4 @@
-use Rattle.amihunk.proofs.ProgramLemmas.{ends_check, ends_image, ends_link, ends_load, ends_show, ends_version}
+use Rattle.amihunk.proofs.ProgramLemmas.{ends_check, ends_image, ends_link, ends_load, ends_show, ends_survey, ends_version}
 use Rattle.amihunk.proofs.program.run.Goals as goal
 
 pub returns-clause-load : goal.returns-clause-load
@@ -20,6 +20,10 @@ returns-clause-link g c program options out files is_line plain_out some plain_f
 pub returns-clause-image : goal.returns-clause-image
 returns-clause-image g c program list form files is_line plain_list some plain_files =
     ends_image g.W.Sink.taken g.W.Sink.failed c.args.errors.now c.answer.new.errors list form files c.read_words.result c.answer.result (c.read_words.ensures.image program list form files is_line plain_list some plain_files) c.answer.ensures
+
+pub returns-clause-survey : goal.returns-clause-survey
+returns-clause-survey g c program files is_line some plain_files =
+    ends_survey g.W.Sink.taken g.W.Sink.failed c.args.errors.now c.answer.new.errors files c.read_words.result c.answer.result (c.read_words.ensures.survey program files is_line some plain_files) c.answer.ensures
 
 pub returns-clause-brief : goal.returns-clause-brief
 returns-clause-brief g c program options out files is_line plain_out some plain_files =

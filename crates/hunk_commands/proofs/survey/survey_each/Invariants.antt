@@ -1,0 +1,14 @@
+-- The lines about the files so far were written.
+use Rattle.std.proofs.Common.{◌≡◌, length, take}
+use Rattle.std.specs.Io.KnownBytes.{Appends}
+use Rattle.std.specs.List.{All}
+use Rattle.hunk_commands.specs.Inputs.{file_names}
+use Rattle.hunk_commands.specs.Survey.{IsOfFile, finding_lines}
+use Rattle.hunk_commands.proofs.survey.survey_each.Given as goal
+
+abbrev pub invariant-loop-name : goal.invariant-loop-name
+invariant-loop-name g l = record {
+  one_each : length l.findings.items ≡ l.name-index;
+  of_files : All IsOfFile l.findings.items;
+  written : Appends (g.W.Sink.taken l.fn.writer) (g.W.Sink.taken l.writer) (finding_lines (take l.name-index (file_names l.files)) l.findings.items);
+}

@@ -1,0 +1,72 @@
+-- What a survey finds of a file that was counted, and its lines, put together from the pieces that are
+-- written.
+use Rattle.std.proofs.Common.{◌≡◌, ◌∙◌, ℕ, List, ◌++◌, Option, ap₂, ap, append_assoc, length, refl, sym}
+use Rattle.std.specs.Fmt.{decimal}
+use Rattle.std.specs.Prelude.{codes}
+use Rattle.hunk_words.specs.Streams.{HasRead}
+use Rattle.hunk_words.specs.declared.event.FileKind.{FileKind}
+use Rattle.hunk_words.specs.declared.event.FileKind.TheVariants as kind_is
+use Rattle.hunk_words.proofs.StreamsLemmas.{HasRead-weaker}
+use Rattle.hunk_tool.specs.Counters.{CountsLoad, CountsObject, header_hunks, hunks_of, units_of}
+use Rattle.hunk_tool.specs.FileDecoder.{IsFileOf}
+use Rattle.hunk_tool.specs.FileValue.{kind_of_bytes}
+use Rattle.hunk_tool.specs.FileValue.FileValue.{load_file, object_file}
+use Rattle.hunk_tool.specs.Survey.{IsFoundIn, finding_line, finding_text, is_load, is_object, is_refused, is_unreadable, number_of, totals_line}
+use Rattle.hunk_tool.specs.declared.counters.LoadCounter.{LoadCounter}
+use Rattle.hunk_tool.specs.declared.counters.ObjectCounter.{ObjectCounter}
+use Rattle.hunk_tool.specs.declared.file_decoder.File.TheVariants as file
+use Rattle.hunk_tool.specs.declared.survey.Finding.{Finding}
+use Rattle.hunk_tool.specs.declared.survey.Finding.TheVariants.{Load, Object}
+
+-- ---- a file that was counted
+
+object-found : {A : Type 0} (kind : FileKind) (counter : ObjectCounter A) (bytes : List ℕ) → kind_of_bytes bytes ≡ kind
+    → IsFileOf (CountsObject {A = A}) (CountsLoad {A = A}) kind (file.Object counter) bytes → IsFoundIn (Object (units_of counter) (hunks_of counter)) bytes
+object-found kind_is.Object counter bytes is has = record {
+  value = object_file has.units;
+  is_file = rw is has.is_file;
+  finds = ap₂ Object has.same_units has.same_hunks;
+}
+object-found kind_is.Load counter bytes is has = absurd has
+
+load-found : {A : Type 0} (kind : FileKind) (counter : LoadCounter A) (bytes : List ℕ) → kind_of_bytes bytes ≡ kind
+    → IsFileOf (CountsObject {A = A}) (CountsLoad {A = A}) kind (file.Load counter) bytes → IsFoundIn (Load (header_hunks counter)) bytes
+load-found kind_is.Object counter bytes is has = absurd has
+load-found kind_is.Load counter bytes is has = record {
+  value = load_file has.hunks;
+  is_file = rw is has.is_file;
+  finds = ap Load has.same_hunks;
+}
+
+pub HasRead-object : {A : Type 0} (counter : ObjectCounter A) (left left_then : Option (List ℕ))
+    → HasRead left left_then (λ bytes. IsFileOf (CountsObject {A = A}) (CountsLoad {A = A}) (kind_of_bytes bytes) (file.Object counter) bytes)
+    → HasRead left left_then (IsFoundIn (Object (units_of counter) (hunks_of counter)))
+HasRead-object counter left left_then read =
+    HasRead-weaker left left_then _ _ (λ bytes has. object-found (kind_of_bytes bytes) counter bytes refl has) read
+
+pub HasRead-load : {A : Type 0} (counter : LoadCounter A) (left left_then : Option (List ℕ))
+    → HasRead left left_then (λ bytes. IsFileOf (CountsObject {A = A}) (CountsLoad {A = A}) (kind_of_bytes bytes) (file.Load counter) bytes)
+    → HasRead left left_then (IsFoundIn (Load (header_hunks counter)))
+HasRead-load counter left left_then read =
+    HasRead-weaker left left_then _ _ (λ bytes has. load-found (kind_of_bytes bytes) counter bytes refl has) read
+
+-- ---- the lines
+
+-- the line is the name, and then the rest
+pub finding_line-split : (name rest : List ℕ) (finding : Finding) → rest ≡ codes ": " ++ finding_text finding → finding_line name finding ≡ name ++ rest
+finding_line-split name rest finding is = append_assoc name (codes ": ") (finding_text finding) ∙ ap (λ text. name ++ text) (sym is)
+
+ten-append : (a b c d e f g h i j k : List ℕ) → a ++ (b ++ (c ++ (d ++ (e ++ (f ++ (g ++ (h ++ (i ++ (j ++ k))))))))) ≡ (((((((((a ++ b) ++ c) ++ d) ++ e) ++ f) ++ g) ++ h) ++ i) ++ j) ++ k
+ten-append a b c d e f g h i j k = simp append_assoc
+
+-- the last line is its numbers, and the words between them
+pub totals_line-pieces : (findings : List Finding) (files objects loads refused unreadable : List ℕ) → files ≡ decimal (length findings)
+    → objects ≡ decimal (number_of is_object findings) → loads ≡ decimal (number_of is_load findings)
+    → refused ≡ decimal (number_of is_refused findings) → unreadable ≡ decimal (number_of is_unreadable findings)
+    → files ++ (codes " files: " ++ (objects ++ (codes " object files, " ++ (loads ++ (codes " load files, " ++ (refused ++ (codes " refused, " ++ (unreadable ++ codes " unreadable\n"))))))))
+    ≡ totals_line findings
+totals_line-pieces findings files objects loads refused unreadable all of_objects of_loads of_refused of_unreadable =
+    rw (all, of_objects, of_loads, of_refused, of_unreadable)
+    (ten-append (decimal (length findings)) (codes " files: ") (decimal (number_of is_object findings)) (codes " object files, ")
+    (decimal (number_of is_load findings)) (codes " load files, ") (decimal (number_of is_refused findings)) (codes " refused, ")
+    (decimal (number_of is_unreadable findings)) (codes " unreadable") (codes "\n"))

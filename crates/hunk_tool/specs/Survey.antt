@@ -1,0 +1,87 @@
+-- What a survey finds of files, and what it tells of them.
+use Rattle.std.specs.Prelude.{◌≡◌, ℕ, Bool, true, false, IsTrue, List, ◌++◌, codes, if◌then◌else◌, length, nat_lt, sum_by, Option}
+use Rattle.std.specs.Fmt.{decimal}
+use Rattle.std.specs.List.{filter}
+use Rattle.hunk_words.specs.Streams.{HasRead}
+use Rattle.hunk_objects.specs.ProgramUnit.{hunk_count}
+use Rattle.hunk_text.specs.Listing.{load_line, object_line}
+use Rattle.hunk_text.specs.Printing.{line}
+use Rattle.hunk_tool.specs.FaultLine.{reason_text}
+use Rattle.hunk_tool.specs.FileDecoder.{IsRefused}
+use Rattle.hunk_tool.specs.FileValue.{FileValue, IsOfItsKind}
+use Rattle.hunk_tool.specs.FileValue.FileValue.{object_file, load_file}
+use Rattle.hunk_tool.specs.declared.survey.Finding.{Finding}
+use Rattle.hunk_tool.specs.declared.survey.Finding.TheVariants.{Object, Load, Refused, Unread, Unopened}
+
+-- ---- what is found
+
+-- a file of this value
+abbrev pub finding_of : FileValue → Finding
+finding_of (object_file units) = Object (length units) (sum_by hunk_count units)
+finding_of (load_file hunks) = Load (length hunks)
+
+-- The bytes are a file of the kind that its first four bytes tell, and this is found of its value.
+pub record IsFoundIn (finding : Finding) (bytes : List ℕ) : Type 0 where
+  pub value : FileValue
+  pub is_file : IsOfItsKind value bytes
+  pub finds : finding ≡ finding_of value
+
+-- This is found of what a reader has: a file, which was read to the reader's end, or the first
+-- offence of what was read, or that a read failed.
+abbrev pub IsFound : (left left_then : Option (List ℕ)) (failed ended : Bool) → Finding → Type 0
+IsFound left left_then failed ended (Refused fault) = HasRead left left_then (IsRefused fault ended)
+IsFound left left_then failed ended Unread = IsTrue failed
+IsFound left left_then failed ended Unopened = ⊥
+IsFound left left_then failed ended finding = IsTrue ended × HasRead left left_then (IsFoundIn finding)
+
+-- ---- the line about a file
+
+-- what comes after its name
+abbrev pub finding_text : Finding → List ℕ
+finding_text (Object units hunks) = object_line units hunks
+finding_text (Load hunks) = load_line hunks
+finding_text (Refused fault) = line (codes "longword " ++ decimal fault.place ++ codes ": " ++ reason_text fault.reason)
+finding_text Unread = line (codes "read failed")
+finding_text Unopened = line (codes "cannot be opened")
+
+abbrev pub finding_line : List ℕ → Finding → List ℕ
+finding_line name finding = name ++ codes ": " ++ finding_text finding
+
+-- ---- the numbers of files
+
+abbrev pub is_object : Finding → Bool
+is_object (Object units hunks) = true
+is_object _ = false
+
+abbrev pub is_load : Finding → Bool
+is_load (Load hunks) = true
+is_load _ = false
+
+abbrev pub is_refused : Finding → Bool
+is_refused (Refused fault) = true
+is_refused _ = false
+
+-- it could not be read, or not be opened
+abbrev pub is_unreadable : Finding → Bool
+is_unreadable Unread = true
+is_unreadable Unopened = true
+is_unreadable _ = false
+
+-- how many files this holds of
+abbrev pub number_of : (Finding → Bool) → List Finding → ℕ
+number_of test findings = length (filter test findings)
+
+-- the last line: the number of files, and how many of them are of each kind
+abbrev pub totals_line : List Finding → List ℕ
+totals_line findings = line (
+    decimal (length findings) ++ codes " files: "
+    ++ decimal (number_of is_object findings) ++ codes " object files, "
+    ++ decimal (number_of is_load findings) ++ codes " load files, "
+    ++ decimal (number_of is_refused findings) ++ codes " refused, "
+    ++ decimal (number_of is_unreadable findings) ++ codes " unreadable")
+
+-- ---- the exit status
+
+-- 0 if all files are hunk files, 3 if one could not be read, and otherwise 1
+abbrev pub survey_status : List Finding → ℕ
+survey_status findings = if nat_lt 0 (number_of is_unreadable findings) then 3 else if nat_lt 0 (number_of is_refused findings) then 1 else 0

@@ -1,0 +1,207 @@
+//! Surveys files: what each of them is, the line about it, and the line with their numbers.
+
+ghost use Rattle.std.specs.Prelude.{◌≡◌, ◌++◌, codes, IfOk, IfErr};
+ghost use Rattle.hunk_words.specs.Streams.{IsDevice, Wrote};
+ghost use Rattle.hunk_text.specs.Printing.{line};
+ghost use Rattle.hunk_tool.specs.Phrase.{phrase_text};
+ghost use Rattle.hunk_tool.specs.Survey.{finding_line, finding_text, is_load, is_object, is_refused, is_unreadable, number_of, survey_status, totals_line, IsFound};
+
+use crate::counters::{LoadCounter, ObjectCounter};
+use crate::fault_line::{reason_phrase, write_end};
+use crate::file_decoder::{File, read_file};
+use crate::phrase::Phrase;
+use hunk_text::{Digits, write_pieces};
+use hunk_words::{Decoder, Fault, ReadFault, Refusal, Sink, Source, WriteFault, write_all};
+use std::alloc::{AllocError, Allocator};
+
+/// What a survey finds of a file.
+#[derive(Clone, Copy, Debug, PartialEq, Eq)]
+pub enum Finding {
+    /// An object file, with so many units, and so many hunks of all units.
+    Object { units: u64, hunks: u64 },
+    /// A load file, with so many hunks.
+    Load { hunks: u64 },
+    /// Neither: the place and the reason of the first offence, for a file of its kind.
+    Refused(Fault),
+    /// A read of it failed.
+    Unread,
+    /// It cannot be opened.
+    Unopened,
+}
+
+impl Finding {
+    /// Whether it is an object file.
+    fn is_object(&self) -> bool
+        ensures { result ≡ is_object self.now }
+    {
+        matches!(self, Finding::Object { .. })
+    }
+
+    /// Whether it is a load file.
+    fn is_load(&self) -> bool
+        ensures { result ≡ is_load self.now }
+    {
+        matches!(self, Finding::Load { .. })
+    }
+
+    /// Whether it is neither, for a reason that its bytes give.
+    fn is_refused(&self) -> bool
+        ensures { result ≡ is_refused self.now }
+    {
+        matches!(self, Finding::Refused(_))
+    }
+
+    /// Whether its bytes are not known: a read of it failed, or it cannot be opened.
+    fn is_unreadable(&self) -> bool
+        ensures { result ≡ is_unreadable self.now }
+    {
+        matches!(self, Finding::Unread | Finding::Unopened)
+    }
+}
+
+/// Reads a file to the reader's end and checks it, as [`check_run`](crate::check_run) does, and
+/// returns what it is. What is wrong with the file is no error here, so that a survey goes on.
+///
+/// It keeps no content: of a file it keeps the sites of one hunk, and the sizes in the header of a
+/// load file.
+///
+/// # Errors
+///
+/// [`AllocError`] if an allocation failed.
+pub fn survey_file<A: Allocator + Copy, R: Source>(
+    alloc: A,
+    reader: &mut R,
+) -> Result<Finding, AllocError>
+    ensures { IfOk result (IsFound (R.left reader.old) (R.left reader.new) (R.failed reader.new) (R.ended reader.new)) }
+{
+    let object = Decoder::new(ObjectCounter::new(alloc));
+    let load = Decoder::new(LoadCounter::new(alloc));
+    match read_file(reader, object, load) {
+        Ok(File::Object(counter)) => Ok(Finding::Object {
+            units: counter.units(),
+            hunks: counter.hunks(),
+        }),
+        Ok(File::Load(counter)) => Ok(Finding::Load {
+            hunks: counter.hunks(),
+        }),
+        Err(ReadFault::Refused(Refusal::Fault(fault))) => Ok(Finding::Refused(fault)),
+        Err(ReadFault::Refused(Refusal::OutOfMemory)) => Err(AllocError),
+        Err(ReadFault::Device) => Ok(Finding::Unread),
+    }
+}
+
+/// Writes the line about the file named `name`: the name, `: `, and what
+/// [`check_run`](crate::check_run) writes of the file, or the reason why there is nothing to write;
+/// and returns its length in bytes. It does not allocate.
+///
+/// # Errors
+///
+/// [`WriteFault::Device`] if a write failed or took no byte, with the number of bytes of the line
+/// that were written.
+pub fn write_finding<W: Sink>(
+    name: &str,
+    finding: Finding,
+    writer: &mut W,
+) -> Result<u64, WriteFault>
+    ensures wrote { Wrote W.taken W.failed writer.old writer.new (finding_line name.now finding) 0 result }
+    ensures device { IfErr result IsDevice }
+{
+    let (first, second) = phrases(finding);
+    let written = write_all(writer, 0, name.as_bytes())?;
+    write_end(writer, written, &first, &second)
+}
+
+/// What comes after the name of the file.
+fn phrases(finding: Finding) -> (Phrase, Phrase)
+    ensures { line (phrase_text result.0 ++ phrase_text result.1) ≡ codes ": " ++ finding_text finding }
+{
+    let nothing = Phrase::plain("");
+    match finding {
+        Finding::Object { units, hunks } => (
+            Phrase::decimal(": object file: ", units, " units, "),
+            Phrase::decimal("", hunks, " hunks"),
+        ),
+        Finding::Load { hunks } => (Phrase::decimal(": load file: ", hunks, " hunks"), nothing),
+        Finding::Refused(fault) => (
+            Phrase::decimal(": longword ", fault.place, ": "),
+            reason_phrase(fault.reason),
+        ),
+        Finding::Unread => (Phrase::plain(": read failed"), nothing),
+        Finding::Unopened => (Phrase::plain(": cannot be opened"), nothing),
+    }
+}
+
+/// Writes the last line of a survey: the number of files, and how many of them are object files,
+/// load files, refused and unreadable; and returns its length in bytes. It does not allocate.
+///
+/// # Errors
+///
+/// [`WriteFault::Device`] if a write failed or took no byte, with the number of bytes of the line
+/// that were written.
+pub fn write_totals<W: Sink>(findings: &[Finding], writer: &mut W) -> Result<u64, WriteFault>
+    ensures wrote { Wrote W.taken W.failed writer.old writer.new (totals_line findings.now) 0 result }
+    ensures device { IfErr result IsDevice }
+{
+    let objects = number_of_objects(findings);
+    let loads = number_of_loads(findings);
+    let refused = number_of_refused(findings);
+    let unreadable = number_of_unreadable(findings);
+    write_pieces(
+        writer,
+        0,
+        &[
+            Digits::decimal(findings.len() as u64).as_bytes(),
+            b" files: ",
+            Digits::decimal(objects as u64).as_bytes(),
+            b" object files, ",
+            Digits::decimal(loads as u64).as_bytes(),
+            b" load files, ",
+            Digits::decimal(refused as u64).as_bytes(),
+            b" refused, ",
+            Digits::decimal(unreadable as u64).as_bytes(),
+            b" unreadable\n",
+        ],
+    )
+}
+
+/// The exit status after a survey: 0 if all files are hunk files, 3 if one could not be read, and
+/// otherwise 1.
+pub fn survey_status(findings: &[Finding]) -> u8
+    ensures { result ≡ survey_status findings.now }
+{
+    if number_of_unreadable(findings) > 0 {
+        3
+    } else if number_of_refused(findings) > 0 {
+        1
+    } else {
+        0
+    }
+}
+
+/// How many of the files are object files.
+fn number_of_objects(findings: &[Finding]) -> usize
+    ensures { result ≡ number_of is_object findings.now }
+{
+    findings.iter().filter(|it| it.is_object()).count()
+}
+
+/// How many of the files are load files.
+fn number_of_loads(findings: &[Finding]) -> usize
+    ensures { result ≡ number_of is_load findings.now }
+{
+    findings.iter().filter(|it| it.is_load()).count()
+}
+
+/// How many of the files were refused.
+fn number_of_refused(findings: &[Finding]) -> usize
+    ensures { result ≡ number_of is_refused findings.now }
+{
+    findings.iter().filter(|it| it.is_refused()).count()
+}
+
+/// How many of the files could not be read.
+fn number_of_unreadable(findings: &[Finding]) -> usize
+    ensures { result ≡ number_of is_unreadable findings.now }
+{
+    findings.iter().filter(|it| it.is_unreadable()).count()
+}

@@ -1,0 +1,186 @@
+//! What a survey finds of files, and the lines that it writes.
+
+use super::asserts::{equals, equals_at, holds};
+use hunk_test_support::words::{ASSEMBLED, LINKED_ALONE};
+use hunk_test_support::{CHUNKS, Refusing, bytes_of};
+use hunk_tool::{Finding, survey_file, survey_status, write_finding, write_totals};
+use hunk_words::{Fault, Pieces, Reason, Room, WriteFault};
+use std::alloc::{AllocError, Global};
+use std::process::Abort;
+use std::test::Fail;
+
+// More allocations than a survey of a file makes.
+const MOST_GROWTHS: u64 = 64;
+
+const OBJECT: Finding = Finding::Object { units: 1, hunks: 2 };
+
+const LOAD: Finding = Finding::Load { hunks: 2 };
+
+const CUT: Finding = Finding::Refused(Fault {
+    place: 3,
+    reason: Reason::PartialLongword,
+});
+
+const STRANGE: Finding = Finding::Refused(Fault {
+    place: 0,
+    reason: Reason::WrongStart,
+});
+
+// Longwords and bytes of files, and what they are.
+const FILES: [(&[u32], &[u8], Finding); 4] = [
+    (&ASSEMBLED, &[], OBJECT),
+    (&LINKED_ALONE, &[], LOAD),
+    (&[0x3F3, 0, 1], &[0, 0], CUT),
+    (&[0x7F45_4C46], &[], STRANGE),
+];
+
+// This is found of the file, at most `chunk` bytes per read.
+fn is_found(
+    rt: &impl Abort,
+    alloc: Global,
+    bytes: &[u8],
+    chunk: usize,
+    wanted: Finding,
+) -> Result<(), Fail> {
+    assert!(rt; 1 <= chunk);
+    let mut reader = Pieces::new(bytes.to_vec(alloc)?, chunk, None);
+    let got = survey_file(alloc, &mut reader);
+    equals_at(rt, &("by", chunk), got, Ok(wanted));
+    Ok(())
+}
+
+#[test]
+fn finds_what_a_file_is(rt: HostRuntime) -> Result<(), Fail> {
+    for (words, rest, wanted) in FILES {
+        let bytes = bytes_of(rt.alloc(), words, rest)?;
+        for chunk in CHUNKS {
+            is_found(&rt, rt.alloc(), &bytes, chunk, wanted)?;
+        }
+    }
+    Ok(())
+}
+
+#[test]
+fn finds_that_a_read_failed(rt: HostRuntime) -> Result<(), Fail> {
+    for number in 0..3 {
+        let bytes = bytes_of(rt.alloc(), &ASSEMBLED, &[])?;
+        let mut reader = Pieces::new(bytes, 64, Some(number));
+        let got = survey_file(rt.alloc(), &mut reader);
+        equals_at(&rt, &("read", number), got, Ok(Finding::Unread));
+    }
+    Ok(())
+}
+
+// The number of allocations: the survey is out of memory with each of them failing, and finds what
+// the file is once none fails.
+fn growths_of(rt: &impl Abort, alloc: Global, words: &[u32], wanted: Finding) -> Result<u64, Fail> {
+    for refused in 0..MOST_GROWTHS {
+        let heap = Refusing::new(alloc, refused);
+        let mut reader = Pieces::new(bytes_of(alloc, words, &[])?, 5, None);
+        let got = survey_file(&heap, &mut reader);
+        if heap.asked() <= refused {
+            equals(rt, got, Ok(wanted));
+            return Ok(refused);
+        }
+        equals_at(rt, &("growth", refused), got, Err(AllocError));
+    }
+    holds(rt, &("each run was refused a growth", MOST_GROWTHS), false);
+    Ok(0)
+}
+
+#[test]
+fn is_out_of_memory_with_each_growth_refused(rt: HostRuntime) -> Result<(), Fail> {
+    // the sites of the first hunk; the sizes in the header, and the sites
+    for (words, wanted, least) in [(&ASSEMBLED[..], OBJECT, 1), (&LINKED_ALONE[..], LOAD, 2)] {
+        let growths = growths_of(&rt, rt.alloc(), words, wanted)?;
+        holds(&rt, &("growths", growths), least <= growths);
+    }
+    Ok(())
+}
+
+// Names of files, what was found of them, and the line about each.
+const LINES: [(&str, Finding, &str); 6] = [
+    ("a.o", OBJECT, "a.o: object file: 1 units, 2 hunks\n"),
+    ("c/Dir", LOAD, "c/Dir: load file: 2 hunks\n"),
+    ("x", CUT, "x: longword 3: file ends inside a longword\n"),
+    ("ls", STRANGE, "ls: longword 0: wrong first longword\n"),
+    ("", Finding::Unread, ": read failed\n"),
+    ("Über", Finding::Unopened, "Über: cannot be opened\n"),
+];
+
+const FINDINGS: [Finding; 6] = [
+    OBJECT,
+    LOAD,
+    CUT,
+    STRANGE,
+    Finding::Unread,
+    Finding::Unopened,
+];
+
+const TOTALS: &str = "6 files: 1 object files, 1 load files, 2 refused, 2 unreadable\n";
+
+// What is written.
+#[derive(Clone, Copy, Debug)]
+enum Line<'a> {
+    Of(&'a str, Finding),
+    Totals(&'a [Finding]),
+}
+
+impl Line<'_> {
+    fn write(self, writer: &mut Room<Global>) -> Result<u64, WriteFault> {
+        match self {
+            Line::Of(name, finding) => write_finding(name, finding, writer),
+            Line::Totals(findings) => write_totals(findings, writer),
+        }
+    }
+}
+
+// The line is written, and as much of it as there is room for, at most 7 bytes per write.
+fn is_written(rt: &impl Abort, alloc: Global, line: Line<'_>, text: &str) -> Result<(), Fail> {
+    for room in 0..text.len() {
+        let mut writer = Room::new(alloc, 7, room, false)?;
+        let written = room as u64;
+        equals_at(
+            rt,
+            &(line, "room for", room),
+            line.write(&mut writer),
+            Err(WriteFault::Device { written }),
+        );
+        equals(rt, Some(writer.bytes()), text.as_bytes().get(..room));
+    }
+    let mut writer = Room::new(alloc, 7, text.len(), false)?;
+    equals(rt, line.write(&mut writer), Ok(text.len() as u64));
+    equals(rt, writer.bytes(), text.as_bytes());
+    Ok(())
+}
+
+#[test]
+fn writes_a_line_about_each_file(rt: HostRuntime) -> Result<(), Fail> {
+    for (name, finding, text) in LINES {
+        is_written(&rt, rt.alloc(), Line::Of(name, finding), text)?;
+    }
+    Ok(())
+}
+
+#[test]
+fn writes_the_numbers_of_files(rt: HostRuntime) -> Result<(), Fail> {
+    is_written(&rt, rt.alloc(), Line::Totals(&FINDINGS), TOTALS)?;
+    let none = "0 files: 0 object files, 0 load files, 0 refused, 0 unreadable\n";
+    is_written(&rt, rt.alloc(), Line::Totals(&[]), none)
+}
+
+#[test]
+fn tells_the_status_of_a_survey(rt: HostRuntime) {
+    let rows: [(&[Finding], u8); 7] = [
+        (&[], 0),
+        (&[OBJECT, LOAD], 0),
+        (&[CUT], 1),
+        (&[OBJECT, STRANGE, LOAD], 1),
+        (&[Finding::Unread], 3),
+        (&[CUT, Finding::Unopened, OBJECT], 3),
+        (&[Finding::Unread, CUT], 3),
+    ];
+    for (findings, status) in rows {
+        equals_at(&rt, &findings, survey_status(findings), status);
+    }
+}
