@@ -16,8 +16,24 @@ pub const SITE_BYTES: u32 = 4;
 /// How many bytes of the hunk a page has.
 pub const PAGE_BYTES: u32 = 4096;
 
-// How many sites the first allocation of a page has room for at least. Later ones double it.
+// How many sites the first allocation of a page has room for at least.
 const FIRST_SITES: usize = 3;
+
+// How many more sites a full page gets room for, where the pages beside it have `near` sites. The first
+// allocation has room for one more than these have, since most files spread their sites evenly. Later
+// ones double it; or they make room for half as many again as the pages beside it have, up to three
+// times what it has itself: in a file that has its offsets target by target, a page gets as many sites
+// from each target as those beside it have got, and they are one target ahead.
+fn more_room(sites: usize, near: usize) -> usize {
+    if sites == 0 {
+        return FIRST_SITES.max(near.saturating_add(1));
+    }
+    let wanted = near.saturating_add(near / 2).saturating_add(FIRST_SITES);
+    wanted
+        .min(sites.saturating_mul(3))
+        .saturating_sub(sites)
+        .max(sites)
+}
 
 // Inserts a site at its place. In most files sites come by rising offset, so most are the last one.
 fn put<T: Copy, A: Allocator + Copy>(
@@ -125,21 +141,24 @@ impl<T: Copy, A: Allocator + Copy> Page<T, A> {
         Some(place)
     }
 
-    /// Inserts a site at its place. The first allocation has room for `room` sites, and for three at
-    /// least. If an allocation fails, the page stays as it was.
-    pub fn insert(
-        &mut self,
-        place: usize,
-        offset: u32,
-        target: T,
-        room: usize,
-    ) -> Result<(), AllocError>
+    /// Whether one more site needs an allocation.
+    pub fn is_full(&self) -> bool {
+        self.sites.len() == self.sites.capacity()
+    }
+
+    /// Makes room for more sites in a full page, where the pages beside it have `near` sites. The page
+    /// stays as it was, also if the allocation fails.
+    pub fn make_room(&mut self, near: usize) -> Result<(), AllocError>
+        ensures { self.new ≡ self.old }
+    {
+        self.sites.reserve_exact(more_room(self.sites.len(), near))
+    }
+
+    /// Inserts a site at its place. If an allocation fails, the page stays as it was.
+    pub fn insert(&mut self, place: usize, offset: u32, target: T) -> Result<(), AllocError>
         requires { IsFreePlace self.old offset place }
         ensures { self.new ≡ (if is_ok result then insert self.old place (offset, target) else self.old) }
     {
-        if self.sites.capacity() == 0 {
-            self.sites.reserve_exact(FIRST_SITES.max(room))?;
-        }
         put(&mut self.sites, place, (offset, target))
     }
 

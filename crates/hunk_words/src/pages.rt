@@ -38,6 +38,18 @@ fn place_in<T: Copy, A: Allocator + Copy>(
     }
 }
 
+// The same among the sites of a page beside that of the offset, which is seldom asked for.
+#[inline(never)]
+fn place_beside<T: Copy, A: Allocator + Copy>(
+    pages: &[Page<T, A>],
+    number: usize,
+    offset: u32,
+) -> Option<usize>
+    ensures { MatchOption result (Meets (page_at pages.now number) offset) (IsFreePlace (page_at pages.now number) offset) }
+{
+    place_in(pages, number, offset)
+}
+
 /// The place for a site at the offset in its page, or `None` where it would share a byte with another
 /// site. Within three bytes of the end of its page, that one may belong to the page beside it.
 pub fn free_place<T: Copy, A: Allocator + Copy>(pages: &[Page<T, A>], offset: u32) -> Option<usize>
@@ -47,11 +59,11 @@ pub fn free_place<T: Copy, A: Allocator + Copy>(pages: &[Page<T, A>], offset: u3
 {
     let number = page_number(u64::from(offset));
     let first = page_number(u64::from(offset).saturating_sub(LAST_BYTE));
-    if first < number && place_in(pages, first, offset).is_none() {
+    if first < number && place_beside(pages, first, offset).is_none() {
         return None;
     }
     let last = page_number(u64::from(offset) + LAST_BYTE);
-    if number < last && place_in(pages, last, offset).is_none() {
+    if number < last && place_beside(pages, last, offset).is_none() {
         return None;
     }
     place_in(pages, number, offset)
@@ -86,16 +98,45 @@ fn count_in<T: Copy, A: Allocator + Copy>(pages: &[Page<T, A>], number: usize) -
     }
 }
 
-// How many sites the first allocation of a page has room for: one more than the page before has, since
-// most files spread their sites evenly. In a file whose offsets fall it is the pages after that have
-// sites: there it is one more than the fewer of the next two have. Where the room of a page counts as
-// memory of the one that it follows, no page has memory for more than about three times its sites: a
-// page with many sites and few in the page after it lends its count to that one alone.
-fn room_of<T: Copy, A: Allocator + Copy>(pages: &[Page<T, A>], number: usize) -> usize {
+// How many sites the pages beside a page have, by which it gets its room: as many as the page before
+// has. In a file whose offsets fall it is the pages after that have sites: there it is the fewer of
+// what the next two have. So a page with many sites and few in the page after it is the measure of that
+// one alone, and all pages together have memory for at most three times their sites.
+fn count_beside<T: Copy, A: Allocator + Copy>(pages: &[Page<T, A>], number: usize) -> usize {
     let before = count_in(pages, number.wrapping_sub(1));
     let next = count_in(pages, number.wrapping_add(1));
     let second = count_in(pages, number.wrapping_add(2));
-    before.max(next.min(second)).saturating_add(1)
+    before.max(next.min(second))
+}
+
+// Appends empty pages up to the one with the number, and makes room for more sites in that one.
+#[inline(never)]
+fn grow<T: Copy, A: Allocator + Copy>(
+    pages: &mut Vec<Page<T, A>, A>,
+    number: usize,
+) -> Result<(), AllocError>
+    requires { number < 2 ^ 32 }
+    ensures reached { OnOk result (number < vec_len pages.new) }
+    ensures extends { AppendsEmptyPages pages.old.items pages.new.items }
+{
+    grow_to(pages, number)?;
+    let near = count_beside(pages, number);
+    pages[number].make_room(near)
+}
+
+// Makes room for one more site in the page with the number, if there is none.
+fn make_room<T: Copy, A: Allocator + Copy>(
+    pages: &mut Vec<Page<T, A>, A>,
+    number: usize,
+) -> Result<(), AllocError>
+    requires { number < 2 ^ 32 }
+    ensures reached { OnOk result (number < vec_len pages.new) }
+    ensures extends { AppendsEmptyPages pages.old.items pages.new.items }
+{
+    if number < pages.len() && !pages[number].is_full() {
+        return Ok(());
+    }
+    grow(pages, number)
 }
 
 /// Inserts a site at its place in its page. If an allocation fails, the sites stay as they were.
@@ -111,9 +152,8 @@ pub fn insert<T: Copy, A: Allocator + Copy>(
     ensures inserted { all_sites pages.new.items ≡ (if is_ok result then insert_entry nat_cmp (all_sites pages.old.items) offset target else all_sites pages.old.items) }
 {
     let number = page_number(u64::from(offset));
-    grow_to(pages, number)?;
-    let room = room_of(pages, number);
-    pages[number].insert(place, offset, target, room)
+    make_room(pages, number)?;
+    pages[number].insert(place, offset, target)
 }
 
 /// The target of the site at an offset.

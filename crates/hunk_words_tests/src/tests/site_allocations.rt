@@ -47,7 +47,7 @@ fn allocations_of_adding(rt: &impl Abort, alloc: Global, refused: u64) -> Result
 fn adds_sites_with_each_allocation_refused(rt: HostRuntime) -> Result<(), Fail> {
     for refused in 0..MOST_ALLOCATIONS {
         if allocations_of_adding(&rt, rt.alloc(), refused)? <= refused {
-            // the directory twice, its four pages, and two more blocks of the first page
+            // the directory twice, its four pages, and one more block of the first page
             holds(&rt, &("allocations", refused), 7 <= refused);
             return Ok(());
         }

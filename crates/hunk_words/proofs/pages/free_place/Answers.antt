@@ -7,11 +7,11 @@ use Rattle.hunk_words.proofs.pages.free_place.Goals.{else-first-number-via-then-
 
 pub returns-then-is_none-clause-none : goal.returns-then-is_none-clause-none
 returns-then-is_none-clause-none g c =
-    Meets-no_place c.args.offset c.page_number-first.result c.place_in.result c.args.pages.now c.place_in.ensures (c.is_none.ensures ∙ ap not c.if-is_none.true)
+    Meets-no_place c.args.offset c.page_number-first.result c.place_beside.result c.args.pages.now c.place_beside.ensures (c.is_none.ensures ∙ ap not c.if-is_none.true)
 
 pub returns-then-is_none-2-clause-none : goal.returns-then-is_none-2-clause-none
 returns-then-is_none-2-clause-none g c =
-    Meets-no_place c.args.offset c.page_number-last.result c.place_in-then-number-last.result c.args.pages.now c.place_in-then-number-last.ensures
+    Meets-no_place c.args.offset c.page_number-last.result c.place_beside-then-number-last.result c.args.pages.now c.place_beside-then-number-last.ensures
     (c.is_none-then-number-last.ensures ∙ ap not c.if-is_none-2.true)
 
 pub returns-clause-none : goal.returns-clause-none
@@ -19,15 +19,15 @@ returns-clause-none g c =
     let before : c.page_number-first.result < c.page_number-number.result → Meets (page_at c.args.pages.now c.page_number-first.result) c.args.offset → ⊥ =
     elim c.else-first-number.branch [
       | else-first-number-via-then-first-number+else-is_none w ↦
-          λ below. Meets-place c.args.offset c.page_number-first.result w.place_in.result c.args.pages.now w.place_in.ensures (w.is_none.ensures ∙ ap not w.if-is_none.false)
+          λ below. Meets-place c.args.offset c.page_number-first.result w.place_beside.result c.args.pages.now w.place_beside.ensures (w.is_none.ensures ∙ ap not w.if-is_none.false)
       | else-first-number-via-else-first-number w ↦ λ below. absurd (omega arith)
     ] in
     let after : c.page_number-number.result < c.page_number-last.result → Meets (page_at c.args.pages.now c.page_number-last.result) c.args.offset → ⊥ =
     elim c.else-number-last.branch [
       | else-number-last-via-then-number-last+else-is_none-2 w ↦
-          λ below. Meets-place c.args.offset c.page_number-last.result w.place_in-then-number-last.result c.args.pages.now w.place_in-then-number-last.ensures
+          λ below. Meets-place c.args.offset c.page_number-last.result w.place_beside-then-number-last.result c.args.pages.now w.place_beside-then-number-last.ensures
           (w.is_none-then-number-last.ensures ∙ ap not w.if-is_none-2.false)
       | else-number-last-via-else-number-last w ↦ λ below. absurd (omega arith)
     ] in
-    Meets-own_place c.args.offset c.page_number-first.result c.page_number-number.result c.page_number-last.result c.place_in-2.result c.args.pages.now c.requires
-    (omega arith) (omega arith) (omega arith) before after c.place_in-2.ensures
+    Meets-own_place c.args.offset c.page_number-first.result c.page_number-number.result c.page_number-last.result c.place_in.result c.args.pages.now c.requires
+    (omega arith) (omega arith) (omega arith) before after c.place_in.ensures
