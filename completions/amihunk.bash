@@ -22,7 +22,8 @@ _amihunk() {
     case "$command" in
         '') options='--help --version' ;;
         link) options='--out --strip --short --trim --help' ;;
-        load | image) options='--at --srec --help' ;;
+        load) options='--at --srec --symbols --help' ;;
+        image) options='--at --srec --help' ;;
         check | show | survey) options='--help' ;;
         *) return ;;
     esac

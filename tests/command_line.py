@@ -105,6 +105,8 @@ def the_words_of_a_load_come_in_any_order(program):
         program.prints(model.report_of(bases, contents), "load", *line.split())
     for line in ("--at 10000 --srec x", "--srec x --at=00010000"):
         program.prints(model.records_of(bases, contents), "load", *line.split())
+    for line in ("--at 10000 --symbols x", "--symbols x --at=00010000", "x --symbols --at 10000"):
+        program.prints('00010000 hunk 0 "s"\n', "load", *line.split())
 
 
 def lines_of(name):

@@ -109,6 +109,14 @@ def records_of(bases, memory):
     return "".join(lines)
 
 
+def symbols_of(units, bases):
+    """What `load` prints with `--symbols`, unless the symbols were left out. The names are plain."""
+    hunks = [hunk for unit in units for hunk in unit]
+    lines = [f'{(base + value) % MODULUS:08x} hunk {number} "{name.decode()}"'
+             for number, (base, hunk) in enumerate(zip(bases, hunks)) for name, value in hunk.symbols]
+    return "".join(f"{line}\n" for line in lines)
+
+
 def addresses(bases):
     """Bases as `--at` takes them."""
     return ",".join(f"{base:x}" for base in bases)

@@ -40,6 +40,7 @@ def random_units_are_linked_and_loaded_as_their_memory(program):
         hunks = sum(map(len, units[: ends[0]]))
         program.prints(f"object file: {ends[0]} units, {hunks} hunks\n", "check", files[0])
         program.prints(records, "load", "--at", at, "--srec", "out")
+        program.prints("" if "--strip" in options else model.symbols_of(units, bases), "load", "--at", at, "--symbols", "out")
         program.prints(records, "image", "--srec", "--at", at, *files)
 
 
@@ -67,6 +68,26 @@ def a_listing_tells_what_is_in_a_file(program):
         "hunk 1 bss any 2 longwords, 0 stored\n"
     )
     program.prints(listing, "show", "x")
+
+
+@test
+def symbols_are_printed_with_their_addresses(program):
+    code, data = Hunk(CODE, [0, 0]), Hunk(DATA, [0])
+    code.symbols, data.symbols = [(b"loop", 6), (b'a"\xff', 0xFFFFFFFF)], [(b"loop", 4)]
+    program.write("x.o", model.object_file([[code, Hunk(model.BSS, [0])], [data]]))
+    program.prints("", "link", "--out", "x", "x.o")
+    lines = '00010006 hunk 0 "loop"\n0000ffff hunk 0 "a\\x22\\xff"\n00000000 hunk 2 "loop"\n'
+    program.prints(lines, "load", "--at", "10000,20000,fffffffc", "--symbols", "x")
+    program.fails(REFUSED, "places: wrong number of addresses", "load", "--symbols", "--at", "10000", "x")
+    program.fails(REFUSED, "places: hunk 2 passes the end of memory", "load", "--symbols", "--at", "0,8,fffffffd", "x")
+    program.fails(REFUSED, "places: hunks 0 and 2 overlap", "load", "--symbols", "--at", "0,8,4", "x")
+    program.fails(REFUSED, "x.o: longword 0: wrong first longword", "load", "--symbols", "--at", "0", "x.o")
+    program.fails(BAD_WORDS, "--at: part 1 is not 1 to 8 hexadecimal digits", "load", "--symbols", "--at", "0,", "missing")
+    program.fails(DEVICE, "missing: cannot be opened", "load", "--symbols", "--at", "0", "missing")
+    program.write("plain", LOAD_FILE)
+    program.prints("", "load", "--at", "0", "--symbols", "plain")
+    with open("/dev/full", "wb") as full:
+        program.fails(DEVICE, "output: write failed", "load", "--at", "0,8,10", "--symbols", "x", stdout=full)
 
 
 @test

@@ -1,5 +1,5 @@
 -- What the arguments of a command line ask for.
-use Rattle.std.proofs.Common.{◌≡◌, ◌<◌, ◌≤◌, All, List, [], ◌∷◌, ◌++◌, ◌⊎◌, ◌∙◌, arith, codes, IfOk, inl, inr, length, Err, Ok, refl, Result, subst, sym}
+use Rattle.std.proofs.Common.{◌≡◌, ◌<◌, ◌≤◌, All, List, [], ◌∷◌, ◌++◌, ◌⊎◌, ◌∙◌, arith, codes, false, IfOk, inl, inr, length, Err, Ok, refl, Result, Some, subst, sym}
 use Rattle.std.proofs.lemmas.List.{length-append}
 use Rattle.clap.proofs.OnLiterals.{clap_on_literals}
 use Rattle.std.specs.Prelude.{⊤}
@@ -7,26 +7,27 @@ use Rattle.std.specs.Result.{result_unwrap_or}
 use Rattle.std.specs.declared.alloc.AllocError.{AllocError}
 use Rattle.clap.specs.Lexer.{usize_max}
 use Rattle.clap.specs.Walk.{texts}
-use Rattle.clap.specs.Words.{IsAmong, Text, fault_of, subcommand_of}
+use Rattle.clap.specs.Words.{IsAmong, Row, Text, fault_of, subcommand_of}
 use Rattle.clap.specs.declared.error.ErrorKind.{ErrorKind}
 use Rattle.clap.specs.declared.error.ErrorKind.TheVariants as error
 use Rattle.hunk_tool.specs.declared.link_options.LinkOptions.{LinkOptions}
 use Rattle.hunk_commands.specs.declared.request.Request.{Request}
 use Rattle.hunk_commands.specs.declared.request.Request.TheVariants.{Link, Load, Image, Check, Show, Survey, Version, Help, Refused, OutOfMemory}
-use Rattle.amihunk.specs.CommandLine.{Answers, AsksCheck, AsksImage, AsksLink, AsksLoad, AsksShow, AsksSurvey, AsksVersion, IsAskedBy, IsCalled, IsCalledOn, IsImage, IsLink, IsLoad, IsNoFlag, IsVersionWord, Says, Met, brief_link_line, brief_words, command_line, file_line, form_words, image_line, link_line, load_line, option_words, survey_line, version_line}
+use Rattle.amihunk.specs.CommandLine.{Answers, AsksCheck, AsksImage, AsksLink, AsksLoad, AsksShow, AsksSurvey, AsksVersion, IsAskedBy, IsCalled, IsCalledOn, IsConflict, IsImage, IsLink, IsLoad, IsNoFlag, IsRefusedBy, IsVersionWord, Says, Met, asks_srec, asks_symbols, brief_link_line, brief_words, command_line, file_line, form_words, image_line, link_line, load_line, option_words, survey_line, version_line}
 use Rattle.hunk_tool.specs.declared.image_form.ImageForm.{ImageForm}
-use Rattle.amihunk.proofs.CommandLineValueLemmas.{IsCalled-same, IsCalledOn-same, IsImage-same, IsLink-same, IsLoad-same, names_apart}
+use Rattle.hunk_commands.specs.declared.load.LoadText.{LoadText}
+use Rattle.std.specs.Str.{bytes_eq}
+use Rattle.amihunk.proofs.CommandLineValueLemmas.{IsCalled-same, IsCalledOn-same, IsImage-same, IsLink-same, IsLoad-one, names_apart, no_conflict}
 use Rattle.amihunk.proofs.CommandLineFileLemmas.{calls-check, calls-show, fault_of-file_line, is_called-file_line}
 use Rattle.amihunk.proofs.CommandLineImageLemmas.{fault_of-image_line, is_image-image_line}
 use Rattle.amihunk.proofs.CommandLineLinkLemmas.{IsLinkFront, fault_of-link_words, front-brief, front-link, is_link-link_words}
 use Rattle.amihunk.proofs.CommandLineLoadLemmas.{fault_of-load_line, is_load-load_line}
 use Rattle.amihunk.proofs.CommandLineSurveyLemmas.{fault_of-survey_line, is_called-survey_line}
 
--- the request is neither help nor the version nor a rejection
+-- the request is neither help nor the version
 abbrev IsNoAnswer : Request → Type 0
 IsNoAnswer Version = ⊥
 IsNoAnswer (Help text) = ⊥
-IsNoAnswer (Refused text) = ⊥
 IsNoAnswer _ = ⊤
 
 -- what one of the kinds of error asks for is what the arguments ask for
@@ -43,22 +44,22 @@ asked_by_kind words Version k (inr among) answers = subst (λ (x : ErrorKind). I
 asked_by_kind words (Help text) k (inl none) answers = cc
 asked_by_kind words (Help text) k (inr among) answers = subst (λ (x : ErrorKind). IsAmong x (fault_of command_line words)) answers among
 asked_by_kind words (Refused text) k (inl none) answers = absurd (answers.2 none)
-asked_by_kind words (Refused text) k (inr among) answers = record { kind = k; among = among; no_help = answers.0; no_version = answers.1 }
+asked_by_kind words (Refused text) k (inr among) answers = inl (record { kind = k; among = among; no_help = answers.0; no_version = answers.1 })
 asked_by_kind words OutOfMemory k has answers = tt
 
 -- the request that matches what was found is what arguments ask for with which nothing is wrong
 asked_by_met : (words : List Text) (met : Met) (request : Request) → fault_of command_line words ≡ []
     → met ≡ subcommand_of command_line words → Says met request → IsAskedBy words request
 asked_by_met words met (Link out options files) quiet is link = (quiet, subst (λ m. IsLink m out.now options (texts files.items)) is link)
-asked_by_met words met (Load list form file) quiet is load = (quiet, subst (λ m. IsLoad m list.now form file.now) is load)
+asked_by_met words met (Load list text file) quiet is load = (quiet, subst (λ m. IsLoad m list.now (asks_srec text) (asks_symbols text) file.now) is load)
 asked_by_met words met (Image list form files) quiet is image = (quiet, subst (λ m. IsImage m list.now form (texts files.items)) is image)
 asked_by_met words met (Check file) quiet is check = (quiet, subst (λ m. IsCalled m (codes "check") file.now) is check)
 asked_by_met words met (Show file) quiet is show = (quiet, subst (λ m. IsCalled m (codes "show") file.now) is show)
 asked_by_met words met (Survey files) quiet is survey = (quiet, subst (λ m. IsCalledOn m (codes "survey") (texts files.items)) is survey)
 asked_by_met words met Version quiet is nothing = absurd nothing
 asked_by_met words met (Help text) quiet is nothing = absurd nothing
-asked_by_met words met (Refused text) quiet is nothing = absurd nothing
-asked_by_met words met OutOfMemory quiet is nothing = absurd nothing
+asked_by_met words met (Refused text) quiet is conflict = inr (quiet, subst IsConflict is conflict)
+asked_by_met words met OutOfMemory quiet is nothing = tt
 
 -- the same, where memory may have run out
 pub asked_by_result : (words : List Text) (met : Met) (r : Result Request AllocError) (request : Request) → fault_of command_line words ≡ []
@@ -66,7 +67,7 @@ pub asked_by_result : (words : List Text) (met : Met) (r : Result Request AllocE
 asked_by_result words met (Ok found) request quiet is says same = subst (IsAskedBy words) (sym same) (asked_by_met words met found quiet is says)
 asked_by_result words met (Err e) request quiet is says same = subst (IsAskedBy words) (sym same) tt
 
--- arguments with which nothing is wrong ask neither for help nor are they rejected
+-- arguments with which nothing is wrong ask neither for help nor for the version
 asks_no_help : (words : List Text) (request : Request) → fault_of command_line words ≡ [] → IsAskedBy words request → IsNoAnswer request
 asks_no_help words (Link out options files) quiet asked = tt
 asks_no_help words (Load list form file) quiet asked = tt
@@ -76,8 +77,21 @@ asks_no_help words (Show file) quiet asked = tt
 asks_no_help words (Survey files) quiet asked = tt
 asks_no_help words Version quiet asked = subst (λ kinds. IsAmong error.DisplayVersion kinds) quiet asked
 asks_no_help words (Help text) quiet asked = subst (λ kinds. IsAmong error.DisplayHelp kinds) quiet asked
-asks_no_help words (Refused text) quiet asked = subst (λ kinds. IsAmong asked.kind kinds) quiet asked.among
+asks_no_help words (Refused text) quiet asked = tt
 asks_no_help words OutOfMemory quiet asked = tt
+
+-- and they are rejected only for the two flags of `load`
+refused_for_flags : (words : List Text) → fault_of command_line words ≡ [] → IsRefusedBy (fault_of command_line words) ⊎ ((fault_of command_line words ≡ []) × IsConflict (subcommand_of command_line words))
+    → IsConflict (subcommand_of command_line words)
+refused_for_flags words quiet (inl refused) = absurd (subst (λ kinds. IsAmong refused.kind kinds) quiet refused.among)
+refused_for_flags words quiet (inr (also, conflict)) = conflict
+
+-- so not where the subcommand is another
+not_refused : (words : List Text) (name : Text) (rows : List Row) → fault_of command_line words ≡ [] → subcommand_of command_line words ≡ Some (name, rows) → bytes_eq (codes "load") name ≡ false
+    → IsRefusedBy (fault_of command_line words) ⊎ ((fault_of command_line words ≡ []) × IsConflict (subcommand_of command_line words)) → ⊥
+not_refused words name rows quiet called other refused =
+    let conflict = refused_for_flags words quiet refused in
+    names_apart (subcommand_of command_line words) (codes "load") name conflict.is_load.of_file.rows rows conflict.is_load.of_file.called called other
 
 -- what arguments that are `link` with this OUT, these options, and these files ask for
 asks_link : (words : List Text) (out : Text) (options : LinkOptions) (files : List Text) → fault_of command_line words ≡ [] → IsLink (subcommand_of command_line words) out options files
@@ -90,21 +104,21 @@ asks_link words out options files quiet is (Show f) asked = absurd (names_apart 
 asks_link words out options files quiet is (Survey fs) asked = absurd (names_apart _ (codes "survey") (codes "link") _ _ asked.1.called is.of_files.called refl)
 asks_link words out options files quiet is Version asked = asks_no_help words Version quiet asked
 asks_link words out options files quiet is (Help text) asked = asks_no_help words (Help text) quiet asked
-asks_link words out options files quiet is (Refused text) asked = asks_no_help words (Refused text) quiet asked
+asks_link words out options files quiet is (Refused text) asked = absurd (not_refused words (codes "link") is.of_files.rows quiet is.of_files.called refl asked)
 asks_link words out options files quiet is OutOfMemory asked = tt
 
--- what arguments that are `load` with this LIST, this form and this FILE ask for
-asks_load : (words : List Text) (list : Text) (wanted : ImageForm) (file : Text) → fault_of command_line words ≡ [] → IsLoad (subcommand_of command_line words) list wanted file
+-- what arguments that are `load` with this LIST, for this text of this FILE, ask for
+asks_load : (words : List Text) (list : Text) (wanted : LoadText) (file : Text) → fault_of command_line words ≡ [] → IsLoad (subcommand_of command_line words) list (asks_srec wanted) (asks_symbols wanted) file
     → (request : Request) → IsAskedBy words request → AsksLoad list wanted file request
 asks_load words list wanted file quiet is (Link o s fs) asked = absurd (names_apart _ (codes "link") (codes "load") _ _ asked.1.of_files.called is.of_file.called refl)
-asks_load words list wanted file quiet is (Load l form f) asked = IsLoad-same _ l.now list form wanted f.now file asked.1 is
+asks_load words list wanted file quiet is (Load l told f) asked = IsLoad-one _ l.now list told wanted f.now file asked.1 is
 asks_load words list wanted file quiet is (Image l form fs) asked = absurd (names_apart _ (codes "image") (codes "load") _ _ asked.1.of_files.called is.of_file.called refl)
 asks_load words list wanted file quiet is (Check f) asked = absurd (names_apart _ (codes "check") (codes "load") _ _ asked.1.called is.of_file.called refl)
 asks_load words list wanted file quiet is (Show f) asked = absurd (names_apart _ (codes "show") (codes "load") _ _ asked.1.called is.of_file.called refl)
 asks_load words list wanted file quiet is (Survey fs) asked = absurd (names_apart _ (codes "survey") (codes "load") _ _ asked.1.called is.of_file.called refl)
 asks_load words list wanted file quiet is Version asked = asks_no_help words Version quiet asked
 asks_load words list wanted file quiet is (Help text) asked = asks_no_help words (Help text) quiet asked
-asks_load words list wanted file quiet is (Refused text) asked = asks_no_help words (Refused text) quiet asked
+asks_load words list wanted file quiet is (Refused text) asked = absurd (no_conflict _ list wanted file is (refused_for_flags words quiet asked))
 asks_load words list wanted file quiet is OutOfMemory asked = tt
 
 -- what arguments that are `image` with this LIST, this form and these files ask for
@@ -118,7 +132,7 @@ asks_image words list wanted files quiet is (Show f) asked = absurd (names_apart
 asks_image words list wanted files quiet is (Survey fs) asked = absurd (names_apart _ (codes "survey") (codes "image") _ _ asked.1.called is.of_files.called refl)
 asks_image words list wanted files quiet is Version asked = asks_no_help words Version quiet asked
 asks_image words list wanted files quiet is (Help text) asked = asks_no_help words (Help text) quiet asked
-asks_image words list wanted files quiet is (Refused text) asked = asks_no_help words (Refused text) quiet asked
+asks_image words list wanted files quiet is (Refused text) asked = absurd (not_refused words (codes "image") is.of_files.rows quiet is.of_files.called refl asked)
 asks_image words list wanted files quiet is OutOfMemory asked = tt
 
 -- what arguments that are `check` with this FILE ask for
@@ -132,7 +146,7 @@ asks_check words file quiet is (Show f) asked = absurd (names_apart _ (codes "sh
 asks_check words file quiet is (Survey fs) asked = absurd (names_apart _ (codes "survey") (codes "check") _ _ asked.1.called is.called refl)
 asks_check words file quiet is Version asked = asks_no_help words Version quiet asked
 asks_check words file quiet is (Help text) asked = asks_no_help words (Help text) quiet asked
-asks_check words file quiet is (Refused text) asked = asks_no_help words (Refused text) quiet asked
+asks_check words file quiet is (Refused text) asked = absurd (not_refused words (codes "check") is.rows quiet is.called refl asked)
 asks_check words file quiet is OutOfMemory asked = tt
 
 -- what arguments that are `show` with this FILE ask for
@@ -146,7 +160,7 @@ asks_show words file quiet is (Show f) asked = IsCalled-same _ (codes "show") (c
 asks_show words file quiet is (Survey fs) asked = absurd (names_apart _ (codes "survey") (codes "show") _ _ asked.1.called is.called refl)
 asks_show words file quiet is Version asked = asks_no_help words Version quiet asked
 asks_show words file quiet is (Help text) asked = asks_no_help words (Help text) quiet asked
-asks_show words file quiet is (Refused text) asked = asks_no_help words (Refused text) quiet asked
+asks_show words file quiet is (Refused text) asked = absurd (not_refused words (codes "show") is.rows quiet is.called refl asked)
 asks_show words file quiet is OutOfMemory asked = tt
 
 -- what arguments that are `survey` with these files ask for
@@ -160,7 +174,7 @@ asks_survey words files quiet is (Show f) asked = absurd (names_apart _ (codes "
 asks_survey words files quiet is (Survey fs) asked = IsCalledOn-same _ (codes "survey") (codes "survey") (texts fs.items) files asked.1 is
 asks_survey words files quiet is Version asked = asks_no_help words Version quiet asked
 asks_survey words files quiet is (Help text) asked = asks_no_help words (Help text) quiet asked
-asks_survey words files quiet is (Refused text) asked = asks_no_help words (Refused text) quiet asked
+asks_survey words files quiet is (Refused text) asked = absurd (not_refused words (codes "survey") is.rows quiet is.called refl asked)
 asks_survey words files quiet is OutOfMemory asked = tt
 
 -- the same, of the plain forms; there are at most 2 ^ 64 - 1 words
@@ -189,11 +203,11 @@ pub asks_brief_where : (words : List Text) (request : Request) → length words 
 asks_brief_where words request fits asked program options out files is_line plain_out =
     asks_link_words words request fits asked program options out (codes "-o" ∷ out ∷ brief_words options) files (front-brief options out plain_out) is_line
 
-pub asks_load_where : (words : List Text) (request : Request) → IsAskedBy words request → (program list : Text) (form : ImageForm) (file : Text)
-    → words ≡ load_line program list form file → IsNoFlag list → IsNoFlag file → AsksLoad list form file request
-asks_load_where words request asked program list form file is_line plain_list plain_file =
-    asks_load (load_line program list form file) list form file (fault_of-load_line program form list file plain_list plain_file)
-    (is_load-load_line program form list file plain_list plain_file) request (subst (λ w. IsAskedBy w request) is_line asked)
+pub asks_load_where : (words : List Text) (request : Request) → IsAskedBy words request → (program list : Text) (text : LoadText) (file : Text)
+    → words ≡ load_line program list text file → IsNoFlag list → IsNoFlag file → AsksLoad list text file request
+asks_load_where words request asked program list text file is_line plain_list plain_file =
+    asks_load (load_line program list text file) list text file (fault_of-load_line program text list file plain_list plain_file)
+    (is_load-load_line program text list file plain_list plain_file) request (subst (λ w. IsAskedBy w request) is_line asked)
 
 pub asks_image_where : (words : List Text) (request : Request) → length words ≤ usize_max → IsAskedBy words request
     → (program list : Text) (form : ImageForm) (files : List Text) → words ≡ image_line program list form files
@@ -240,10 +254,11 @@ asks_version words only (Help text) asked = elim (subst (λ kinds. IsAmong error
   | inl other ↦ cc
   | inr none ↦ none
 ]
-asks_version words only (Refused text) asked = elim (subst (λ kinds. IsAmong asked.kind kinds) only asked.among) [
-  | inl is ↦ asked.no_version is
+asks_version words only (Refused text) (inl refused) = elim (subst (λ kinds. IsAmong refused.kind kinds) only refused.among) [
+  | inl is ↦ refused.no_version is
   | inr none ↦ none
 ]
+asks_version words only (Refused text) (inr (quiet, conflict)) = let none : [] ≡ error.DisplayVersion ∷ [] = sym quiet ∙ only in cc
 asks_version words only OutOfMemory asked = tt
 
 version_fault : (program word : Text) → IsVersionWord word → fault_of command_line (version_line program word) ≡ error.DisplayVersion ∷ []

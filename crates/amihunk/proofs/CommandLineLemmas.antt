@@ -128,24 +128,22 @@ sound_link words e =
       trim_is = trim.1;
     })
 
--- the form that `--srec` asks for, or not
-form_read : (rows : List Row) → Filled rows → has_row (codes "srec") rows ≡ true → (form : ImageForm) × IsFlag rows (codes "srec") (is_srec form)
-form_read rows full has = go (flag_read (codes "srec") rows refl full has)
-  where
-    go : (given : Bool) × IsFlag rows (codes "srec") given → (form : ImageForm) × IsFlag rows (codes "srec") (is_srec form)
-    go (true, is) = (SRecords, is)
-    go (false, is) = (Report, is)
-
 -- `load`
 
 load_filling : AllFilling false built_load.rules
-load_filling = (inr (inl (inl refl, (omega arith, refl))), (flag_filling None (codes "srec"), (inr (inl (inl refl, (omega arith, refl))), (inl refl, tt))))
+load_filling = (
+  inr (inl (inl refl, (omega arith, refl))),
+  (flag_filling None (codes "srec"), (flag_filling None (codes "symbols"), (inr (inl (inl refl, (omega arith, refl))), (inl refl, tt)))),
+)
 
 load_defaults : AllDefaulting built_load.rules
-load_defaults = (inl refl, (inr (refl, refl), (inl refl, (inl refl, tt))))
+load_defaults = (inl refl, (inr (refl, refl), (inr (refl, refl), (inl refl, (inl refl, tt)))))
 
 load_srec : IsDefaulted (codes "srec") built_load.rules
 load_srec = inr (inl (flag_default None (codes "srec")))
+
+load_symbols : IsDefaulted (codes "symbols") built_load.rules
+load_symbols = inr (inr (inl (flag_default None (codes "symbols"))))
 
 sound_load : IsSound built_load
 sound_load words e =
@@ -154,10 +152,25 @@ sound_load words e =
     let given = both_given (is_given (codes "at") rows) (is_given (codes "file") rows) right.checked in
     let list = value_given (codes "at") rows right.filled given.0 in
     let file = value_given (codes "file") rows right.filled given.1 in
-    let form = form_read rows right.filled (has_row-defaults (codes "srec") built_load.rules (settled built_load.rules (walk built_load.rules [] nothing_held words).held).rows load_srec) in
-    load list.0 form.0 file.0 (record { of_file = record { rows = rows; called = refl; file_is = file.1 }; list_is = list.1; form_is = form.1 })
+    let settled_rows = (settled built_load.rules (walk built_load.rules [] nothing_held words).held).rows in
+    let srec = flag_read (codes "srec") rows refl right.filled (has_row-defaults (codes "srec") built_load.rules settled_rows load_srec) in
+    let symbols = flag_read (codes "symbols") rows refl right.filled (has_row-defaults (codes "symbols") built_load.rules settled_rows load_symbols) in
+    load list.0 srec.0 symbols.0 file.0 (record {
+      of_file = record { rows = rows; called = refl; file_is = file.1 };
+      list_is = list.1;
+      srec_is = srec.1;
+      symbols_is = symbols.1;
+    })
 
 -- `image`
+
+-- the form that `--srec` asks for, or not
+form_read : (rows : List Row) → Filled rows → has_row (codes "srec") rows ≡ true → (form : ImageForm) × IsFlag rows (codes "srec") (is_srec form)
+form_read rows full has = go (flag_read (codes "srec") rows refl full has)
+  where
+    go : (given : Bool) × IsFlag rows (codes "srec") given → (form : ImageForm) × IsFlag rows (codes "srec") (is_srec form)
+    go (true, is) = (SRecords, is)
+    go (false, is) = (Report, is)
 
 image_filling : AllFilling false built_image.rules
 image_filling = (inr (inl (inl refl, (omega arith, refl))), (flag_filling None (codes "srec"), (inr (inl (inr refl, (omega arith, refl))), (inl refl, tt))))

@@ -7,7 +7,12 @@ use Rattle.std.specs.Option.{option_map_or}
 use Rattle.clap.specs.Takes.{is_given}
 use Rattle.clap.specs.Values.{bool_text}
 use Rattle.clap.specs.Words.{Row, Text, all_of, first_of, one_of}
-use Rattle.amihunk.specs.CommandLine.{IsCalled, IsCalledOn, IsFlag, IsImage, IsLink, IsLoad, IsWhole, Met, is_srec}
+use Rattle.amihunk.specs.CommandLine.{Answers, IsCalled, IsCalledOn, IsConflict, IsFlag, IsImage, IsLink, IsLoad, IsWhole, Met, Says, asks_srec, asks_symbols, is_srec}
+use Rattle.clap.specs.declared.error.ErrorKind.TheVariants as error
+use Rattle.hunk_commands.specs.declared.load.LoadText.{LoadText}
+use Rattle.hunk_commands.specs.declared.load.LoadText.TheVariants as load_text
+use Rattle.hunk_commands.specs.declared.request.Request.{Request}
+use Rattle.hunk_commands.specs.declared.request.Request.TheVariants.{Link, Load, Image, Check, Show, Survey, Version, Help, Refused, OutOfMemory}
 use Rattle.hunk_tool.specs.declared.image_form.ImageForm.{ImageForm}
 use Rattle.hunk_tool.specs.declared.image_form.ImageForm.TheVariants.{Report, SRecords}
 use Rattle.hunk_tool.specs.declared.link_options.LinkOptions.{LinkOptions}
@@ -67,12 +72,39 @@ forms_same Report SRecords is = cc
 forms_same SRecords Report is = cc
 forms_same SRecords SRecords is = refl
 
-pub IsLoad-same : (met : Met) (a c : Text) (one other : ImageForm) (b d : Text) → IsLoad met a one b → IsLoad met c other d → (a ≡ c) × (one ≡ other) × (b ≡ d)
-IsLoad-same met a c one other b d h k =
+-- a text is told by which flag asks for it
+texts_same : (one other : LoadText) → asks_srec one ≡ asks_srec other → asks_symbols one ≡ asks_symbols other → one ≡ other
+texts_same (load_text.Image one) (load_text.Image other) srec symbols = ap load_text.Image (forms_same one other srec)
+texts_same (load_text.Image one) load_text.Symbols srec symbols = cc
+texts_same load_text.Symbols (load_text.Image other) srec symbols = cc
+texts_same load_text.Symbols load_text.Symbols srec symbols = refl
+
+IsLoad-same : (met : Met) (a c : Text) (one other more less : Bool) (b d : Text) → IsLoad met a one more b → IsLoad met c other less d → (a ≡ c) × (one ≡ other) × (more ≡ less) × (b ≡ d)
+IsLoad-same met a c one other more less b d h k =
     let same = rows_same met (codes "load") (codes "load") h.of_file.rows k.of_file.rows h.of_file.called k.of_file.called in
-    let lists : Some a ≡ Some c = sym h.list_is ∙ (ap (first_of (codes "at")) same ∙ k.list_is) in
-    let forms = IsFlag-same (codes "srec") h.of_file.rows k.of_file.rows (is_srec one) (is_srec other) same h.form_is k.form_is in
-    (cc, forms_same one other forms, IsCalled-same met (codes "load") (codes "load") b d h.of_file k.of_file)
+    let lists : Some a ≡ Some c = sym h.list_is ∙ (ap (first_of (codes "at")) same ∙ k.list_is) in (
+      cc,
+      IsFlag-same (codes "srec") h.of_file.rows k.of_file.rows one other same h.srec_is k.srec_is,
+      IsFlag-same (codes "symbols") h.of_file.rows k.of_file.rows more less same h.symbols_is k.symbols_is,
+      IsCalled-same met (codes "load") (codes "load") b d h.of_file k.of_file,
+    )
+
+-- `load` for one text
+pub IsLoad-one : (met : Met) (a c : Text) (one other : LoadText) (b d : Text) → IsLoad met a (asks_srec one) (asks_symbols one) b → IsLoad met c (asks_srec other) (asks_symbols other) d
+    → (a ≡ c) × (one ≡ other) × (b ≡ d)
+IsLoad-one met a c one other b d h k =
+    let same = IsLoad-same met a c (asks_srec one) (asks_srec other) (asks_symbols one) (asks_symbols other) b d h k in
+    (same.0, texts_same one other same.1 same.2, same.3)
+
+-- no text is asked for by both flags
+not_both : (text : LoadText) → asks_srec text ≡ true → asks_symbols text ≡ true → ⊥
+not_both (load_text.Image form) srec symbols = cc
+not_both load_text.Symbols srec symbols = cc
+
+pub no_conflict : (met : Met) (list : Text) (text : LoadText) (file : Text) → IsLoad met list (asks_srec text) (asks_symbols text) file → IsConflict met → ⊥
+no_conflict met list text file is conflict =
+    let same = IsLoad-same met list conflict.list (asks_srec text) true (asks_symbols text) true file conflict.file is conflict.is_load in
+    not_both text same.1 same.2
 
 pub IsImage-same : (met : Met) (a b : Text) (one other : ImageForm) (xs ys : List Text) → IsImage met a one xs → IsImage met b other ys → (a ≡ b) × (one ≡ other) × (xs ≡ ys)
 IsImage-same met a b one other xs ys h k =
@@ -121,7 +153,7 @@ says_link met rows (link o s fs is) called out options files out_is strip short 
       short_is = says_flag is.of_files.rows rows (codes "short") s.short options.short same is.short_is short;
       trim_is = says_flag is.of_files.rows rows (codes "trim") s.trim options.trim same is.trim_is trim;
     }
-says_link met rows (load l form f is) called out options files out_is strip short trim files_are =
+says_link met rows (load l x y f is) called out options files out_is strip short trim files_are =
     absurd (names_apart met (codes "load") (codes "link") is.of_file.rows rows is.of_file.called called refl)
 says_link met rows (image l form fs is) called out options files out_is strip short trim files_are =
     absurd (names_apart met (codes "image") (codes "link") is.of_files.rows rows is.of_files.called called refl)
@@ -132,25 +164,66 @@ says_link met rows (show f is) called out options files out_is strip short trim 
 says_link met rows (survey fs is) called out options files out_is strip short trim files_are =
     absurd (names_apart met (codes "survey") (codes "link") is.rows rows is.called called refl)
 
-pub says_load : (met : Met) (rows : List Row) → IsWhole met → met ≡ Some (codes "load", rows) → (list : Text) (form : ImageForm) (file : Text)
-    → first_of (codes "at") rows ≡ Some list → Reads rows (codes "srec") (is_srec form) → first_of (codes "file") rows ≡ Some file → IsLoad met list form file
-says_load met rows (load l f x is) called list form file list_is srec file_is =
+pub says_load : (met : Met) (rows : List Row) → IsWhole met → met ≡ Some (codes "load", rows) → (list : Text) (srec symbols : Bool) (file : Text)
+    → first_of (codes "at") rows ≡ Some list → Reads rows (codes "srec") srec → Reads rows (codes "symbols") symbols → first_of (codes "file") rows ≡ Some file → IsLoad met list srec symbols file
+says_load met rows (load l x y f is) called list srec symbols file list_is srec_reads symbols_reads file_is =
     let same = rows_same met (codes "load") (codes "load") is.of_file.rows rows is.of_file.called called in
     record {
       of_file = record { rows = rows; called = called; file_is = file_is };
       list_is = list_is;
-      form_is = says_flag is.of_file.rows rows (codes "srec") (is_srec f) (is_srec form) same is.form_is srec;
+      srec_is = says_flag is.of_file.rows rows (codes "srec") x srec same is.srec_is srec_reads;
+      symbols_is = says_flag is.of_file.rows rows (codes "symbols") y symbols same is.symbols_is symbols_reads;
     }
-says_load met rows (link o s fs is) called list form file list_is srec file_is =
+says_load met rows (link o s fs is) called list srec symbols file list_is srec_reads symbols_reads file_is =
     absurd (names_apart met (codes "link") (codes "load") is.of_files.rows rows is.of_files.called called refl)
-says_load met rows (image l f fs is) called list form file list_is srec file_is =
+says_load met rows (image l f fs is) called list srec symbols file list_is srec_reads symbols_reads file_is =
     absurd (names_apart met (codes "image") (codes "load") is.of_files.rows rows is.of_files.called called refl)
-says_load met rows (check f is) called list form file list_is srec file_is =
+says_load met rows (check f is) called list srec symbols file list_is srec_reads symbols_reads file_is =
     absurd (names_apart met (codes "check") (codes "load") is.rows rows is.called called refl)
-says_load met rows (show f is) called list form file list_is srec file_is =
+says_load met rows (show f is) called list srec symbols file list_is srec_reads symbols_reads file_is =
     absurd (names_apart met (codes "show") (codes "load") is.rows rows is.called called refl)
-says_load met rows (survey fs is) called list form file list_is srec file_is =
+says_load met rows (survey fs is) called list srec symbols file list_is srec_reads symbols_reads file_is =
     absurd (names_apart met (codes "survey") (codes "load") is.rows rows is.called called refl)
+
+-- with both flags
+says_conflict : (met : Met) (rows : List Row) → IsWhole met → met ≡ Some (codes "load", rows)
+    → Reads rows (codes "srec") true → Reads rows (codes "symbols") true → IsConflict met
+says_conflict met rows (load l x y f is) called srec_reads symbols_reads =
+    let same = rows_same met (codes "load") (codes "load") is.of_file.rows rows is.of_file.called called in
+    record {
+      list = l;
+      file = f;
+      is_load = record {
+        of_file = record { rows = rows; called = called; file_is = ap (first_of (codes "file")) (sym same) ∙ is.of_file.file_is };
+        list_is = ap (first_of (codes "at")) (sym same) ∙ is.list_is;
+        srec_is = says_flag is.of_file.rows rows (codes "srec") x true same is.srec_is srec_reads;
+        symbols_is = says_flag is.of_file.rows rows (codes "symbols") y true same is.symbols_is symbols_reads;
+      };
+    }
+says_conflict met rows (link o s fs is) called srec_reads symbols_reads =
+    absurd (names_apart met (codes "link") (codes "load") is.of_files.rows rows is.of_files.called called refl)
+says_conflict met rows (image l f fs is) called srec_reads symbols_reads =
+    absurd (names_apart met (codes "image") (codes "load") is.of_files.rows rows is.of_files.called called refl)
+says_conflict met rows (check f is) called srec_reads symbols_reads =
+    absurd (names_apart met (codes "check") (codes "load") is.rows rows is.called called refl)
+says_conflict met rows (show f is) called srec_reads symbols_reads =
+    absurd (names_apart met (codes "show") (codes "load") is.rows rows is.called called refl)
+says_conflict met rows (survey fs is) called srec_reads symbols_reads =
+    absurd (names_apart met (codes "survey") (codes "load") is.rows rows is.called called refl)
+
+-- the request that rejects both flags
+pub says_refused : (met : Met) (rows : List Row) → IsWhole met → met ≡ Some (codes "load", rows)
+    → Reads rows (codes "srec") true → Reads rows (codes "symbols") true → (request : Request) → Answers error.ArgumentConflict request → Says met request
+says_refused met rows whole called srec symbols (Link out options files) answers = absurd answers
+says_refused met rows whole called srec symbols (Load list text file) answers = absurd answers
+says_refused met rows whole called srec symbols (Image list form files) answers = absurd answers
+says_refused met rows whole called srec symbols (Check file) answers = absurd answers
+says_refused met rows whole called srec symbols (Show file) answers = absurd answers
+says_refused met rows whole called srec symbols (Survey files) answers = absurd answers
+says_refused met rows whole called srec symbols Version answers = cc
+says_refused met rows whole called srec symbols (Help text) answers = cc
+says_refused met rows whole called srec symbols (Refused text) answers = says_conflict met rows whole called srec symbols
+says_refused met rows whole called srec symbols OutOfMemory answers = tt
 
 pub says_image : (met : Met) (rows : List Row) → IsWhole met → met ≡ Some (codes "image", rows) → (list : Text) (form : ImageForm) (files : List Text)
     → first_of (codes "at") rows ≡ Some list → Reads rows (codes "srec") (is_srec form) → all_of (codes "file") rows ≡ Some files → IsImage met list form files
@@ -164,7 +237,7 @@ says_image met rows (image l f fs is) called list form files list_is srec files_
     }
 says_image met rows (link o s fs is) called list form files list_is srec files_are =
     absurd (names_apart met (codes "link") (codes "image") is.of_files.rows rows is.of_files.called called refl)
-says_image met rows (load l f x is) called list form files list_is srec files_are =
+says_image met rows (load l x y f is) called list form files list_is srec files_are =
     absurd (names_apart met (codes "load") (codes "image") is.of_file.rows rows is.of_file.called called refl)
 says_image met rows (check f is) called list form files list_is srec files_are =
     absurd (names_apart met (codes "check") (codes "image") is.rows rows is.called called refl)
@@ -178,7 +251,7 @@ pub says_survey : (met : Met) (rows : List Row) → IsWhole met → met ≡ Some
 says_survey met rows (survey fs is) called files files_are = called_on met (codes "survey") rows files fs called files_are is
 says_survey met rows (link o s fs is) called files files_are =
     absurd (names_apart met (codes "link") (codes "survey") is.of_files.rows rows is.of_files.called called refl)
-says_survey met rows (load l form f is) called files files_are =
+says_survey met rows (load l x y f is) called files files_are =
     absurd (names_apart met (codes "load") (codes "survey") is.of_file.rows rows is.of_file.called called refl)
 says_survey met rows (image l form fs is) called files files_are =
     absurd (names_apart met (codes "image") (codes "survey") is.of_files.rows rows is.of_files.called called refl)

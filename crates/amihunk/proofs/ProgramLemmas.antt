@@ -10,6 +10,7 @@ use Rattle.hunk_commands.specs.Text.{IsTextFailure}
 use Rattle.hunk_commands.specs.Version.{IsVersionFailure}
 use Rattle.hunk_commands.specs.declared.text.Text.TheVariants.{Line, Listing}
 use Rattle.hunk_tool.specs.declared.link_options.LinkOptions.{LinkOptions}
+use Rattle.hunk_commands.specs.declared.load.LoadText.{LoadText}
 use Rattle.hunk_commands.specs.declared.request.Request.{Request}
 use Rattle.hunk_tool.specs.declared.image_form.ImageForm.{ImageForm}
 use Rattle.hunk_commands.specs.declared.request.Request.TheVariants.{Load, Link, Image, Check, Show, Survey, Version, Help, Refused, OutOfMemory}
@@ -47,21 +48,21 @@ ends_image taken failed old new list form files (Refused text) status asks ends 
 ends_image taken failed old new list form files OutOfMemory status asks ends =
     inr (not_begun taken failed old new (IsImageFailure form list files) files status (inl refl) ends)
 
-pub ends_load : {W : Type 0} (taken : W → Option (List ℕ)) (failed : W → Bool) (old new : W) (list : List ℕ) (form : ImageForm) (file : List ℕ) (request : Request) (status : ℕ)
-    → AsksLoad list form file request → Ends taken failed old new request status → EndsLoad taken failed old new list form file status
-ends_load taken failed old new list form file (Load l asked f) status asks ends =
-    subst (λ x. EndsLoad taken failed old new x form file status) asks.0
+pub ends_load : {W : Type 0} (taken : W → Option (List ℕ)) (failed : W → Bool) (old new : W) (list : List ℕ) (text : LoadText) (file : List ℕ) (request : Request) (status : ℕ)
+    → AsksLoad list text file request → Ends taken failed old new request status → EndsLoad taken failed old new list text file status
+ends_load taken failed old new list text file (Load l asked f) status asks ends =
+    subst (λ x. EndsLoad taken failed old new x text file status) asks.0
     (subst (λ y. EndsLoad taken failed old new l.now y file status) asks.1 (subst (λ z. EndsLoad taken failed old new l.now asked z status) asks.2 ends))
-ends_load taken failed old new list form file (Check f) status asks ends = absurd asks
-ends_load taken failed old new list form file (Show f) status asks ends = absurd asks
-ends_load taken failed old new list form file (Link out options files) status asks ends = absurd asks
-ends_load taken failed old new list form file (Image l asked files) status asks ends = absurd asks
-ends_load taken failed old new list form file (Survey files) status asks ends = absurd asks
-ends_load taken failed old new list form file Version status asks ends = absurd asks
-ends_load taken failed old new list form file (Help text) status asks ends = absurd asks
-ends_load taken failed old new list form file (Refused text) status asks ends = absurd asks
-ends_load taken failed old new list form file OutOfMemory status asks ends =
-    inr (not_begun taken failed old new (IsLoadFailure form list file) (file ∷ []) status (inl refl) ends)
+ends_load taken failed old new list text file (Check f) status asks ends = absurd asks
+ends_load taken failed old new list text file (Show f) status asks ends = absurd asks
+ends_load taken failed old new list text file (Link out options files) status asks ends = absurd asks
+ends_load taken failed old new list text file (Image l asked files) status asks ends = absurd asks
+ends_load taken failed old new list text file (Survey files) status asks ends = absurd asks
+ends_load taken failed old new list text file Version status asks ends = absurd asks
+ends_load taken failed old new list text file (Help said) status asks ends = absurd asks
+ends_load taken failed old new list text file (Refused said) status asks ends = absurd asks
+ends_load taken failed old new list text file OutOfMemory status asks ends =
+    inr (not_begun taken failed old new (IsLoadFailure text list file) (file ∷ []) status (inl refl) ends)
 
 pub ends_check : {W : Type 0} (taken : W → Option (List ℕ)) (failed : W → Bool) (old new : W) (file : List ℕ) (request : Request) (status : ℕ)
     → AsksCheck file request → Ends taken failed old new request status → EndsText taken failed old new Line file status

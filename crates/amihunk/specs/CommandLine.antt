@@ -12,6 +12,8 @@ use Rattle.clap.specs.declared.error.ErrorKind.TheVariants as error
 use Rattle.hunk_tool.specs.declared.image_form.ImageForm.{ImageForm}
 use Rattle.hunk_tool.specs.declared.image_form.ImageForm.TheVariants.{Report, SRecords}
 use Rattle.hunk_tool.specs.declared.link_options.LinkOptions.{LinkOptions}
+use Rattle.hunk_commands.specs.declared.load.LoadText.{LoadText}
+use Rattle.hunk_commands.specs.declared.load.LoadText.TheVariants as load_text
 use Rattle.hunk_commands.specs.declared.request.Request.{Request}
 use Rattle.hunk_commands.specs.declared.request.Request.TheVariants.{Link, Load, Image, Check, Show, Survey, Version, Help, Refused, OutOfMemory}
 
@@ -48,10 +50,10 @@ link_shape = (with_rule (with_rule (with_rule (with_rule (with_rule
     (new_app (codes "link")) (with_letter letter_o (option_rule (codes "out"))))
     (with_letter letter_s (flag_rule (codes "strip")))) (flag_rule (codes "short"))) (flag_rule (codes "trim"))) files_rule).top
 
--- `load --at LIST [--srec] FILE`
+-- `load --at LIST [--srec] [--symbols] FILE`
 abbrev pub load_shape : Shape
-load_shape = (with_rule (with_rule (with_rule
-    (new_app (codes "load")) (option_rule (codes "at"))) (flag_rule (codes "srec"))) file_rule).top
+load_shape = (with_rule (with_rule (with_rule (with_rule
+    (new_app (codes "load")) (option_rule (codes "at"))) (flag_rule (codes "srec"))) (flag_rule (codes "symbols"))) file_rule).top
 
 -- `image --at LIST [--srec] FILE...`
 abbrev pub image_shape : Shape
@@ -114,11 +116,28 @@ abbrev pub is_srec : ImageForm → Bool
 is_srec Report = false
 is_srec SRecords = true
 
--- the subcommand is `load`, with this LIST, this form and this FILE
-pub record IsLoad (met : Met) (list : Text) (form : ImageForm) (file : Text) : Type 0 where
+-- whether `--srec` asks for this text
+abbrev pub asks_srec : LoadText → Bool
+asks_srec (load_text.Image form) = is_srec form
+asks_srec load_text.Symbols = false
+
+-- whether `--symbols` asks for it
+abbrev pub asks_symbols : LoadText → Bool
+asks_symbols (load_text.Image form) = false
+asks_symbols load_text.Symbols = true
+
+-- the subcommand is `load`, with this LIST, these flags and this FILE
+pub record IsLoad (met : Met) (list : Text) (srec symbols : Bool) (file : Text) : Type 0 where
   pub of_file : IsCalled met (codes "load") file
   pub list_is : first_of (codes "at") of_file.rows ≡ Some list
-  pub form_is : IsFlag of_file.rows (codes "srec") (is_srec form)
+  pub srec_is : IsFlag of_file.rows (codes "srec") srec
+  pub symbols_is : IsFlag of_file.rows (codes "symbols") symbols
+
+-- the subcommand is `load`, with both flags
+pub record IsConflict (met : Met) : Type 0 where
+  pub list : Text
+  pub file : Text
+  pub is_load : IsLoad met list true true file
 
 -- the subcommand is `image`, with this LIST, this form and these files
 pub record IsImage (met : Met) (list : Text) (form : ImageForm) (files : List Text) : Type 0 where
@@ -129,26 +148,29 @@ pub record IsImage (met : Met) (list : Text) (form : ImageForm) (files : List Te
 -- the subcommand is one of the program's, with its required values
 pub data IsWhole (met : Met) : Type 0 where
   link : (out : Text) (options : LinkOptions) (files : List Text) → IsLink met out options files → IsWhole met
-  load : (list : Text) (form : ImageForm) (file : Text) → IsLoad met list form file → IsWhole met
+  load : (list : Text) (srec symbols : Bool) (file : Text) → IsLoad met list srec symbols file → IsWhole met
   image : (list : Text) (form : ImageForm) (files : List Text) → IsImage met list form files → IsWhole met
   check : (file : Text) → IsCalled met (codes "check") file → IsWhole met
   show : (file : Text) → IsCalled met (codes "show") file → IsWhole met
   survey : (files : List Text) → IsCalledOn met (codes "survey") files → IsWhole met
 
--- the request matches what was found
+-- the request matches what was found: flags that exclude each other are rejected; nothing is said if
+-- memory runs out
 abbrev pub Says : Met → Request → Type 0
 Says met (Link out options files) = IsLink met out.now options (texts files.items)
-Says met (Load list form file) = IsLoad met list.now form file.now
+Says met (Load list text file) = IsLoad met list.now (asks_srec text) (asks_symbols text) file.now
 Says met (Image list form files) = IsImage met list.now form (texts files.items)
 Says met (Check file) = IsCalled met (codes "check") file.now
 Says met (Show file) = IsCalled met (codes "show") file.now
 Says met (Survey files) = IsCalledOn met (codes "survey") (texts files.items)
+Says met (Refused text) = IsConflict met
+Says met OutOfMemory = ⊤
 Says met _ = ⊥
 
 -- the request for arguments that `clap` rejects with this kind of error
 abbrev pub Answers : ErrorKind → Request → Type 0
 Answers k (Link out options files) = ⊥
-Answers k (Load list form file) = ⊥
+Answers k (Load list text file) = ⊥
 Answers k (Image list form files) = ⊥
 Answers k (Check file) = ⊥
 Answers k (Show file) = ⊥
@@ -166,12 +188,13 @@ pub record IsRefusedBy (kinds : Kinds) : Type 0 where
   pub no_version : kind ≢ error.DisplayVersion
 
 -- what the arguments ask for: the subcommand that they name if nothing is wrong with them, help or the
--- version if they ask for it, a rejection if something is wrong; nothing is said if memory runs out
+-- version if they ask for it, a rejection if something is wrong or two flags exclude each other; nothing
+-- is said if memory runs out
 abbrev pub IsAskedBy : List Text → Request → Type 0
 IsAskedBy words (Link out options files) = (fault_of command_line words ≡ [])
     × IsLink (subcommand_of command_line words) out.now options (texts files.items)
-IsAskedBy words (Load list form file) = (fault_of command_line words ≡ [])
-    × IsLoad (subcommand_of command_line words) list.now form file.now
+IsAskedBy words (Load list text file) = (fault_of command_line words ≡ [])
+    × IsLoad (subcommand_of command_line words) list.now (asks_srec text) (asks_symbols text) file.now
 IsAskedBy words (Image list form files) = (fault_of command_line words ≡ [])
     × IsImage (subcommand_of command_line words) list.now form (texts files.items)
 IsAskedBy words (Check file) = (fault_of command_line words ≡ [])
@@ -183,6 +206,7 @@ IsAskedBy words (Survey files) = (fault_of command_line words ≡ [])
 IsAskedBy words Version = IsAmong error.DisplayVersion (fault_of command_line words)
 IsAskedBy words (Help text) = IsAmong error.DisplayHelp (fault_of command_line words)
 IsAskedBy words (Refused text) = IsRefusedBy (fault_of command_line words)
+    ⊎ ((fault_of command_line words ≡ []) × IsConflict (subcommand_of command_line words))
 IsAskedBy words OutOfMemory = ⊤
 
 -- the arguments are rejected, or memory ran out
@@ -232,9 +256,14 @@ version_line program word = program ∷ word ∷ []
 abbrev pub form_words : ImageForm → List Text
 form_words form = word_if (is_srec form) (codes "--srec")
 
--- the arguments `PROGRAM load --at LIST [--srec] FILE`
-abbrev pub load_line : Text → Text → ImageForm → Text → List Text
-load_line program list form file = program ∷ codes "load" ∷ codes "--at" ∷ list ∷ (form_words form ++ file ∷ [])
+-- the word that asks for this text, if there is one
+abbrev pub text_words : LoadText → List Text
+text_words (load_text.Image form) = form_words form
+text_words load_text.Symbols = codes "--symbols" ∷ []
+
+-- the arguments `PROGRAM load --at LIST [--srec | --symbols] FILE`
+abbrev pub load_line : Text → Text → LoadText → Text → List Text
+load_line program list text file = program ∷ codes "load" ∷ codes "--at" ∷ list ∷ (text_words text ++ file ∷ [])
 
 -- the arguments `PROGRAM image --at LIST [--srec] FILE...`
 abbrev pub image_line : Text → Text → ImageForm → List Text → List Text
@@ -254,11 +283,11 @@ AsksLink out options files (Link o s fs) = (o.now ≡ out) × (s ≡ options) ×
 AsksLink out options files OutOfMemory = ⊤
 AsksLink out options files _ = ⊥
 
--- the request is `load` with this LIST, this form and this FILE, or memory ran out
-abbrev pub AsksLoad : Text → ImageForm → Text → Request → Type 0
-AsksLoad list form file (Load l asked f) = (l.now ≡ list) × (asked ≡ form) × (f.now ≡ file)
-AsksLoad list form file OutOfMemory = ⊤
-AsksLoad list form file _ = ⊥
+-- the request is `load` with this LIST, for this text of this FILE, or memory ran out
+abbrev pub AsksLoad : Text → LoadText → Text → Request → Type 0
+AsksLoad list text file (Load l asked f) = (l.now ≡ list) × (asked ≡ text) × (f.now ≡ file)
+AsksLoad list text file OutOfMemory = ⊤
+AsksLoad list text file _ = ⊥
 
 -- the request is `image` with this LIST, this form and these files in this order, or memory ran out
 abbrev pub AsksImage : Text → ImageForm → List Text → Request → Type 0

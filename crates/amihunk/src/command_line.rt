@@ -1,20 +1,21 @@
 //! The arguments of the command line, as `clap` reads them.
-ghost use Rattle.std.specs.Prelude.{◌≡◌, ◌<◌, ℕ, All, IfOk, List, Some, codes, false, is_some, length, map, true};
+ghost use Rattle.std.specs.Prelude.{◌≡◌, ◌<◌, ℕ, All, IfOk, List, MatchOption, Some, codes, false, is_some, length, map, true};
 ghost use Rattle.clap.specs.Walk.{texts};
 ghost use Rattle.clap.specs.Words.{FailsBy, all_of, app_of, fault_of, first_of, found_of, kind_of, rows_of};
 ghost use Rattle.clap.specs.Words.{rule_of, shape_of, subcommand_of, subcommand_rows_of};
 ghost use Rattle.clap.specs.declared.builder.command.Command.TheViews.{out-Command};
 ghost use Rattle.amihunk.specs.CommandLine.{Answers, AsksCheck, AsksImage, AsksLink, AsksLoad, AsksShow, IsAskedBy};
 ghost use Rattle.amihunk.specs.CommandLine.{IsNoFlag, IsRefusal, IsVersionWord, IsWhole, Says, brief_link_line, command_line};
-ghost use Rattle.amihunk.specs.CommandLine.{AsksSurvey, AsksVersion, file_line, file_rule, is_srec, version_line};
+ghost use Rattle.amihunk.specs.CommandLine.{AsksSurvey, AsksVersion, asks_srec, asks_symbols, file_line, file_rule, is_srec, version_line};
 ghost use Rattle.amihunk.specs.CommandLine.{file_shape, files_rule, flag_rule, image_line, image_shape, link_line, link_shape};
 ghost use Rattle.amihunk.specs.CommandLine.{load_line, load_shape, option_rule, survey_line, survey_shape};
+ghost use Rattle.hunk_commands.specs.declared.load.LoadText.{LoadText};
 ghost use Rattle.hunk_tool.specs.declared.image_form.ImageForm.{ImageForm};
 ghost use Rattle.hunk_tool.specs.declared.link_options.LinkOptions.{LinkOptions};
 
 use clap::error::ErrorKind;
 use clap::{Arg, ArgAction, ArgMatches, Command, Error};
-use hunk_commands::{Request, VERSION};
+use hunk_commands::{LoadText, Request, VERSION};
 use hunk_tool::{ImageForm, LinkOptions};
 use std::alloc::{AllocError, Global};
 use std::convert::AsStr;
@@ -28,9 +29,9 @@ pub fn read_words<'a, S: AsStr>(alloc: Global, words: &'a [S]) -> Request<'a>
     ensures brief { (program : List ℕ) (options : LinkOptions) (out : List ℕ) (files : List (List ℕ))
         → map S.text words.entry.now ≡ brief_link_line program options out files
         → IsNoFlag out → 0 < length files → All IsNoFlag files → AsksLink out options files result }
-    ensures load { (program list : List ℕ) (form : ImageForm) (file : List ℕ)
-        → map S.text words.entry.now ≡ load_line program list form file
-        → IsNoFlag list → IsNoFlag file → AsksLoad list form file result }
+    ensures load { (program list : List ℕ) (text : LoadText) (file : List ℕ)
+        → map S.text words.entry.now ≡ load_line program list text file
+        → IsNoFlag list → IsNoFlag file → AsksLoad list text file result }
     ensures image { (program list : List ℕ) (form : ImageForm) (files : List (List ℕ))
         → map S.text words.entry.now ≡ image_line program list form files
         → IsNoFlag list → 0 < length files → All IsNoFlag files → AsksImage list form files result }
@@ -56,17 +57,18 @@ pub fn read_words<'a, S: AsStr>(alloc: Global, words: &'a [S]) -> Request<'a>
 pub fn refuse_bytes<'a>(alloc: Global) -> Request<'a>
     ensures { IsRefusal result }
 {
-    match bytes_error(alloc) {
+    let text = "invalid UTF-8 was detected in one or more arguments";
+    match error_of(alloc, ErrorKind::ValueValidation, text) {
         Ok(error) => answer_to(alloc, &error),
         Err(_) => Request::OutOfMemory,
     }
 }
 
-fn bytes_error(alloc: Global) -> Result<Error, AllocError>
-    ensures { IfOk result (λ e. kind_of e ≡ ErrorKind.ValueValidation) }
+/// An error of this kind, with this text, as `clap` makes its own.
+fn error_of(alloc: Global, kind: ErrorKind, text: &str) -> Result<Error, AllocError>
+    ensures { IfOk result (λ e. kind_of e ≡ kind) }
 {
-    let text = "invalid UTF-8 was detected in one or more arguments";
-    command(alloc)?.error(ErrorKind::ValueValidation, text)
+    command(alloc)?.error(kind, text)
 }
 
 /// What `clap` makes of the arguments.
@@ -139,7 +141,8 @@ fn srec_flag<'a>(alloc: Global) -> Arg<'a>
     flag(alloc, "srec", help)
 }
 
-/// The subcommand `load --at LIST [--srec] FILE`.
+/// The subcommand `load --at LIST [--srec] [--symbols] FILE`. No rule of `clap` here keeps the two
+/// flags apart: [`text_of`] does.
 fn load_command<'a>(alloc: Global) -> Result<Command<'a>, AllocError>
     ensures shape { IfOk result (λ c. shape_of c ≡ load_shape) }
     ensures local { IfOk result (λ c. (out-Command c).has_globals ≡ false) }
@@ -149,6 +152,11 @@ fn load_command<'a>(alloc: Global) -> Result<Command<'a>, AllocError>
         .after_help(help::LOAD)
         .arg(list_argument(alloc))?
         .arg(srec_flag(alloc))?
+        .arg(flag(
+            alloc,
+            "symbols",
+            "Prints the address of each symbol in place of the report",
+        ))?
         .arg(file_argument(alloc, "A load file"))
 }
 
@@ -253,11 +261,16 @@ fn request_of<'a>(alloc: Global, matches: &ArgMatches<'a>) -> Result<Request<'a>
             },
             files: files_of(alloc, values)?,
         }),
-        Some(("load", values)) => Ok(Request::Load {
-            list: value_of(values, "at"),
-            form: form_of(values.get_flag("srec")),
-            file: value_of(values, "file"),
-        }),
+        Some(("load", values)) => {
+            match text_of(values.get_flag("srec"), values.get_flag("symbols")) {
+                Some(text) => Ok(Request::Load {
+                    list: value_of(values, "at"),
+                    text,
+                    file: value_of(values, "file"),
+                }),
+                None => refuse_both(alloc),
+            }
+        }
         Some(("image", values)) => Ok(Request::Image {
             list: value_of(values, "at"),
             form: form_of(values.get_flag("srec")),
@@ -274,6 +287,28 @@ fn request_of<'a>(alloc: Global, matches: &ArgMatches<'a>) -> Result<Request<'a>
         }),
         _ => unreachable!(),
     }
+}
+
+/// What is printed of a load file, unless both flags are given.
+fn text_of(srec: bool, symbols: bool) -> Option<LoadText>
+    ensures { MatchOption result ((srec ≡ true) × (symbols ≡ true))
+        (λ text. (asks_srec text ≡ srec) × (asks_symbols text ≡ symbols)) }
+{
+    match (srec, symbols) {
+        (true, true) => None,
+        (false, true) => Some(LoadText::Symbols),
+        (srec, false) => Some(LoadText::Image(form_of(srec))),
+    }
+}
+
+/// Rejects `--srec` together with `--symbols`, in the words in which `clap` rejects two arguments that
+/// exclude each other.
+fn refuse_both<'a>(alloc: Global) -> Result<Request<'a>, AllocError>
+    ensures { IfOk result (Answers ErrorKind.ArgumentConflict) }
+{
+    let text = "the argument '--srec' cannot be used with '--symbols'";
+    let error = error_of(alloc, ErrorKind::ArgumentConflict, text)?;
+    Ok(answer_to(alloc, &error))
 }
 
 /// The form in which an image is printed.

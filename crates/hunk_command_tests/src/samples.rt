@@ -10,6 +10,13 @@ pub static ONE_HUNK: [u8; 40] = [
     0, 1, 0x4E, 0x75, 0x4E, 0x71, 0, 0, 3, 0xF2,
 ];
 
+/// A load file of one hunk with the symbol `loop`, whose value is 2.
+pub static ONE_SYMBOL: [u8; 60] = [
+    0, 0, 3, 0xF3, 0, 0, 0, 0, 0, 0, 0, 1, 0, 0, 0, 0, 0, 0, 0, 0, 0, 0, 0, 1, 0, 0, 3, 0xE9, 0, 0,
+    0, 1, 0x4E, 0x75, 0x4E, 0x71, 0, 0, 3, 0xF0, 0, 0, 0, 1, 0x6C, 0x6F, 0x6F, 0x70, 0, 0, 0, 2, 0,
+    0, 0, 0, 0, 0, 3, 0xF2,
+];
+
 /// An object file of one unit. Its first hunk has a name, a site, a definition, a symbol and a debug
 /// block.
 pub static ONE_UNIT: [u8; 128] = [

@@ -5,7 +5,7 @@
 //! - `images`: the report of object files.
 //! - `inputs`: files that are open at once.
 //! - `links`: the load file of object files.
-//! - `loads`: the report of a load file.
+//! - `loads`: the report and the symbols of a load file.
 //! - `requests`: the status of each request, and the line of its failure.
 //! - `surveys`: what a survey tells of files.
 //! - `texts`: the texts about a file.

@@ -14,6 +14,7 @@ use Rattle.hunk_commands.specs.Text.{IsTextFailure, IsTold}
 use Rattle.hunk_commands.specs.Version.{IsVersionFailure}
 use Rattle.hunk_commands.specs.declared.failure.Failure.{Failure}
 use Rattle.hunk_commands.specs.declared.failure.Failure.TheVariants.{Tool}
+use Rattle.hunk_commands.specs.declared.load.LoadText.{LoadText}
 use Rattle.hunk_commands.specs.declared.text.Text.{Text}
 use Rattle.hunk_commands.specs.declared.text.Text.TheVariants.{Line, Listing}
 use Rattle.hunk_commands.specs.declared.request.Request.{Request}
@@ -28,9 +29,9 @@ pub record IsFailed {W : Type 0} (taken : W → Option (List ℕ)) (failed : W �
   pub line : TellsLine taken failed old new (failure_line files failure)
 
 -- the status after `load`
-abbrev pub EndsLoad : {W : Type 0} (taken : W → Option (List ℕ)) (failed : W → Bool) (old new : W) (list : List ℕ) (form : ImageForm) (file : List ℕ) → ℕ → Type 0
-EndsLoad taken failed old new list form file status =
-    ((status ≡ 0) × IsLoaded form list) ⊎ IsFailed taken failed old new (IsLoadFailure form list file) (file ∷ []) status
+abbrev pub EndsLoad : {W : Type 0} (taken : W → Option (List ℕ)) (failed : W → Bool) (old new : W) (list : List ℕ) (text : LoadText) (file : List ℕ) → ℕ → Type 0
+EndsLoad taken failed old new list text file status =
+    ((status ≡ 0) × IsLoaded text list) ⊎ IsFailed taken failed old new (IsLoadFailure text list file) (file ∷ []) status
 
 -- the status after `link`
 abbrev pub EndsLink : {W : Type 0} (taken : W → Option (List ℕ)) (failed : W → Bool) (old new : W) (out : List ℕ) (options : LinkOptions) (files : List (List ℕ)) → ℕ → Type 0
@@ -59,7 +60,7 @@ EndsVersion taken failed old new status =
 
 -- the status after a request
 abbrev pub Ends : {W : Type 0} (taken : W → Option (List ℕ)) (failed : W → Bool) (old new : W) → Request → ℕ → Type 0
-Ends taken failed old new (Load list form file) status = EndsLoad taken failed old new list.now form file.now status
+Ends taken failed old new (Load list text file) status = EndsLoad taken failed old new list.now text file.now status
 Ends taken failed old new (Link out options files) status = EndsLink taken failed old new out.now options (file_names files.items) status
 Ends taken failed old new (Image list form files) status = EndsImage taken failed old new list.now form (file_names files.items) status
 Ends taken failed old new (Check file) status = EndsText taken failed old new Line file.now status

@@ -28,6 +28,7 @@ mod version;
 
 pub use failure::{COMMAND_LINE, DEVICE, DONE, Failure, report_failure};
 pub use inputs::{Input, open_inputs};
+pub use load::LoadText;
 pub use request::{Request, answer};
 pub use text::{Text, print_text, print_text_to};
 pub use version::{VERSION, print_version, write_version};

@@ -1,53 +1,82 @@
-//! The request `load`: the image of a load file at the addresses of a list.
+//! The request `load`: the image or the symbols of a load file at the addresses of a list.
 ghost use Rattle.std.specs.Prelude.{IfOk, IfErr, OnOk};
-ghost use Rattle.hunk_tool.specs.Load.{IsLoadFault, IsReported};
+ghost use Rattle.hunk_words.specs.Streams.{HasRead};
+ghost use Rattle.hunk_tool.specs.Load.{IsFaultAt, IsWrittenAt, ends_of};
 ghost use Rattle.hunk_commands.specs.Devices.{IsPrintFailure, Prints};
-ghost use Rattle.hunk_commands.specs.Load.{IsLoadFailure, IsLoaded};
+ghost use Rattle.hunk_commands.specs.Load.{IsLoadFailure, IsLoaded, text_of};
 
 use crate::bases::bases_of;
 use crate::devices::{buffered, flushed, open};
 use crate::failure::Failure;
-use hunk_tool::{ImageForm, load_run_with};
-use hunk_words::Watched;
+use hunk_tool::{ImageForm, ToolFault, load_run_with, symbols_run};
+use hunk_words::{Sink, Source, Watched};
 use std::alloc::Global;
 use std::io;
 use std::io::{Read, Write};
 use std::rt::Files;
 
-/// Loads the file named `file` at the addresses in `list`, and prints its image in this form. The
-/// list is checked before the file is opened.
+/// What is printed of a load file at given addresses.
+#[derive(Clone, Copy, Debug, PartialEq, Eq)]
+pub enum LoadText {
+    /// Its image, in this form.
+    Image(ImageForm),
+    /// Its symbols, each with its address and the number of its hunk.
+    Symbols,
+}
+
+/// Loads the file named `file` at the addresses in `list`, and prints this text of it. The list is
+/// checked before the file is opened.
 pub fn load<'a, R: Files + Print + AllocGlobal>(
     rt: &R,
     list: &str,
-    form: ImageForm,
+    text: LoadText,
     file: &'a str,
 ) -> Result<(), Failure<'a>>
-    ensures ok { OnOk result (IsLoaded form list.now) }
-    ensures err { IfErr result (IsLoadFailure form list.now file.entry.now) }
+    ensures ok { OnOk result (IsLoaded text list.now) }
+    ensures err { IfErr result (IsLoadFailure text list.now file.entry.now) }
 {
     let bases = bases_of(rt.alloc(), list)?;
     let input = open(rt, file)?;
-    load_to(rt.alloc(), input, bases.as_slice(), form, io::writer(rt))?;
+    load_to(rt.alloc(), input, bases.as_slice(), text, io::writer(rt))?;
     Ok(())
 }
 
-/// Writes the image of the load file that is read from `input`, in this form and through a buffer,
-/// and returns `output`, flushed.
+/// Writes this text of the load file that is read from `input`, through a buffer, and returns
+/// `output`, flushed.
 pub fn load_to<'a, I: Read + Drop, O: Write + Drop>(
     alloc: Global,
     input: I,
     bases: &[u32],
-    form: ImageForm,
+    text: LoadText,
     output: O,
 ) -> Result<O, Failure<'a>>
     ensures ok { IfOk result (λ after.
-        Prints (IsReported form bases.now) (I.remaining input) (O.contents output) (O.contents after)) }
-    ensures err { IfErr result (IsPrintFailure (IsLoadFault form bases.now) (I.remaining input) (O.contents output)) }
+        Prints (IsWrittenAt (text_of text) bases.now) (I.remaining input) (O.contents output) (O.contents after)) }
+    ensures err { IfErr result (IsPrintFailure (IsFaultAt (text_of text) bases.now) (I.remaining input) (O.contents output)) }
 {
     let mut reader = Watched::new(input);
     let mut writer = buffered(alloc, output)?;
-    match load_run_with(alloc, &mut reader, bases, form, &mut writer) {
+    match write_text(alloc, text, &mut reader, bases, &mut writer) {
         Ok(()) => flushed(writer),
         Err(fault) => Err(Failure::Tool(fault)),
+    }
+}
+
+/// Writes this text of the load file that is read from `reader`.
+fn write_text<R: Source, W: Sink>(
+    alloc: Global,
+    text: LoadText,
+    reader: &mut R,
+    bases: &[u32],
+    writer: &mut W,
+) -> Result<(), ToolFault>
+    ensures ok { OnOk result (HasRead (R.left reader.old) (R.left reader.new) (IsWrittenAt (text_of text) bases.now (W.taken writer.old) (W.taken writer.new))) }
+    ensures err { IfErr result (IsFaultAt (text_of text) bases.now (ends_of
+        (R.left reader.old) (R.left reader.new) (R.failed reader.new) (R.ended reader.new)
+        (W.taken writer.old) (W.taken writer.new) (W.failed writer.new))) }
+{
+    match text {
+        LoadText::Image(form) => load_run_with(alloc, reader, bases, form, writer),
+        LoadText::Symbols => symbols_run(alloc, reader, bases, writer),
     }
 }

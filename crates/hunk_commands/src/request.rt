@@ -6,7 +6,7 @@ ghost use Rattle.hunk_commands.specs.Request.{Ends, EndsImage, EndsLink, EndsLoa
 use crate::failure::{COMMAND_LINE, DONE, Failure, report_failure};
 use crate::image::image;
 use crate::link::link;
-use crate::load::load;
+use crate::load::{LoadText, load};
 use crate::survey::survey;
 use crate::text::{Text, print_text};
 use crate::version::print_version;
@@ -28,12 +28,14 @@ pub enum Request<'a> {
         /// The arguments FILE..., in the order given, of which there is at least one.
         files: Vec<&'a str>,
     },
-    /// `load --at LIST [--srec] FILE`: the image of FILE, loaded at the addresses in LIST.
+    /// `load --at LIST [--srec | --symbols] FILE`: the image or the symbols of FILE, loaded at the
+    /// addresses in LIST.
     Load {
         /// The argument LIST, not yet parsed.
         list: &'a str,
-        /// S-records if `--srec` is given, and otherwise the report.
-        form: ImageForm,
+        /// The symbols if `--symbols` is given, the image as S-records if `--srec` is given, and
+        /// otherwise the report.
+        text: LoadText,
         /// The argument FILE.
         file: &'a str,
     },
@@ -87,7 +89,7 @@ pub fn answer<R: Files + Print + AllocGlobal, W: Sink>(
             options,
             files,
         } => answer_link(rt, errors, out, options, files.as_slice()),
-        Request::Load { list, form, file } => answer_load(rt, errors, list, form, file),
+        Request::Load { list, text, file } => answer_load(rt, errors, list, text, file),
         Request::Image { list, form, files } => {
             answer_image(rt, errors, list, form, files.as_slice())
         }
@@ -110,20 +112,20 @@ pub fn answer<R: Files + Print + AllocGlobal, W: Sink>(
     }
 }
 
-/// Does `load --at LIST [--srec] FILE`, and returns the exit status.
+/// Does `load --at LIST [--srec | --symbols] FILE`, and returns the exit status.
 fn answer_load<R: Files + Print + AllocGlobal, W: Sink>(
     rt: &R,
     errors: &mut W,
     list: &str,
-    form: ImageForm,
+    text: LoadText,
     file: &str,
 ) -> u8
-    ensures { EndsLoad W.taken W.failed errors.old errors.new list.now form file.now result }
+    ensures { EndsLoad W.taken W.failed errors.old errors.new list.now text file.now result }
 {
     let Ok(name) = String::from_str(rt.alloc(), file) else {
         return report_failure(errors, &[], &Failure::out_of_memory());
     };
-    match load(rt, list, form, file) {
+    match load(rt, list, text, file) {
         Ok(()) => DONE,
         Err(failure) => report_failure(errors, &[name], &failure),
     }

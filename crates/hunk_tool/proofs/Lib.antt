@@ -6,6 +6,7 @@ pub mod FaultLineLemmas
 pub mod LawsLemmas
 pub mod FileLawsLemmas
 pub mod LoadLemmas
+pub mod SymbolsLemmas
 pub mod ImageTextExampleLemmas
 pub mod ImageTextLemmas
 pub mod CountersLemmas

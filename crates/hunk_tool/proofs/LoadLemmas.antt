@@ -22,12 +22,13 @@ use Rattle.hunk_loadfile.specs.LoadFile.{IsLoadOf}
 use Rattle.hunk_loader.specs.ImageLoader.{LoadsAs}
 use Rattle.hunk_loader.specs.ImageReader.{IsImageFault}
 use Rattle.hunk_loader.specs.Loading.{loaded_bytes}
+use Rattle.hunk_loader.specs.Places.{Placed}
 use Rattle.hunk_loader.specs.Sizes.{sizes_of}
 use Rattle.hunk_loader.specs.declared.image_reader.ImageFault.{ImageFault}
 use Rattle.hunk_loader.specs.declared.image_reader.ImageFault.TheVariants as image_fault
 use Rattle.hunk_loader.specs.declared.loading.LoadRefusal.TheVariants as load_refusal
 use Rattle.hunk_loader.proofs.LoadingLemmas.{loaded_from}
-use Rattle.hunk_tool.specs.Load.{IsCutShort, IsLoadFault, IsReported, ends_of}
+use Rattle.hunk_tool.specs.Load.{IsCutShortAt, IsFaultAt, IsWrittenAt, ends_of, loaded_text}
 use Rattle.hunk_tool.specs.ImageText.{EndsInside, image_text}
 use Rattle.hunk_tool.specs.declared.image_form.ImageForm.{ImageForm}
 use Rattle.hunk_tool.specs.ToolFault.{tool_fault_of_image, tool_fault_of_write}
@@ -35,41 +36,61 @@ use Rattle.hunk_tool.proofs.ImageTextLemmas.{length-hunks_of}
 
 -- ---- what was read
 
--- If the image was not made, nothing was written.
-pub IsLoadFault-read : (A : Type 0) (form : ImageForm) (bases : List ℕ) (left left_then : Option (List ℕ)) (failed ended : Bool) (taken : Option (List ℕ)) (write_failed : Bool) (fault : ImageFault)
-    → IsImageFault bases left left_then failed ended fault → IsLoadFault {A = A} form bases (ends_of left left_then failed ended taken taken write_failed) (tool_fault_of_image fault)
-IsLoadFault-read A form bases left left_then failed ended taken write_failed (image_fault.Refused (load_refusal.File fault)) is = (refl, is, Keeps-refl taken)
-IsLoadFault-read A form bases left left_then failed ended taken write_failed (image_fault.Refused (load_refusal.Place fault)) is = (is.0, is.1, Keeps-refl taken)
-IsLoadFault-read A form bases left left_then failed ended taken write_failed (image_fault.Refused load_refusal.OutOfMemory) is = (refl, Keeps-refl taken)
-IsLoadFault-read A form bases left left_then failed ended taken write_failed image_fault.Device is = (refl, is, Keeps-refl taken)
+-- If the file was not placed, nothing was written.
+pub IsFaultAt-read : (A : Type 0) (text : List FileHunk → List ℕ → List ℕ) (bases : List ℕ) (left left_then : Option (List ℕ)) (failed ended : Bool) (taken : Option (List ℕ)) (write_failed : Bool) (fault : ImageFault)
+    → IsImageFault bases left left_then failed ended fault → IsFaultAt {A = A} text bases (ends_of left left_then failed ended taken taken write_failed) (tool_fault_of_image fault)
+IsFaultAt-read A text bases left left_then failed ended taken write_failed (image_fault.Refused (load_refusal.File fault)) is = (refl, is, Keeps-refl taken)
+IsFaultAt-read A text bases left left_then failed ended taken write_failed (image_fault.Refused (load_refusal.Place fault)) is = (is.0, is.1, Keeps-refl taken)
+IsFaultAt-read A text bases left left_then failed ended taken write_failed (image_fault.Refused load_refusal.OutOfMemory) is = (refl, Keeps-refl taken)
+IsFaultAt-read A text bases left left_then failed ended taken write_failed image_fault.Device is = (refl, is, Keeps-refl taken)
 
--- Where the image was made, and writing it stopped.
-pub IsLoadFault-written : (A : Type 0) {W : Type 0} (taken : W → Option (List ℕ)) (failed : W → Bool) (old new : W) (form : ImageForm) (bases : List ℕ) (image : List (ℕ × List ℕ)) (left left_then : Option (List ℕ)) (read_failed ended : Bool) (fault : WriteFault)
-    → IsTrue ended → HasRead left left_then (λ bytes. LoadsAs bases bytes image) → IsDevice fault → WriteStopped taken failed old new (image_text form image) 0 fault
-    → IsLoadFault {A = A} form bases (ends_of left left_then read_failed ended (taken old) (taken new) (failed new)) (tool_fault_of_write fault)
-IsLoadFault-written A taken failed old new form bases image left left_then read_failed ended (write_fault.Device written) at_end read device stopped = (
+-- ---- what was written
+
+-- The bytes are a load file whose hunks are placed at the bases, and this is the text of them.
+pub record HasTextAt (text : List FileHunk → List ℕ → List ℕ) (bases told bytes : List ℕ) : Type 0 where
+  pub hunks : List FileHunk
+  pub is_file : IsLoadOf hunks bytes
+  pub placed : Placed (sizes_of hunks) bases
+  pub is_text : told ≡ text hunks bases
+
+-- Where the file was placed, and writing its text stopped.
+pub IsFaultAt-written : (A : Type 0) {W : Type 0} (taken : W → Option (List ℕ)) (failed : W → Bool) (old new : W) (text : List FileHunk → List ℕ → List ℕ) (bases told : List ℕ) (left left_then : Option (List ℕ)) (read_failed ended : Bool) (fault : WriteFault)
+    → IsTrue ended → HasRead left left_then (HasTextAt text bases told) → IsDevice fault → WriteStopped taken failed old new told 0 fault
+    → IsFaultAt {A = A} text bases (ends_of left left_then read_failed ended (taken old) (taken new) (failed new)) (tool_fault_of_write fault)
+IsFaultAt-written A taken failed old new text bases told left left_then read_failed ended (write_fault.Device written) at_end read device stopped = (
   at_end,
-  HasRead-weaker left left_then _ (IsCutShort form bases (taken old) (taken new) written) (λ bytes loads. record {
-    hunks = loads.hunks;
-    is_file = loads.is_file;
-    placed = loads.placed;
-    front = subst (λ hunks. TookFront (taken old) (taken new) (image_text form hunks) 0 written) loads.image_is stopped.0;
+  HasRead-weaker left left_then _ (IsCutShortAt text bases (taken old) (taken new) written) (λ bytes has. record {
+    hunks = has.hunks;
+    is_file = has.is_file;
+    placed = has.placed;
+    front = subst (λ t. TookFront (taken old) (taken new) t 0 written) has.is_text stopped.0;
   }) read,
   stopped.1,
 )
-IsLoadFault-written A taken failed old new form bases image left left_then read_failed ended (write_fault.OutOfMemory written) at_end read device stopped = absurd device
+IsFaultAt-written A taken failed old new text bases told left left_then read_failed ended (write_fault.OutOfMemory written) at_end read device stopped = absurd device
+
+-- The text that was written is that of the file.
+pub IsWrittenAt-of : (text : List FileHunk → List ℕ → List ℕ) (bases told : List ℕ) (left left_then old new : Option (List ℕ)) → HasRead left left_then (HasTextAt text bases told)
+    → Appends old new told → HasRead left left_then (IsWrittenAt text bases old new)
+IsWrittenAt-of text bases told left left_then old new read written =
+    HasRead-weaker left left_then _ (IsWrittenAt text bases old new) (λ bytes has. record {
+      hunks = has.hunks;
+      is_file = has.is_file;
+      placed = has.placed;
+      written = subst (Appends old new) has.is_text written;
+    }) read
 
 -- ---- the image
 
--- The image that was written is that of the file.
-pub IsReported-of : (form : ImageForm) (bases : List ℕ) (image : List (ℕ × List ℕ)) (left left_then old new : Option (List ℕ)) → HasRead left left_then (λ bytes. LoadsAs bases bytes image)
-    → Appends old new (image_text form image) → HasRead left left_then (IsReported form bases old new)
-IsReported-of form bases image left left_then old new read written =
-    HasRead-weaker left left_then _ (IsReported form bases old new) (λ bytes loads. record {
+-- An image that was loaded has the text of its file.
+pub HasTextAt-loaded : (form : ImageForm) (bases : List ℕ) (image : List (ℕ × List ℕ)) (left left_then : Option (List ℕ)) → HasRead left left_then (λ bytes. LoadsAs bases bytes image)
+    → HasRead left left_then (HasTextAt (loaded_text form) bases (image_text form image))
+HasTextAt-loaded form bases image left left_then read =
+    HasRead-weaker left left_then _ (HasTextAt (loaded_text form) bases (image_text form image)) (λ bytes loads. record {
       hunks = loads.hunks;
       is_file = loads.is_file;
       placed = loads.placed;
-      written = subst (λ hunks. Appends old new (image_text form hunks)) loads.image_is written;
+      is_text = ap (image_text form) loads.image_is;
     }) read
 
 -- A header has at most 65,535 hunks.

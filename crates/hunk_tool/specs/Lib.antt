@@ -2,6 +2,7 @@ pub mod Bases
 pub mod FaultLine
 pub mod Laws
 pub mod Load
+pub mod Symbols
 pub mod Phrase
 pub mod Record
 pub mod Rows

@@ -13,6 +13,7 @@
 //! - `link_options`: how object files are linked, and how their load file is written.
 //! - `image`: writes the memory that object files define.
 //! - `load`: loads a file and writes its image.
+//! - `symbols`: writes the symbols of a load file with their addresses.
 //! - `image_form`: the forms in which an image is written.
 //! - `image_text`: writes an image in one of its forms.
 //! - `rows`: the lines that hold the bytes of a hunk.
@@ -46,6 +47,7 @@ mod record;
 mod rows;
 pub mod show;
 pub mod survey;
+pub mod symbols;
 pub mod tool_fault;
 
 pub use bases::{BasesFault, parse_bases};
@@ -61,4 +63,5 @@ pub use load::{load_run, load_run_with};
 pub use phrase::Phrase;
 pub use show::show_run;
 pub use survey::{Finding, survey_file, survey_status, write_finding, write_totals};
+pub use symbols::symbols_run;
 pub use tool_fault::{ToolFault, status_of};

@@ -14,6 +14,7 @@
 //! - `reports`: files that are loaded.
 //! - `streaming`: what `ImageLoader` allocates.
 //! - `surveys`: what a survey finds of files, and the lines that it writes.
+//! - `symbols`: the symbols of load files, with their addresses.
 //! - `texts`: the texts that are written about files.
 //! - `vectors`: files of both kinds through everything that reads them.
 
@@ -31,5 +32,6 @@ mod refusals;
 mod reports;
 mod streaming;
 mod surveys;
+mod symbols;
 mod texts;
 mod vectors;

@@ -28,9 +28,16 @@ and `amihunk load --at 10000 --srec FILE` the same bytes as S-records
   S70500000000FA
 An address is the number of a byte, from 0 to FFFFFFFF.
 
-The exit status is 0 if the bytes were printed, 1 if FILE is not a load file or its hunks cannot be
+With `--symbols` it prints a line for each symbol of FILE, in file order, with the symbol's address,
+the number of its hunk, and its name. The address is that of the hunk plus the symbol's value, modulo
+2^32. For example, `amihunk load --at 10000 --symbols FILE` prints for a file whose only symbol has the
+value 2
+  00010002 hunk 0 \"loop\"
+`--srec` and `--symbols` exclude each other.
+
+The exit status is 0 if the text was printed, 1 if FILE is not a load file or its hunks cannot be
 placed at the addresses, 2 if LIST or the command line is not understood, 3 if FILE cannot be read or
-the bytes cannot be printed, and 4 if memory runs out.";
+the text cannot be printed, and 4 if memory runs out.";
 
 /// The end of the help of `image`.
 pub const IMAGE: &str = "\

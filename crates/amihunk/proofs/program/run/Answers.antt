@@ -2,8 +2,8 @@ use Rattle.amihunk.proofs.ProgramLemmas.{ends_check, ends_image, ends_link, ends
 use Rattle.amihunk.proofs.program.run.Goals as goal
 
 pub returns-clause-load : goal.returns-clause-load
-returns-clause-load g c program list form file is_line plain_list plain_file =
-    ends_load g.W.Sink.taken g.W.Sink.failed c.args.errors.now c.answer.new.errors list form file c.read_words.result c.answer.result (c.read_words.ensures.load program list form file is_line plain_list plain_file) c.answer.ensures
+returns-clause-load g c program list text file is_line plain_list plain_file =
+    ends_load g.W.Sink.taken g.W.Sink.failed c.args.errors.now c.answer.new.errors list text file c.read_words.result c.answer.result (c.read_words.ensures.load program list text file is_line plain_list plain_file) c.answer.ensures
 
 pub returns-clause-check : goal.returns-clause-check
 returns-clause-check g c program file is_line plain =

@@ -1,0 +1,114 @@
+//! The symbols of a load file, with their addresses.
+
+ghost use Rattle.std.specs.Prelude.{◌≡◌, ◌+◌, ◌<◌, ◌^◌, length, IsTrue, OnOk, IfErr};
+ghost use Rattle.std.specs.List.{flat_map};
+ghost use Rattle.hunk_words.specs.Streams.{HasRead, IsDevice, Wrote, WroteAll};
+ghost use Rattle.hunk_loadfile.specs.Rules.{IsLoadFile};
+ghost use Rattle.hunk_tool.specs.Load.{ends_of, IsFaultAt, IsWrittenAt};
+ghost use Rattle.hunk_tool.specs.Symbols.{address_line, symbols_text};
+
+use crate::tool_fault::ToolFault;
+use hunk_loader::check_sizes;
+use hunk_loadfile::{LoadHunk, read_load};
+use hunk_text::{Digits, write_around_name};
+use hunk_words::{Name, Sink, Source, WriteFault};
+use std::alloc::Allocator;
+
+/// Reads a load file to the reader's end, and writes a line for each of its symbols, in file order,
+/// with the symbol's address, the number of its hunk and its name. The bases are addresses, one for
+/// each hunk. A symbol's address is its hunk's base plus its value, modulo 2^32.
+///
+/// It keeps the file, and makes no image. Nothing is written before the whole file has been read and
+/// placed. It does not flush.
+///
+/// # Errors
+///
+/// - [`ToolFault::Input`] with the place and the reason of the first offence of what was read, as
+///   [`read_load`] answers it; where the file ends too early, at the reader's end.
+/// - [`ToolFault::InputDevice`] where a read failed.
+/// - [`ToolFault::Place`] at the end of a load file, as `check_places` answers it for the sizes of
+///   its hunks.
+/// - [`ToolFault::Output`] if a write failed or took no byte, with the number of bytes of the lines
+///   that were written.
+/// - [`ToolFault::OutOfMemory`] if an allocation failed, with nothing written.
+pub fn symbols_run<A: Allocator + Copy, R: Source, W: Sink>(
+    alloc: A,
+    reader: &mut R,
+    bases: &[u32],
+    writer: &mut W,
+) -> Result<(), ToolFault<A>>
+    ensures ok { OnOk result (HasRead (R.left reader.old) (R.left reader.new) (IsWrittenAt symbols_text bases.now (W.taken writer.old) (W.taken writer.new))) }
+    ensures ended { OnOk result (IsTrue (R.ended reader.new)) }
+    ensures err { IfErr result (IsFaultAt symbols_text bases.now (ends_of
+        (R.left reader.old) (R.left reader.new) (R.failed reader.new) (R.ended reader.new)
+        (W.taken writer.old) (W.taken writer.new) (W.failed writer.new))) }
+{
+    let file = read_load(alloc, reader)?;
+    let hunks = file.hunks();
+    if let Err(fault) = check_sizes(&hunks, bases) {
+        return Err(ToolFault::Place(fault));
+    }
+    Ok(write_symbols(hunks, bases, writer)?)
+}
+
+/// Writes a line for each symbol of these hunks, which are at these bases. Does not allocate.
+fn write_symbols<A: Allocator + Copy, W: Sink>(
+    hunks: &[LoadHunk<A>],
+    bases: &[u32],
+    writer: &mut W,
+) -> Result<(), WriteFault>
+    requires valid { IsLoadFile hunks.now }
+    requires based { length hunks.now ≡ length bases.now }
+    ensures wrote { WroteAll W.taken W.failed writer.old writer.new (symbols_text hunks.now bases.now) result }
+    ensures device { IfErr result IsDevice }
+{
+    let mut written = 0;
+    for (number, hunk) in hunks.iter().enumerate() {
+        let base = bases[number];
+        written = write_hunk(writer, written, number as u64, base, &hunk.symbols)?;
+    }
+    Ok(())
+}
+
+/// Writes a line for each of the symbols of the hunk with this number, which is at this base, after
+/// `written` bytes of the text.
+fn write_hunk<A: Allocator + Copy, W: Sink>(
+    writer: &mut W,
+    written: u64,
+    number: u64,
+    base: u32,
+    symbols: &[(Name<A>, u32)],
+) -> Result<u64, WriteFault>
+    requires { written + length (flat_map (address_line number base) symbols.now) < 2 ^ 64 }
+    ensures wrote { Wrote W.taken W.failed writer.old writer.new (flat_map (address_line number base) symbols.now) written result }
+    ensures device { IfErr result IsDevice }
+{
+    let mut written = written;
+    for symbol in symbols {
+        written = write_symbol(writer, written, number, base, symbol)?;
+    }
+    Ok(written)
+}
+
+/// Writes the line of a symbol of the hunk with this number, which is at this base.
+fn write_symbol<A: Allocator + Copy, W: Sink>(
+    writer: &mut W,
+    written: u64,
+    number: u64,
+    base: u32,
+    symbol: &(Name<A>, u32),
+) -> Result<u64, WriteFault>
+    requires { written + length (address_line number base symbol.now) < 2 ^ 64 }
+    ensures wrote { Wrote W.taken W.failed writer.old writer.new (address_line number base symbol.now) written result }
+    ensures device { IfErr result IsDevice }
+{
+    let address = Digits::hexadecimal(base.wrapping_add(symbol.1));
+    let number = Digits::decimal(number);
+    write_around_name(
+        writer,
+        written,
+        &[address.as_bytes(), b" hunk ", number.as_bytes(), b" "],
+        symbol.0.bytes(),
+        &[b"\n"],
+    )
+}

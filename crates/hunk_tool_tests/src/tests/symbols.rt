@@ -1,0 +1,244 @@
+//! The symbols of load files, with their addresses.
+
+use super::asserts::{equals_at, holds};
+use super::memory::is_done;
+use hunk_loader::PlaceFault;
+use hunk_test_support::{BASE, CHUNKS, FILE, ROOM, Refusing, bytes_of};
+use hunk_tool::{ToolFault, symbols_run};
+use hunk_words::{Fault, Pieces, Reason, Room};
+use std::alloc::Global;
+use std::process::Abort;
+use std::test::Fail;
+
+// More allocations than a run makes.
+const MOST_GROWTHS: u64 = 64;
+
+// A hunk of code with the symbols `loop`, `a"b\`, and one of the bytes ff, 1 and `A`.
+const NAMED: [u32; 21] = [
+    0x3F3,
+    0,
+    1,
+    0,
+    0,
+    1,
+    0x3E9,
+    1,
+    0x4E75_4E71,
+    0x3F0,
+    1,
+    0x6C6F_6F70,
+    2,
+    1,
+    0x6122_625C,
+    0xFFFF_FFFF,
+    1,
+    0xFF01_4100,
+    0,
+    0,
+    0x3F2,
+];
+
+const NAMED_LINES: &str = "00010002 hunk 0 \"loop\"\n\
+                           0000ffff hunk 0 \"a\\x22b\\x5c\"\n\
+                           00010000 hunk 0 \"\\xff\\x01A\"\n";
+
+// Code with the symbol `a`, memory without symbols, and data with the symbols `a` and `b`.
+const SEVERAL: [u32; 32] = [
+    0x3F3,
+    0,
+    3,
+    0,
+    2,
+    1,
+    1,
+    1,
+    0x3E9,
+    1,
+    0x4E75_4E71,
+    0x3F0,
+    1,
+    0x6100_0000,
+    0,
+    0,
+    0x3F2,
+    0x3EB,
+    1,
+    0x3F2,
+    0x3EA,
+    1,
+    1,
+    0x3F0,
+    1,
+    0x6100_0000,
+    4,
+    1,
+    0x6200_0000,
+    0x10,
+    0,
+    0x3F2,
+];
+
+const SEVERAL_LINES: &str = "00003000 hunk 0 \"a\"\n00000000 hunk 2 \"a\"\n0000000c hunk 2 \"b\"\n";
+
+// A reader of at most `chunk` bytes per read, of which this one fails, and a writer that takes `room`
+// bytes, at most `most` per write.
+#[derive(Clone, Copy, Debug)]
+struct Devices {
+    chunk: usize,
+    failing: Option<u64>,
+    most: usize,
+    room: usize,
+}
+
+const WHOLE: Devices = Devices {
+    chunk: ROOM,
+    failing: None,
+    most: ROOM,
+    room: ROOM,
+};
+
+// A run over these longwords at these addresses ends so, and writes this text.
+fn is_run(
+    rt: &impl Abort,
+    alloc: Global,
+    devices: Devices,
+    words: &[u32],
+    bases: &[u32],
+    wanted: Result<(), ToolFault>,
+    text: &[u8],
+) -> Result<(), Fail> {
+    assert!(rt; 1 <= devices.chunk && 1 <= devices.most);
+    let bytes = bytes_of(alloc, words, &[])?;
+    let mut reader = Pieces::new(bytes, devices.chunk, devices.failing);
+    let mut writer = Room::new(alloc, devices.most, devices.room, false)?;
+    let got = symbols_run(alloc, &mut reader, bases, &mut writer);
+    equals_at(rt, &devices, got, wanted);
+    equals_at(rt, &devices, writer.bytes(), text);
+    Ok(())
+}
+
+#[test]
+fn writes_the_symbols_of_files(rt: HostRuntime) -> Result<(), Fail> {
+    let rows: [(&[u32], &[u32], &str); 3] = [
+        (&FILE, &[BASE], ""),
+        (&NAMED, &[BASE], NAMED_LINES),
+        (&SEVERAL, &[0x3000, 0x1000, 0xFFFF_FFFC], SEVERAL_LINES),
+    ];
+    for (words, bases, text) in rows {
+        for chunk in CHUNKS {
+            let devices = Devices { chunk, ..WHOLE };
+            is_run(
+                &rt,
+                rt.alloc(),
+                devices,
+                words,
+                bases,
+                Ok(()),
+                text.as_bytes(),
+            )?;
+        }
+    }
+    Ok(())
+}
+
+#[test]
+fn refuses_files_before_addresses(rt: HostRuntime) -> Result<(), Fail> {
+    let cut = ToolFault::Input {
+        file: 0,
+        fault: Fault {
+            place: 20,
+            reason: Reason::UnexpectedEnd,
+        },
+    };
+    let rows: [(&[u32], &[u32], ToolFault); 5] = [
+        (&NAMED[..20], &[], cut),
+        (&NAMED, &[], ToolFault::Place(PlaceFault::WrongCount)),
+        (&NAMED, &[0, 4], ToolFault::Place(PlaceFault::WrongCount)),
+        (
+            &NAMED,
+            &[0xFFFF_FFFD],
+            ToolFault::Place(PlaceFault::PastEnd(0)),
+        ),
+        (
+            &SEVERAL,
+            &[0, 8, 3],
+            ToolFault::Place(PlaceFault::Overlap(0, 2)),
+        ),
+    ];
+    for (words, bases, fault) in rows {
+        is_run(&rt, rt.alloc(), WHOLE, words, bases, Err(fault), b"")?;
+    }
+    Ok(())
+}
+
+#[test]
+fn tells_a_read_that_failed(rt: HostRuntime) -> Result<(), Fail> {
+    for (chunk, count) in [(64, 3), (5, 18)] {
+        for number in 0..=count {
+            let devices = Devices {
+                chunk,
+                failing: Some(number),
+                ..WHOLE
+            };
+            let (wanted, text) = if number < count {
+                (Err(ToolFault::InputDevice { file: 0 }), "")
+            } else {
+                (Ok(()), NAMED_LINES)
+            };
+            is_run(
+                &rt,
+                rt.alloc(),
+                devices,
+                &NAMED,
+                &[BASE],
+                wanted,
+                text.as_bytes(),
+            )?;
+        }
+    }
+    Ok(())
+}
+
+#[test]
+fn tells_what_a_writer_took(rt: HostRuntime) -> Result<(), Fail> {
+    let lines = NAMED_LINES.as_bytes();
+    for room in 0..lines.len() {
+        for most in [64, 7, 1] {
+            let devices = Devices {
+                most,
+                room,
+                ..WHOLE
+            };
+            let written = room as u64;
+            let wanted = Err(ToolFault::Output { written });
+            is_run(
+                &rt,
+                rt.alloc(),
+                devices,
+                &NAMED,
+                &[BASE],
+                wanted,
+                &lines[..room],
+            )?;
+        }
+    }
+    Ok(())
+}
+
+// The bytes of the file that is read, its content, its sizes, its symbols and their names are on the
+// heap.
+#[test]
+fn is_out_of_memory_with_each_growth_refused(rt: HostRuntime) -> Result<(), Fail> {
+    for refused in 0..MOST_GROWTHS {
+        let heap = Refusing::new(rt.alloc(), refused);
+        let mut reader = Pieces::new(bytes_of(rt.alloc(), &NAMED, &[])?, 64, None);
+        let mut writer = Room::new(rt.alloc(), 64, ROOM, false)?;
+        let got = symbols_run(&heap, &mut reader, &[BASE], &mut writer);
+        if is_done(&rt, &heap, refused, &got, writer.bytes(), NAMED_LINES) {
+            holds(&rt, &("growths", refused), 5 <= refused);
+            return Ok(());
+        }
+    }
+    holds(&rt, &("each run was refused a growth", MOST_GROWTHS), false);
+    Ok(())
+}
