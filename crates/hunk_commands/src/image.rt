@@ -19,6 +19,12 @@ use std::rt::Files;
 
 /// Links the object files named `files`, and prints in this form the memory that they define at the
 /// addresses in `list`. The list is checked before the files are opened.
+///
+/// # Errors
+///
+/// - [`Failure::BadNumber`] with the index of the first part of the list that is no address.
+/// - [`Failure::Opening`] with the first of `files` that cannot be opened.
+/// - Those of [`image_to`].
 pub fn image<'a, R: Files + Print + AllocGlobal>(
     rt: &R,
     list: &str,
@@ -43,6 +49,11 @@ pub fn image<'a, R: Files + Print + AllocGlobal>(
 
 /// Writes the memory that the object files in `inputs` define, in this form and through a buffer, and
 /// returns `output`, flushed.
+///
+/// # Errors
+///
+/// - [`Failure::Tool`] with what [`image_run_with`] returns, or out of memory.
+/// - [`Failure::Printing`] if `output` did not take the end of the image.
 pub fn image_to<'a, I: Source, O: Write + Drop>(
     alloc: Global,
     inputs: &mut [I],

@@ -16,6 +16,14 @@ use std::rt::Files;
 /// `options` say.
 ///
 /// The files are linked before `out` is created, so `out` may be one of them.
+///
+/// # Errors
+///
+/// - [`Failure::Opening`] with the first of `files` that cannot be opened, or with `out` if it
+///   cannot be created.
+/// - [`Failure::Tool`] with what [`link_inputs`] returns, or out of memory. If memory runs out while
+///   `out` is written, it holds a beginning of the load file.
+/// - [`Failure::Printing`] if `out` did not take everything that was written to it.
 pub fn link<'a, R: Files + AllocGlobal>(
     rt: &R,
     out: &'a str,

@@ -26,6 +26,12 @@ pub enum LoadText {
 
 /// Loads the file named `file` at the addresses in `list`, and prints this text of it. The list is
 /// checked before the file is opened.
+///
+/// # Errors
+///
+/// - [`Failure::BadNumber`] with the index of the first part of the list that is no address.
+/// - [`Failure::Opening`] if the file cannot be opened.
+/// - Those of [`load_to`].
 pub fn load<'a, R: Files + Print + AllocGlobal>(
     rt: &R,
     list: &str,
@@ -43,6 +49,11 @@ pub fn load<'a, R: Files + Print + AllocGlobal>(
 
 /// Writes this text of the load file that is read from `input`, through a buffer, and returns
 /// `output`, flushed.
+///
+/// # Errors
+///
+/// - [`Failure::Tool`] with what [`load_run_with`] or [`symbols_run`] returns, or out of memory.
+/// - [`Failure::Printing`] if `output` did not take the end of the text.
 pub fn load_to<'a, I: Read + Drop, O: Write + Drop>(
     alloc: Global,
     input: I,

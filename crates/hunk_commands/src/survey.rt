@@ -17,6 +17,10 @@ use std::rt::Files;
 /// the exit status: 0 if all are hunk files, 3 if one could not be read, and otherwise 1.
 ///
 /// A file is opened when its turn comes, and closed before the next one. No file stops it.
+///
+/// # Errors
+///
+/// Those of [`survey_to`].
 pub fn survey<'a, R: Files + Print + AllocGlobal>(
     rt: &R,
     files: &[&'a str],
@@ -29,6 +33,11 @@ pub fn survey<'a, R: Files + Print + AllocGlobal>(
 }
 
 /// Writes these lines through a buffer, and returns `output`, flushed, with the exit status.
+///
+/// # Errors
+///
+/// [`Failure::Printing`] if `output` did not take all lines, and [`Failure::Tool`] if memory ran out;
+/// the lines about the files before are written then, as far as `output` takes them.
 pub fn survey_to<'a, R: Files, O: Write + Drop>(
     rt: &R,
     alloc: Global,

@@ -25,6 +25,11 @@ pub enum Text {
 }
 
 /// Reads the file named `file`, and prints the text about it.
+///
+/// # Errors
+///
+/// - [`Failure::Opening`] if the file cannot be opened.
+/// - Those of [`print_text_to`].
 pub fn print_text<'a, R: Files + Print + AllocGlobal>(
     rt: &R,
     text: Text,
@@ -40,6 +45,11 @@ pub fn print_text<'a, R: Files + Print + AllocGlobal>(
 
 /// Writes the text about the file that is read from `input`, through a buffer, and returns
 /// `output`, flushed.
+///
+/// # Errors
+///
+/// - [`Failure::Tool`] with what [`check_run`] or [`show_run`] returns, or out of memory.
+/// - [`Failure::Printing`] if `output` did not take the end of the text.
 pub fn print_text_to<'a, I: Read + Drop, O: Write + Drop>(
     alloc: Global,
     text: Text,

@@ -16,6 +16,10 @@ pub const VERSION: &str = "0.1.0";
 const LINE: &[u8] = b"amihunk 0.1.0\n";
 
 /// Prints the name of the program and its version, in a line.
+///
+/// # Errors
+///
+/// [`Failure::Printing`] if the standard output did not take the line.
 pub fn print_version<'a, R: Print>(rt: &R) -> Result<(), Failure<'a>>
     ensures { IfErr result IsVersionFailure }
 {
@@ -24,6 +28,10 @@ pub fn print_version<'a, R: Print>(rt: &R) -> Result<(), Failure<'a>>
 }
 
 /// Writes the name of the program and its version, in a line, and returns `output`, flushed.
+///
+/// # Errors
+///
+/// [`Failure::Printing`] if `output` did not take the line.
 pub fn write_version<'a, O: Write + Drop>(output: O) -> Result<O, Failure<'a>>
     ensures ok { IfOk result (λ after. Appends (O.contents output) (O.contents after) version_line) }
     ensures err { IfErr result (λ failure. failure ≡ Failure.Printing) }
