@@ -37,7 +37,7 @@ digits_value_small part digits short =
     let most : 16 ^ length part ≤ 16 ^ 8 = pow-le-pow_right (omega arith) short in
     omega arith
 
-is_number-from_parts : (part : List ℕ) → 1 ≤ length part → length part ≤ 8 → list_all is_ascii_hexdigit part ≡ true → is_number part ≡ true
+pub is_number-from_parts : (part : List ℕ) → 1 ≤ length part → length part ≤ 8 → list_all is_ascii_hexdigit part ≡ true → is_number part ≡ true
 is_number-from_parts part some short digits = and_from _ _ (and_from _ _ (le-leb 1 (length part) some) (le-leb (length part) 8 short)) digits
 
 -- what std parses from such a part
@@ -62,7 +62,7 @@ none_before (n ∷ found) (Some m ∷ all) fronts within none =
     let e = none_before found all rest (omega arith) none in omega (arith, e)
 
 -- the first place without a number, if each place before it has one
-position-is_none : (found : List ℕ) (all : List (Option ℕ)) → take (length found) all ≡ map Some found → length found < length all → slice_index_or all (length found) None ≡ None → position is_none all ≡ Some (length found)
+pub position-is_none : (found : List ℕ) (all : List (Option ℕ)) → take (length found) all ≡ map Some found → length found < length all → slice_index_or all (length found) None ≡ None → position is_none all ≡ Some (length found)
 position-is_none found all fronts within none =
     let e = none_before found all fronts within none in
     rw e (ap (λ b. cond b (Some (length found)) None) (lt-ltb (length found) (length all) within))

@@ -1,3 +1,4 @@
+pub mod BasesFileLemmas
 pub mod BasesLemmas
 pub mod RecordLemmas
 pub mod RowsLemmas
@@ -23,4 +24,5 @@ pub mod LinkLemmas
 pub mod ImageLemmas
 pub mod NameLengthLemmas
 pub mod IsOfInputsLemmas
+pub mod PartDigitsLemmas
 pub mod RanksLemmas

@@ -22,7 +22,12 @@ number_of part = if is_number part then Some (digits_value 16 part) else None
 abbrev pub numbers : List ℕ → List (Option ℕ)
 numbers text = map number_of (parts text)
 
--- a bad number is the first part that is not one; out of memory says nothing about the text
+-- why parts with these numbers are rejected: a bad number is the first part that has none; out of
+-- memory says nothing about them
+abbrev pub IsNumbersFault : List (Option ℕ) → BasesFault → Type 0
+IsNumbersFault all (BadNumber index) = position is_none all ≡ Some index
+IsNumbersFault all OutOfMemory = Unit {0}
+
+-- why a text is rejected
 abbrev pub IsBasesFault : List ℕ → BasesFault → Type 0
-IsBasesFault text (BadNumber index) = position is_none (numbers text) ≡ Some index
-IsBasesFault text OutOfMemory = Unit {0}
+IsBasesFault text fault = IsNumbersFault (numbers text) fault

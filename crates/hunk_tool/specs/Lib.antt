@@ -1,4 +1,6 @@
 pub mod Bases
+pub mod BasesFile
+pub mod PartDigits
 pub mod FaultLine
 pub mod Laws
 pub mod Load

@@ -1,6 +1,7 @@
 //! The operations of `amihunk`, and the texts that it reads and prints.
 //!
 //! - `bases`: the list of addresses on the command line.
+//! - `bases_file`: the addresses in a file.
 //! - `laws`: laws about the outcomes of the operations.
 //! - `check`: checks a file of either kind and writes what it is.
 //! - `show`: reads a file of either kind and writes its listing.
@@ -22,10 +23,12 @@
 //! - `tool_fault`: why an operation failed.
 //! - `fault_line`: the line that reports why an operation failed.
 //! - `link_line`: the line that reports why units do not link.
+//! - `part_digits`: the digits of an address, as they come.
 //! - `phrase`: texts with at most one number.
 #![tactic(auto)]
 
 pub mod bases;
+pub mod bases_file;
 pub mod check;
 pub mod counters;
 mod counting;
@@ -42,6 +45,7 @@ pub mod link;
 mod link_line;
 pub mod link_options;
 pub mod load;
+mod part_digits;
 pub mod phrase;
 mod record;
 mod rows;
@@ -51,6 +55,7 @@ pub mod symbols;
 pub mod tool_fault;
 
 pub use bases::{BasesFault, parse_bases};
+pub use bases_file::{BasesFileFault, read_bases};
 pub use check::check_run;
 pub use counters::{LoadCounter, ObjectCounter};
 pub use fault_line::{write_fault, write_line};

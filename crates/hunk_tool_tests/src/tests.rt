@@ -2,6 +2,7 @@
 //!
 //! - `asserts`: assertions as functions.
 //! - `bases`: lists of addresses.
+//! - `bases_file`: the addresses in a file.
 //! - `decoders`: what checks the bytes of a file.
 //! - `devices`: readers and writers that fail.
 //! - `endless`: a reader that never ends.
@@ -20,6 +21,7 @@
 
 mod asserts;
 mod bases;
+mod bases_file;
 mod decoders;
 mod devices;
 mod endless;

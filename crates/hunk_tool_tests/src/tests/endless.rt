@@ -6,10 +6,11 @@ use hunk_tool::{ToolFault, load_run};
 use hunk_words::{DeviceFault, Fault, Reason, Room, Source};
 use std::test::Fail;
 
-// These bytes, followed by endless zeros.
+/// Some bytes, and then one byte without end.
 #[derive(Drop)]
-struct Endless<'a> {
-    front: &'a [u8],
+pub(crate) struct Endless<'a> {
+    pub front: &'a [u8],
+    pub after: u8,
 }
 
 impl Source for Endless<'_> {
@@ -24,7 +25,7 @@ impl Source for Endless<'_> {
     fn read(&mut self, buffer: &mut [u8]) -> Result<usize, DeviceFault> {
         let count = self.front.len().min(buffer.len());
         buffer[..count].copy_from_slice(&self.front[..count]);
-        buffer[count..].fill(0);
+        buffer[count..].fill(self.after);
         self.front = &self.front[count..];
         Ok(buffer.len())
     }
@@ -44,7 +45,10 @@ fn stops_at_the_longest_file(rt: HostRuntime) -> Result<(), Fail> {
     let mut words = FILE[..6].to_vec(rt.alloc())?;
     words.extend_from_slice(&[0x0000_03E8, 0xFFFF_FFFF])?;
     let bytes = bytes_of(rt.alloc(), &words, &[])?;
-    let mut reader = Endless { front: &bytes };
+    let mut reader = Endless {
+        front: &bytes,
+        after: 0,
+    };
     let mut writer = Room::new(rt.alloc(), 64, 64, false)?;
     let fault = Fault {
         place: 268_435_456,

@@ -9,8 +9,8 @@ use std::alloc::{Allocator, Global};
 use std::process::Abort;
 use std::test::Fail;
 
-// More allocations than a call of the tests makes.
-const MOST_GROWTHS: u64 = 64;
+/// More allocations than a call of the tests makes.
+pub(crate) const MOST_GROWTHS: u64 = 64;
 
 /// Whether a run wrote its text, since the allocation that was to fail never came. If it came, memory
 /// ran out, and nothing was written.
