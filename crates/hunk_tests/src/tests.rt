@@ -6,6 +6,7 @@
 //! - `growths`: allocations that fail in the calls on load files.
 //! - `loaded`: load files in memory.
 //! - `loading`: load files that are made of hunks, in memory.
+//! - `made`: load files that are made of plain values.
 //! - `parts`: each part of a load file, as it is written.
 //! - `places`: addresses of hunks.
 //! - `short_form`: load files with relocations in 16-bit words, as they are written.
@@ -19,6 +20,7 @@ mod decoded;
 mod growths;
 mod loaded;
 mod loading;
+mod made;
 mod parts;
 mod places;
 mod short_form;

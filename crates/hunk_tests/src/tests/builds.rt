@@ -134,7 +134,7 @@ const LARGER: Plan = Plan {
 };
 
 // Hunks, and the first rule that they break.
-const LISTS: [(&[Plan], Option<BuildFault>); 20] = [
+static LISTS: [(&[Plan], Option<BuildFault>); 20] = [
     (&[GOOD], None),
     (&[BARE], None),
     (&[GOOD, ZEROS, GOOD], None),
@@ -159,8 +159,8 @@ const LISTS: [(&[Plan], Option<BuildFault>); 20] = [
 
 #[test]
 fn tells_the_first_rule_and_the_lowest_hunk(rt: HostRuntime) -> Result<(), Fail> {
-    for (plans, fault) in LISTS {
-        is_built(&rt, rt.alloc(), plans, fault)?;
+    for (plans, fault) in &LISTS {
+        is_built(&rt, rt.alloc(), plans, *fault)?;
     }
     Ok(())
 }

@@ -2,35 +2,53 @@
 
 use super::asserts::{equals, equals_at};
 use super::values::{EMPTY, Hunk, SCATTERED_HUNKS, has_hunks};
-use hunk_loadfile::{HunkKind, LoadDecoder, Memory, read_load};
+use hunk_loadfile::{HunkKind, LoadDecoder, LoadFile, Memory, read_load};
 use hunk_test_support::load_words::{THREE_HUNKS, TWO_HUNKS, ZEROS};
 use hunk_test_support::words::{SCATTERED, SHORT, WRITTEN};
 use hunk_test_support::{CHUNKS, FILE, bytes_of};
-use hunk_words::{Pieces, ReadFault, Source};
-use std::alloc::Global;
+use hunk_words::{Pieces, ReadFault, Refusal, Source};
+use std::alloc::{AllocError, Global};
 use std::process::Abort;
 use std::test::Fail;
 
-// These bytes are the file of these hunks, in pieces of this size and from a reader.
-fn is_decoded_by(
+/// The load file of these bytes, which are fed in pieces of this size.
+pub(crate) fn fed(
     rt: &impl Abort,
     alloc: Global,
     bytes: &[u8],
     chunk: usize,
-    wanted: &[Hunk<'_>],
-) -> Result<(), Fail> {
-    let mut decoder = LoadDecoder::new(alloc);
+) -> Result<LoadFile, Refusal> {
     assert!(rt; 1 <= chunk);
+    let mut decoder = LoadDecoder::new(alloc);
     for piece in bytes.chunks(chunk) {
         equals(rt, decoder.feed(piece), Ok(()));
     }
-    has_hunks(rt, &decoder.finish()?, wanted);
-    let mut reader = Pieces::new(bytes.to_vec(alloc)?, chunk, None);
-    has_hunks(rt, &read_load(alloc, &mut reader)?, wanted);
-    Ok(())
+    decoder.finish()
 }
 
-// The same in pieces of each size.
+/// A reader of these bytes, at most `most` per read.
+pub(crate) fn reader_of(
+    rt: &impl Abort,
+    alloc: Global,
+    bytes: &[u8],
+    most: usize,
+) -> Result<Pieces, AllocError> {
+    assert!(rt; 1 <= most);
+    Ok(Pieces::new(bytes.to_vec(alloc)?, most, None))
+}
+
+/// The load file of these bytes, which are read from a reader.
+pub(crate) fn read(
+    rt: &impl Abort,
+    alloc: Global,
+    bytes: &[u8],
+    most: usize,
+) -> Result<LoadFile, Fail> {
+    let mut reader = reader_of(rt, alloc, bytes, most)?;
+    Ok(read_load(alloc, &mut reader)?)
+}
+
+// These longwords are the file of these hunks, in pieces of each size and from a reader.
 fn is_decoded(
     rt: &impl Abort,
     alloc: Global,
@@ -39,7 +57,8 @@ fn is_decoded(
 ) -> Result<(), Fail> {
     let bytes = bytes_of(alloc, words, &[])?;
     for chunk in CHUNKS {
-        is_decoded_by(rt, alloc, &bytes, chunk, wanted)?;
+        has_hunks(rt, &fed(rt, alloc, &bytes, chunk)?, wanted);
+        has_hunks(rt, &read(rt, alloc, &bytes, chunk)?, wanted);
     }
     Ok(())
 }
@@ -60,7 +79,7 @@ const SHORT_HUNK: Hunk<'static> = Hunk {
 };
 
 // The hunks of the example.
-const EXAMPLE_HUNKS: [Hunk<'static>; 2] = [
+static EXAMPLE_HUNKS: [Hunk<'static>; 2] = [
     Hunk {
         size: 4,
         content: &[
@@ -108,7 +127,7 @@ const ZEROS_HUNK: Hunk<'static> = Hunk {
 };
 
 // Code, an address and zeros.
-const THREE: [Hunk<'static>; 3] = [
+static THREE: [Hunk<'static>; 3] = [
     Hunk {
         size: 2,
         content: &[0x4E, 0x71, 0x4E, 0x71, 0x4E, 0x75, 0x4E, 0x71],

@@ -1,12 +1,12 @@
 //! Load files in memory: by `ImageLoader`, by `read_image`, and by decoding whole and then loading.
 
 use super::asserts::{equals, equals_at};
-use hunk_loader::{Image, ImageLoader, load, read_image};
-use hunk_loadfile::{LoadDecoder, read_load};
+use super::decoded::{fed, read, reader_of};
+use hunk_loader::{Image, ImageLoader, LoadRefusal, load, read_image};
+use hunk_loadfile::LoadFile;
 use hunk_test_support::load_words::{EVEN_WORDS, NO_WORDS, THREE_HUNKS, TWO_HUNKS, ZEROS};
 use hunk_test_support::words::{BEHIND_CONTENT, LINKED, LINKED_ALONE, SCATTERED, SHORT, WRITTEN};
 use hunk_test_support::{BASE, CHUNKS, FILE, bytes_of};
-use hunk_words::Pieces;
 use std::alloc::{Allocator, Global};
 use std::process::Abort;
 use std::test::Fail;
@@ -50,37 +50,6 @@ fn streamed(
     Ok(loader.finish()?)
 }
 
-// The image of the file that a decoder returned.
-fn decoded(
-    rt: &impl Abort,
-    alloc: Global,
-    bytes: &[u8],
-    bases: &[u32],
-    chunk: usize,
-) -> Result<Image, Fail> {
-    let mut decoder = LoadDecoder::new(alloc);
-    assert!(rt; 1 <= chunk);
-    for piece in bytes.chunks(chunk) {
-        equals(rt, decoder.feed(piece), Ok(()));
-    }
-    let file = decoder.finish()?;
-    Ok(load(alloc, &file, bases)?)
-}
-
-// The image of the file that was read from a reader.
-fn read(
-    rt: &impl Abort,
-    alloc: Global,
-    bytes: &[u8],
-    bases: &[u32],
-    chunk: usize,
-) -> Result<Image, Fail> {
-    assert!(rt; 1 <= chunk);
-    let mut reader = Pieces::new(bytes.to_vec(alloc)?, chunk, None);
-    let file = read_load(alloc, &mut reader)?;
-    Ok(load(alloc, &file, bases)?)
-}
-
 // The image of the bytes of a reader, without a file in between.
 fn image_of(
     rt: &impl Abort,
@@ -89,9 +58,20 @@ fn image_of(
     bases: &[u32],
     chunk: usize,
 ) -> Result<Image, Fail> {
-    assert!(rt; 1 <= chunk);
-    let mut reader = Pieces::new(bytes.to_vec(alloc)?, chunk, None);
+    let mut reader = reader_of(rt, alloc, bytes, chunk)?;
     Ok(read_image(alloc, &mut reader, bases)?)
+}
+
+// The file has these bytes at these addresses.
+fn is_in_memory(
+    rt: &impl Abort,
+    alloc: Global,
+    file: &LoadFile,
+    bases: &[u32],
+    wanted: &[&[u8]],
+) -> Result<(), LoadRefusal> {
+    has_bytes(rt, &load(alloc, file, bases)?, bases, wanted);
+    Ok(())
 }
 
 // In each way and in any pieces, these bytes are loaded to these hunks.
@@ -105,10 +85,10 @@ fn is_loaded(
     for chunk in CHUNKS {
         let image = streamed(rt, alloc, bytes, bases, chunk)?;
         has_bytes(rt, &image, bases, wanted);
-        let image = decoded(rt, alloc, bytes, bases, chunk)?;
-        has_bytes(rt, &image, bases, wanted);
-        let image = read(rt, alloc, bytes, bases, chunk)?;
-        has_bytes(rt, &image, bases, wanted);
+        let file = fed(rt, alloc, bytes, chunk)?;
+        is_in_memory(rt, alloc, &file, bases, wanted)?;
+        let file = read(rt, alloc, bytes, chunk)?;
+        is_in_memory(rt, alloc, &file, bases, wanted)?;
         let image = image_of(rt, alloc, bytes, bases, chunk)?;
         has_bytes(rt, &image, bases, wanted);
     }
@@ -152,7 +132,7 @@ const EXAMPLE: [u8; 16] = [
 ];
 
 // Load files of one hunk.
-const ONE_HUNK: [Row<'static>; 6] = [
+static ONE_HUNK: [Row<'static>; 6] = [
     (&FILE, &[BASE], &[&RETURN]),
     (&BEHIND_CONTENT, &[BASE], &[&STRETCHED]),
     (&ZEROS, &[0xFFFF_FFEC], &[&[0; 20]]),
@@ -167,7 +147,7 @@ fn loads_one_hunk(rt: HostRuntime) -> Result<(), Fail> {
 }
 
 // Load files of two or three hunks. The last one is the repository's example.
-const SOME_HUNKS: [Row<'static>; 6] = [
+static SOME_HUNKS: [Row<'static>; 6] = [
     (&SCATTERED, &[0x1000, 0x2000], &[&RELOCATED, &[0; 4]]),
     (&WRITTEN, &[0x1000, 0x2000], &[&RELOCATED, &[0; 4]]),
     (&LINKED, &[BASE, 0x0002_0000], &[&CALLS, &RETURNS]),

@@ -5,6 +5,7 @@ use hunk_loadfile::{
     HunkKind, LoadFile, LoadForm, LoadHunk, Memory, write_load, write_load_with, written_bytes,
     written_length,
 };
+use hunk_test_support::bytes_of;
 use hunk_words::{Name, Room, Sites, Watched, WriteFault};
 use std::alloc::Global;
 use std::test::Fail;
@@ -74,13 +75,7 @@ fn bytes(alloc: Global, form: LoadForm) -> Result<Vec<u8>, Fail> {
     if form == LoadForm::Short {
         rows[2] = &SHORT_SITES;
     }
-    let mut bytes = Vec::new(alloc);
-    for row in rows {
-        for word in row {
-            bytes.extend_from_slice(&word.to_be_bytes())?;
-        }
-    }
-    Ok(bytes)
+    Ok(bytes_of(alloc, &rows.concat(alloc)?, &[])?)
 }
 
 #[test]

@@ -31,29 +31,31 @@ fn answers_the_worked_rows(rt: HostRuntime) {
     }
 }
 
+// Faults, and what is told of each.
+static FAULTS: [(PlaceFault, &str); 3] = [
+    (
+        PlaceFault::WrongCount,
+        "there is not one base for each hunk",
+    ),
+    (
+        PlaceFault::PastEnd(3),
+        "hunk 3 ends behind the last address",
+    ),
+    (PlaceFault::Overlap(0, 2), "hunks 0 and 2 share an address"),
+];
+
 #[test]
 fn tells_each_fault(rt: HostRuntime) -> Result<(), Fail> {
-    let rows = [
-        (
-            PlaceFault::WrongCount,
-            "there is not one base for each hunk",
-        ),
-        (
-            PlaceFault::PastEnd(3),
-            "hunk 3 ends behind the last address",
-        ),
-        (PlaceFault::Overlap(0, 2), "hunks 0 and 2 share an address"),
-    ];
-    for (fault, want) in rows {
-        let text = format!(in rt.alloc(); "{fault}")?;
-        equals(&rt, text.as_str(), want);
+    for (fault, want) in &FAULTS {
+        let text = fault.to_string(rt.alloc())?;
+        equals(&rt, text.as_str(), *want);
     }
     Ok(())
 }
 
 // What a reader of the longwords of `LINKED` answers at these addresses: the first so many of its
 // bytes, at most 25 a read, one of which may fail.
-const READS: [(&[u32], usize, Option<u64>, ImageFault); 7] = [
+static READS: [(&[u32], usize, Option<u64>, ImageFault); 7] = [
     (
         &[],
         88,
@@ -89,11 +91,11 @@ const READS: [(&[u32], usize, Option<u64>, ImageFault); 7] = [
 #[test]
 fn tells_why_there_is_no_image(rt: HostRuntime) -> Result<(), Fail> {
     let file = bytes_of(rt.alloc(), &LINKED, &[])?;
-    for (bases, count, fails_at, want) in READS {
-        let bytes = file.get(..count).ok_or("no such bytes")?;
-        let mut reader = Pieces::new(bytes.to_vec(rt.alloc())?, 25, fails_at);
+    for (bases, count, fails_at, want) in &READS {
+        let bytes = file.get(..*count).ok_or("no such bytes")?;
+        let mut reader = Pieces::new(bytes.to_vec(rt.alloc())?, 25, *fails_at);
         let got = read_image(rt.alloc(), &mut reader, bases).err();
-        equals(&rt, got, Some(want));
+        equals(&rt, got, Some(*want));
     }
     Ok(())
 }

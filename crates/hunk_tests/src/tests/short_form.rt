@@ -2,15 +2,13 @@
 
 use super::asserts::equals;
 use super::loaded::has_bytes;
+use super::made::file_of_hunks;
 use super::values::{EMPTY, Hunk, has_hunks};
 use super::written::{Text, fails_at_each_byte, file_of, is_written_up_to, writes_in_pieces};
 use hunk_loader::load;
-use hunk_loadfile::{
-    HunkKind, LoadFile, LoadForm, LoadHunk, Memory, written_bytes, written_length,
-};
+use hunk_loadfile::{HunkKind, LoadForm, written_bytes, written_length};
 use hunk_test_support::words::LINKED;
 use hunk_test_support::{BASE, bytes_of};
-use hunk_words::Sites;
 use std::alloc::{AllocError, Global};
 use std::process::Abort;
 use std::test::Fail;
@@ -25,7 +23,7 @@ struct Row<'a> {
 }
 
 // Sites of one target: an even number of words, and an odd one, with a zero word at the end.
-const ONE_TARGET: [Row<'static>; 3] = [
+static ONE_TARGET: [Row<'static>; 3] = [
     Row {
         size: 4,
         sites: &[],
@@ -45,7 +43,7 @@ const ONE_TARGET: [Row<'static>; 3] = [
 
 // Sites of several targets, which are in ascending order. The second one begins in the lower half of
 // a longword, or in the upper one.
-const SOME_TARGETS: [Row<'static>; 3] = [
+static SOME_TARGETS: [Row<'static>; 3] = [
     Row {
         size: 4,
         sites: &[(0, 1), (4, 0)],
@@ -72,7 +70,7 @@ const SOME_TARGETS: [Row<'static>; 3] = [
 ];
 
 // Offsets up to 65,535 are in the first block, and those from 65,536 on in the second one.
-const LARGE_OFFSETS: [Row<'static>; 4] = [
+static LARGE_OFFSETS: [Row<'static>; 4] = [
     Row {
         size: 16_385,
         sites: &[(65_535, 1)],
@@ -111,91 +109,75 @@ const LONG_AND_SHORT: Row<'static> = Row {
     ],
 };
 
-// A hunk without content.
-fn hunk(alloc: Global, kind: HunkKind, size: u32) -> LoadHunk {
-    LoadHunk {
-        kind,
-        memory: Memory::Any,
-        size,
-        content: Vec::new(alloc),
-        sites: Sites::new(alloc, 4 * u64::from(size)),
-        symbols: Vec::new(alloc),
-        debugs: Vec::new(alloc),
-    }
-}
-
-// The load file of a row.
-fn file_of_row(alloc: Global, row: Row<'_>) -> Result<LoadFile, Fail> {
-    let mut first = hunk(alloc, HunkKind::Code, row.size);
-    for (offset, target) in row.sites {
-        first.sites.try_add(*offset, *target)?;
-    }
-    let mut hunks = Vec::new(alloc);
-    hunks.push(first)?;
-    hunks.push(hunk(alloc, HunkKind::Bss, 0))?;
-    hunks.push(hunk(alloc, HunkKind::Bss, 0))?;
-    Ok(LoadFile::new(hunks)?)
-}
-
-// The longwords of the load file of a row.
-fn words_of_row(alloc: Global, row: Row<'_>) -> Result<Vec<u32>, AllocError> {
-    let mut words = [0x3F3, 0, 3, 0, 2, row.size, 0, 0, 0x3E9, 0].to_vec(alloc)?;
-    words.extend_from_slice(row.blocks)?;
-    words.extend_from_slice(&[0x3F2, 0x3EB, 0, 0x3F2, 0x3EB, 0, 0x3F2])?;
-    Ok(words)
-}
-
-// The load file of a row is written in these words, its length is known before, and it is read back.
-fn is_written(rt: &impl Abort, alloc: Global, row: Row<'_>) -> Result<(), Fail> {
-    let file = file_of_row(alloc, row)?;
-    let form = LoadForm::Short;
-    let bytes = bytes_of(alloc, &words_of_row(alloc, row)?, &[])?;
-    let length = bytes.len() as u64;
-    equals(rt, written_length(alloc, &file, form), Ok(length));
-    let written = written_bytes(alloc, &file, form)?;
-    equals(rt, written.as_slice(), bytes.as_slice());
-    equals(rt, written.capacity(), bytes.len());
-    let text = Text {
-        file: &file,
-        form,
-        bytes: &bytes,
-    };
-    writes_in_pieces(rt, alloc, text)?;
-    let zeros = Hunk {
-        kind: HunkKind::Bss,
-        ..EMPTY
-    };
+// The hunks of a row.
+fn hunks_of_row<'a>(row: &Row<'a>) -> [Hunk<'a>; 3] {
     let first = Hunk {
         size: row.size,
         sites: row.sites,
         ..EMPTY
     };
-    has_hunks(rt, &file_of(alloc, bytes)?, &[first, zeros, zeros]);
+    let zeros = Hunk {
+        kind: HunkKind::Bss,
+        ..EMPTY
+    };
+    [first, zeros, zeros]
+}
+
+// The bytes of the load file of a row.
+fn bytes_of_row(alloc: Global, row: &Row<'_>) -> Result<Vec<u8>, AllocError> {
+    let front = [0x3F3, 0, 3, 0, 2, row.size, 0, 0, 0x3E9, 0];
+    let back = [0x3F2, 0x3EB, 0, 0x3F2, 0x3EB, 0, 0x3F2];
+    let words = [front.as_slice(), row.blocks, &back].concat(alloc)?;
+    bytes_of(alloc, &words, &[])
+}
+
+// The file is written as these bytes, and its length is known before.
+fn is_written_at_once(rt: &impl Abort, alloc: Global, text: Text<'_>) -> Result<(), Fail> {
+    let length = text.bytes.len() as u64;
+    equals(rt, written_length(alloc, text.file, text.form), Ok(length));
+    let written = written_bytes(alloc, text.file, text.form)?;
+    equals(rt, written.as_slice(), text.bytes);
+    equals(rt, written.capacity(), text.bytes.len());
+    Ok(())
+}
+
+// The load file of a row is written in these words, its length is known before, and it is read back.
+fn is_written(rt: &impl Abort, alloc: Global, row: &Row<'_>) -> Result<(), Fail> {
+    let hunks = hunks_of_row(row);
+    let file = file_of_hunks(alloc, &hunks)?;
+    let bytes = bytes_of_row(alloc, row)?;
+    let text = Text {
+        file: &file,
+        form: LoadForm::Short,
+        bytes: &bytes,
+    };
+    is_written_at_once(rt, alloc, text)?;
+    writes_in_pieces(rt, alloc, text)?;
+    has_hunks(rt, &file_of(alloc, bytes)?, &hunks);
+    Ok(())
+}
+
+// The load files of these rows are written so.
+fn are_written(rt: &impl Abort, alloc: Global, rows: &[Row<'_>]) -> Result<(), Fail> {
+    for row in rows {
+        is_written(rt, alloc, row)?;
+    }
     Ok(())
 }
 
 #[test]
 fn writes_one_target_or_none(rt: HostRuntime) -> Result<(), Fail> {
-    for row in ONE_TARGET {
-        is_written(&rt, rt.alloc(), row)?;
-    }
-    Ok(())
+    are_written(&rt, rt.alloc(), &ONE_TARGET)
 }
 
 #[test]
 fn writes_some_targets(rt: HostRuntime) -> Result<(), Fail> {
-    for row in SOME_TARGETS {
-        is_written(&rt, rt.alloc(), row)?;
-    }
-    Ok(())
+    are_written(&rt, rt.alloc(), &SOME_TARGETS)
 }
 
 #[test]
 fn writes_offsets_above_16_bits_in_longwords(rt: HostRuntime) -> Result<(), Fail> {
-    for row in LARGE_OFFSETS {
-        is_written(&rt, rt.alloc(), row)?;
-    }
-    Ok(())
+    are_written(&rt, rt.alloc(), &LARGE_OFFSETS)
 }
 
 // The block of sites in each of 16,384 longwords, which name so many targets in turn.
@@ -238,13 +220,13 @@ fn writes_16_384_sites(rt: HostRuntime) -> Result<(), Fail> {
             sites: &sites,
             blocks: &blocks,
         };
-        is_written(&rt, rt.alloc(), row)?;
+        is_written(&rt, rt.alloc(), &row)?;
     }
     Ok(())
 }
 
 // The linked file of most tests, in this form.
-const LINKED_SHORT: [u32; 20] = [
+static LINKED_SHORT: [u32; 20] = [
     0x3F3,
     0,
     2,
@@ -282,9 +264,8 @@ fn writes_a_linked_file(rt: HostRuntime) -> Result<(), Fail> {
 #[test]
 fn tells_what_a_writer_took_of_each_block(rt: HostRuntime) -> Result<(), Fail> {
     for row in [SOME_TARGETS[2], LONG_AND_SHORT] {
-        let file = file_of_row(rt.alloc(), row)?;
-        let words = words_of_row(rt.alloc(), row)?;
-        let bytes = bytes_of(rt.alloc(), &words, &[])?;
+        let file = file_of_hunks(rt.alloc(), &hunks_of_row(&row))?;
+        let bytes = bytes_of_row(rt.alloc(), &row)?;
         let text = Text {
             file: &file,
             form: LoadForm::Short,
@@ -298,8 +279,8 @@ fn tells_what_a_writer_took_of_each_block(rt: HostRuntime) -> Result<(), Fail> {
 // The header and the type and size of the first hunk are written whichever allocation fails.
 #[test]
 fn sorts_both_blocks_before_it_writes_them(rt: HostRuntime) -> Result<(), Fail> {
-    let words = words_of_row(rt.alloc(), LONG_AND_SHORT)?;
-    is_written_up_to(&rt, rt.alloc(), LoadForm::Short, &words, 40, 2)
+    let bytes = bytes_of_row(rt.alloc(), &LONG_AND_SHORT)?;
+    is_written_up_to(&rt, rt.alloc(), LoadForm::Short, &bytes, 40, 2)
 }
 
 // A trimmed load file in each form: its longwords from the first hunk on.

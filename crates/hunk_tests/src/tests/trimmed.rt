@@ -1,23 +1,25 @@
 //! Load files without the zeros at the end of contents.
 
-use super::asserts::{equals, equals_at, holds};
+use super::asserts::{equals, equals_at};
 use super::loaded::has_bytes;
+use super::made::file_of_hunks;
+use super::values::{EMPTY, Hunk, has_hunks, is_hunk};
 use hunk_loader::load;
 use hunk_loadfile::{HunkKind, LoadFile, LoadHunk, Memory};
 use hunk_test_support::Refusing;
-use hunk_words::{Name, Sites};
+use hunk_words::Name;
 use std::alloc::{Allocator, Global};
 use std::process::Abort;
 use std::test::Fail;
 
-// A hunk: its size in longwords, its content, the offset of its site, and how many bytes of the
-// content stay.
+// A hunk: its size in longwords, its content, its site if it has one, which adds the base of the
+// first hunk, and how many bytes of the content stay.
 #[derive(Clone, Copy, Debug)]
 struct Row<'a> {
     kind: HunkKind,
     size: u32,
     content: &'a [u8],
-    site: Option<u32>,
+    sites: &'a [(u32, u32)],
     kept: usize,
 }
 
@@ -25,7 +27,7 @@ const CODE: Row<'static> = Row {
     kind: HunkKind::Code,
     size: 4,
     content: &[0x4E, 0x71, 0x4E, 0x71, 0, 0, 0, 0, 0, 0, 0, 0, 0, 0, 0, 0],
-    site: None,
+    sites: &[],
     kept: 4,
 };
 
@@ -54,32 +56,32 @@ const SHORT: Row<'static> = Row {
     ..CODE
 };
 
-const ROWS: [Row<'static>; 13] = [
+static ROWS: [Row<'static>; 13] = [
     CODE,
     // A site is in one zero longword, or in two of them.
     Row {
-        site: Some(4),
+        sites: &[(4, 0)],
         kept: 8,
         ..CODE
     },
     Row {
-        site: Some(6),
+        sites: &[(6, 0)],
         kept: 12,
         ..CODE
     },
     // It is in longwords that stay, or in the last ones.
     Row {
-        site: Some(0),
+        sites: &[(0, 0)],
         ..CODE
     },
     Row {
-        site: Some(12),
+        sites: &[(12, 0)],
         kept: 16,
         ..CODE
     },
     ZEROS,
     Row {
-        site: Some(0),
+        sites: &[(0, 0)],
         kept: 4,
         ..ZEROS
     },
@@ -90,7 +92,7 @@ const ROWS: [Row<'static>; 13] = [
     Row {
         kind: HunkKind::Bss,
         content: &[],
-        site: Some(4),
+        sites: &[(4, 0)],
         ..ZEROS
     },
     GAP,
@@ -102,70 +104,66 @@ const ROWS: [Row<'static>; 13] = [
     },
     // A site is after the content, or begins in it and ends after it.
     Row {
-        site: Some(8),
+        sites: &[(8, 0)],
         ..SHORT
     },
     Row {
-        site: Some(6),
+        sites: &[(6, 0)],
         kept: 8,
         ..SHORT
     },
 ];
 
-// The load file of the rows. Each site adds the base of the first hunk.
+// The hunk of a row.
+fn hunk_of_row<'a>(row: &Row<'a>) -> Hunk<'a> {
+    Hunk {
+        kind: row.kind,
+        memory: Memory::Chip,
+        size: row.size,
+        content: row.content,
+        sites: row.sites,
+        ..EMPTY
+    }
+}
+
+// The load file of the rows.
 fn file_of_rows<A: Allocator + Copy>(alloc: A, rows: &[Row]) -> Result<LoadFile<A>, Fail> {
     let mut hunks = Vec::new(alloc);
     for row in rows {
-        let mut sites = Sites::new(alloc, 4 * u64::from(row.size));
-        if let Some(offset) = row.site {
-            sites.try_add(offset, 0)?;
-        }
-        hunks.push(LoadHunk {
-            kind: row.kind,
-            memory: Memory::Chip,
-            size: row.size,
-            content: Vec::from_slice(alloc, row.content)?,
-            sites,
-            symbols: Vec::new(alloc),
-            debugs: Vec::new(alloc),
-        })?;
+        hunks.push(hunk_of_row(row))?;
     }
-    Ok(LoadFile::new(hunks).map_err(|refusal| refusal.fault)?)
+    file_of_hunks(alloc, &hunks)
 }
 
 // The hunks are those of the rows, with this much of each content.
 fn are_rows<A: Allocator + Copy>(rt: &impl Abort, hunks: &[LoadHunk<A>], rows: &[Row]) {
     equals(rt, hunks.len(), rows.len());
     for (hunk, row) in hunks.iter().zip(rows) {
-        equals_at(rt, &row, (hunk.kind, hunk.memory), (row.kind, Memory::Chip));
-        equals_at(rt, &row, hunk.size, row.size);
-        equals_at(rt, &row, hunk.sites.limit(), 4 * u64::from(row.size));
-        let kept = row.content.get(..row.kept);
-        equals_at(rt, &row, Some(hunk.content.as_slice()), kept);
-        let mut sites = hunk.sites.walk();
-        equals_at(
-            rt,
-            &row,
-            sites.next().map(|(offset, target)| (offset, *target)),
-            row.site.map(|offset| (offset, 0)),
-        );
-        holds(rt, &row, sites.next().is_none());
+        let content = hunk.content.as_slice();
+        equals_at(rt, &row, Some(content), row.content.get(..row.kept));
+        // All else is as it was.
+        let wanted = Hunk {
+            content,
+            ..hunk_of_row(row)
+        };
+        is_hunk(rt, hunk, &wanted);
     }
 }
 
 #[test]
 fn keeps_whole_longwords_up_to_the_last_byte_or_site(rt: HostRuntime) -> Result<(), Fail> {
-    let file = file_of_rows(rt.alloc(), &ROWS)?.trimmed();
-    are_rows(&rt, file.hunks(), &ROWS);
+    let rows = ROWS.as_slice();
+    let file = file_of_rows(rt.alloc(), rows)?.trimmed();
+    are_rows(&rt, file.hunks(), rows);
     // There is nothing more to cut.
-    are_rows(&rt, file.trimmed().hunks(), &ROWS);
+    are_rows(&rt, file.trimmed().hunks(), rows);
     Ok(())
 }
 
 #[test]
 fn trims_each_hunk_alone(rt: HostRuntime) -> Result<(), Fail> {
-    for row in ROWS {
-        let rows = [row];
+    for row in &ROWS {
+        let rows = [*row];
         are_rows(
             &rt,
             file_of_rows(rt.alloc(), &rows)?.trimmed().hunks(),
@@ -184,21 +182,13 @@ fn keeps_symbols_and_debug_blocks(rt: HostRuntime) -> Result<(), Fail> {
             .push((Name::from_words(alloc, &[0x4100_0000])?, 8))?;
         hunk.debugs.push(vec![in alloc; 7, 0]?)?;
     }
-    for hunk in LoadFile::new(hunks)?.trimmed().hunks() {
-        equals(
-            &rt,
-            hunk.content.as_slice(),
-            [0x4E, 0x71, 0x4E, 0x71].as_slice(),
-        );
-        equals(&rt, hunk.symbols.len(), 1);
-        for (name, value) in hunk.symbols.iter() {
-            equals(&rt, (name.bytes(), *value), (b"A".as_slice(), 8));
-        }
-        equals(&rt, hunk.debugs.len(), 1);
-        for debug in hunk.debugs.iter() {
-            equals(&rt, debug.as_slice(), [7, 0].as_slice());
-        }
-    }
+    let wanted = Hunk {
+        content: &[0x4E, 0x71, 0x4E, 0x71],
+        symbols: &[(b"A", 8)],
+        debugs: &[&[7, 0]],
+        ..hunk_of_row(&CODE)
+    };
+    has_hunks(&rt, &LoadFile::new(hunks)?.trimmed(), &[wanted]);
     Ok(())
 }
 
@@ -213,19 +203,24 @@ fn bases_of(alloc: Global, rows: &[Row]) -> Result<Vec<u32>, Fail> {
     Ok(bases)
 }
 
+// The rows have the same bytes in memory, trimmed or not.
+fn are_alike(rt: &impl Abort, whole: &[(u32, Vec<u8>)], trimmed: &[(u32, Vec<u8>)], rows: &[Row]) {
+    equals(rt, whole.len(), rows.len());
+    equals(rt, trimmed.len(), rows.len());
+    for ((one, other), row) in whole.iter().zip(trimmed).zip(rows) {
+        equals_at(rt, &row, one.0, other.0);
+        equals_at(rt, &row, one.1.as_slice(), other.1.as_slice());
+        equals_at(rt, &row, other.1.len() as u64, 4 * u64::from(row.size));
+    }
+}
+
 #[test]
 fn is_the_same_in_memory(rt: HostRuntime) -> Result<(), Fail> {
-    let alloc = rt.alloc();
-    let bases = bases_of(alloc, &ROWS)?;
-    let whole = load(alloc, &file_of_rows(alloc, &ROWS)?, &bases)?;
-    let trimmed = load(alloc, &file_of_rows(alloc, &ROWS)?.trimmed(), &bases)?;
-    equals(&rt, whole.hunks().len(), ROWS.len());
-    equals(&rt, trimmed.hunks().len(), ROWS.len());
-    for ((one, other), row) in whole.hunks().iter().zip(trimmed.hunks()).zip(&ROWS) {
-        equals_at(&rt, &row, one.0, other.0);
-        equals_at(&rt, &row, one.1.as_slice(), other.1.as_slice());
-        equals_at(&rt, &row, other.1.len() as u64, 4 * u64::from(row.size));
-    }
+    let (alloc, rows) = (rt.alloc(), ROWS.as_slice());
+    let bases = bases_of(alloc, rows)?;
+    let whole = load(alloc, &file_of_rows(alloc, rows)?, &bases)?;
+    let trimmed = load(alloc, &file_of_rows(alloc, rows)?.trimmed(), &bases)?;
+    are_alike(&rt, whole.hunks(), trimmed.hunks(), rows);
     Ok(())
 }
 
@@ -233,11 +228,11 @@ fn is_the_same_in_memory(rt: HostRuntime) -> Result<(), Fail> {
 fn relocates_zeros_that_stay_and_zeros_that_do_not(rt: HostRuntime) -> Result<(), Fail> {
     let alloc = rt.alloc();
     let inside = Row {
-        site: Some(6),
+        sites: &[(6, 0)],
         ..CODE
     };
     let behind = Row {
-        site: Some(8),
+        sites: &[(8, 0)],
         ..SHORT
     };
     let rows: [(Row, &[u8]); 2] = [
@@ -262,10 +257,11 @@ fn relocates_zeros_that_stay_and_zeros_that_do_not(rt: HostRuntime) -> Result<()
 #[test]
 fn takes_no_memory(rt: HostRuntime) -> Result<(), Fail> {
     let heap = Refusing::new(rt.alloc(), u64::MAX);
-    let file = file_of_rows(&heap, &ROWS)?;
+    let rows = ROWS.as_slice();
+    let file = file_of_rows(&heap, rows)?;
     let asked = heap.asked();
     let trimmed = file.trimmed();
     equals(&rt, heap.asked(), asked);
-    are_rows(&rt, trimmed.hunks(), &ROWS);
+    are_rows(&rt, trimmed.hunks(), rows);
     Ok(())
 }

@@ -30,7 +30,7 @@ pub(crate) const EMPTY: Hunk<'static> = Hunk {
 };
 
 /// The hunks of the file that is not in written form.
-pub(crate) const SCATTERED_HUNKS: [Hunk<'static>; 2] = [
+pub(crate) static SCATTERED_HUNKS: [Hunk<'static>; 2] = [
     Hunk {
         kind: HunkKind::Code,
         memory: Memory::Any,
@@ -64,8 +64,8 @@ fn carries<A: Allocator + Copy>(rt: &impl Abort, hunk: &LoadHunk<A>, wanted: &Hu
     }
 }
 
-// A hunk is this one.
-fn is_hunk<A: Allocator + Copy>(rt: &impl Abort, hunk: &LoadHunk<A>, wanted: &Hunk<'_>) {
+/// A hunk is this one.
+pub(crate) fn is_hunk<A: Allocator + Copy>(rt: &impl Abort, hunk: &LoadHunk<A>, wanted: &Hunk<'_>) {
     equals_at(rt, &wanted, hunk.kind, wanted.kind);
     equals_at(rt, &wanted, hunk.memory, wanted.memory);
     equals_at(rt, &wanted, hunk.size, wanted.size);

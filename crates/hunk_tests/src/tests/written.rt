@@ -52,7 +52,7 @@ const EXAMPLE: [u32; 40] = [
 ];
 
 // Load files, and each as it is written.
-const FILES: [(&[u32], &[u32]); 11] = [
+static FILES: [(&[u32], &[u32]); 11] = [
     (&FILE, &FILE),
     (&IGNORED_BITS, &FAST_DATA),
     (&BEHIND_CONTENT, &BEHIND_CONTENT),
@@ -95,7 +95,7 @@ pub(crate) fn writes_in_pieces(rt: &impl Abort, alloc: Global, text: Text<'_>) -
 
 #[test]
 fn writes_files(rt: HostRuntime) -> Result<(), Fail> {
-    for (words, wanted) in FILES {
+    for (words, wanted) in &FILES {
         let file = file_of(rt.alloc(), bytes_of(rt.alloc(), words, &[])?)?;
         let bytes = bytes_of(rt.alloc(), wanted, &[])?;
         let text = Text {
@@ -170,22 +170,21 @@ pub(crate) fn is_written_up_to(
     rt: &impl Abort,
     alloc: Global,
     form: LoadForm,
-    words: &[u32],
+    text: &[u8],
     front: usize,
     least: u64,
 ) -> Result<(), Fail> {
-    let text = bytes_of(alloc, words, &[])?;
-    let before = growths_of_reading(alloc, &text)?;
+    let before = growths_of_reading(alloc, text)?;
     let mut growths = 0;
     for number in 0..MOST_GROWTHS {
         let refused = before.saturating_add(number);
         let heap = Refusing::new(alloc, refused);
-        let file = file_of(&heap, text.clone()?)?;
+        let file = file_of(&heap, text.to_vec(alloc)?)?;
         let mut writer = Room::new(alloc, 64, text.len(), false)?;
         let got = write_load_with(&heap, &file, form, &mut writer);
         if heap.asked() <= refused {
             equals(rt, got, Ok(()));
-            equals(rt, writer.bytes(), text.as_slice());
+            equals(rt, writer.bytes(), text);
             growths = number;
             break;
         }
@@ -212,7 +211,8 @@ pub(crate) fn is_written_up_to(
 // allocation. They are written whichever allocation fails.
 #[test]
 fn writes_hunk_by_hunk(rt: HostRuntime) -> Result<(), Fail> {
-    is_written_up_to(&rt, rt.alloc(), LoadForm::Plain, &THREE_HUNKS, 64, 1)
+    let bytes = bytes_of(rt.alloc(), &THREE_HUNKS, &[])?;
+    is_written_up_to(&rt, rt.alloc(), LoadForm::Plain, &bytes, 64, 1)
 }
 
 // Sites that name four hunks in turn, more of each hunk than are written at once. They need memory,
@@ -234,5 +234,6 @@ fn sorts_before_it_writes_relocations(rt: HostRuntime) -> Result<(), Fail> {
     for _ in 0..3 {
         words.extend_from_slice(&[0x3EB, 0, 0x3F2])?;
     }
-    is_written_up_to(&rt, rt.alloc(), LoadForm::Plain, &words, 4844, 2)
+    let bytes = bytes_of(rt.alloc(), &words, &[])?;
+    is_written_up_to(&rt, rt.alloc(), LoadForm::Plain, &bytes, 4844, 2)
 }

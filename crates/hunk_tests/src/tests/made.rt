@@ -1,0 +1,46 @@
+//! Load files that are made of plain values.
+
+use super::values::Hunk;
+use hunk_loadfile::{LoadFile, LoadHunk};
+use hunk_words::{SiteRefusal, Sites};
+use std::alloc::Allocator;
+use std::test::Fail;
+
+// The sites of a hunk.
+fn sites_of<A: Allocator + Copy>(alloc: A, hunk: &Hunk<'_>) -> Result<Sites<u32, A>, SiteRefusal> {
+    let mut sites = Sites::new(alloc, 4 * u64::from(hunk.size));
+    for (offset, target) in hunk.sites {
+        sites.try_add(*offset, *target)?;
+    }
+    Ok(sites)
+}
+
+// The hunk of these fields, without symbols and debug blocks.
+fn hunk_of<A: Allocator + Copy>(alloc: A, hunk: &Hunk<'_>) -> Result<LoadHunk<A>, Fail> {
+    Ok(LoadHunk {
+        kind: hunk.kind,
+        memory: hunk.memory,
+        size: hunk.size,
+        content: Vec::from_slice(alloc, hunk.content)?,
+        sites: sites_of(alloc, hunk)?,
+        symbols: Vec::new(alloc),
+        debugs: Vec::new(alloc),
+    })
+}
+
+// The hunks of these fields, without symbols and debug blocks.
+fn hunks_of<A: Allocator + Copy>(alloc: A, rows: &[Hunk<'_>]) -> Result<Vec<LoadHunk<A>, A>, Fail> {
+    let mut hunks = Vec::new(alloc);
+    for row in rows {
+        hunks.push(hunk_of(alloc, row)?)?;
+    }
+    Ok(hunks)
+}
+
+/// The load file of these hunks, without symbols and debug blocks.
+pub(crate) fn file_of_hunks<A: Allocator + Copy>(
+    alloc: A,
+    rows: &[Hunk<'_>],
+) -> Result<LoadFile<A>, Fail> {
+    Ok(LoadFile::new(hunks_of(alloc, rows)?).map_err(|refusal| refusal.fault)?)
+}
