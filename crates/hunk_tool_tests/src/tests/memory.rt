@@ -73,7 +73,7 @@ const LONGER: [u32; 10] = [0x3F3, 0, 1, 0, 0, 9, 0x3E9, 1, 0x4E75_4E71, 0x3F2];
 
 // Load files, the addresses of their hunks, their reports, and the fewest allocations of a run: the
 // bases, the sizes, the hunks, and the bytes of each.
-const RUNS: [(&[u32], &[u32], &str, u64); 3] = [
+static RUNS: [(&[u32], &[u32], &str, u64); 3] = [
     (&FILE, &[BASE], REPORT, 4),
     (
         &LONGER,
@@ -95,7 +95,7 @@ const RUNS: [(&[u32], &[u32], &str, u64); 3] = [
 
 #[test]
 fn loads_with_each_growth_refused(rt: HostRuntime) -> Result<(), Fail> {
-    for (words, bases, text, least) in RUNS {
+    for &(words, bases, text, least) in &RUNS {
         let growths = growths_of(&rt, rt.alloc(), words, bases, text)?;
         holds(&rt, &("growths", growths), least <= growths);
     }

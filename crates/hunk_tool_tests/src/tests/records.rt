@@ -40,7 +40,7 @@ fn loads_to_records(
 }
 
 // Load files, the addresses of their hunks, and the records.
-const FILES: [(&[u32], &[u32], &str); 3] = [
+static FILES: [(&[u32], &[u32], &str); 3] = [
     (&FILE, &[BASE], RECORDS),
     (
         &TWO_HUNKS,
@@ -62,7 +62,7 @@ const FILES: [(&[u32], &[u32], &str); 3] = [
 
 #[test]
 fn writes_the_records_of_files(rt: HostRuntime) -> Result<(), Fail> {
-    for (words, bases, text) in FILES {
+    for &(words, bases, text) in &FILES {
         let bytes = bytes_of(rt.alloc(), words, &[])?;
         loads_to_records(&rt, rt.alloc(), &bytes, bases, text)?;
     }
@@ -71,7 +71,7 @@ fn writes_the_records_of_files(rt: HostRuntime) -> Result<(), Fail> {
 
 // The size of a hunk, its longwords, its address, and the records: a whole row and a part of one,
 // a whole row alone, and none.
-const HUNKS: [(u32, &[u32], u32, &str); 3] = [
+static HUNKS: [(u32, &[u32], u32, &str); 3] = [
     (
         9,
         &[
@@ -109,7 +109,7 @@ const HUNKS: [(u32, &[u32], u32, &str); 3] = [
 
 #[test]
 fn writes_the_records_of_hunks(rt: HostRuntime) -> Result<(), Fail> {
-    for (size, content, base, text) in HUNKS {
+    for &(size, content, base, text) in &HUNKS {
         let bytes = one_hunk(rt.alloc(), size, content)?;
         loads_to_records(&rt, rt.alloc(), &bytes, &[base], text)?;
     }

@@ -8,7 +8,7 @@ use hunk_words::{Fault, Reason};
 use std::test::Fail;
 
 // Addresses of the file, and why they are rejected.
-const REJECTED: [(&[u32], PlaceFault); 3] = [
+static REJECTED: [(&[u32], PlaceFault); 3] = [
     (&[0xFFFF_FFFE], PlaceFault::PastEnd(0)),
     (&[], PlaceFault::WrongCount),
     (&[BASE, BASE], PlaceFault::WrongCount),
@@ -17,7 +17,7 @@ const REJECTED: [(&[u32], PlaceFault); 3] = [
 #[test]
 fn refuses_places(rt: HostRuntime) -> Result<(), Fail> {
     let bytes = bytes_of(rt.alloc(), &FILE, &[])?;
-    for (bases, fault) in REJECTED {
+    for &(bases, fault) in &REJECTED {
         loads_to(
             &rt,
             rt.alloc(),

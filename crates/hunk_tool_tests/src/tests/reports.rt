@@ -23,7 +23,7 @@ fn loads_with(
 const ONES_REPORT: &str = "hunk 0 at 00010000 size 4\n00010000 ffffffff\n";
 
 // Longwords in place of the file's own, and the report.
-const LIKE_FILE: [(usize, u32, &str); 8] = [
+static LIKE_FILE: [(usize, u32, &str); 8] = [
     (0, 0x0000_03F3, REPORT),
     (5, 0x4000_0001, REPORT),
     (6, 0xC000_03E9, REPORT),
@@ -37,14 +37,14 @@ const LIKE_FILE: [(usize, u32, &str); 8] = [
 // A longword of the file that is not checked, or not in full, changes no more than its own bytes.
 #[test]
 fn loads_the_file_and_its_like(rt: HostRuntime) -> Result<(), Fail> {
-    for (place, word, text) in LIKE_FILE {
+    for &(place, word, text) in &LIKE_FILE {
         loads_with(&rt, rt.alloc(), place, word, text)?;
     }
     Ok(())
 }
 
 // The size of a hunk, its longwords, its address, and the report.
-const OTHER_SIZES: [(u32, &[u32], u32, &str); 5] = [
+static OTHER_SIZES: [(u32, &[u32], u32, &str); 5] = [
     (
         5,
         &[
@@ -80,7 +80,7 @@ const OTHER_SIZES: [(u32, &[u32], u32, &str); 5] = [
 
 #[test]
 fn loads_hunks_of_other_sizes(rt: HostRuntime) -> Result<(), Fail> {
-    for (size, content, base, text) in OTHER_SIZES {
+    for &(size, content, base, text) in &OTHER_SIZES {
         let bytes = one_hunk(rt.alloc(), size, content)?;
         loads_to(&rt, rt.alloc(), &bytes, &[base], Ok(()), text)?;
     }
@@ -123,7 +123,7 @@ pub(crate) const EMPTY_BETWEEN: [u32; 26] = [
 
 // Load files, the addresses of their hunks, and the report. The last file is the repository's
 // example.
-const REPORTS: [(&[u32], &[u32], &str); 13] = [
+static REPORTS: [(&[u32], &[u32], &str); 13] = [
     (&FILE, &[BASE], REPORT),
     (
         &BEHIND_CONTENT,
@@ -190,7 +190,7 @@ const REPORTS: [(&[u32], &[u32], &str); 13] = [
 
 #[test]
 fn reports_the_memory_of_files(rt: HostRuntime) -> Result<(), Fail> {
-    for (words, bases, text) in REPORTS {
+    for &(words, bases, text) in &REPORTS {
         let bytes = bytes_of(rt.alloc(), words, &[])?;
         loads_to(&rt, rt.alloc(), &bytes, bases, Ok(()), text)?;
     }

@@ -27,7 +27,7 @@ const STRANGE: Finding = Finding::Refused(Fault {
 });
 
 // Longwords and bytes of files, and what they are.
-const FILES: [(&[u32], &[u8], Finding); 4] = [
+static FILES: [(&[u32], &[u8], Finding); 4] = [
     (&ASSEMBLED, &[], OBJECT),
     (&LINKED_ALONE, &[], LOAD),
     (&[0x3F3, 0, 1], &[0, 0], CUT),
@@ -51,7 +51,7 @@ fn is_found(
 
 #[test]
 fn finds_what_a_file_is(rt: HostRuntime) -> Result<(), Fail> {
-    for (words, rest, wanted) in FILES {
+    for &(words, rest, wanted) in &FILES {
         let bytes = bytes_of(rt.alloc(), words, rest)?;
         for chunk in CHUNKS {
             is_found(&rt, rt.alloc(), &bytes, chunk, wanted)?;
@@ -99,7 +99,7 @@ fn is_out_of_memory_with_each_growth_refused(rt: HostRuntime) -> Result<(), Fail
 }
 
 // Names of files, what was found of them, and the line about each.
-const LINES: [(&str, Finding, &str); 6] = [
+static LINES: [(&str, Finding, &str); 6] = [
     ("a.o", OBJECT, "a.o: object file: 1 units, 2 hunks\n"),
     ("c/Dir", LOAD, "c/Dir: load file: 2 hunks\n"),
     ("x", CUT, "x: longword 3: file ends inside a longword\n"),
@@ -108,7 +108,7 @@ const LINES: [(&str, Finding, &str); 6] = [
     ("Über", Finding::Unopened, "Über: cannot be opened\n"),
 ];
 
-const FINDINGS: [Finding; 6] = [
+static FINDINGS: [Finding; 6] = [
     OBJECT,
     LOAD,
     CUT,
@@ -156,7 +156,7 @@ fn is_written(rt: &impl Abort, alloc: Global, line: Line<'_>, text: &str) -> Res
 
 #[test]
 fn writes_a_line_about_each_file(rt: HostRuntime) -> Result<(), Fail> {
-    for (name, finding, text) in LINES {
+    for &(name, finding, text) in &LINES {
         is_written(&rt, rt.alloc(), Line::Of(name, finding), text)?;
     }
     Ok(())

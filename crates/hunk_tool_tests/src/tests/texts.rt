@@ -111,7 +111,7 @@ impl Text {
 }
 
 // Files, and their listings.
-const LISTINGS: [(&[u32], &str); 7] = [
+static LISTINGS: [(&[u32], &str); 7] = [
     (&QUOTED, QUOTED_TEXT),
     (&TWO_UNITS, TWO_UNITS_TEXT),
     (&EMPTY_UNITS, EMPTY_UNITS_TEXT),
@@ -154,7 +154,7 @@ fn writes_both(
 
 #[test]
 fn writes_what_is_in_a_file(rt: HostRuntime) -> Result<(), Fail> {
-    for (words, listing) in LISTINGS {
+    for &(words, listing) in &LISTINGS {
         let bytes = bytes_of(rt.alloc(), words, &[])?;
         for chunk in CHUNKS {
             writes_both(&rt, rt.alloc(), &bytes, chunk, listing)?;
@@ -165,7 +165,7 @@ fn writes_what_is_in_a_file(rt: HostRuntime) -> Result<(), Fail> {
 
 // Names of units, and each in quotes: the ends of what is plain, and names that are written in
 // several pieces.
-const NAMES: [(&[u8], &str); 4] = [
+static NAMES: [(&[u8], &str); 4] = [
     (b"_main: ~!", "_main: ~!"),
     (&[31, 32, 126, 127, 255], "\\x1f ~\\x7f\\xff"),
     (
@@ -199,7 +199,7 @@ fn unit_of(alloc: Global, name: &[u8]) -> Result<Vec<u8>, Fail> {
 
 #[test]
 fn quotes_names(rt: HostRuntime) -> Result<(), Fail> {
-    for (name, quoted) in NAMES {
+    for &(name, quoted) in &NAMES {
         let bytes = unit_of(rt.alloc(), name)?;
         let listing = format!(in rt.alloc();
             "object file: 1 units, 0 hunks\nunit 0 \"{quoted}\"\n"
@@ -244,7 +244,7 @@ fn growths_of(
 }
 
 // Texts of files, and the fewest allocations of each.
-const GROWTHS: [(Text, &[u32], &str, u64); 4] = [
+static GROWTHS: [(Text, &[u32], &str, u64); 4] = [
     // the sites of the first hunk
     (Text::Check, &ASSEMBLED, ASSEMBLED_TEXT, 1),
     // the sizes in the header, and the sites
@@ -257,7 +257,7 @@ const GROWTHS: [(Text, &[u32], &str, u64); 4] = [
 
 #[test]
 fn refuses_each_growth_of_a_text(rt: HostRuntime) -> Result<(), Fail> {
-    for (text, words, listing, least) in GROWTHS {
+    for &(text, words, listing, least) in &GROWTHS {
         let bytes = bytes_of(rt.alloc(), words, &[])?;
         let growths = growths_of(&rt, rt.alloc(), text, &bytes, text.of(listing)?)?;
         holds(&rt, &(text, "growths", growths), least <= growths);

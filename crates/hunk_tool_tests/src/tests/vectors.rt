@@ -26,7 +26,7 @@ const ONES: u32 = 0xFFFF_FFFF;
 const UNKNOWN: Reason = UnknownType(0x3FFF_FFFF);
 
 // Files, and how many bytes of each are whole files.
-const FRONTS: [(FileKind, &[u32], &[usize]); 3] = [
+static FRONTS: [(FileKind, &[u32], &[usize]); 3] = [
     (Load, &FILE, &[40]),
     (Object, &REFERS, &[8, 52]),
     (Object, &ASSEMBLED, &[12, 116, 128]),
@@ -34,7 +34,7 @@ const FRONTS: [(FileKind, &[u32], &[usize]); 3] = [
 
 #[test]
 fn judges_each_front(rt: HostRuntime) -> Result<(), Fail> {
-    for (kind, words, whole) in FRONTS {
+    for &(kind, words, whole) in &FRONTS {
         let bytes = bytes_of(rt.alloc(), words, &[])?;
         equals(&rt, whole.last().copied(), Some(bytes.len()));
         for count in 0..=bytes.len() {
@@ -66,7 +66,7 @@ fn judges_with(
 }
 
 // Files, a place in each, the longword there, and the answer.
-const OTHER_LONGWORDS: [(FileKind, &[u32], usize, u32, Answer); 74] = [
+static OTHER_LONGWORDS: [(FileKind, &[u32], usize, u32, Answer); 74] = [
     (Load, &FILE, 0, ONES, Some((0, WrongStart))),
     (Load, &FILE, 1, ONES, Some((1, ResidentNames))),
     (Load, &FILE, 2, ONES, Some((2, HunkTable))),
@@ -201,7 +201,7 @@ const OTHER_LONGWORDS: [(FileKind, &[u32], usize, u32, Answer); 74] = [
 
 #[test]
 fn judges_other_longwords(rt: HostRuntime) -> Result<(), Fail> {
-    for (kind, words, place, word, answer) in OTHER_LONGWORDS {
+    for &(kind, words, place, word, answer) in &OTHER_LONGWORDS {
         judges_with(&rt, rt.alloc(), kind, words, (place, word), answer)?;
     }
     Ok(())
@@ -215,7 +215,7 @@ const NO_SITES: [u32; 11] = [0x3F3, 0, 1, 0, 0, 2, 0x3E9, 2, 4, 0, 0x3FC];
 const TWO_SITES: [u32; 13] = [0x3F3, 0, 1, 0, 0, 2, 0x3E9, 2, 4, 0, 0x3FC, 0x0002_0000, 4];
 
 // Files, what follows each, and the answer.
-const FOLLOWED: [(FileKind, &[u32], &[u8], Answer); 31] = [
+static FOLLOWED: [(FileKind, &[u32], &[u8], Answer); 31] = [
     (Object, &[], &[], Some((0, UnexpectedEnd))),
     (Load, &[], &[], Some((0, UnexpectedEnd))),
     (Object, &[], &[0, 0, 3], Some((0, PartialLongword))),
@@ -269,7 +269,7 @@ const FOLLOWED: [(FileKind, &[u32], &[u8], Answer); 31] = [
 
 #[test]
 fn judges_files_and_what_follows_them(rt: HostRuntime) -> Result<(), Fail> {
-    for (kind, words, rest, answer) in FOLLOWED {
+    for &(kind, words, rest, answer) in &FOLLOWED {
         let bytes = bytes_of(rt.alloc(), words, rest)?;
         is_judged(&rt, rt.alloc(), kind, &bytes, answer)?;
     }
@@ -277,7 +277,7 @@ fn judges_files_and_what_follows_them(rt: HostRuntime) -> Result<(), Fail> {
 }
 
 // Object files, a place in each, the longword there, and the answer.
-const OTHER_OBJECTS: [(&[u32], usize, u32, Answer); 10] = [
+static OTHER_OBJECTS: [(&[u32], usize, u32, Answer); 10] = [
     (&REFERS, 0, 0x0000_03F3, Some((0, WrongStart))),
     (&MEETS, 0, 0x0000_03E7, Some((15, SiteOverlap(4)))),
     (&PAST_CONTENT, 9, 4, Some((10, UnexpectedEnd))),
@@ -292,7 +292,7 @@ const OTHER_OBJECTS: [(&[u32], usize, u32, Answer); 10] = [
 
 #[test]
 fn rejects_other_object_files(rt: HostRuntime) -> Result<(), Fail> {
-    for (words, place, word, answer) in OTHER_OBJECTS {
+    for &(words, place, word, answer) in &OTHER_OBJECTS {
         judges_with(&rt, rt.alloc(), Object, words, (place, word), answer)?;
     }
     Ok(())
