@@ -1,15 +1,16 @@
 -- The parts of a file, as its bytes come.
-use Rattle.std.proofs.Common.{◌≡◌, ◌≢◌, ◌∙◌, ◌&&◌, ◌<◌, ◌≤◌, ◌^◌, ◌+◌, ◌++◌, ℕ, Bool, true, false, cond, nat_le, List, [], ◌∷◌, length, take, map, Option, Some, None, refl, sym, ap, subst, arith, append_assoc, append-nil, length-append, drop, get_or, slice_index_or}
+use Rattle.std.proofs.Common.{◌≡◌, ◌≢◌, ◌∙◌, ◌<◌, ◌≤◌, ◌^◌, ◌+◌, ◌++◌, ℕ, Bool, true, false, cond, List, [], ◌∷◌, length, take, map, Option, Some, None, refl, sym, ap, subst, arith, append_assoc, append-nil, length-append, drop, get_or, slice_index_or}
 use Rattle.std.specs.Prelude.{is_none, position, ⊤}
 use Rattle.std.specs.Char.{digit_value, is_ascii_hexdigit}
 use Rattle.std.specs.List.{All, filter, list_all, onto_first, slice_split}
 use Rattle.std.specs.Str.Parse.{digits_value}
-use Rattle.std.proofs.lemmas.Bool.{and_parts, and_from, lt-leb, ne_eqb}
+use Rattle.std.proofs.lemmas.Bool.{and_parts, and_from, ne_eqb}
 use Rattle.std.proofs.lemmas.Grind.{common_steps}
 use Rattle.std.proofs.Math.Seq.{get_or-append_seam, take-append_seam}
 use Rattle.std.proofs.lemmas.List.{length-map, map-append, take-append-drop, take_more}
 use Rattle.std.proofs.KnownBytes.{Consumes-trans}
 use Rattle.std.specs.Io.KnownBytes.{Consumes}
+use Rattle.std.proofs.lemmas.List.Folds.{list_all-append}
 use Rattle.std.proofs.lemmas.List.Elements.{All-cons, All-nil}
 use Rattle.std.proofs.lemmas.List.Splits.{slice_split-cons_no, slice_split_at, slice_split_none}
 use Rattle.hunk_tool.specs.Bases.{IsNumbersFault, is_number, number_of}
@@ -94,18 +95,6 @@ number-digits digits (x ∷ xs) few are =
 
 -- ---- what has been read
 
-pub stands-nothing : (digits : PartDigits) → AreDigits digits [] → StandsFor [] digits []
-stands-nothing digits are = record { part = []; are = are; numbers = λ rest. refl }
-
--- a digit more
-pub stands-digit : (bases : List ℕ) (digits longer : PartDigits) (bytes : List ℕ) (byte : ℕ) → StandsFor bases digits bytes
-    → ((part : List ℕ) → AreDigits digits part → AreDigits longer (part ++ byte ∷ [])) → StandsFor bases longer (bytes ++ byte ∷ [])
-stands-digit bases digits longer bytes byte stands more = record {
-  part = stands.part ++ byte ∷ [];
-  are = more stands.part stands.are;
-  numbers = λ rest. simp append_assoc (stands.numbers (byte ∷ rest));
-}
-
 -- a separator
 pub stands-separator : (bases : List ℕ) (digits none : PartDigits) (bytes : List ℕ) (byte : ℕ) → digits.count ≤ 8 → is_separator byte ≡ true → AreDigits none []
     → StandsFor bases digits bytes → StandsFor (bases ++ ended_number digits) none (bytes ++ byte ∷ [])
@@ -183,41 +172,12 @@ read-ended old between new bytes buffer count none before last =
 
 -- ---- one digit
 
-and_false : (b : Bool) → (b && false) ≡ false
-and_false true = refl
-and_false false = refl
-
 pub list_all-push : (part : List ℕ) (byte : ℕ) → list_all is_ascii_hexdigit part ≡ true → is_ascii_hexdigit byte ≡ true → list_all is_ascii_hexdigit (part ++ byte ∷ []) ≡ true
-list_all-push [] byte all is = and_from _ _ is refl
-list_all-push (x ∷ xs) byte all is =
-    let both = and_parts (is_ascii_hexdigit x) (list_all is_ascii_hexdigit xs) all in
-    and_from _ _ both.0 (list_all-push xs byte both.1 is)
-
-pub list_all-not : (part : List ℕ) (byte : ℕ) (rest : List ℕ) → is_ascii_hexdigit byte ≡ false → list_all is_ascii_hexdigit (part ++ byte ∷ rest) ≡ false
-list_all-not [] byte rest other = rw other refl
-list_all-not (x ∷ xs) byte rest other = rw (list_all-not xs byte rest other) (and_false (is_ascii_hexdigit x))
-
--- a byte that is no digit makes no address
-pub no_number-byte : (part : List ℕ) (byte : ℕ) (rest : List ℕ) → is_ascii_hexdigit byte ≡ false → number_of (part ++ byte ∷ rest) ≡ None
-no_number-byte part byte rest other =
-    let bytes = part ++ byte ∷ rest in
-    ap (λ b. cond (nat_le 1 (length bytes) && nat_le (length bytes) 8 && b) (Some (digits_value 16 bytes)) None) (list_all-not part byte rest other)
-    ∙ ap (λ b. cond b (Some (digits_value 16 bytes)) None) (and_false (nat_le 1 (length bytes) && nat_le (length bytes) 8))
-
--- nor does a ninth byte
-pub no_number-long : (part : List ℕ) (byte : ℕ) (rest : List ℕ) → 8 ≤ length part → number_of (part ++ byte ∷ rest) ≡ None
-no_number-long part byte rest many =
-    let bytes = part ++ byte ∷ rest in
-    let long : nat_le (length bytes) 8 ≡ false = lt-leb (length bytes) 8 (rw length-append (omega arith)) in
-    ap (λ b. cond (nat_le 1 (length bytes) && b && list_all is_ascii_hexdigit bytes) (Some (digits_value 16 bytes)) None) long
-    ∙ ap (λ b. cond (b && list_all is_ascii_hexdigit bytes) (Some (digits_value 16 bytes)) None) (and_false (nat_le 1 (length bytes)))
+list_all-push part byte all is = list_all-append is_ascii_hexdigit part (byte ∷ []) ∙ and_from _ _ all (and_from _ _ is refl)
 
 -- what is a digit
 pub is_digit : (byte : ℕ) → digit_value byte < 16 → is_ascii_hexdigit byte ≡ true
 is_digit byte h = grind (arith, common_steps)
-
-pub is_no_digit : (byte : ℕ) → 16 ≤ digit_value byte → is_ascii_hexdigit byte ≡ false
-is_no_digit byte h = grind (arith, common_steps)
 
 -- no digits are those of an empty part
 pub no_digits : (digits : PartDigits) → digits.count ≡ 0 → AreDigits digits []
