@@ -11,6 +11,8 @@ use Rattle.clap.specs.Words.{IsAmong, Row, Text, fault_of, subcommand_of}
 use Rattle.clap.specs.declared.error.ErrorKind.{ErrorKind}
 use Rattle.clap.specs.declared.error.ErrorKind.TheVariants as error
 use Rattle.hunk_tool.specs.declared.link_options.LinkOptions.{LinkOptions}
+use Rattle.hunk_commands.specs.Addresses.{origin_of}
+use Rattle.hunk_commands.specs.Addresses.Origin.{in_list}
 use Rattle.hunk_commands.specs.declared.request.Request.{Request}
 use Rattle.hunk_commands.specs.declared.request.Request.TheVariants.{Link, Load, Image, Check, Show, Survey, Version, Help, Refused, OutOfMemory}
 use Rattle.amihunk.specs.CommandLine.{Answers, AsksCheck, AsksImage, AsksLink, AsksLoad, AsksShow, AsksSurvey, AsksVersion, IsAskedBy, IsCalled, IsCalledOn, IsConflict, IsImage, IsLink, IsLoad, IsNoFlag, IsRefusedBy, IsVersionWord, Says, Met, asks_srec, asks_symbols, brief_link_line, brief_words, command_line, file_line, form_words, image_line, link_line, load_line, option_words, survey_line, version_line}
@@ -51,8 +53,8 @@ asked_by_kind words OutOfMemory k has answers = tt
 asked_by_met : (words : List Text) (met : Met) (request : Request) → fault_of command_line words ≡ []
     → met ≡ subcommand_of command_line words → Says met request → IsAskedBy words request
 asked_by_met words met (Link out options files) quiet is link = (quiet, subst (λ m. IsLink m out.now options (texts files.items)) is link)
-asked_by_met words met (Load list text file) quiet is load = (quiet, subst (λ m. IsLoad m list.now (asks_srec text) (asks_symbols text) file.now) is load)
-asked_by_met words met (Image list form files) quiet is image = (quiet, subst (λ m. IsImage m list.now form (texts files.items)) is image)
+asked_by_met words met (Load addresses text file) quiet is load = (quiet, subst (λ m. IsLoad m (origin_of addresses) (asks_srec text) (asks_symbols text) file.now) is load)
+asked_by_met words met (Image addresses form files) quiet is image = (quiet, subst (λ m. IsImage m (origin_of addresses) form (texts files.items)) is image)
 asked_by_met words met (Check file) quiet is check = (quiet, subst (λ m. IsCalled m (codes "check") file.now) is check)
 asked_by_met words met (Show file) quiet is show = (quiet, subst (λ m. IsCalled m (codes "show") file.now) is show)
 asked_by_met words met (Survey files) quiet is survey = (quiet, subst (λ m. IsCalledOn m (codes "survey") (texts files.items)) is survey)
@@ -108,25 +110,25 @@ asks_link words out options files quiet is (Refused text) asked = absurd (not_re
 asks_link words out options files quiet is OutOfMemory asked = tt
 
 -- what arguments that are `load` with this LIST, for this text of this FILE, ask for
-asks_load : (words : List Text) (list : Text) (wanted : LoadText) (file : Text) → fault_of command_line words ≡ [] → IsLoad (subcommand_of command_line words) list (asks_srec wanted) (asks_symbols wanted) file
+asks_load : (words : List Text) (list : Text) (wanted : LoadText) (file : Text) → fault_of command_line words ≡ [] → IsLoad (subcommand_of command_line words) (in_list list) (asks_srec wanted) (asks_symbols wanted) file
     → (request : Request) → IsAskedBy words request → AsksLoad list wanted file request
 asks_load words list wanted file quiet is (Link o s fs) asked = absurd (names_apart _ (codes "link") (codes "load") _ _ asked.1.of_files.called is.of_file.called refl)
-asks_load words list wanted file quiet is (Load l told f) asked = IsLoad-one _ l.now list told wanted f.now file asked.1 is
+asks_load words list wanted file quiet is (Load l told f) asked = IsLoad-one _ (origin_of l) (in_list list) told wanted f.now file asked.1 is
 asks_load words list wanted file quiet is (Image l form fs) asked = absurd (names_apart _ (codes "image") (codes "load") _ _ asked.1.of_files.called is.of_file.called refl)
 asks_load words list wanted file quiet is (Check f) asked = absurd (names_apart _ (codes "check") (codes "load") _ _ asked.1.called is.of_file.called refl)
 asks_load words list wanted file quiet is (Show f) asked = absurd (names_apart _ (codes "show") (codes "load") _ _ asked.1.called is.of_file.called refl)
 asks_load words list wanted file quiet is (Survey fs) asked = absurd (names_apart _ (codes "survey") (codes "load") _ _ asked.1.called is.of_file.called refl)
 asks_load words list wanted file quiet is Version asked = asks_no_help words Version quiet asked
 asks_load words list wanted file quiet is (Help text) asked = asks_no_help words (Help text) quiet asked
-asks_load words list wanted file quiet is (Refused text) asked = absurd (no_conflict _ list wanted file is (refused_for_flags words quiet asked))
+asks_load words list wanted file quiet is (Refused text) asked = absurd (no_conflict _ (in_list list) wanted file is (refused_for_flags words quiet asked))
 asks_load words list wanted file quiet is OutOfMemory asked = tt
 
 -- what arguments that are `image` with this LIST, this form and these files ask for
-asks_image : (words : List Text) (list : Text) (wanted : ImageForm) (files : List Text) → fault_of command_line words ≡ [] → IsImage (subcommand_of command_line words) list wanted files
+asks_image : (words : List Text) (list : Text) (wanted : ImageForm) (files : List Text) → fault_of command_line words ≡ [] → IsImage (subcommand_of command_line words) (in_list list) wanted files
     → (request : Request) → IsAskedBy words request → AsksImage list wanted files request
 asks_image words list wanted files quiet is (Link o s fs) asked = absurd (names_apart _ (codes "link") (codes "image") _ _ asked.1.of_files.called is.of_files.called refl)
 asks_image words list wanted files quiet is (Load l form f) asked = absurd (names_apart _ (codes "load") (codes "image") _ _ asked.1.of_file.called is.of_files.called refl)
-asks_image words list wanted files quiet is (Image l form fs) asked = IsImage-same _ l.now list form wanted (texts fs.items) files asked.1 is
+asks_image words list wanted files quiet is (Image l form fs) asked = IsImage-same _ (origin_of l) (in_list list) form wanted (texts fs.items) files asked.1 is
 asks_image words list wanted files quiet is (Check f) asked = absurd (names_apart _ (codes "check") (codes "image") _ _ asked.1.called is.of_files.called refl)
 asks_image words list wanted files quiet is (Show f) asked = absurd (names_apart _ (codes "show") (codes "image") _ _ asked.1.called is.of_files.called refl)
 asks_image words list wanted files quiet is (Survey fs) asked = absurd (names_apart _ (codes "survey") (codes "image") _ _ asked.1.called is.of_files.called refl)

@@ -11,6 +11,7 @@ use Rattle.amihunk.proofs.CommandLineFilesLemmas.{AwaitsFiles, HasFiles, files_r
 use Rattle.amihunk.proofs.CommandLineFlagsLemmas.{IsFront, Leave, front-flags, front-option, walk_on}
 use Rattle.amihunk.proofs.CommandLineOptionLemmas.{IsOption, value_held}
 use Rattle.amihunk.proofs.CommandLineSubcommandLemmas.{Calls, fault_of-line, subcommand_of-line}
+use Rattle.hunk_commands.specs.Addresses.Origin.{in_list}
 use Rattle.amihunk.specs.CommandLine.{IsFlag, IsImage, IsNoFlag, command_line, form_words, image_line, is_srec}
 
 is_list : IsOption built_image nothing_held (codes "--at") (codes "at")
@@ -79,7 +80,7 @@ module _ (program : Text) (form : ImageForm) (list : Text) (plain_list : IsNoFla
 
   -- `image --at LIST [--srec] FILE...` is the subcommand `image`, with LIST, the form and FILE...
   pub is_image-image_line : (files : List Text) → 0 < length files → All IsNoFlag files
-      → IsImage (subcommand_of command_line (image_line program list form files)) list form files
+      → IsImage (subcommand_of command_line (image_line program list form files)) (in_list list) form files
   is_image-image_line [] some plain = absurd (omega arith)
   is_image-image_line (file ∷ rest) some plain = record {
     of_files = record {
@@ -89,6 +90,6 @@ module _ (program : Text) (form : ImageForm) (list : Text) (plain_list : IsNoFla
       files_are = (paths-image list file rest form).1;
       some = some;
     };
-    list_is = (paths-image list file rest form).0;
+    at_is = (paths-image list file rest form).0;
     form_is = form-image list file rest form;
   }

@@ -13,6 +13,7 @@ use Rattle.amihunk.proofs.CommandLineRowLemmas.{AllFilling, filled-settled, fill
 use Rattle.amihunk.specs.CommandLine.{IsCalled, IsFlag, IsWhole, bare_shape, command_line, file_shape, flag_rule, image_shape, is_srec, letter_s, link_shape, load_shape, survey_shape}
 use Rattle.hunk_tool.specs.declared.image_form.ImageForm.{ImageForm}
 use Rattle.hunk_tool.specs.declared.image_form.ImageForm.TheVariants.{Report, SRecords}
+use Rattle.hunk_commands.specs.Addresses.Origin.{in_list}
 use Rattle.amihunk.specs.CommandLine.IsWhole.{link, load, image, check, show, survey}
 
 -- ---- one level
@@ -155,9 +156,9 @@ sound_load words e =
     let settled_rows = (settled built_load.rules (walk built_load.rules [] nothing_held words).held).rows in
     let srec = flag_read (codes "srec") rows refl right.filled (has_row-defaults (codes "srec") built_load.rules settled_rows load_srec) in
     let symbols = flag_read (codes "symbols") rows refl right.filled (has_row-defaults (codes "symbols") built_load.rules settled_rows load_symbols) in
-    load list.0 srec.0 symbols.0 file.0 (record {
+    load (in_list list.0) srec.0 symbols.0 file.0 (record {
       of_file = record { rows = rows; called = refl; file_is = file.1 };
-      list_is = list.1;
+      at_is = list.1;
       srec_is = srec.1;
       symbols_is = symbols.1;
     })
@@ -189,9 +190,9 @@ sound_image words e =
     let list = value_given (codes "at") rows right.filled given.0 in
     let files = values_given (codes "file") rows right.filled given.1 in
     let form = form_read rows right.filled (has_row-defaults (codes "srec") built_image.rules (settled built_image.rules (walk built_image.rules [] nothing_held words).held).rows image_srec) in
-    image list.0 form.0 files.0 (record {
+    image (in_list list.0) form.0 files.0 (record {
       of_files = record { rows = rows; called = refl; files_are = files.2; some = files.1 };
-      list_is = list.1;
+      at_is = list.1;
       form_is = form.1;
     })
 

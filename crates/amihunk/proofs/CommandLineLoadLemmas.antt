@@ -11,6 +11,7 @@ use Rattle.amihunk.proofs.CommandLineFileLemmas.{AwaitsFile, file_rows, level_fa
 use Rattle.amihunk.proofs.CommandLineFlagsLemmas.{IsFront, Leave, front-flags, front-option, walk_on}
 use Rattle.amihunk.proofs.CommandLineOptionLemmas.{IsOption, value_held}
 use Rattle.amihunk.proofs.CommandLineSubcommandLemmas.{Calls, fault_of-line, subcommand_of-line}
+use Rattle.hunk_commands.specs.Addresses.Origin.{in_list}
 use Rattle.amihunk.specs.CommandLine.{IsFlag, IsLoad, IsNoFlag, asks_srec, asks_symbols, command_line, load_line, text_words}
 
 is_list : IsOption built_load nothing_held (codes "--at") (codes "at")
@@ -82,7 +83,7 @@ module _ (program : Text) (text : LoadText) (list file : Text) (plain_list : IsN
       (level_fault-file built_load (load_front text list) (load_held text list) front-load (awaits-load list text) file plain_file)
 
   -- `load --at LIST [--srec | --symbols] FILE` is the subcommand `load`, with LIST, the flag for the text and FILE
-  pub is_load-load_line : IsLoad (subcommand_of command_line (load_line program list text file)) list (asks_srec text) (asks_symbols text) file
+  pub is_load-load_line : IsLoad (subcommand_of command_line (load_line program list text file)) (in_list list) (asks_srec text) (asks_symbols text) file
   is_load-load_line = record {
     of_file = record {
       rows = load_rows text list file;
@@ -90,7 +91,7 @@ module _ (program : Text) (text : LoadText) (list file : Text) (plain_list : IsN
           ∙ ap (λ rows. Some (codes "load", rows)) (rows_after-file built_load (load_front text list) (load_held text list) front-load (awaits-load list text) file plain_file);
       file_is = (paths-load list file text).1;
     };
-    list_is = (paths-load list file text).0;
+    at_is = (paths-load list file text).0;
     srec_is = srec-load list file text;
     symbols_is = symbols-load list file text;
   }

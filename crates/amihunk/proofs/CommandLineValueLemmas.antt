@@ -7,8 +7,10 @@ use Rattle.std.specs.Option.{option_map_or}
 use Rattle.clap.specs.Takes.{is_given}
 use Rattle.clap.specs.Values.{bool_text}
 use Rattle.clap.specs.Words.{Row, Text, all_of, first_of, one_of}
-use Rattle.amihunk.specs.CommandLine.{Answers, IsCalled, IsCalledOn, IsConflict, IsFlag, IsImage, IsLink, IsLoad, IsWhole, Met, Says, asks_srec, asks_symbols, is_srec}
+use Rattle.amihunk.specs.CommandLine.{Answers, IsCalled, IsCalledOn, IsAt, IsConflict, IsFlag, IsImage, IsLink, IsLoad, IsWhole, Met, Says, asks_srec, asks_symbols, is_srec}
 use Rattle.clap.specs.declared.error.ErrorKind.TheVariants as error
+use Rattle.hunk_commands.specs.Addresses.{Origin}
+use Rattle.hunk_commands.specs.Addresses.Origin.{in_file, in_list}
 use Rattle.hunk_commands.specs.declared.load.LoadText.{LoadText}
 use Rattle.hunk_commands.specs.declared.load.LoadText.TheVariants as load_text
 use Rattle.hunk_commands.specs.declared.request.Request.{Request}
@@ -79,18 +81,25 @@ texts_same (load_text.Image one) load_text.Symbols srec symbols = cc
 texts_same load_text.Symbols (load_text.Image other) srec symbols = cc
 texts_same load_text.Symbols load_text.Symbols srec symbols = refl
 
-IsLoad-same : (met : Met) (a c : Text) (one other more less : Bool) (b d : Text) → IsLoad met a one more b → IsLoad met c other less d → (a ≡ c) × (one ≡ other) × (more ≡ less) × (b ≡ d)
+-- the addresses are those of the rows
+IsAt-same : (rows other : List Row) (a c : Origin) → rows ≡ other → IsAt rows a → IsAt other c → a ≡ c
+IsAt-same rows other (in_list a) (in_list c) same h k =
+    let values : Some a ≡ Some c = sym h ∙ (ap (first_of (codes "at")) same ∙ k) in
+    cc
+IsAt-same rows other (in_list a) (in_file name) same h k = absurd k
+IsAt-same rows other (in_file name) c same h k = absurd h
+
+IsLoad-same : (met : Met) (a c : Origin) (one other more less : Bool) (b d : Text) → IsLoad met a one more b → IsLoad met c other less d → (a ≡ c) × (one ≡ other) × (more ≡ less) × (b ≡ d)
 IsLoad-same met a c one other more less b d h k =
-    let same = rows_same met (codes "load") (codes "load") h.of_file.rows k.of_file.rows h.of_file.called k.of_file.called in
-    let lists : Some a ≡ Some c = sym h.list_is ∙ (ap (first_of (codes "at")) same ∙ k.list_is) in (
-      cc,
+    let same = rows_same met (codes "load") (codes "load") h.of_file.rows k.of_file.rows h.of_file.called k.of_file.called in (
+      IsAt-same h.of_file.rows k.of_file.rows a c same h.at_is k.at_is,
       IsFlag-same (codes "srec") h.of_file.rows k.of_file.rows one other same h.srec_is k.srec_is,
       IsFlag-same (codes "symbols") h.of_file.rows k.of_file.rows more less same h.symbols_is k.symbols_is,
       IsCalled-same met (codes "load") (codes "load") b d h.of_file k.of_file,
     )
 
 -- `load` for one text
-pub IsLoad-one : (met : Met) (a c : Text) (one other : LoadText) (b d : Text) → IsLoad met a (asks_srec one) (asks_symbols one) b → IsLoad met c (asks_srec other) (asks_symbols other) d
+pub IsLoad-one : (met : Met) (a c : Origin) (one other : LoadText) (b d : Text) → IsLoad met a (asks_srec one) (asks_symbols one) b → IsLoad met c (asks_srec other) (asks_symbols other) d
     → (a ≡ c) × (one ≡ other) × (b ≡ d)
 IsLoad-one met a c one other b d h k =
     let same = IsLoad-same met a c (asks_srec one) (asks_srec other) (asks_symbols one) (asks_symbols other) b d h k in
@@ -101,17 +110,16 @@ not_both : (text : LoadText) → asks_srec text ≡ true → asks_symbols text �
 not_both (load_text.Image form) srec symbols = cc
 not_both load_text.Symbols srec symbols = cc
 
-pub no_conflict : (met : Met) (list : Text) (text : LoadText) (file : Text) → IsLoad met list (asks_srec text) (asks_symbols text) file → IsConflict met → ⊥
-no_conflict met list text file is conflict =
-    let same = IsLoad-same met list conflict.list (asks_srec text) true (asks_symbols text) true file conflict.file is conflict.is_load in
+pub no_conflict : (met : Met) (origin : Origin) (text : LoadText) (file : Text) → IsLoad met origin (asks_srec text) (asks_symbols text) file → IsConflict met → ⊥
+no_conflict met origin text file is conflict =
+    let same = IsLoad-same met origin conflict.origin (asks_srec text) true (asks_symbols text) true file conflict.file is conflict.is_load in
     not_both text same.1 same.2
 
-pub IsImage-same : (met : Met) (a b : Text) (one other : ImageForm) (xs ys : List Text) → IsImage met a one xs → IsImage met b other ys → (a ≡ b) × (one ≡ other) × (xs ≡ ys)
+pub IsImage-same : (met : Met) (a b : Origin) (one other : ImageForm) (xs ys : List Text) → IsImage met a one xs → IsImage met b other ys → (a ≡ b) × (one ≡ other) × (xs ≡ ys)
 IsImage-same met a b one other xs ys h k =
     let same = rows_same met (codes "image") (codes "image") h.of_files.rows k.of_files.rows h.of_files.called k.of_files.called in
-    let lists : Some a ≡ Some b = sym h.list_is ∙ (ap (first_of (codes "at")) same ∙ k.list_is) in
     let forms = IsFlag-same (codes "srec") h.of_files.rows k.of_files.rows (is_srec one) (is_srec other) same h.form_is k.form_is in
-    (cc, forms_same one other forms, IsCalledOn-same met (codes "image") (codes "image") xs ys h.of_files k.of_files)
+    (IsAt-same h.of_files.rows k.of_files.rows a b same h.at_is k.at_is, forms_same one other forms, IsCalledOn-same met (codes "image") (codes "image") xs ys h.of_files k.of_files)
 
 -- ---- what was found is whole, and these are the values in its rows
 
@@ -164,25 +172,25 @@ says_link met rows (show f is) called out options files out_is strip short trim 
 says_link met rows (survey fs is) called out options files out_is strip short trim files_are =
     absurd (names_apart met (codes "survey") (codes "link") is.rows rows is.called called refl)
 
-pub says_load : (met : Met) (rows : List Row) → IsWhole met → met ≡ Some (codes "load", rows) → (list : Text) (srec symbols : Bool) (file : Text)
-    → first_of (codes "at") rows ≡ Some list → Reads rows (codes "srec") srec → Reads rows (codes "symbols") symbols → first_of (codes "file") rows ≡ Some file → IsLoad met list srec symbols file
-says_load met rows (load l x y f is) called list srec symbols file list_is srec_reads symbols_reads file_is =
+pub says_load : (met : Met) (rows : List Row) → IsWhole met → met ≡ Some (codes "load", rows) → (origin : Origin) (srec symbols : Bool) (file : Text)
+    → IsAt rows origin → Reads rows (codes "srec") srec → Reads rows (codes "symbols") symbols → first_of (codes "file") rows ≡ Some file → IsLoad met origin srec symbols file
+says_load met rows (load l x y f is) called origin srec symbols file at_is srec_reads symbols_reads file_is =
     let same = rows_same met (codes "load") (codes "load") is.of_file.rows rows is.of_file.called called in
     record {
       of_file = record { rows = rows; called = called; file_is = file_is };
-      list_is = list_is;
+      at_is = at_is;
       srec_is = says_flag is.of_file.rows rows (codes "srec") x srec same is.srec_is srec_reads;
       symbols_is = says_flag is.of_file.rows rows (codes "symbols") y symbols same is.symbols_is symbols_reads;
     }
-says_load met rows (link o s fs is) called list srec symbols file list_is srec_reads symbols_reads file_is =
+says_load met rows (link o s fs is) called origin srec symbols file at_is srec_reads symbols_reads file_is =
     absurd (names_apart met (codes "link") (codes "load") is.of_files.rows rows is.of_files.called called refl)
-says_load met rows (image l f fs is) called list srec symbols file list_is srec_reads symbols_reads file_is =
+says_load met rows (image l f fs is) called origin srec symbols file at_is srec_reads symbols_reads file_is =
     absurd (names_apart met (codes "image") (codes "load") is.of_files.rows rows is.of_files.called called refl)
-says_load met rows (check f is) called list srec symbols file list_is srec_reads symbols_reads file_is =
+says_load met rows (check f is) called origin srec symbols file at_is srec_reads symbols_reads file_is =
     absurd (names_apart met (codes "check") (codes "load") is.rows rows is.called called refl)
-says_load met rows (show f is) called list srec symbols file list_is srec_reads symbols_reads file_is =
+says_load met rows (show f is) called origin srec symbols file at_is srec_reads symbols_reads file_is =
     absurd (names_apart met (codes "show") (codes "load") is.rows rows is.called called refl)
-says_load met rows (survey fs is) called list srec symbols file list_is srec_reads symbols_reads file_is =
+says_load met rows (survey fs is) called origin srec symbols file at_is srec_reads symbols_reads file_is =
     absurd (names_apart met (codes "survey") (codes "load") is.rows rows is.called called refl)
 
 -- with both flags
@@ -191,11 +199,11 @@ says_conflict : (met : Met) (rows : List Row) → IsWhole met → met ≡ Some (
 says_conflict met rows (load l x y f is) called srec_reads symbols_reads =
     let same = rows_same met (codes "load") (codes "load") is.of_file.rows rows is.of_file.called called in
     record {
-      list = l;
+      origin = l;
       file = f;
       is_load = record {
         of_file = record { rows = rows; called = called; file_is = ap (first_of (codes "file")) (sym same) ∙ is.of_file.file_is };
-        list_is = ap (first_of (codes "at")) (sym same) ∙ is.list_is;
+        at_is = subst (λ found. IsAt found l) same is.at_is;
         srec_is = says_flag is.of_file.rows rows (codes "srec") x true same is.srec_is srec_reads;
         symbols_is = says_flag is.of_file.rows rows (codes "symbols") y true same is.symbols_is symbols_reads;
       };
@@ -225,25 +233,25 @@ says_refused met rows whole called srec symbols (Help text) answers = cc
 says_refused met rows whole called srec symbols (Refused text) answers = says_conflict met rows whole called srec symbols
 says_refused met rows whole called srec symbols OutOfMemory answers = tt
 
-pub says_image : (met : Met) (rows : List Row) → IsWhole met → met ≡ Some (codes "image", rows) → (list : Text) (form : ImageForm) (files : List Text)
-    → first_of (codes "at") rows ≡ Some list → Reads rows (codes "srec") (is_srec form) → all_of (codes "file") rows ≡ Some files → IsImage met list form files
+pub says_image : (met : Met) (rows : List Row) → IsWhole met → met ≡ Some (codes "image", rows) → (origin : Origin) (form : ImageForm) (files : List Text)
+    → IsAt rows origin → Reads rows (codes "srec") (is_srec form) → all_of (codes "file") rows ≡ Some files → IsImage met origin form files
 unfolding called_on
-says_image met rows (image l f fs is) called list form files list_is srec files_are =
+says_image met rows (image l f fs is) called origin form files at_is srec files_are =
     let same = rows_same met (codes "image") (codes "image") is.of_files.rows rows is.of_files.called called in
     record {
       of_files = called_on met (codes "image") rows files fs called files_are is.of_files;
-      list_is = list_is;
+      at_is = at_is;
       form_is = says_flag is.of_files.rows rows (codes "srec") (is_srec f) (is_srec form) same is.form_is srec;
     }
-says_image met rows (link o s fs is) called list form files list_is srec files_are =
+says_image met rows (link o s fs is) called origin form files at_is srec files_are =
     absurd (names_apart met (codes "link") (codes "image") is.of_files.rows rows is.of_files.called called refl)
-says_image met rows (load l x y f is) called list form files list_is srec files_are =
+says_image met rows (load l x y f is) called origin form files at_is srec files_are =
     absurd (names_apart met (codes "load") (codes "image") is.of_file.rows rows is.of_file.called called refl)
-says_image met rows (check f is) called list form files list_is srec files_are =
+says_image met rows (check f is) called origin form files at_is srec files_are =
     absurd (names_apart met (codes "check") (codes "image") is.rows rows is.called called refl)
-says_image met rows (show f is) called list form files list_is srec files_are =
+says_image met rows (show f is) called origin form files at_is srec files_are =
     absurd (names_apart met (codes "show") (codes "image") is.rows rows is.called called refl)
-says_image met rows (survey fs is) called list form files list_is srec files_are =
+says_image met rows (survey fs is) called origin form files at_is srec files_are =
     absurd (names_apart met (codes "survey") (codes "image") is.rows rows is.called called refl)
 
 pub says_survey : (met : Met) (rows : List Row) → IsWhole met → met ≡ Some (codes "survey", rows) → (files : List Text)

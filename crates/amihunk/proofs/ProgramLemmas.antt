@@ -1,6 +1,8 @@
 -- The status after the plain forms, and where memory ran out.
 use Rattle.std.proofs.Common.{◌∷◌, [], Bool, inl, inr, List, Option, refl, subst, ℕ}
 use Rattle.hunk_commands.specs.Request.{Ends, EndsImage, EndsLink, EndsLoad, EndsSurvey, EndsText, EndsVersion}
+use Rattle.hunk_commands.specs.Addresses.{origin_of}
+use Rattle.hunk_commands.specs.Addresses.Origin.{in_list}
 use Rattle.amihunk.specs.CommandLine.{AsksCheck, AsksImage, AsksLink, AsksLoad, AsksShow, AsksSurvey, AsksVersion}
 use Rattle.hunk_commands.specs.Devices.{IsCutShort}
 use Rattle.hunk_commands.specs.Image.{IsImageFailure}
@@ -33,10 +35,10 @@ ends_link taken failed old new out options files OutOfMemory status asks ends =
     inr (not_begun taken failed old new (IsLinkFailure options.strip files out) files status (inl (inl refl)) ends)
 
 pub ends_image : {W : Type 0} (taken : W → Option (List ℕ)) (failed : W → Bool) (old new : W) (list : List ℕ) (form : ImageForm) (files : List (List ℕ)) (request : Request) (status : ℕ)
-    → AsksImage list form files request → Ends taken failed old new request status → EndsImage taken failed old new list form files status
+    → AsksImage list form files request → Ends taken failed old new request status → EndsImage taken failed old new (in_list list) form files status
 ends_image taken failed old new list form files (Image l asked fs) status asks ends =
     subst (λ x. EndsImage taken failed old new x form files status) asks.0
-    (subst (λ f. EndsImage taken failed old new l.now f files status) asks.1 (subst (λ y. EndsImage taken failed old new l.now asked y status) asks.2 ends))
+    (subst (λ f. EndsImage taken failed old new (origin_of l) f files status) asks.1 (subst (λ y. EndsImage taken failed old new (origin_of l) asked y status) asks.2 ends))
 ends_image taken failed old new list form files (Link out options fs) status asks ends = absurd asks
 ends_image taken failed old new list form files (Load l asked f) status asks ends = absurd asks
 ends_image taken failed old new list form files (Check f) status asks ends = absurd asks
@@ -46,13 +48,13 @@ ends_image taken failed old new list form files Version status asks ends = absur
 ends_image taken failed old new list form files (Help text) status asks ends = absurd asks
 ends_image taken failed old new list form files (Refused text) status asks ends = absurd asks
 ends_image taken failed old new list form files OutOfMemory status asks ends =
-    inr (not_begun taken failed old new (IsImageFailure form list files) files status (inl refl) ends)
+    inr (not_begun taken failed old new (IsImageFailure form (in_list list) files) files status (inl refl) ends)
 
 pub ends_load : {W : Type 0} (taken : W → Option (List ℕ)) (failed : W → Bool) (old new : W) (list : List ℕ) (text : LoadText) (file : List ℕ) (request : Request) (status : ℕ)
-    → AsksLoad list text file request → Ends taken failed old new request status → EndsLoad taken failed old new list text file status
+    → AsksLoad list text file request → Ends taken failed old new request status → EndsLoad taken failed old new (in_list list) text file status
 ends_load taken failed old new list text file (Load l asked f) status asks ends =
     subst (λ x. EndsLoad taken failed old new x text file status) asks.0
-    (subst (λ y. EndsLoad taken failed old new l.now y file status) asks.1 (subst (λ z. EndsLoad taken failed old new l.now asked z status) asks.2 ends))
+    (subst (λ y. EndsLoad taken failed old new (origin_of l) y file status) asks.1 (subst (λ z. EndsLoad taken failed old new (origin_of l) asked z status) asks.2 ends))
 ends_load taken failed old new list text file (Check f) status asks ends = absurd asks
 ends_load taken failed old new list text file (Show f) status asks ends = absurd asks
 ends_load taken failed old new list text file (Link out options files) status asks ends = absurd asks
@@ -62,7 +64,7 @@ ends_load taken failed old new list text file Version status asks ends = absurd 
 ends_load taken failed old new list text file (Help said) status asks ends = absurd asks
 ends_load taken failed old new list text file (Refused said) status asks ends = absurd asks
 ends_load taken failed old new list text file OutOfMemory status asks ends =
-    inr (not_begun taken failed old new (IsLoadFailure text list file) (file ∷ []) status (inl refl) ends)
+    inr (not_begun taken failed old new (IsLoadFailure text (in_list list) file) (file ∷ []) status (inl refl) ends)
 
 pub ends_check : {W : Type 0} (taken : W → Option (List ℕ)) (failed : W → Bool) (old new : W) (file : List ℕ) (request : Request) (status : ℕ)
     → AsksCheck file request → Ends taken failed old new request status → EndsText taken failed old new Line file status

@@ -12,6 +12,8 @@ use Rattle.clap.specs.declared.error.ErrorKind.TheVariants as error
 use Rattle.hunk_tool.specs.declared.image_form.ImageForm.{ImageForm}
 use Rattle.hunk_tool.specs.declared.image_form.ImageForm.TheVariants.{Report, SRecords}
 use Rattle.hunk_tool.specs.declared.link_options.LinkOptions.{LinkOptions}
+use Rattle.hunk_commands.specs.Addresses.{Origin, origin_of}
+use Rattle.hunk_commands.specs.Addresses.Origin.{in_file, in_list}
 use Rattle.hunk_commands.specs.declared.load.LoadText.{LoadText}
 use Rattle.hunk_commands.specs.declared.load.LoadText.TheVariants as load_text
 use Rattle.hunk_commands.specs.declared.request.Request.{Request}
@@ -126,30 +128,35 @@ abbrev pub asks_symbols : LoadText → Bool
 asks_symbols (load_text.Image form) = false
 asks_symbols load_text.Symbols = true
 
--- the subcommand is `load`, with this LIST, these flags and this FILE
-pub record IsLoad (met : Met) (list : Text) (srec symbols : Bool) (file : Text) : Type 0 where
+-- the addresses are in LIST, the value of `--at`
+abbrev pub IsAt : List Row → Origin → Type 0
+IsAt rows (in_list list) = first_of (codes "at") rows ≡ Some list
+IsAt rows (in_file name) = ⊥
+
+-- the subcommand is `load`, with these addresses, these flags and this FILE
+pub record IsLoad (met : Met) (origin : Origin) (srec symbols : Bool) (file : Text) : Type 0 where
   pub of_file : IsCalled met (codes "load") file
-  pub list_is : first_of (codes "at") of_file.rows ≡ Some list
+  pub at_is : IsAt of_file.rows origin
   pub srec_is : IsFlag of_file.rows (codes "srec") srec
   pub symbols_is : IsFlag of_file.rows (codes "symbols") symbols
 
 -- the subcommand is `load`, with both flags
 pub record IsConflict (met : Met) : Type 0 where
-  pub list : Text
+  pub origin : Origin
   pub file : Text
-  pub is_load : IsLoad met list true true file
+  pub is_load : IsLoad met origin true true file
 
--- the subcommand is `image`, with this LIST, this form and these files
-pub record IsImage (met : Met) (list : Text) (form : ImageForm) (files : List Text) : Type 0 where
+-- the subcommand is `image`, with these addresses, this form and these files
+pub record IsImage (met : Met) (origin : Origin) (form : ImageForm) (files : List Text) : Type 0 where
   pub of_files : IsCalledOn met (codes "image") files
-  pub list_is : first_of (codes "at") of_files.rows ≡ Some list
+  pub at_is : IsAt of_files.rows origin
   pub form_is : IsFlag of_files.rows (codes "srec") (is_srec form)
 
 -- the subcommand is one of the program's, with its required values
 pub data IsWhole (met : Met) : Type 0 where
   link : (out : Text) (options : LinkOptions) (files : List Text) → IsLink met out options files → IsWhole met
-  load : (list : Text) (srec symbols : Bool) (file : Text) → IsLoad met list srec symbols file → IsWhole met
-  image : (list : Text) (form : ImageForm) (files : List Text) → IsImage met list form files → IsWhole met
+  load : (origin : Origin) (srec symbols : Bool) (file : Text) → IsLoad met origin srec symbols file → IsWhole met
+  image : (origin : Origin) (form : ImageForm) (files : List Text) → IsImage met origin form files → IsWhole met
   check : (file : Text) → IsCalled met (codes "check") file → IsWhole met
   show : (file : Text) → IsCalled met (codes "show") file → IsWhole met
   survey : (files : List Text) → IsCalledOn met (codes "survey") files → IsWhole met
@@ -158,8 +165,8 @@ pub data IsWhole (met : Met) : Type 0 where
 -- memory runs out
 abbrev pub Says : Met → Request → Type 0
 Says met (Link out options files) = IsLink met out.now options (texts files.items)
-Says met (Load list text file) = IsLoad met list.now (asks_srec text) (asks_symbols text) file.now
-Says met (Image list form files) = IsImage met list.now form (texts files.items)
+Says met (Load addresses text file) = IsLoad met (origin_of addresses) (asks_srec text) (asks_symbols text) file.now
+Says met (Image addresses form files) = IsImage met (origin_of addresses) form (texts files.items)
 Says met (Check file) = IsCalled met (codes "check") file.now
 Says met (Show file) = IsCalled met (codes "show") file.now
 Says met (Survey files) = IsCalledOn met (codes "survey") (texts files.items)
@@ -170,8 +177,8 @@ Says met _ = ⊥
 -- the request for arguments that `clap` rejects with this kind of error
 abbrev pub Answers : ErrorKind → Request → Type 0
 Answers k (Link out options files) = ⊥
-Answers k (Load list text file) = ⊥
-Answers k (Image list form files) = ⊥
+Answers k (Load addresses text file) = ⊥
+Answers k (Image addresses form files) = ⊥
 Answers k (Check file) = ⊥
 Answers k (Show file) = ⊥
 Answers k (Survey files) = ⊥
@@ -193,10 +200,10 @@ pub record IsRefusedBy (kinds : Kinds) : Type 0 where
 abbrev pub IsAskedBy : List Text → Request → Type 0
 IsAskedBy words (Link out options files) = (fault_of command_line words ≡ [])
     × IsLink (subcommand_of command_line words) out.now options (texts files.items)
-IsAskedBy words (Load list text file) = (fault_of command_line words ≡ [])
-    × IsLoad (subcommand_of command_line words) list.now (asks_srec text) (asks_symbols text) file.now
-IsAskedBy words (Image list form files) = (fault_of command_line words ≡ [])
-    × IsImage (subcommand_of command_line words) list.now form (texts files.items)
+IsAskedBy words (Load addresses text file) = (fault_of command_line words ≡ [])
+    × IsLoad (subcommand_of command_line words) (origin_of addresses) (asks_srec text) (asks_symbols text) file.now
+IsAskedBy words (Image addresses form files) = (fault_of command_line words ≡ [])
+    × IsImage (subcommand_of command_line words) (origin_of addresses) form (texts files.items)
 IsAskedBy words (Check file) = (fault_of command_line words ≡ [])
     × IsCalled (subcommand_of command_line words) (codes "check") file.now
 IsAskedBy words (Show file) = (fault_of command_line words ≡ [])
@@ -285,13 +292,13 @@ AsksLink out options files _ = ⊥
 
 -- the request is `load` with this LIST, for this text of this FILE, or memory ran out
 abbrev pub AsksLoad : Text → LoadText → Text → Request → Type 0
-AsksLoad list text file (Load l asked f) = (l.now ≡ list) × (asked ≡ text) × (f.now ≡ file)
+AsksLoad list text file (Load addresses asked f) = (origin_of addresses ≡ in_list list) × (asked ≡ text) × (f.now ≡ file)
 AsksLoad list text file OutOfMemory = ⊤
 AsksLoad list text file _ = ⊥
 
 -- the request is `image` with this LIST, this form and these files in this order, or memory ran out
 abbrev pub AsksImage : Text → ImageForm → List Text → Request → Type 0
-AsksImage list form files (Image l asked fs) = (l.now ≡ list) × (asked ≡ form) × (texts fs.items ≡ files)
+AsksImage list form files (Image addresses asked fs) = (origin_of addresses ≡ in_list list) × (asked ≡ form) × (texts fs.items ≡ files)
 AsksImage list form files OutOfMemory = ⊤
 AsksImage list form files _ = ⊥
 

@@ -15,7 +15,7 @@ ghost use Rattle.hunk_tool.specs.declared.link_options.LinkOptions.{LinkOptions}
 
 use clap::error::ErrorKind;
 use clap::{Arg, ArgAction, ArgMatches, Command, Error};
-use hunk_commands::{LoadText, Request, VERSION};
+use hunk_commands::{Addresses, LoadText, Request, VERSION};
 use hunk_tool::{ImageForm, LinkOptions};
 use std::alloc::{AllocError, Global};
 use std::convert::AsStr;
@@ -264,7 +264,7 @@ fn request_of<'a>(alloc: Global, matches: &ArgMatches<'a>) -> Result<Request<'a>
         Some(("load", values)) => {
             match text_of(values.get_flag("srec"), values.get_flag("symbols")) {
                 Some(text) => Ok(Request::Load {
-                    list: value_of(values, "at"),
+                    addresses: Addresses::List(value_of(values, "at")),
                     text,
                     file: value_of(values, "file"),
                 }),
@@ -272,7 +272,7 @@ fn request_of<'a>(alloc: Global, matches: &ArgMatches<'a>) -> Result<Request<'a>
             }
         }
         Some(("image", values)) => Ok(Request::Image {
-            list: value_of(values, "at"),
+            addresses: Addresses::List(value_of(values, "at")),
             form: form_of(values.get_flag("srec")),
             files: files_of(alloc, values)?,
         }),

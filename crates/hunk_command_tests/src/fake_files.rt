@@ -1,6 +1,6 @@
 //! A file system in memory for the tests, which counts the files that are open.
 
-use crate::samples::{CALLEE, CALLER, LOOP, ZEROS};
+use crate::samples::{CALLEE, CALLER, LOOP, PROGRAM, ZEROS};
 use std::alloc::{Allocator, Global};
 use std::cell::{Cell, RefCell};
 use std::fmt::Display;
@@ -35,7 +35,9 @@ pub struct Log {
     pub reads: Cell<usize>,
     /// How many files were created.
     pub created: Cell<usize>,
-    /// What was written.
+    /// Whether the standard output takes what is printed.
+    pub prints: Cell<bool>,
+    /// What was written and printed.
     pub written: RefCell<Vec<u8>>,
 }
 
@@ -48,8 +50,17 @@ impl Log {
             opened: Cell::new(0),
             reads: Cell::new(0),
             created: Cell::new(0),
+            prints: Cell::new(false),
             written: RefCell::new(Vec::new(alloc)),
         }
+    }
+
+    fn append(&self, bytes: &[u8]) -> io::Result<()> {
+        let Ok(mut written) = self.written.try_borrow_mut() else {
+            return unsupported();
+        };
+        written.extend_from_slice(bytes)?;
+        Ok(())
     }
 }
 
@@ -107,6 +118,9 @@ fn find(name: &str) -> Option<(Kind, &'static [u8])> {
         "callee" => Some((Kind::Regular, &CALLEE)),
         "loop" => Some((Kind::Regular, &LOOP)),
         "zeros" => Some((Kind::Regular, &ZEROS)),
+        "program" => Some((Kind::Regular, &PROGRAM)),
+        "addresses" => Some((Kind::Regular, b"10000, 20000\r\n")),
+        "bad-addresses" => Some((Kind::Regular, b",10000 ,\r\n\r\n0x20,30000\n")),
         "pipe" => Some((Kind::Pipe, &LOOP)),
         "directory" => Some((Kind::Directory, &[])),
         "full" => Some((Kind::Full, &[])),
@@ -168,7 +182,6 @@ impl<'a> Files for FakeFiles<'a> {
     }
 }
 
-// No test prints through it.
 impl Print for FakeFiles<'_> {
     fn print<D: Display + Drop>(&self, _value: D) -> io::Result<()> {
         unsupported()
@@ -178,8 +191,12 @@ impl Print for FakeFiles<'_> {
         unsupported()
     }
 
-    fn write_all(&self, _bytes: &[u8]) -> io::Result<()> {
-        unsupported()
+    fn write_all(&self, bytes: &[u8]) -> io::Result<()> {
+        if self.log.prints.get() {
+            self.log.append(bytes)
+        } else {
+            unsupported()
+        }
     }
 }
 
@@ -216,10 +233,7 @@ impl Write for Handle<'_> {
         if self.kind == Kind::Full {
             return Ok(0);
         }
-        let Ok(mut written) = self.log.written.try_borrow_mut() else {
-            return Err(io::Error::from(ErrorKind::Unsupported));
-        };
-        written.extend_from_slice(buf)?;
+        self.log.append(buf)?;
         Ok(buf.len())
     }
 

@@ -1,5 +1,6 @@
 //! Files, standard outputs and standard errors, by public calls only.
 //!
+//! - `addresses`: addresses in a list, and in a file.
 //! - `asserts`: assertions as functions.
 //! - `failures`: the line of each failure, and its status.
 //! - `images`: the report of object files.
@@ -11,6 +12,7 @@
 //! - `texts`: the texts about a file.
 //! - `versions`: the version of the program.
 
+mod addresses;
 mod asserts;
 mod failures;
 mod images;

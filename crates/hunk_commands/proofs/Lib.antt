@@ -1,3 +1,4 @@
+pub mod AddressesLemmas
 pub mod DevicesLemmas
 pub mod FailureLemmas
 pub mod ImageLemmas

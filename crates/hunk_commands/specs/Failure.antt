@@ -8,13 +8,16 @@ use Rattle.hunk_tool.specs.FaultLine.{fault_line, IsOfInputs}
 use Rattle.hunk_tool.specs.declared.tool_fault.ToolFault.TheVariants.{Output}
 use Rattle.hunk_tool.specs.ToolFault.{status}
 use Rattle.hunk_commands.specs.declared.failure.Failure.{Failure}
-use Rattle.hunk_commands.specs.declared.failure.Failure.TheVariants.{BadNumber, Opening, Printing, Tool}
+use Rattle.hunk_commands.specs.declared.failure.Failure.TheVariants.{BadNumber, Opening, Printing, Reading, Tool}
+use Rattle.hunk_commands.specs.Addresses.{Origin, origin_of}
+use Rattle.hunk_commands.specs.Addresses.Origin.{in_file, in_list}
 
--- 2 if the list of addresses is rejected, 3 if a file cannot be opened or a write failed, and
--- otherwise the status of what `hunk_tool` returned
+-- 2 if the addresses are rejected, 3 if a file cannot be opened, or a read of the addresses or a write
+-- failed, and otherwise the status of what `hunk_tool` returned
 abbrev pub status_of : Failure → ℕ
-status_of (BadNumber index) = 2
+status_of (BadNumber addresses index) = 2
 status_of (Opening file) = 3
+status_of (Reading file) = 3
 status_of Printing = 3
 status_of (Tool fault) = status fault
 
@@ -23,19 +26,25 @@ abbrev pub IsOfFiles : ℕ → Failure → Type 0
 IsOfFiles n (Tool fault) = IsOfInputs n fault
 IsOfFiles n _ = ⊤
 
--- the line for a part of a list of addresses that is not a number
-abbrev pub bad_number_line : ℕ → List ℕ
-bad_number_line index =
-    codes "amihunk: --at: part " ++ decimal index ++ codes " is not 1 to 8 hexadecimal digits\n"
+-- what the line about bad addresses names: the option of the list, or the file
+abbrev pub origin_name : Origin → List ℕ
+origin_name (in_list list) = codes "--at"
+origin_name (in_file name) = name
 
--- the line for a file that cannot be opened
-abbrev pub opening_line : List ℕ → List ℕ
-opening_line file = codes "amihunk: " ++ file ++ codes ": cannot be opened\n"
+-- the line for a part of the addresses that is not a number
+abbrev pub bad_number_line : Origin → ℕ → List ℕ
+bad_number_line origin index =
+    codes "amihunk: " ++ origin_name origin ++ codes ": part " ++ decimal index ++ codes " is not 1 to 8 hexadecimal digits\n"
+
+-- the line that tells this about a file
+abbrev pub about_line : (file told : List ℕ) → List ℕ
+about_line file told = codes "amihunk: " ++ file ++ codes ": " ++ told ++ codes "\n"
 
 -- the line that reports the failure, if the files have these names
 abbrev pub failure_line : List (List ℕ) → Failure → List ℕ
-failure_line names (BadNumber index) = bad_number_line index
-failure_line names (Opening file) = opening_line file.now
+failure_line names (BadNumber addresses index) = bad_number_line (origin_of addresses) index
+failure_line names (Opening file) = about_line file.now (codes "cannot be opened")
+failure_line names (Reading file) = about_line file.now (codes "read failed")
 failure_line names Printing = fault_line {A = Global} names (Output 0)
 failure_line names (Tool fault) = fault_line names fault
 

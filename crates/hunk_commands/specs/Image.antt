@@ -1,18 +1,15 @@
--- What is known of a list of addresses, object files and the standard output after `image`, or why it
--- failed.
+-- What is known of addresses, object files and the standard output after `image`, or why it failed.
 use Rattle.std.specs.declared.alloc.Global.{Global}
 use Rattle.std.specs.Prelude.{◌≡◌, ◌⊎◌, ℕ, List, Option, Contains}
-use Rattle.hunk_tool.specs.Bases.{IsBasesFault}
 use Rattle.hunk_tool.specs.Image.{IsImageFault, IsImaged}
 use Rattle.hunk_tool.specs.Inputs.{HaveRead, Input}
 use Rattle.hunk_tool.specs.Link.{Taken}
-use Rattle.hunk_tool.specs.declared.bases.BasesFault.TheVariants as bases_fault
 use Rattle.hunk_tool.specs.declared.image_form.ImageForm.{ImageForm}
 use Rattle.hunk_tool.specs.declared.tool_fault.ToolFault.{ToolFault}
 use Rattle.hunk_tool.specs.declared.tool_fault.ToolFault.TheVariants.{OutOfMemory}
 use Rattle.hunk_commands.specs.declared.failure.Failure.{Failure}
-use Rattle.hunk_commands.specs.declared.failure.Failure.TheVariants.{BadNumber, Opening, Printing, Tool}
-use Rattle.hunk_commands.specs.Bases.{AtBases, IsList}
+use Rattle.hunk_commands.specs.declared.failure.Failure.TheVariants.{Opening, Printing, Tool}
+use Rattle.hunk_commands.specs.Addresses.{AreAddresses, AtBases, IsAddressesFailure, Origin}
 use Rattle.hunk_commands.specs.Inputs.{OfInputs}
 
 -- the inputs, read to their ends, are object files that link and whose hunks are placed at the bases,
@@ -33,19 +30,23 @@ IsUnprinted form bases inputs old Printing = HaveReport form bases inputs old
 IsUnprinted form bases inputs old (Tool fault) = HaveNoReport form bases inputs old fault
 IsUnprinted form bases inputs old _ = ⊥
 
--- the numbers in the list are bases, and this holds of them, of some inputs and of what some writer
--- had taken
-abbrev pub AtBasesOfInputs : (list : List ℕ) (files : List (List ℕ)) (Holds : List ℕ → List Input → Option (List ℕ) → Type 0) → Type 0
-AtBasesOfInputs list files Holds = AtBases list (λ bases. OfInputs files (λ inputs. (old : Option (List ℕ)) × Holds bases inputs old))
+-- the numbers of the addresses are bases, and this holds of them, of some inputs and of what some
+-- writer had taken
+abbrev pub AtBasesOfInputs : Origin → (files : List (List ℕ)) (Holds : List ℕ → List Input → Option (List ℕ) → Type 0) → Type 0
+AtBasesOfInputs origin files Holds = AtBases origin (λ bases. OfInputs files (λ inputs. (old : Option (List ℕ)) × Holds bases inputs old))
 
--- the memory of the inputs at the numbers in the list, in this form, is all that was written
-abbrev pub AreImaged : ImageForm → (list : List ℕ) (files : List (List ℕ)) → Type 0
-AreImaged form list files = AtBasesOfInputs list files (HaveReport form)
+-- the memory of the inputs at the numbers of the addresses, in this form, is all that was written
+abbrev pub AreImaged : ImageForm → Origin → (files : List (List ℕ)) → Type 0
+AreImaged form origin files = AtBasesOfInputs origin files (HaveReport form)
 
--- why `image` failed: the list is checked first, and then the files are opened
-abbrev pub IsImageFailure : ImageForm → (list : List ℕ) (files : List (List ℕ)) → Failure → Type 0
-IsImageFailure form list files (BadNumber index) = IsBasesFault list (bases_fault.BadNumber index)
-IsImageFailure form list files (Opening name) = Contains files name.now × IsList list
-IsImageFailure form list files Printing = AtBasesOfInputs list files (HaveReport form)
-IsImageFailure form list files (Tool fault) = (fault ≡ OutOfMemory 0)
-    ⊎ AtBasesOfInputs list files (λ bases inputs old. HaveNoReport form bases inputs old fault)
+-- why the memory of the files was not printed at addresses that are known
+abbrev pub AreUnimaged : ImageForm → Origin → (files : List (List ℕ)) → Failure → Type 0
+AreUnimaged form origin files (Opening name) = Contains files name.now × AreAddresses origin
+AreUnimaged form origin files Printing = AtBasesOfInputs origin files (HaveReport form)
+AreUnimaged form origin files (Tool fault) = (fault ≡ OutOfMemory 0)
+    ⊎ AtBasesOfInputs origin files (λ bases inputs old. HaveNoReport form bases inputs old fault)
+AreUnimaged form origin files _ = ⊥
+
+-- why `image` failed: the addresses are known before the files are opened
+abbrev pub IsImageFailure : ImageForm → Origin → (files : List (List ℕ)) → Failure → Type 0
+IsImageFailure form origin files failure = IsAddressesFailure origin failure ⊎ AreUnimaged form origin files failure

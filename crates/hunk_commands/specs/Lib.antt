@@ -2,7 +2,7 @@ pub mod Request
 pub mod Failure
 pub mod Devices
 pub mod Inputs
-pub mod Bases
+pub mod Addresses
 pub mod Load
 pub mod Link
 pub mod Image

@@ -4,6 +4,7 @@ use Rattle.hunk_commands.specs.Inputs.{file_names}
 use Rattle.hunk_tool.specs.declared.image_form.ImageForm.{ImageForm}
 use Rattle.hunk_tool.specs.declared.link_options.LinkOptions.{LinkOptions}
 use Rattle.hunk_tool.specs.declared.tool_fault.ToolFault.TheVariants as tool_fault
+use Rattle.hunk_commands.specs.Addresses.{Origin, origin_of}
 use Rattle.hunk_commands.specs.Failure.{failure_line, status_of, TellsLine}
 use Rattle.hunk_commands.specs.Load.{IsLoadFailure, IsLoaded}
 use Rattle.hunk_commands.specs.Link.{IsLinkFailure, IsMade}
@@ -29,9 +30,9 @@ pub record IsFailed {W : Type 0} (taken : W → Option (List ℕ)) (failed : W �
   pub line : TellsLine taken failed old new (failure_line files failure)
 
 -- the status after `load`
-abbrev pub EndsLoad : {W : Type 0} (taken : W → Option (List ℕ)) (failed : W → Bool) (old new : W) (list : List ℕ) (text : LoadText) (file : List ℕ) → ℕ → Type 0
-EndsLoad taken failed old new list text file status =
-    ((status ≡ 0) × IsLoaded text list) ⊎ IsFailed taken failed old new (IsLoadFailure text list file) (file ∷ []) status
+abbrev pub EndsLoad : {W : Type 0} (taken : W → Option (List ℕ)) (failed : W → Bool) (old new : W) (origin : Origin) (text : LoadText) (file : List ℕ) → ℕ → Type 0
+EndsLoad taken failed old new origin text file status =
+    ((status ≡ 0) × IsLoaded text origin) ⊎ IsFailed taken failed old new (IsLoadFailure text origin file) (file ∷ []) status
 
 -- the status after `link`
 abbrev pub EndsLink : {W : Type 0} (taken : W → Option (List ℕ)) (failed : W → Bool) (old new : W) (out : List ℕ) (options : LinkOptions) (files : List (List ℕ)) → ℕ → Type 0
@@ -39,9 +40,9 @@ EndsLink taken failed old new out options files status =
     ((status ≡ 0) × IsMade options files) ⊎ IsFailed taken failed old new (IsLinkFailure options.strip files out) files status
 
 -- the status after `image`
-abbrev pub EndsImage : {W : Type 0} (taken : W → Option (List ℕ)) (failed : W → Bool) (old new : W) (list : List ℕ) (form : ImageForm) (files : List (List ℕ)) → ℕ → Type 0
-EndsImage taken failed old new list form files status =
-    ((status ≡ 0) × AreImaged form list files) ⊎ IsFailed taken failed old new (IsImageFailure form list files) files status
+abbrev pub EndsImage : {W : Type 0} (taken : W → Option (List ℕ)) (failed : W → Bool) (old new : W) (origin : Origin) (form : ImageForm) (files : List (List ℕ)) → ℕ → Type 0
+EndsImage taken failed old new origin form files status =
+    ((status ≡ 0) × AreImaged form origin files) ⊎ IsFailed taken failed old new (IsImageFailure form origin files) files status
 
 -- the status after a text about FILE
 abbrev pub EndsText : {W : Type 0} (taken : W → Option (List ℕ)) (failed : W → Bool) (old new : W) (text : Text) (file : List ℕ) → ℕ → Type 0
@@ -60,9 +61,9 @@ EndsVersion taken failed old new status =
 
 -- the status after a request
 abbrev pub Ends : {W : Type 0} (taken : W → Option (List ℕ)) (failed : W → Bool) (old new : W) → Request → ℕ → Type 0
-Ends taken failed old new (Load list text file) status = EndsLoad taken failed old new list.now text file.now status
+Ends taken failed old new (Load addresses text file) status = EndsLoad taken failed old new (origin_of addresses) text file.now status
 Ends taken failed old new (Link out options files) status = EndsLink taken failed old new out.now options (file_names files.items) status
-Ends taken failed old new (Image list form files) status = EndsImage taken failed old new list.now form (file_names files.items) status
+Ends taken failed old new (Image addresses form files) status = EndsImage taken failed old new (origin_of addresses) form (file_names files.items) status
 Ends taken failed old new (Check file) status = EndsText taken failed old new Line file.now status
 Ends taken failed old new (Show file) status = EndsText taken failed old new Listing file.now status
 Ends taken failed old new (Survey files) status = EndsSurvey taken failed old new (file_names files.items) status

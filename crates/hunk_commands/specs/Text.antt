@@ -7,7 +7,7 @@ use Rattle.hunk_tool.specs.FileValue.{FileValue}
 use Rattle.hunk_tool.specs.Show.{show_text}
 use Rattle.hunk_tool.specs.declared.tool_fault.ToolFault.TheVariants.{OutOfMemory}
 use Rattle.hunk_commands.specs.declared.failure.Failure.{Failure}
-use Rattle.hunk_commands.specs.declared.failure.Failure.TheVariants.{BadNumber, Opening, Printing, Tool}
+use Rattle.hunk_commands.specs.declared.failure.Failure.TheVariants.{Opening, Printing, Tool}
 use Rattle.hunk_commands.specs.declared.text.Text.{Text}
 use Rattle.hunk_commands.specs.declared.text.Text.TheVariants.{Line, Listing}
 use Rattle.hunk_commands.specs.Devices.{Printed, StoppedBy}
@@ -24,7 +24,7 @@ IsTold text = Printed (IsWritten (text_of text))
 
 -- why the text was not printed
 abbrev pub IsTextFailure : Text → (file : List ℕ) → Failure → Type 0
-IsTextFailure text file (BadNumber index) = ⊥
 IsTextFailure text file (Opening name) = name.now ≡ file
 IsTextFailure text file Printing = ⊤
 IsTextFailure text file (Tool fault) = (fault ≡ OutOfMemory 0) ⊎ StoppedBy (IsTextFault (text_of text)) fault
+IsTextFailure text file _ = ⊥

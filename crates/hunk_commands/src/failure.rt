@@ -1,17 +1,19 @@
 //! Why a request failed: the line that reports it, and the exit status.
-ghost use Rattle.std.specs.Prelude.{◌≡◌, length, map, IfErr};
+ghost use Rattle.std.specs.Prelude.{◌≡◌, ◌≤◌, length, map, IfErr};
 ghost use Rattle.std.specs.String.{string_bytes};
 ghost use Rattle.hunk_words.specs.Streams.{IsDevice, WroteAll};
-ghost use Rattle.hunk_commands.specs.Failure.{bad_number_line, failure_line, opening_line};
+ghost use Rattle.hunk_commands.specs.Addresses.{origin_of};
+ghost use Rattle.hunk_commands.specs.Failure.{about_line, bad_number_line, failure_line, origin_name};
 ghost use Rattle.hunk_commands.specs.Failure.{status_of, IsOfFiles, TellsLine};
 
+use crate::addresses::Addresses;
 use hunk_tool::{Phrase, ToolFault, status_of, write_fault, write_line};
 use hunk_words::{Sink, WriteFault};
 
 /// The exit status of a request that was done, or of help that was asked for.
 pub const DONE: u8 = 0;
 
-/// The exit status if the command line, or the list of addresses, is rejected.
+/// The exit status if the command line, or the addresses of the hunks, are rejected.
 pub const COMMAND_LINE: u8 = 2;
 
 /// The exit status if a file cannot be opened, or a read or a write failed.
@@ -20,10 +22,17 @@ pub const DEVICE: u8 = 3;
 /// Why a request failed.
 #[derive(Debug, Drop, PartialEq, Eq)]
 pub enum Failure<'a> {
-    /// The index, from 0, of the first part of the list of addresses that is not a number.
-    BadNumber(usize),
+    /// A part of the addresses is not a number.
+    BadNumber {
+        /// Where the addresses come from.
+        addresses: Addresses<'a>,
+        /// The index, from 0, of the first such part.
+        index: usize,
+    },
     /// The file with this name cannot be opened, or cannot be created.
     Opening(&'a str),
+    /// A read of the file of addresses with this name failed.
+    Reading(&'a str),
     /// The output did not take everything that was written to it.
     Printing,
     /// What `hunk_tool` returned.
@@ -43,8 +52,8 @@ impl<'a> Failure<'a> {
         ensures { result ≡ status_of self.now }
     {
         match self {
-            Failure::BadNumber(_) => COMMAND_LINE,
-            Failure::Opening(_) | Failure::Printing => DEVICE,
+            Failure::BadNumber { .. } => COMMAND_LINE,
+            Failure::Opening(_) | Failure::Reading(_) | Failure::Printing => DEVICE,
             Failure::Tool(fault) => status_of(fault),
         }
     }
@@ -75,8 +84,9 @@ fn write_failure<W: Sink>(
     ensures device { IfErr result IsDevice }
 {
     match failure {
-        Failure::BadNumber(index) => write_bad_number(*index, errors),
-        Failure::Opening(file) => write_opening(file, errors),
+        Failure::BadNumber { addresses, index } => write_bad_number(*addresses, *index, errors),
+        Failure::Opening(file) => write_about(file, "cannot be opened", errors),
+        Failure::Reading(file) => write_about(file, "read failed", errors),
         Failure::Printing => {
             let output: ToolFault = ToolFault::Output { written: 0 };
             write_fault(files, &output, errors)
@@ -85,21 +95,37 @@ fn write_failure<W: Sink>(
     }
 }
 
-/// Writes the line for a part of a list of addresses that is no number.
-fn write_bad_number<W: Sink>(index: usize, errors: &mut W) -> Result<(), WriteFault>
-    ensures wrote { WroteAll W.taken W.failed errors.old errors.new (bad_number_line index) result }
+/// Writes the line for a part of the addresses that is no number.
+fn write_bad_number<W: Sink>(
+    addresses: Addresses<'_>,
+    index: usize,
+    errors: &mut W,
+) -> Result<(), WriteFault>
+    ensures wrote { WroteAll W.taken W.failed errors.old errors.new (bad_number_line (origin_of addresses.entry) index) result }
     ensures device { IfErr result IsDevice }
 {
     let after = " is not 1 to 8 hexadecimal digits";
-    let part = Phrase::decimal("--at: part ", index as u64, after);
-    write_line(b"", &part, &Phrase::plain(""), errors)
+    let part = Phrase::decimal(": part ", index as u64, after);
+    let origin = origin_name(addresses);
+    write_line(origin.as_bytes(), &part, &Phrase::plain(""), errors)
 }
 
-/// Writes the line for a file that cannot be opened.
-fn write_opening<W: Sink>(file: &str, errors: &mut W) -> Result<(), WriteFault>
-    ensures wrote { WroteAll W.taken W.failed errors.old errors.new (opening_line file.now) result }
+/// What the line about bad addresses names.
+fn origin_name<'a>(addresses: Addresses<'a>) -> &'a str
+    ensures { result.now ≡ origin_name (origin_of addresses.entry) }
+{
+    match addresses {
+        Addresses::List(_) => "--at",
+        Addresses::File(name) => name,
+    }
+}
+
+/// Writes the line that tells this about a file.
+fn write_about<W: Sink>(file: &str, told: &'static str, errors: &mut W) -> Result<(), WriteFault>
+    requires { length told.now ≤ 64 }
+    ensures wrote { WroteAll W.taken W.failed errors.old errors.new (about_line file.now told.now) result }
     ensures device { IfErr result IsDevice }
 {
-    let reason = Phrase::plain(": cannot be opened");
-    write_line(file.as_bytes(), &reason, &Phrase::plain(""), errors)
+    let told = Phrase::plain(told);
+    write_line(file.as_bytes(), &Phrase::plain(": "), &told, errors)
 }

@@ -1,12 +1,13 @@
-//! The request `image`: the memory that object files define at the addresses of a list.
+//! The request `image`: the memory that object files define at given addresses.
 ghost use Rattle.std.specs.Prelude.{IfOk, IfErr, OnOk, length};
 ghost use Rattle.hunk_commands.specs.Inputs.{file_names};
 ghost use Rattle.hunk_tool.specs.Image.{IsImaged};
 ghost use Rattle.hunk_tool.specs.Inputs.{HaveRead, inputs_of};
+ghost use Rattle.hunk_commands.specs.Addresses.{origin_of};
 ghost use Rattle.hunk_commands.specs.Failure.{IsOfFiles};
 ghost use Rattle.hunk_commands.specs.Image.{AreImaged, IsImageFailure, IsUnprinted};
 
-use crate::bases::bases_of;
+use crate::addresses::{Addresses, addresses_of};
 use crate::devices::{buffered, flushed};
 use crate::failure::Failure;
 use crate::inputs::open_inputs;
@@ -17,25 +18,25 @@ use std::io;
 use std::io::Write;
 use std::rt::Files;
 
-/// Links the object files named `files`, and prints in this form the memory that they define at the
-/// addresses in `list`. The list is checked before the files are opened.
+/// Links the object files named `files`, and prints in this form the memory that they define at these
+/// addresses. The addresses are known before the files are opened.
 ///
 /// # Errors
 ///
-/// - [`Failure::BadNumber`] with the index of the first part of the list that is no address.
+/// - Those of [`addresses_of`].
 /// - [`Failure::Opening`] with the first of `files` that cannot be opened.
 /// - Those of [`image_to`].
 pub fn image<'a, R: Files + Print + AllocGlobal>(
     rt: &R,
-    list: &str,
+    addresses: Addresses<'a>,
     form: ImageForm,
     files: &[&'a str],
 ) -> Result<(), Failure<'a>>
-    ensures ok { OnOk result (AreImaged form list.now (file_names files.entry.now)) }
-    ensures err { IfErr result (IsImageFailure form list.now (file_names files.entry.now)) }
+    ensures ok { OnOk result (AreImaged form (origin_of addresses.entry) (file_names files.entry.now)) }
+    ensures err { IfErr result (IsImageFailure form (origin_of addresses.entry) (file_names files.entry.now)) }
     ensures of_files { IfErr result (IsOfFiles (length files.entry.now)) }
 {
-    let bases = bases_of(rt.alloc(), list)?;
+    let bases = addresses_of(rt, addresses)?;
     let mut inputs = open_inputs(rt, rt.alloc(), files)?;
     image_to(
         rt.alloc(),

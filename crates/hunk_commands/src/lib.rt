@@ -3,9 +3,9 @@
 //!
 //! - `request`: what a command line asks for, and doing it.
 //! - `failure`: why a command failed, the line that reports it, and the exit status.
+//! - `addresses`: where the addresses of the hunks come from.
 //! - `devices`: the file that a command reads, and the output that it writes.
 //! - `inputs`: the files that a command reads, if there are several.
-//! - `bases`: the list of addresses that a command is given.
 //! - `load`: the command `load`.
 //! - `link`: the command `link`.
 //! - `image`: the command `image`.
@@ -14,7 +14,7 @@
 //! - `version`: the version of the program.
 #![tactic(auto)]
 
-mod bases;
+pub mod addresses;
 mod devices;
 mod failure;
 pub mod image;
@@ -26,6 +26,7 @@ pub mod survey;
 mod text;
 mod version;
 
+pub use addresses::{Addresses, addresses_of};
 pub use failure::{COMMAND_LINE, DEVICE, DONE, Failure, report_failure};
 pub use inputs::{Input, open_inputs};
 pub use load::LoadText;

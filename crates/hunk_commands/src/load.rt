@@ -1,11 +1,12 @@
-//! The request `load`: the image or the symbols of a load file at the addresses of a list.
+//! The request `load`: the image or the symbols of a load file at given addresses.
 ghost use Rattle.std.specs.Prelude.{IfOk, IfErr, OnOk};
 ghost use Rattle.hunk_words.specs.Streams.{HasRead};
 ghost use Rattle.hunk_tool.specs.Load.{IsFaultAt, IsWrittenAt, ends_of};
+ghost use Rattle.hunk_commands.specs.Addresses.{origin_of};
 ghost use Rattle.hunk_commands.specs.Devices.{IsPrintFailure, Prints};
 ghost use Rattle.hunk_commands.specs.Load.{IsLoadFailure, IsLoaded, text_of};
 
-use crate::bases::bases_of;
+use crate::addresses::{Addresses, addresses_of};
 use crate::devices::{buffered, flushed, open};
 use crate::failure::Failure;
 use hunk_tool::{ImageForm, ToolFault, load_run_with, symbols_run};
@@ -24,24 +25,24 @@ pub enum LoadText {
     Symbols,
 }
 
-/// Loads the file named `file` at the addresses in `list`, and prints this text of it. The list is
-/// checked before the file is opened.
+/// Loads the file named `file` at these addresses, and prints this text of it. The addresses are known
+/// before the file is opened.
 ///
 /// # Errors
 ///
-/// - [`Failure::BadNumber`] with the index of the first part of the list that is no address.
+/// - Those of [`addresses_of`].
 /// - [`Failure::Opening`] if the file cannot be opened.
 /// - Those of [`load_to`].
 pub fn load<'a, R: Files + Print + AllocGlobal>(
     rt: &R,
-    list: &str,
+    addresses: Addresses<'a>,
     text: LoadText,
     file: &'a str,
 ) -> Result<(), Failure<'a>>
-    ensures ok { OnOk result (IsLoaded text list.now) }
-    ensures err { IfErr result (IsLoadFailure text list.now file.entry.now) }
+    ensures ok { OnOk result (IsLoaded text (origin_of addresses.entry)) }
+    ensures err { IfErr result (IsLoadFailure text (origin_of addresses.entry) file.entry.now) }
 {
-    let bases = bases_of(rt.alloc(), list)?;
+    let bases = addresses_of(rt, addresses)?;
     let input = open(rt, file)?;
     load_to(rt.alloc(), input, bases.as_slice(), text, io::writer(rt))?;
     Ok(())

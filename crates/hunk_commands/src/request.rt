@@ -1,8 +1,10 @@
 //! What a command line asks for, and doing it.
 ghost use Rattle.std.specs.Prelude.{◌≡◌, IfOk, map, string_bytes};
+ghost use Rattle.hunk_commands.specs.Addresses.{origin_of};
 ghost use Rattle.hunk_commands.specs.Inputs.{file_names};
 ghost use Rattle.hunk_commands.specs.Request.{Ends, EndsImage, EndsLink, EndsLoad, EndsSurvey, EndsText};
 
+use crate::addresses::Addresses;
 use crate::failure::{COMMAND_LINE, DONE, Failure, report_failure};
 use crate::image::image;
 use crate::link::link;
@@ -31,8 +33,8 @@ pub enum Request<'a> {
     /// `load --at LIST [--srec | --symbols] FILE`: the image or the symbols of FILE, loaded at the
     /// addresses in LIST.
     Load {
-        /// The argument LIST, not yet parsed.
-        list: &'a str,
+        /// Where the addresses come from: LIST, not yet parsed, or a file, not yet opened.
+        addresses: Addresses<'a>,
         /// The symbols if `--symbols` is given, the image as S-records if `--srec` is given, and
         /// otherwise the report.
         text: LoadText,
@@ -42,8 +44,8 @@ pub enum Request<'a> {
     /// `image --at LIST [--srec] FILE...`: the memory that the object files FILE... define at the
     /// addresses in LIST.
     Image {
-        /// The argument LIST, not yet parsed.
-        list: &'a str,
+        /// Where the addresses come from: LIST, not yet parsed, or a file, not yet opened.
+        addresses: Addresses<'a>,
         /// S-records if `--srec` is given, and otherwise the report.
         form: ImageForm,
         /// The arguments FILE..., in the order given, of which there is at least one.
@@ -89,10 +91,16 @@ pub fn answer<R: Files + Print + AllocGlobal, W: Sink>(
             options,
             files,
         } => answer_link(rt, errors, out, options, files.as_slice()),
-        Request::Load { list, text, file } => answer_load(rt, errors, list, text, file),
-        Request::Image { list, form, files } => {
-            answer_image(rt, errors, list, form, files.as_slice())
-        }
+        Request::Load {
+            addresses,
+            text,
+            file,
+        } => answer_load(rt, errors, addresses, text, file),
+        Request::Image {
+            addresses,
+            form,
+            files,
+        } => answer_image(rt, errors, addresses, form, files.as_slice()),
         Request::Check { file } => answer_text(rt, errors, Text::Line, file),
         Request::Show { file } => answer_text(rt, errors, Text::Listing, file),
         Request::Survey { files } => answer_survey(rt, errors, files.as_slice()),
@@ -116,16 +124,16 @@ pub fn answer<R: Files + Print + AllocGlobal, W: Sink>(
 fn answer_load<R: Files + Print + AllocGlobal, W: Sink>(
     rt: &R,
     errors: &mut W,
-    list: &str,
+    addresses: Addresses<'_>,
     text: LoadText,
     file: &str,
 ) -> u8
-    ensures { EndsLoad W.taken W.failed errors.old errors.new list.now text file.now result }
+    ensures { EndsLoad W.taken W.failed errors.old errors.new (origin_of addresses.entry) text file.now result }
 {
     let Ok(name) = String::from_str(rt.alloc(), file) else {
         return report_failure(errors, &[], &Failure::out_of_memory());
     };
-    match load(rt, list, text, file) {
+    match load(rt, addresses, text, file) {
         Ok(()) => DONE,
         Err(failure) => report_failure(errors, &[name], &failure),
     }
@@ -154,16 +162,16 @@ fn answer_link<R: Files + AllocGlobal, W: Sink>(
 fn answer_image<R: Files + Print + AllocGlobal, W: Sink>(
     rt: &R,
     errors: &mut W,
-    list: &str,
+    addresses: Addresses<'_>,
     form: ImageForm,
     files: &[&str],
 ) -> u8
-    ensures { EndsImage W.taken W.failed errors.old errors.new list.now form (file_names files.now) result }
+    ensures { EndsImage W.taken W.failed errors.old errors.new (origin_of addresses.entry) form (file_names files.now) result }
 {
     let Ok(names) = names_of(rt.alloc(), files) else {
         return report_failure(errors, &[], &Failure::out_of_memory());
     };
-    match image(rt, list, form, files) {
+    match image(rt, addresses, form, files) {
         Ok(()) => DONE,
         Err(failure) => report_failure(errors, names.as_slice(), &failure),
     }

@@ -2,7 +2,7 @@
 ghost use Rattle.hunk_commands.specs.Failure.{IsOfFiles};
 
 use super::asserts::equals;
-use hunk_commands::{Failure, report_failure};
+use hunk_commands::{Addresses, Failure, report_failure};
 use hunk_tool::ToolFault;
 use hunk_words::{Room, Watched};
 use std::alloc::Global;
@@ -30,9 +30,23 @@ fn is_told(
 fn tells_each_failure_in_a_line(rt: HostRuntime) -> Result<(), Fail> {
     let alloc = rt.alloc();
     let part = "amihunk: --at: part 1 is not 1 to 8 hexadecimal digits\n";
-    is_told(&rt, alloc, &Failure::BadNumber(1), part, 2)?;
+    let addresses = Addresses::List("0,x");
+    let rejected = Failure::BadNumber {
+        addresses,
+        index: 1,
+    };
+    is_told(&rt, alloc, &rejected, part, 2)?;
+    let part = "amihunk: y: part 20 is not 1 to 8 hexadecimal digits\n";
+    let addresses = Addresses::File("y");
+    let rejected = Failure::BadNumber {
+        addresses,
+        index: 20,
+    };
+    is_told(&rt, alloc, &rejected, part, 2)?;
     let opening = "amihunk: x: cannot be opened\n";
     is_told(&rt, alloc, &Failure::Opening("x"), opening, 3)?;
+    let reading = "amihunk: y: read failed\n";
+    is_told(&rt, alloc, &Failure::Reading("y"), reading, 3)?;
     let printing = "amihunk: output: write failed\n";
     is_told(&rt, alloc, &Failure::Printing, printing, 3)?;
     let unread = Failure::Tool(ToolFault::InputDevice { file: 0 });

@@ -3,7 +3,7 @@
 use super::asserts::equals;
 use crate::fake_files::{FakeFiles, Log};
 use crate::samples::PLAIN;
-use hunk_commands::{Request, answer};
+use hunk_commands::{Addresses, Request, answer};
 use hunk_tool::ImageForm;
 use hunk_words::Watched;
 use std::alloc::Global;
@@ -64,7 +64,7 @@ fn tells_why_there_is_no_image(rt: HostRuntime) -> Result<(), Fail> {
     ];
     for (list, status, line) in lists {
         let request = Request::Image {
-            list,
+            addresses: Addresses::List(list),
             form: ImageForm::Report,
             files: ["no-such-file"].to_vec(rt.alloc())?,
         };

@@ -4,6 +4,7 @@ use Rattle.clap.specs.Walk.{texts}
 use Rattle.clap.specs.Words.{Text, found_of, one_text, rows_of, subcommand_rows_of}
 use Rattle.clap.specs.declared.parser.matches.Found.{Found}
 use Rattle.clap.proofs.WalkLemmas.{one_text-rows}
+use Rattle.hunk_commands.specs.Addresses.Origin.{in_list}
 use Rattle.amihunk.specs.CommandLine.{asks_srec, asks_symbols, is_srec}
 use Rattle.amihunk.proofs.CommandLineValueLemmas.{Reads, says_image, says_link, says_load, says_refused, says_survey}
 use Rattle.amihunk.proofs.command_line.request_of.Goals as goal
@@ -38,7 +39,7 @@ returns-in-Some c =
     let srec = c.get_flag-in-Some-load-default in
     let symbols = c.get_flag-in-Some-load-default-2 in
     let text = c.in-Some.text in
-    says_load (subcommand_rows_of c.args.matches.now) (rows_of found) c.requires called c.value_of-in-Some.result.now (asks_srec text) (asks_symbols text)
+    says_load (subcommand_rows_of c.args.matches.now) (rows_of found) c.requires called (in_list c.value_of-in-Some.result.now) (asks_srec text) (asks_symbols text)
     c.value_of-in-Some-2.result.now c.value_of-in-Some.ensures
     (reads found (codes "srec") (asks_srec text) (λ is. c.in-Some.ensures.0 ∙ srec.ensures.value is) (λ is. c.in-Some.ensures.0 ∙ srec.ensures.other is))
     (reads found (codes "symbols") (asks_symbols text) (λ is. c.in-Some.ensures.1 ∙ symbols.ensures.value is) (λ is. c.in-Some.ensures.1 ∙ symbols.ensures.other is))
@@ -64,7 +65,7 @@ returns-in_ok-files_of-in-Some-image-default c =
     let srec = c.get_flag-in-Some-image-default in
     let form = c.form_of in
     let files = c.in_ok-files_of-in-Some-image-default in
-    says_image (subcommand_rows_of c.args.matches.now) (rows_of found) c.requires called c.value_of-in-Some-image-default.result.now form.result
+    says_image (subcommand_rows_of c.args.matches.now) (rows_of found) c.requires called (in_list c.value_of-in-Some-image-default.result.now) form.result
     (texts files.field-0.items) c.value_of-in-Some-image-default.ensures
     (reads found (codes "srec") (is_srec form.result) (λ is. form.ensures ∙ srec.ensures.value is) (λ is. form.ensures ∙ srec.ensures.other is))
     files.ensures

@@ -1,5 +1,6 @@
 -- Not done: there is no memory for the names of the files, or the image was not printed.
 use Rattle.std.proofs.Common.{◌∙◌, [], ap, inl, inr, map, refl, string_bytes}
+use Rattle.hunk_commands.specs.Addresses.{origin_of}
 use Rattle.hunk_commands.specs.Inputs.{file_names}
 use Rattle.hunk_commands.specs.Image.{IsImageFailure}
 use Rattle.hunk_commands.proofs.RequestLemmas.{is_failed, not_begun, out_of_memory_told}
@@ -7,10 +8,10 @@ use Rattle.hunk_commands.proofs.request.answer_image.Goals as goal
 
 pub returns-in_default : goal.returns-in_default
 returns-in_default g c =
-    inr (not_begun g.W.Sink.taken g.W.Sink.failed c.args.errors.now c.report_failure.new.errors (IsImageFailure c.args.form c.args.list.now (file_names c.args.files.now)) (file_names c.args.files.now) c.report_failure.result (inl refl)
+    inr (not_begun g.W.Sink.taken g.W.Sink.failed c.args.errors.now c.report_failure.new.errors (IsImageFailure c.args.form (origin_of c.args.addresses) (file_names c.args.files.now)) (file_names c.args.files.now) c.report_failure.result (inl refl)
     (out_of_memory_told g.W.Sink.taken g.W.Sink.failed c.args.errors.now c.report_failure.new.errors [] c.out_of_memory.result c.report_failure.result c.out_of_memory.ensures c.report_failure.ensures.status c.report_failure.ensures.line))
 
 pub returns : goal.returns
 returns g c =
-    inr (is_failed g.W.Sink.taken g.W.Sink.failed c.args.errors.now c.report_failure-in-Err.new.errors (IsImageFailure c.args.form c.args.list.now (file_names c.args.files.now)) (file_names c.args.files.now) _ c.in-Err.failure c.report_failure-in-Err.result
+    inr (is_failed g.W.Sink.taken g.W.Sink.failed c.args.errors.now c.report_failure-in-Err.new.errors (IsImageFailure c.args.form (origin_of c.args.addresses) (file_names c.args.files.now)) (file_names c.args.files.now) _ c.in-Err.failure c.report_failure-in-Err.result
     (ap (map string_bytes) c.as_slice.ensures.value ∙ c.in-Ok.ensures) c.in-Err.ensures.err c.report_failure-in-Err.ensures.status c.report_failure-in-Err.ensures.line)

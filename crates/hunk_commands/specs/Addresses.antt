@@ -1,0 +1,70 @@
+-- Where the addresses of hunks come from, what is known of them, and why they are not known.
+use Rattle.std.specs.Prelude.{◌≡◌, ℕ, Bool, IsTrue, List, Option, Some, ⊤, map}
+use Rattle.hunk_words.specs.Streams.{HasRead}
+use Rattle.hunk_tool.specs.Bases.{IsBasesFault, numbers}
+use Rattle.hunk_tool.specs.BasesFile.{IsRejected, file_numbers}
+use Rattle.hunk_tool.specs.Inputs.{Input, WasRead}
+use Rattle.hunk_tool.specs.declared.bases.BasesFault.TheVariants as bases_fault
+use Rattle.hunk_tool.specs.declared.tool_fault.ToolFault.TheVariants.{OutOfMemory}
+use Rattle.hunk_commands.specs.declared.addresses.Addresses.{Addresses}
+use Rattle.hunk_commands.specs.declared.addresses.Addresses.TheVariants as addresses
+use Rattle.hunk_commands.specs.declared.failure.Failure.{Failure}
+use Rattle.hunk_commands.specs.declared.failure.Failure.TheVariants.{BadNumber, Opening, Reading, Tool}
+
+-- addresses are in this list, or in the file with this name
+pub data Origin : Type 0 where
+  in_list : List ℕ → Origin
+  in_file : List ℕ → Origin
+
+abbrev pub origin_of : Addresses → Origin
+origin_of (addresses.List list) = in_list list.now
+origin_of (addresses.File name) = in_file name.now
+
+-- a reader before and after a call, as the other three tell of it
+abbrev pub input_of : {R : Type 0} (left : R → Option (List ℕ)) (failed ended : R → Bool) (old new : R) → Input
+input_of left failed ended old new =
+    record { left = left old; left_then = left new; failed = failed new; ended = ended new }
+
+-- the bytes of a reader, up to its end, are addresses with these numbers
+abbrev pub HasNumbers : Input → List ℕ → Type 0
+HasNumbers input bases = (bytes : List ℕ) × WasRead input bytes × (file_numbers bytes ≡ map Some bases)
+
+-- the first part of the bytes of a reader that is no number has this index
+abbrev pub HasBadPart : Input → ℕ → Type 0
+HasBadPart input index = HasRead input.left input.left_then (λ bytes. IsRejected bytes (bases_fault.BadNumber index))
+
+-- each part of the addresses is a number, and these are the numbers
+abbrev pub HaveNumbers : Origin → List ℕ → Type 0
+HaveNumbers (in_list list) bases = numbers list ≡ map Some bases
+HaveNumbers (in_file name) bases = (input : Input) × HasNumbers input bases
+
+-- the first part of the addresses that is no number has this index
+abbrev pub HaveBadPart : Origin → ℕ → Type 0
+HaveBadPart (in_list list) index = IsBasesFault list (bases_fault.BadNumber index)
+HaveBadPart (in_file name) index = (input : Input) × HasBadPart input index
+
+-- each part of the addresses is a number, and this holds of the numbers
+pub record AtBases (origin : Origin) (Holds : List ℕ → Type 0) : Type 0 where
+  pub bases : List ℕ
+  pub numbers_are : HaveNumbers origin bases
+  pub holds : Holds bases
+
+-- each part of the addresses is a number
+abbrev pub AreAddresses : Origin → Type 0
+AreAddresses origin = AtBases origin (λ bases. ⊤)
+
+-- why the addresses are not known: a part of them is no number, their file cannot be opened or a read
+-- of it failed, or out of memory
+abbrev pub IsAddressesFailure : Origin → Failure → Type 0
+IsAddressesFailure origin (BadNumber found index) = (origin_of found ≡ origin) × HaveBadPart origin index
+IsAddressesFailure origin (Opening name) = origin ≡ in_file name.now
+IsAddressesFailure origin (Reading name) = origin ≡ in_file name.now
+IsAddressesFailure origin (Tool fault) = fault ≡ OutOfMemory 0
+IsAddressesFailure origin _ = ⊥
+
+-- why the addresses that the reader of the file with this name has are not known
+abbrev pub IsReadFailure : (name : List ℕ) → Input → Failure → Type 0
+IsReadFailure name input (BadNumber found index) = (origin_of found ≡ in_file name) × HasBadPart input index
+IsReadFailure name input (Reading file) = (file.now ≡ name) × IsTrue input.failed
+IsReadFailure name input (Tool fault) = fault ≡ OutOfMemory 0
+IsReadFailure name input _ = ⊥
