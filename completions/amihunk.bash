@@ -12,7 +12,7 @@ _amihunk() {
 
     case "$command $before" in
         'load --at' | 'image --at') return ;; # a list of addresses
-        'link --out' | 'link -o')
+        'link --out' | 'link -o' | 'load --at-file' | 'image --at-file')
             mapfile -t COMPREPLY < <(compgen -f -- "$word")
             return
             ;;
@@ -22,8 +22,8 @@ _amihunk() {
     case "$command" in
         '') options='--help --version' ;;
         link) options='--out --strip --short --trim --help' ;;
-        load) options='--at --srec --symbols --help' ;;
-        image) options='--at --srec --help' ;;
+        load) options='--at --at-file --srec --symbols --help' ;;
+        image) options='--at --at-file --srec --help' ;;
         check | show | survey) options='--help' ;;
         *) return ;;
     esac

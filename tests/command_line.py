@@ -9,7 +9,7 @@ from model import CODE, END, HEADER, RELOC32, SYMBOL, Hunk, words
 HERE = os.path.dirname(os.path.abspath(__file__))
 SHORT = 0x3FC
 # Files, some of which are named as an option or as a command, and the first longword of each one's hunk.
-FILES = {"x": 1, "y": 2, "z": 3, "link": 4, "strip": 5, "--strip": 6, "--short": 7, "--trim": 8, "--at": 9, "--srec": 10}
+FILES = {"x": 1, "y": 2, "z": 3, "link": 4, "strip": 5, "--strip": 6, "--short": 7, "--trim": 8, "--at": 9, "--srec": 10, "--at-file": 11}
 
 
 def write_files(program):
@@ -69,7 +69,8 @@ def the_words_of_a_link_come_in_any_order(program):
         equals(program.read("o"), load_file(names.split(), options.split()), line)
 
 
-# The words of `image` at the addresses 0, 100 and 200, as many as there are files: the addresses are put in for LIST.
+# The words of `image` at the addresses 0, 100 and 200, as many as there are files: the addresses are put in for LIST, and into
+# the file `list`.
 IMAGES = (
     ("--at LIST x", "x"),
     ("--at LIST x y x", "x y x"),
@@ -78,6 +79,11 @@ IMAGES = (
     ("--at=LIST x -- --srec", "x --srec"),
     ("--at LIST --srec x", "x"),
     ("x y --srec --at=LIST", "x y"),
+    ("--at-file list x y", "x y"),
+    ("x --at-file=list y x", "x y x"),
+    ("x --srec y --at-file list", "x y"),
+    ("--at LIST x -- --at-file", "x --at-file"),
+    ("--at-file list -- --at-file --at x", "--at-file --at x"),
 )
 
 
@@ -93,6 +99,7 @@ def the_words_of_an_image_come_in_any_order(program):
         bases, contents = memory(names.split())
         options = line.split(" -- ")[0]
         printed_of = model.records_of if "--srec" in options else model.report_of
+        program.write("list", model.addresses(bases).encode())
         program.prints(printed_of(bases, contents), "image", *line.replace("LIST", model.addresses(bases)).split())
 
 
@@ -100,12 +107,16 @@ def the_words_of_an_image_come_in_any_order(program):
 def the_words_of_a_load_come_in_any_order(program):
     write_files(program)
     program.write("x", load_file(["x"], []))
+    program.write("--at-file", load_file(["x"], []))
+    program.write("list", b"10000\n")
     bases, contents = [0x10000], [words(0x10001, 0)]
-    for line in ("--at 10000 x", "x --at=10000", "--at 10000 -- x"):
+    for line in ("--at 10000 x", "x --at=10000", "--at 10000 -- x", "--at 10000 -- --at-file",
+                 "--at-file list x", "x --at-file=list", "--at-file list -- --at-file"):
         program.prints(model.report_of(bases, contents), "load", *line.split())
-    for line in ("--at 10000 --srec x", "--srec x --at=00010000"):
+    for line in ("--at 10000 --srec x", "--srec x --at=00010000", "--srec --at-file list x"):
         program.prints(model.records_of(bases, contents), "load", *line.split())
-    for line in ("--at 10000 --symbols x", "--symbols x --at=00010000", "x --symbols --at 10000"):
+    for line in ("--at 10000 --symbols x", "--symbols x --at=00010000", "x --symbols --at 10000",
+                 "--at-file list --symbols x"):
         program.prints('00010000 hunk 0 "s"\n', "load", *line.split())
 
 
@@ -150,3 +161,16 @@ def a_list_that_is_none_is_refused(program):
         line = f"--at: part {part} is not 1 to 8 hexadecimal digits"
         program.fails(BAD_WORDS, line, "load", f"--at={list_}", "loaded")
         program.fails(BAD_WORDS, line, "image", f"--at={list_}", "x")
+
+
+@test
+def a_file_that_has_no_addresses_alone_is_refused(program):
+    write_files(program)
+    program.write("loaded", load_file(["x"], []))
+    for bytes_, part in (
+        (b"x", 0), (b"0 1 x 2", 2), (b"0,\n\n12345678,123456789", 2), (b"\r\n0x1\n", 0), (b"0\t1", 0), (b"0;1", 0), (b"0 -1", 1), (b"0 1\0", 1),
+    ):
+        program.write("a list", bytes_)
+        line = f"a list: part {part} is not 1 to 8 hexadecimal digits"
+        program.fails(BAD_WORDS, line, "load", "--at-file", "a list", "loaded")
+        program.fails(BAD_WORDS, line, "image", "--at-file=a list", "x")

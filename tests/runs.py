@@ -36,6 +36,10 @@ def random_units_are_linked_and_loaded_as_their_memory(program):
         program.prints("", "link", "--out", "out", *options, *files)
         program.prints(report, "load", "--at", at, "out")
         program.prints(report, "image", "--at", at, *files)
+        between = [dice.choice((",", " ", "\n", "\r\n", ", ", "\n\n")) for _ in bases]
+        program.write("addresses", "".join(f"{base:X}{it}" for base, it in zip(bases, between)).encode())
+        program.prints(report, "load", "--at-file", "addresses", "out")
+        program.prints(report, "image", "--at-file", "addresses", *files)
         program.prints(f"load file: {len(bases)} hunks\n", "check", "out")
         hunks = sum(map(len, units[: ends[0]]))
         program.prints(f"object file: {ends[0]} units, {hunks} hunks\n", "check", files[0])
@@ -143,6 +147,25 @@ def hunks_that_cannot_be_placed_are_refused(program):
         program.fails(REFUSED, f"places: {reason}", "image", "--at", list_, "x.o")
     program.prints("hunk 0 at fffffffc size 4\nfffffffc 00000000\nhunk 1 at fffffff4 size 8\nfffffff4 0000000000000000\n",
                    "load", "--at", "FFFFFFFC,fffffff4", "x")
+
+
+@test
+def addresses_come_from_a_file_of_any_length(program):
+    hunks = 65535
+    program.write("most", words(HEADER, 0, hunks, 0, hunks - 1, *[0] * hunks) + words(CODE, 0, END) * hunks)
+    program.write("addresses", b"".join(b"%x\n" % (8 * hunk) for hunk in range(hunks)))
+    report = "".join(f"hunk {hunk} at {8 * hunk:08x} size 0\n" for hunk in range(hunks))
+    program.prints(report, "load", "--at-file", "addresses", "most")
+    program.write("x", LOAD_FILE)
+    program.prints(REPORT, "load", "--at-file", "/dev/stdin", "x", input=b", 00010000\r\n")
+    program.write("none", b" \n,\r")
+    program.fails(REFUSED, "places: wrong number of addresses", "load", "--at-file", "none", "x")
+    # They are known before FILE is opened, and their file may be FILE.
+    os.mkdir(program.at("folder"))
+    program.fails(DEVICE, "no file: cannot be opened", "load", "--at-file", "no file", "missing")
+    program.fails(DEVICE, "folder: read failed", "image", "--at-file", "folder", "missing")
+    program.fails(BAD_WORDS, "x: part 0 is not 1 to 8 hexadecimal digits", "load", "--at-file", "x", "x")
+    program.fails(DEVICE, "missing: cannot be opened", "load", "--at-file", "addresses", "missing")
 
 
 @test

@@ -11,15 +11,15 @@ use Rattle.clap.specs.Words.{IsAmong, Row, Text, fault_of, subcommand_of}
 use Rattle.clap.specs.declared.error.ErrorKind.{ErrorKind}
 use Rattle.clap.specs.declared.error.ErrorKind.TheVariants as error
 use Rattle.hunk_tool.specs.declared.link_options.LinkOptions.{LinkOptions}
-use Rattle.hunk_commands.specs.Addresses.{origin_of}
-use Rattle.hunk_commands.specs.Addresses.Origin.{in_list}
+use Rattle.hunk_commands.specs.Addresses.{Origin, origin_of}
 use Rattle.hunk_commands.specs.declared.request.Request.{Request}
 use Rattle.hunk_commands.specs.declared.request.Request.TheVariants.{Link, Load, Image, Check, Show, Survey, Version, Help, Refused, OutOfMemory}
-use Rattle.amihunk.specs.CommandLine.{Answers, AsksCheck, AsksImage, AsksLink, AsksLoad, AsksShow, AsksSurvey, AsksVersion, IsAskedBy, IsCalled, IsCalledOn, IsConflict, IsImage, IsLink, IsLoad, IsNoFlag, IsRefusedBy, IsVersionWord, Says, Met, asks_srec, asks_symbols, brief_link_line, brief_words, command_line, file_line, form_words, image_line, link_line, load_line, option_words, survey_line, version_line}
+use Rattle.amihunk.specs.Syntax.{command_line}
+use Rattle.amihunk.specs.CommandLine.{Answers, AsksCheck, AsksImage, AsksLink, AsksLoad, AsksShow, AsksSurvey, AsksVersion, IsAskedBy, IsCalled, IsCalledOn, IsConflict, IsImage, IsLink, IsLoad, IsNoFlag, IsRefusedBy, IsRetold, IsVersionWord, Says, Met, asks_srec, asks_symbols, brief_link_line, brief_words, file_line, form_words, image_line, link_line, load_line, option_words, survey_line, text_in, values_of, version_line}
 use Rattle.hunk_tool.specs.declared.image_form.ImageForm.{ImageForm}
 use Rattle.hunk_commands.specs.declared.load.LoadText.{LoadText}
 use Rattle.std.specs.Str.{bytes_eq}
-use Rattle.amihunk.proofs.CommandLineValueLemmas.{IsCalled-same, IsCalledOn-same, IsImage-same, IsLink-same, IsLoad-one, names_apart, no_conflict}
+use Rattle.amihunk.proofs.CommandLineValueLemmas.{IsCalled-same, IsCalledOn-same, IsImage-one, IsLink-same, IsLoad-one, names_apart, no_conflict-image, no_conflict-load, no_conflict-other}
 use Rattle.amihunk.proofs.CommandLineFileLemmas.{calls-check, calls-show, fault_of-file_line, is_called-file_line}
 use Rattle.amihunk.proofs.CommandLineImageLemmas.{fault_of-image_line, is_image-image_line}
 use Rattle.amihunk.proofs.CommandLineLinkLemmas.{IsLinkFront, fault_of-link_words, front-brief, front-link, is_link-link_words}
@@ -53,8 +53,8 @@ asked_by_kind words OutOfMemory k has answers = tt
 asked_by_met : (words : List Text) (met : Met) (request : Request) → fault_of command_line words ≡ []
     → met ≡ subcommand_of command_line words → Says met request → IsAskedBy words request
 asked_by_met words met (Link out options files) quiet is link = (quiet, subst (λ m. IsLink m out.now options (texts files.items)) is link)
-asked_by_met words met (Load addresses text file) quiet is load = (quiet, subst (λ m. IsLoad m (origin_of addresses) (asks_srec text) (asks_symbols text) file.now) is load)
-asked_by_met words met (Image addresses form files) quiet is image = (quiet, subst (λ m. IsImage m (origin_of addresses) form (texts files.items)) is image)
+asked_by_met words met (Load addresses text file) quiet is load = (quiet, subst (λ m. IsLoad m (values_of (origin_of addresses)) (asks_srec text) (asks_symbols text) file.now) is load)
+asked_by_met words met (Image addresses form files) quiet is image = (quiet, subst (λ m. IsImage m (values_of (origin_of addresses)) form (texts files.items)) is image)
 asked_by_met words met (Check file) quiet is check = (quiet, subst (λ m. IsCalled m (codes "check") file.now) is check)
 asked_by_met words met (Show file) quiet is show = (quiet, subst (λ m. IsCalled m (codes "show") file.now) is show)
 asked_by_met words met (Survey files) quiet is survey = (quiet, subst (λ m. IsCalledOn m (codes "survey") (texts files.items)) is survey)
@@ -82,18 +82,18 @@ asks_no_help words (Help text) quiet asked = subst (λ kinds. IsAmong error.Disp
 asks_no_help words (Refused text) quiet asked = tt
 asks_no_help words OutOfMemory quiet asked = tt
 
--- and they are rejected only for the two flags of `load`
-refused_for_flags : (words : List Text) → fault_of command_line words ≡ [] → IsRefusedBy (fault_of command_line words) ⊎ ((fault_of command_line words ≡ []) × IsConflict (subcommand_of command_line words))
+-- and they are rejected only for a conflict
+refused_for_conflict : (words : List Text) → fault_of command_line words ≡ [] → IsRefusedBy (fault_of command_line words) ⊎ ((fault_of command_line words ≡ []) × IsConflict (subcommand_of command_line words))
     → IsConflict (subcommand_of command_line words)
-refused_for_flags words quiet (inl refused) = absurd (subst (λ kinds. IsAmong refused.kind kinds) quiet refused.among)
-refused_for_flags words quiet (inr (also, conflict)) = conflict
+refused_for_conflict words quiet (inl refused) = absurd (subst (λ kinds. IsAmong refused.kind kinds) quiet refused.among)
+refused_for_conflict words quiet (inr (also, conflict)) = conflict
 
--- so not where the subcommand is another
-not_refused : (words : List Text) (name : Text) (rows : List Row) → fault_of command_line words ≡ [] → subcommand_of command_line words ≡ Some (name, rows) → bytes_eq (codes "load") name ≡ false
+-- so not where the subcommand takes no addresses
+not_refused : (words : List Text) (name : Text) (rows : List Row) → fault_of command_line words ≡ [] → subcommand_of command_line words ≡ Some (name, rows)
+    → bytes_eq (codes "load") name ≡ false → bytes_eq (codes "image") name ≡ false
     → IsRefusedBy (fault_of command_line words) ⊎ ((fault_of command_line words ≡ []) × IsConflict (subcommand_of command_line words)) → ⊥
-not_refused words name rows quiet called other refused =
-    let conflict = refused_for_flags words quiet refused in
-    names_apart (subcommand_of command_line words) (codes "load") name conflict.is_load.of_file.rows rows conflict.is_load.of_file.called called other
+not_refused words name rows quiet called no_load_is no_image_is refused =
+    no_conflict-other (subcommand_of command_line words) name rows called no_load_is no_image_is (refused_for_conflict words quiet refused)
 
 -- what arguments that are `link` with this OUT, these options, and these files ask for
 asks_link : (words : List Text) (out : Text) (options : LinkOptions) (files : List Text) → fault_of command_line words ≡ [] → IsLink (subcommand_of command_line words) out options files
@@ -106,36 +106,36 @@ asks_link words out options files quiet is (Show f) asked = absurd (names_apart 
 asks_link words out options files quiet is (Survey fs) asked = absurd (names_apart _ (codes "survey") (codes "link") _ _ asked.1.called is.of_files.called refl)
 asks_link words out options files quiet is Version asked = asks_no_help words Version quiet asked
 asks_link words out options files quiet is (Help text) asked = asks_no_help words (Help text) quiet asked
-asks_link words out options files quiet is (Refused text) asked = absurd (not_refused words (codes "link") is.of_files.rows quiet is.of_files.called refl asked)
+asks_link words out options files quiet is (Refused text) asked = absurd (not_refused words (codes "link") is.of_files.rows quiet is.of_files.called refl refl asked)
 asks_link words out options files quiet is OutOfMemory asked = tt
 
--- what arguments that are `load` with this LIST, for this text of this FILE, ask for
-asks_load : (words : List Text) (list : Text) (wanted : LoadText) (file : Text) → fault_of command_line words ≡ [] → IsLoad (subcommand_of command_line words) (in_list list) (asks_srec wanted) (asks_symbols wanted) file
-    → (request : Request) → IsAskedBy words request → AsksLoad list wanted file request
-asks_load words list wanted file quiet is (Link o s fs) asked = absurd (names_apart _ (codes "link") (codes "load") _ _ asked.1.of_files.called is.of_file.called refl)
-asks_load words list wanted file quiet is (Load l told f) asked = IsLoad-one _ (origin_of l) (in_list list) told wanted f.now file asked.1 is
-asks_load words list wanted file quiet is (Image l form fs) asked = absurd (names_apart _ (codes "image") (codes "load") _ _ asked.1.of_files.called is.of_file.called refl)
-asks_load words list wanted file quiet is (Check f) asked = absurd (names_apart _ (codes "check") (codes "load") _ _ asked.1.called is.of_file.called refl)
-asks_load words list wanted file quiet is (Show f) asked = absurd (names_apart _ (codes "show") (codes "load") _ _ asked.1.called is.of_file.called refl)
-asks_load words list wanted file quiet is (Survey fs) asked = absurd (names_apart _ (codes "survey") (codes "load") _ _ asked.1.called is.of_file.called refl)
-asks_load words list wanted file quiet is Version asked = asks_no_help words Version quiet asked
-asks_load words list wanted file quiet is (Help text) asked = asks_no_help words (Help text) quiet asked
-asks_load words list wanted file quiet is (Refused text) asked = absurd (no_conflict _ (in_list list) wanted file is (refused_for_flags words quiet asked))
-asks_load words list wanted file quiet is OutOfMemory asked = tt
+-- what arguments that are `load` with these addresses, for this text of this FILE, ask for
+asks_load : (words : List Text) (origin : Origin) (wanted : LoadText) (file : Text) → fault_of command_line words ≡ [] → IsLoad (subcommand_of command_line words) (values_of origin) (asks_srec wanted) (asks_symbols wanted) file
+    → (request : Request) → IsAskedBy words request → AsksLoad origin wanted file request
+asks_load words origin wanted file quiet is (Link o s fs) asked = absurd (names_apart _ (codes "link") (codes "load") _ _ asked.1.of_files.called is.of_file.called refl)
+asks_load words origin wanted file quiet is (Load l told f) asked = IsLoad-one _ (origin_of l) origin told wanted f.now file asked.1 is
+asks_load words origin wanted file quiet is (Image l form fs) asked = absurd (names_apart _ (codes "image") (codes "load") _ _ asked.1.of_files.called is.of_file.called refl)
+asks_load words origin wanted file quiet is (Check f) asked = absurd (names_apart _ (codes "check") (codes "load") _ _ asked.1.called is.of_file.called refl)
+asks_load words origin wanted file quiet is (Show f) asked = absurd (names_apart _ (codes "show") (codes "load") _ _ asked.1.called is.of_file.called refl)
+asks_load words origin wanted file quiet is (Survey fs) asked = absurd (names_apart _ (codes "survey") (codes "load") _ _ asked.1.called is.of_file.called refl)
+asks_load words origin wanted file quiet is Version asked = asks_no_help words Version quiet asked
+asks_load words origin wanted file quiet is (Help text) asked = asks_no_help words (Help text) quiet asked
+asks_load words origin wanted file quiet is (Refused text) asked = absurd (no_conflict-load _ origin wanted file is (refused_for_conflict words quiet asked))
+asks_load words origin wanted file quiet is OutOfMemory asked = tt
 
--- what arguments that are `image` with this LIST, this form and these files ask for
-asks_image : (words : List Text) (list : Text) (wanted : ImageForm) (files : List Text) → fault_of command_line words ≡ [] → IsImage (subcommand_of command_line words) (in_list list) wanted files
-    → (request : Request) → IsAskedBy words request → AsksImage list wanted files request
-asks_image words list wanted files quiet is (Link o s fs) asked = absurd (names_apart _ (codes "link") (codes "image") _ _ asked.1.of_files.called is.of_files.called refl)
-asks_image words list wanted files quiet is (Load l form f) asked = absurd (names_apart _ (codes "load") (codes "image") _ _ asked.1.of_file.called is.of_files.called refl)
-asks_image words list wanted files quiet is (Image l form fs) asked = IsImage-same _ (origin_of l) (in_list list) form wanted (texts fs.items) files asked.1 is
-asks_image words list wanted files quiet is (Check f) asked = absurd (names_apart _ (codes "check") (codes "image") _ _ asked.1.called is.of_files.called refl)
-asks_image words list wanted files quiet is (Show f) asked = absurd (names_apart _ (codes "show") (codes "image") _ _ asked.1.called is.of_files.called refl)
-asks_image words list wanted files quiet is (Survey fs) asked = absurd (names_apart _ (codes "survey") (codes "image") _ _ asked.1.called is.of_files.called refl)
-asks_image words list wanted files quiet is Version asked = asks_no_help words Version quiet asked
-asks_image words list wanted files quiet is (Help text) asked = asks_no_help words (Help text) quiet asked
-asks_image words list wanted files quiet is (Refused text) asked = absurd (not_refused words (codes "image") is.of_files.rows quiet is.of_files.called refl asked)
-asks_image words list wanted files quiet is OutOfMemory asked = tt
+-- what arguments that are `image` with these addresses, this form and these files ask for
+asks_image : (words : List Text) (origin : Origin) (wanted : ImageForm) (files : List Text) → fault_of command_line words ≡ [] → IsImage (subcommand_of command_line words) (values_of origin) wanted files
+    → (request : Request) → IsAskedBy words request → AsksImage origin wanted files request
+asks_image words origin wanted files quiet is (Link o s fs) asked = absurd (names_apart _ (codes "link") (codes "image") _ _ asked.1.of_files.called is.of_files.called refl)
+asks_image words origin wanted files quiet is (Load l form f) asked = absurd (names_apart _ (codes "load") (codes "image") _ _ asked.1.of_file.called is.of_files.called refl)
+asks_image words origin wanted files quiet is (Image l form fs) asked = IsImage-one _ (origin_of l) origin form wanted (texts fs.items) files asked.1 is
+asks_image words origin wanted files quiet is (Check f) asked = absurd (names_apart _ (codes "check") (codes "image") _ _ asked.1.called is.of_files.called refl)
+asks_image words origin wanted files quiet is (Show f) asked = absurd (names_apart _ (codes "show") (codes "image") _ _ asked.1.called is.of_files.called refl)
+asks_image words origin wanted files quiet is (Survey fs) asked = absurd (names_apart _ (codes "survey") (codes "image") _ _ asked.1.called is.of_files.called refl)
+asks_image words origin wanted files quiet is Version asked = asks_no_help words Version quiet asked
+asks_image words origin wanted files quiet is (Help text) asked = asks_no_help words (Help text) quiet asked
+asks_image words origin wanted files quiet is (Refused text) asked = absurd (no_conflict-image _ origin wanted files is (refused_for_conflict words quiet asked))
+asks_image words origin wanted files quiet is OutOfMemory asked = tt
 
 -- what arguments that are `check` with this FILE ask for
 asks_check : (words : List Text) (file : Text) → fault_of command_line words ≡ [] → IsCalled (subcommand_of command_line words) (codes "check") file
@@ -148,7 +148,7 @@ asks_check words file quiet is (Show f) asked = absurd (names_apart _ (codes "sh
 asks_check words file quiet is (Survey fs) asked = absurd (names_apart _ (codes "survey") (codes "check") _ _ asked.1.called is.called refl)
 asks_check words file quiet is Version asked = asks_no_help words Version quiet asked
 asks_check words file quiet is (Help text) asked = asks_no_help words (Help text) quiet asked
-asks_check words file quiet is (Refused text) asked = absurd (not_refused words (codes "check") is.rows quiet is.called refl asked)
+asks_check words file quiet is (Refused text) asked = absurd (not_refused words (codes "check") is.rows quiet is.called refl refl asked)
 asks_check words file quiet is OutOfMemory asked = tt
 
 -- what arguments that are `show` with this FILE ask for
@@ -162,7 +162,7 @@ asks_show words file quiet is (Show f) asked = IsCalled-same _ (codes "show") (c
 asks_show words file quiet is (Survey fs) asked = absurd (names_apart _ (codes "survey") (codes "show") _ _ asked.1.called is.called refl)
 asks_show words file quiet is Version asked = asks_no_help words Version quiet asked
 asks_show words file quiet is (Help text) asked = asks_no_help words (Help text) quiet asked
-asks_show words file quiet is (Refused text) asked = absurd (not_refused words (codes "show") is.rows quiet is.called refl asked)
+asks_show words file quiet is (Refused text) asked = absurd (not_refused words (codes "show") is.rows quiet is.called refl refl asked)
 asks_show words file quiet is OutOfMemory asked = tt
 
 -- what arguments that are `survey` with these files ask for
@@ -176,7 +176,7 @@ asks_survey words files quiet is (Show f) asked = absurd (names_apart _ (codes "
 asks_survey words files quiet is (Survey fs) asked = IsCalledOn-same _ (codes "survey") (codes "survey") (texts fs.items) files asked.1 is
 asks_survey words files quiet is Version asked = asks_no_help words Version quiet asked
 asks_survey words files quiet is (Help text) asked = asks_no_help words (Help text) quiet asked
-asks_survey words files quiet is (Refused text) asked = absurd (not_refused words (codes "survey") is.rows quiet is.called refl asked)
+asks_survey words files quiet is (Refused text) asked = absurd (not_refused words (codes "survey") is.rows quiet is.called refl refl asked)
 asks_survey words files quiet is OutOfMemory asked = tt
 
 -- the same, of the plain forms; there are at most 2 ^ 64 - 1 words
@@ -205,20 +205,20 @@ pub asks_brief_where : (words : List Text) (request : Request) → length words 
 asks_brief_where words request fits asked program options out files is_line plain_out =
     asks_link_words words request fits asked program options out (codes "-o" ∷ out ∷ brief_words options) files (front-brief options out plain_out) is_line
 
-pub asks_load_where : (words : List Text) (request : Request) → IsAskedBy words request → (program list : Text) (text : LoadText) (file : Text)
-    → words ≡ load_line program list text file → IsNoFlag list → IsNoFlag file → AsksLoad list text file request
-asks_load_where words request asked program list text file is_line plain_list plain_file =
-    asks_load (load_line program list text file) list text file (fault_of-load_line program text list file plain_list plain_file)
-    (is_load-load_line program text list file plain_list plain_file) request (subst (λ w. IsAskedBy w request) is_line asked)
+pub asks_load_where : (words : List Text) (request : Request) → IsAskedBy words request → (program : Text) (origin : Origin) (text : LoadText) (file : Text)
+    → words ≡ load_line program origin text file → IsNoFlag (text_in origin) → IsNoFlag file → AsksLoad origin text file request
+asks_load_where words request asked program origin text file is_line plain_value plain_file =
+    asks_load (load_line program origin text file) origin text file (fault_of-load_line program text origin file plain_value plain_file)
+    (is_load-load_line program text origin file plain_value plain_file) request (subst (λ w. IsAskedBy w request) is_line asked)
 
 pub asks_image_where : (words : List Text) (request : Request) → length words ≤ usize_max → IsAskedBy words request
-    → (program list : Text) (form : ImageForm) (files : List Text) → words ≡ image_line program list form files
-    → IsNoFlag list → 0 < length files → All IsNoFlag files → AsksImage list form files request
-asks_image_where words request fits asked program list form files is_line plain_list some plain_files =
-    let line_fit : length (image_line program list form files) ≤ usize_max = subst (λ w. length w ≤ usize_max) is_line fits in
+    → (program : Text) (origin : Origin) (form : ImageForm) (files : List Text) → words ≡ image_line program origin form files
+    → IsNoFlag (text_in origin) → 0 < length files → All IsNoFlag files → AsksImage origin form files request
+asks_image_where words request fits asked program origin form files is_line plain_value some plain_files =
+    let line_fit : length (image_line program origin form files) ≤ usize_max = subst (λ w. length w ≤ usize_max) is_line fits in
     let few : length files ≤ usize_max = omega (arith, line_fit, length-append (form_words form) files) in
-    asks_image (image_line program list form files) list form files (fault_of-image_line program form list plain_list files some plain_files few)
-    (is_image-image_line program form list plain_list files some plain_files) request (subst (λ w. IsAskedBy w request) is_line asked)
+    asks_image (image_line program origin form files) origin form files (fault_of-image_line program form origin plain_value files some plain_files few)
+    (is_image-image_line program form origin plain_value files some plain_files) request (subst (λ w. IsAskedBy w request) is_line asked)
 
 pub asks_check_where : (words : List Text) (request : Request) → IsAskedBy words request → (program file : Text)
     → words ≡ file_line program (codes "check") file → IsNoFlag file → AsksCheck file request
@@ -272,3 +272,26 @@ pub asks_version_where : (words : List Text) (request : Request) → IsAskedBy w
     → words ≡ version_line program word → IsVersionWord word → AsksVersion request
 asks_version_where words request asked program word is_line is_word =
     asks_version (version_line program word) (version_fault program word is_word) request (subst (λ w. IsAskedBy w request) is_line asked)
+
+-- ---- what is told anew
+
+pub asked_by_retold : (words : List Text) (request other : Request) → IsAskedBy words request → IsRetold request other → IsAskedBy words other
+asked_by_retold words (Refused text) (Refused more) asked retold = asked
+asked_by_retold words (Refused text) (Link out options files) asked retold = cc
+asked_by_retold words (Refused text) (Load addresses form file) asked retold = cc
+asked_by_retold words (Refused text) (Image addresses form files) asked retold = cc
+asked_by_retold words (Refused text) (Check file) asked retold = cc
+asked_by_retold words (Refused text) (Show file) asked retold = cc
+asked_by_retold words (Refused text) (Survey files) asked retold = cc
+asked_by_retold words (Refused text) Version asked retold = cc
+asked_by_retold words (Refused text) (Help more) asked retold = cc
+asked_by_retold words (Refused text) OutOfMemory asked retold = cc
+asked_by_retold words (Link out options files) other asked retold = subst (IsAskedBy words) retold asked
+asked_by_retold words (Load addresses text file) other asked retold = subst (IsAskedBy words) retold asked
+asked_by_retold words (Image addresses form files) other asked retold = subst (IsAskedBy words) retold asked
+asked_by_retold words (Check file) other asked retold = subst (IsAskedBy words) retold asked
+asked_by_retold words (Show file) other asked retold = subst (IsAskedBy words) retold asked
+asked_by_retold words (Survey files) other asked retold = subst (IsAskedBy words) retold asked
+asked_by_retold words Version other asked retold = subst (IsAskedBy words) retold asked
+asked_by_retold words (Help text) other asked retold = subst (IsAskedBy words) retold asked
+asked_by_retold words OutOfMemory other asked retold = subst (IsAskedBy words) retold asked

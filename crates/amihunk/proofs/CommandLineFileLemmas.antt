@@ -11,7 +11,8 @@ use Rattle.amihunk.proofs.CommandLineLemmas.{built_file}
 use Rattle.amihunk.proofs.CommandLineFlagsLemmas.{IsFront, front-nothing}
 use Rattle.amihunk.proofs.CommandLineSubcommandLemmas.{Calls, fault_of-line, subcommand_of-line}
 use Rattle.amihunk.proofs.CommandLineWalkLemmas.{end_fault, level_fault-nil, walk_fault-cons, walk_fault-nil}
-use Rattle.amihunk.specs.CommandLine.{IsCalled, IsNoFlag, command_line, file_line, file_rule}
+use Rattle.amihunk.specs.Syntax.{command_line, file_rule}
+use Rattle.amihunk.specs.CommandLine.{IsCalled, IsNoFlag, file_line}
 
 -- the argument as `clap` builds it
 abbrev pub built_one : Rule

@@ -12,7 +12,8 @@ use Rattle.clap.specs.Faults.{level_fault, settle_fault, turn_fault, use_fault, 
 use Rattle.clap.specs.Kinds.{or_else, range_kinds}
 use Rattle.amihunk.proofs.CommandLineFlagsLemmas.{IsFront}
 use Rattle.amihunk.proofs.CommandLineWalkLemmas.{end_fault, late_fault, level_fault-nil, walk_fault-cons, walk_fault-nil}
-use Rattle.amihunk.specs.CommandLine.{IsNoFlag, files_rule}
+use Rattle.amihunk.specs.Syntax.{files_rule}
+use Rattle.amihunk.specs.CommandLine.{IsNoFlag}
 
 -- the argument as `clap` builds it
 abbrev pub built_files : Rule

@@ -3,17 +3,18 @@ use Rattle.std.proofs.Common.{◌≡◌, ◌||◌, ℕ, Bool, true, false, not, 
 use Rattle.std.specs.Prelude.{⊤, find}
 use Rattle.std.specs.Option.{option_map, option_map_or}
 use Rattle.clap.specs.Words.{App, Row, Text, built, fault_of, subcommand_of, with_subcommand}
-use Rattle.clap.specs.Walk.{answers_to, finished, has_row, nothing_held, rows_after, settled, walk, walk_from}
+use Rattle.clap.specs.Walk.{answers_to, finished, first_of, has_row, nothing_held, rows_after, settled, walk, walk_from}
 use Rattle.clap.specs.Simple.{Shape, entered, filled, label_of, names_of, rows_at}
 use Rattle.clap.specs.Takes.{is_given}
 use Rattle.clap.specs.Faults.{check_fault, defaults_fault, entered_fault, level_fault, settle_fault, walk_fault}
 use Rattle.clap.specs.Kinds.{check_kinds}
 use Rattle.amihunk.proofs.CommandLineUseLemmas.{AllDefaulting, Filled, HasDefault, IsDefaulted, IsFilling, filled-defaults, flag_read, has_row-defaults, is_flag, or_else-nil, value_given, values_given}
 use Rattle.amihunk.proofs.CommandLineRowLemmas.{AllFilling, filled-settled, filled-walk}
-use Rattle.amihunk.specs.CommandLine.{IsCalled, IsFlag, IsWhole, bare_shape, command_line, file_shape, flag_rule, image_shape, is_srec, letter_s, link_shape, load_shape, survey_shape}
+use Rattle.amihunk.specs.Syntax.{bare_shape, command_line, file_shape, flag_rule, image_shape, letter_s, link_shape, load_shape, option_rule, survey_shape}
+use Rattle.amihunk.specs.CommandLine.{AddressValues, IsCalled, IsFlag, IsWhole, is_srec}
 use Rattle.hunk_tool.specs.declared.image_form.ImageForm.{ImageForm}
 use Rattle.hunk_tool.specs.declared.image_form.ImageForm.TheVariants.{Report, SRecords}
-use Rattle.hunk_commands.specs.Addresses.Origin.{in_list}
+use Rattle.amihunk.specs.declared.syntax.AddressOptions.TheVariants.{ListOrFile}
 use Rattle.amihunk.specs.CommandLine.IsWhole.{link, load, image, check, show, survey}
 
 -- ---- one level
@@ -40,7 +41,7 @@ right_where_faultless s words all defaults e =
 -- ---- the subcommands
 
 abbrev pub first_shape : List Shape → Shape
-first_shape [] = load_shape
+first_shape [] = link_shape
 first_shape (s ∷ rest) = s
 
 -- a subcommand of the program as `clap` builds it
@@ -51,10 +52,10 @@ abbrev pub built_link : Shape
 built_link = built_below link_shape
 
 abbrev pub built_load : Shape
-built_load = built_below load_shape
+built_load = built_below (load_shape ListOrFile)
 
 abbrev pub built_image : Shape
-built_image = built_below image_shape
+built_image = built_below (image_shape ListOrFile)
 
 abbrev pub built_file : Text → Shape
 built_file name = built_below (file_shape name)
@@ -70,7 +71,11 @@ abbrev AllSound : List Shape → Type 0
 AllSound [] = ⊤
 AllSound (s ∷ rest) = IsSound s × AllSound rest
 
--- a subcommand with two required arguments
+-- the required arguments of a subcommand, of which there are one or two
+
+one_given : (of : Bool) → check_kinds false false (not of || false) ≡ [] → of ≡ true
+one_given true e = refl
+one_given false e = cc
 
 both_given : (a b : Bool) → check_kinds false false (not a || (not b || false)) ≡ [] → (a ≡ true) × (b ≡ true)
 both_given true true e = (refl, refl)
@@ -131,34 +136,44 @@ sound_link words e =
 
 -- `load`
 
+-- an option takes a value
+option_filling : (name : Text) → is_flag name ≡ false → IsFilling false (filled (option_rule name))
+option_filling name other = inr (inl (inl refl, (omega arith, other)))
+
 load_filling : AllFilling false built_load.rules
 load_filling = (
-  inr (inl (inl refl, (omega arith, refl))),
-  (flag_filling None (codes "srec"), (flag_filling None (codes "symbols"), (inr (inl (inl refl, (omega arith, refl))), (inl refl, tt)))),
+  option_filling (codes "at") refl,
+  (
+    option_filling (codes "at-file") refl,
+    (flag_filling None (codes "srec"), (flag_filling None (codes "symbols"), (inr (inl (inl refl, (omega arith, refl))), (inl refl, tt)))),
+  ),
 )
 
 load_defaults : AllDefaulting built_load.rules
-load_defaults = (inl refl, (inr (refl, refl), (inr (refl, refl), (inl refl, (inl refl, tt)))))
+load_defaults = (inl refl, (inl refl, (inr (refl, refl), (inr (refl, refl), (inl refl, (inl refl, tt))))))
 
 load_srec : IsDefaulted (codes "srec") built_load.rules
-load_srec = inr (inl (flag_default None (codes "srec")))
+load_srec = inr (inr (inl (flag_default None (codes "srec"))))
 
 load_symbols : IsDefaulted (codes "symbols") built_load.rules
-load_symbols = inr (inr (inl (flag_default None (codes "symbols"))))
+load_symbols = inr (inr (inr (inl (flag_default None (codes "symbols")))))
+
+-- the values of the two options, if they are given
+values_in : List Row → AddressValues
+values_in rows = record { list = first_of (codes "at") rows; file = first_of (codes "at-file") rows }
 
 sound_load : IsSound built_load
+unfolding values_in
 sound_load words e =
     let rows = rows_after built_load.rules [] words in
     let right = right_where_faultless built_load words load_filling load_defaults e in
-    let given = both_given (is_given (codes "at") rows) (is_given (codes "file") rows) right.checked in
-    let list = value_given (codes "at") rows right.filled given.0 in
-    let file = value_given (codes "file") rows right.filled given.1 in
+    let file = value_given (codes "file") rows right.filled (one_given (is_given (codes "file") rows) right.checked) in
     let settled_rows = (settled built_load.rules (walk built_load.rules [] nothing_held words).held).rows in
     let srec = flag_read (codes "srec") rows refl right.filled (has_row-defaults (codes "srec") built_load.rules settled_rows load_srec) in
     let symbols = flag_read (codes "symbols") rows refl right.filled (has_row-defaults (codes "symbols") built_load.rules settled_rows load_symbols) in
-    load (in_list list.0) srec.0 symbols.0 file.0 (record {
+    load (values_in rows) srec.0 symbols.0 file.0 (record {
       of_file = record { rows = rows; called = refl; file_is = file.1 };
-      at_is = list.1;
+      values_are = (refl, refl);
       srec_is = srec.1;
       symbols_is = symbols.1;
     })
@@ -174,33 +189,34 @@ form_read rows full has = go (flag_read (codes "srec") rows refl full has)
     go (false, is) = (Report, is)
 
 image_filling : AllFilling false built_image.rules
-image_filling = (inr (inl (inl refl, (omega arith, refl))), (flag_filling None (codes "srec"), (inr (inl (inr refl, (omega arith, refl))), (inl refl, tt))))
+image_filling = (
+  option_filling (codes "at") refl,
+  (
+    option_filling (codes "at-file") refl,
+    (flag_filling None (codes "srec"), (inr (inl (inr refl, (omega arith, refl))), (inl refl, tt))),
+  ),
+)
 
 image_defaults : AllDefaulting built_image.rules
-image_defaults = (inl refl, (inr (refl, refl), (inl refl, (inl refl, tt))))
+image_defaults = (inl refl, (inl refl, (inr (refl, refl), (inl refl, (inl refl, tt)))))
 
 image_srec : IsDefaulted (codes "srec") built_image.rules
-image_srec = inr (inl (flag_default None (codes "srec")))
+image_srec = inr (inr (inl (flag_default None (codes "srec"))))
 
 sound_image : IsSound built_image
+unfolding values_in
 sound_image words e =
     let rows = rows_after built_image.rules [] words in
     let right = right_where_faultless built_image words image_filling image_defaults e in
-    let given = both_given (is_given (codes "at") rows) (is_given (codes "file") rows) right.checked in
-    let list = value_given (codes "at") rows right.filled given.0 in
-    let files = values_given (codes "file") rows right.filled given.1 in
+    let files = values_given (codes "file") rows right.filled (one_given (is_given (codes "file") rows) right.checked) in
     let form = form_read rows right.filled (has_row-defaults (codes "srec") built_image.rules (settled built_image.rules (walk built_image.rules [] nothing_held words).held).rows image_srec) in
-    image (in_list list.0) form.0 files.0 (record {
+    image (values_in rows) form.0 files.0 (record {
       of_files = record { rows = rows; called = refl; files_are = files.2; some = files.1 };
-      at_is = list.1;
+      values_are = (refl, refl);
       form_is = form.1;
     })
 
 -- a subcommand whose only argument is FILE
-
-one_given : (of : Bool) → check_kinds false false (not of || false) ≡ [] → of ≡ true
-one_given true e = refl
-one_given false e = cc
 
 file_filling : (name : Text) → AllFilling false (built_file name).rules
 file_filling name = (inr (inl (inl refl, (omega arith, refl))), (inl refl, tt))

@@ -11,16 +11,17 @@ use Rattle.amihunk.proofs.CommandLineFilesLemmas.{AwaitsFiles, HasFiles, files_r
 use Rattle.amihunk.proofs.CommandLineFlagsLemmas.{IsFront, Leave, front-flags, front-option, walk_on}
 use Rattle.amihunk.proofs.CommandLineOptionLemmas.{IsOption, value_held}
 use Rattle.amihunk.proofs.CommandLineSubcommandLemmas.{Calls, fault_of-line, subcommand_of-line}
-use Rattle.amihunk.specs.CommandLine.{IsLink, IsNoFlag, brief_words, command_line, option_words}
+use Rattle.amihunk.specs.Syntax.{command_line}
+use Rattle.amihunk.specs.CommandLine.{IsLink, IsNoFlag, brief_words, option_words}
 use Rattle.hunk_tool.specs.declared.link_options.LinkOptions.{LinkOptions}
 
 is_out : IsOption built_link nothing_held (codes "--out") (codes "out")
 unfolding clap_on_literals
-is_out = record { letter = Some 111; by_id = refl; met = refl; quiet = refl }
+is_out = record { letter = Some 111; needed = true; by_id = refl; met = refl; quiet = refl }
 
 is_brief_out : IsOption built_link nothing_held (codes "-o") (codes "out")
 unfolding clap_on_literals
-is_brief_out = record { letter = Some 111; by_id = refl; met = refl; quiet = refl }
+is_brief_out = record { letter = Some 111; needed = true; by_id = refl; met = refl; quiet = refl }
 
 has_files : HasFiles built_link.rules
 has_files = record { by_index = refl; by_id = refl }

@@ -1,5 +1,5 @@
 -- The walk over an option and its value, as `--NAME VALUE`.
-use Rattle.std.proofs.Common.{◌≡◌, ◌∙◌, ap, refl, true, ℕ, List, [], ◌∷◌, Option, Some}
+use Rattle.std.proofs.Common.{◌≡◌, ◌∙◌, ap, refl, true, Bool, ℕ, List, [], ◌∷◌, Option, Some}
 use Rattle.std.specs.Prelude.{fold}
 use Rattle.std.specs.Str.{bytes_eq}
 use Rattle.std.proofs.lemmas.Bool.{ne_eqb}
@@ -9,11 +9,12 @@ use Rattle.clap.specs.Walk.{Held, Walk, arg_by_id, option, settled, walk_from, w
 use Rattle.clap.specs.Simple.{filled}
 use Rattle.clap.specs.Faults.{turn_fault, walk_fault}
 use Rattle.amihunk.proofs.CommandLineWalkLemmas.{walk_fault-cons}
-use Rattle.amihunk.specs.CommandLine.{IsNoFlag, option_rule}
+use Rattle.amihunk.specs.Syntax.{option_rule}
+use Rattle.amihunk.specs.CommandLine.{IsNoFlag}
 
--- the option as `clap` builds it, which may have a letter
-abbrev pub built_option : Option ℕ → Text → Rule
-built_option letter name = filled (record (option_rule name) { short = letter })
+-- the option as `clap` builds it, which may have a letter, and be required
+abbrev pub built_option : Option ℕ → Bool → Text → Rule
+built_option letter needed name = filled (record (option_rule name) { short = letter; required = needed })
 
 -- the walk that has met the option, and waits for its value
 abbrev pub after_name : List Rule → Held → Text → Walk
@@ -26,7 +27,8 @@ value_held c h name value = record (settled c h) { pending = Some (name, value �
 -- the word is the option of this name, and nothing is wrong with it after what is held
 pub record IsOption (s : Shape) (h : Held) (word name : Text) : Type 0 where
   pub letter : Option ℕ
-  pub by_id : arg_by_id s.rules name ≡ Some (built_option letter name)
+  pub needed : Bool
+  pub by_id : arg_by_id s.rules name ≡ Some (built_option letter needed name)
   pub met : walked s.rules [] (walk_from h) word ≡ after_name s.rules h name
   pub quiet : turn_fault s [] (walk_from h) word ≡ []
 

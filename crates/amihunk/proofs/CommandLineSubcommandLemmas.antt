@@ -11,7 +11,7 @@ use Rattle.clap.proofs.OnLiterals.{clap_on_literals}
 use Rattle.clap.proofs.WalkLemmas.{walk_stopped}
 use Rattle.amihunk.proofs.CommandLineLemmas.{line}
 use Rattle.amihunk.proofs.CommandLineWalkLemmas.{walk_fault-cons}
-use Rattle.amihunk.specs.CommandLine.{command_line}
+use Rattle.amihunk.specs.Syntax.{command_line}
 
 -- the walk before the first word
 abbrev pub at_start : Walk

@@ -8,7 +8,8 @@ use Rattle.amihunk.proofs.CommandLineLemmas.{built_survey}
 use Rattle.amihunk.proofs.CommandLineFilesLemmas.{AwaitsFiles, HasFiles, files_rows, level_fault-files, rows_after-files}
 use Rattle.amihunk.proofs.CommandLineFlagsLemmas.{IsFront, front-nothing}
 use Rattle.amihunk.proofs.CommandLineSubcommandLemmas.{Calls, fault_of-line, subcommand_of-line}
-use Rattle.amihunk.specs.CommandLine.{IsCalledOn, IsNoFlag, command_line, survey_line}
+use Rattle.amihunk.specs.Syntax.{command_line}
+use Rattle.amihunk.specs.CommandLine.{IsCalledOn, IsNoFlag, survey_line}
 
 has_files : HasFiles built_survey.rules
 has_files = record { by_index = refl; by_id = refl }

@@ -1,13 +1,18 @@
 -- The values of a subcommand's arguments, by their rows.
-use Rattle.std.proofs.Common.{◌≡◌, ◌∙◌, ◌<◌, ap, Bool, codes, false, length, refl, sym, subst, true, List, [], Some}
+use Rattle.std.proofs.Common.{◌≡◌, ◌∙◌, ◌<◌, ◌⊎◌, inl, inr, Option, ap, ap₂, Bool, codes, false, is_some, length, refl, sym, subst, true, List, [], None, Some}
 use Rattle.std.proofs.lemmas.Bool.Decides.{not_from_Decides}
 use Rattle.std.proofs.lemmas.Slice.Eq.{bytes_eq-Decides}
 use Rattle.std.specs.Str.{bytes_eq}
-use Rattle.std.specs.Option.{option_map_or}
+use Rattle.std.specs.Option.{option_map, option_map_or}
 use Rattle.clap.specs.Takes.{is_given}
 use Rattle.clap.specs.Values.{bool_text}
-use Rattle.clap.specs.Words.{Row, Text, all_of, first_of, one_of}
-use Rattle.amihunk.specs.CommandLine.{Answers, IsCalled, IsCalledOn, IsAt, IsConflict, IsFlag, IsImage, IsLink, IsLoad, IsWhole, Met, Says, asks_srec, asks_symbols, is_srec}
+use Rattle.clap.specs.Words.{Row, Text, all_of, first_of, one_of, one_text, rows_of}
+use Rattle.clap.specs.declared.parser.matches.Found.{Found}
+use Rattle.clap.proofs.WalkLemmas.{one_text-rows}
+use Rattle.amihunk.specs.CommandLine.{AddressValues, Answers, AreUnclear, AreValues, IsCalled, IsCalledOn, IsConflict, IsFlag, IsImage, IsLink, IsLoad, IsWhole, Met, Says, asks_srec, asks_symbols, conflict_kind, is_srec, values_of}
+use Rattle.amihunk.specs.CommandLine.IsConflict.{two_texts, no_load, no_image}
+use Rattle.amihunk.specs.declared.command_line.Conflict.{Conflict}
+use Rattle.amihunk.specs.declared.command_line.Conflict.TheVariants.{Texts, TwoAddresses, NoAddresses}
 use Rattle.clap.specs.declared.error.ErrorKind.TheVariants as error
 use Rattle.hunk_commands.specs.Addresses.{Origin}
 use Rattle.hunk_commands.specs.Addresses.Origin.{in_file, in_list}
@@ -81,45 +86,85 @@ texts_same (load_text.Image one) load_text.Symbols srec symbols = cc
 texts_same load_text.Symbols (load_text.Image other) srec symbols = cc
 texts_same load_text.Symbols load_text.Symbols srec symbols = refl
 
--- the addresses are those of the rows
-IsAt-same : (rows other : List Row) (a c : Origin) → rows ≡ other → IsAt rows a → IsAt other c → a ≡ c
-IsAt-same rows other (in_list a) (in_list c) same h k =
-    let values : Some a ≡ Some c = sym h ∙ (ap (first_of (codes "at")) same ∙ k) in
-    cc
-IsAt-same rows other (in_list a) (in_file name) same h k = absurd k
-IsAt-same rows other (in_file name) c same h k = absurd h
+-- the options have one value each
+AreValues-same : (rows other : List Row) (a c : AddressValues) → rows ≡ other → AreValues rows a → AreValues other c → a ≡ c
+AreValues-same rows other a c same h k =
+    ap₂ (λ list file. record { list = list; file = file })
+    (sym h.0 ∙ (ap (first_of (codes "at")) same ∙ k.0))
+    (sym h.1 ∙ (ap (first_of (codes "at-file")) same ∙ k.1))
 
-IsLoad-same : (met : Met) (a c : Origin) (one other more less : Bool) (b d : Text) → IsLoad met a one more b → IsLoad met c other less d → (a ≡ c) × (one ≡ other) × (more ≡ less) × (b ≡ d)
+-- the values tell where the addresses are
+origins_same : (a c : Origin) → values_of a ≡ values_of c → a ≡ c
+origins_same (in_list a) (in_list c) same = let lists : Some a ≡ Some c = ap (λ v. v.list) same in cc
+origins_same (in_list a) (in_file c) same = let lists : Some a ≡ None = ap (λ v. v.list) same in cc
+origins_same (in_file a) (in_list c) same = let lists : None ≡ Some c = ap (λ v. v.list) same in cc
+origins_same (in_file a) (in_file c) same = let files : Some a ≡ Some c = ap (λ v. v.file) same in cc
+
+IsLoad-same : (met : Met) (a c : AddressValues) (one other more less : Bool) (b d : Text) → IsLoad met a one more b → IsLoad met c other less d → (a ≡ c) × (one ≡ other) × (more ≡ less) × (b ≡ d)
 IsLoad-same met a c one other more less b d h k =
     let same = rows_same met (codes "load") (codes "load") h.of_file.rows k.of_file.rows h.of_file.called k.of_file.called in (
-      IsAt-same h.of_file.rows k.of_file.rows a c same h.at_is k.at_is,
+      AreValues-same h.of_file.rows k.of_file.rows a c same h.values_are k.values_are,
       IsFlag-same (codes "srec") h.of_file.rows k.of_file.rows one other same h.srec_is k.srec_is,
       IsFlag-same (codes "symbols") h.of_file.rows k.of_file.rows more less same h.symbols_is k.symbols_is,
       IsCalled-same met (codes "load") (codes "load") b d h.of_file k.of_file,
     )
 
 -- `load` for one text
-pub IsLoad-one : (met : Met) (a c : Origin) (one other : LoadText) (b d : Text) → IsLoad met a (asks_srec one) (asks_symbols one) b → IsLoad met c (asks_srec other) (asks_symbols other) d
-    → (a ≡ c) × (one ≡ other) × (b ≡ d)
+pub IsLoad-one : (met : Met) (a c : Origin) (one other : LoadText) (b d : Text) → IsLoad met (values_of a) (asks_srec one) (asks_symbols one) b
+    → IsLoad met (values_of c) (asks_srec other) (asks_symbols other) d → (a ≡ c) × (one ≡ other) × (b ≡ d)
 IsLoad-one met a c one other b d h k =
-    let same = IsLoad-same met a c (asks_srec one) (asks_srec other) (asks_symbols one) (asks_symbols other) b d h k in
-    (same.0, texts_same one other same.1 same.2, same.3)
+    let same = IsLoad-same met (values_of a) (values_of c) (asks_srec one) (asks_srec other) (asks_symbols one) (asks_symbols other) b d h k in
+    (origins_same a c same.0, texts_same one other same.1 same.2, same.3)
+
+IsImage-same : (met : Met) (a c : AddressValues) (one other : ImageForm) (xs ys : List Text) → IsImage met a one xs → IsImage met c other ys → (a ≡ c) × (one ≡ other) × (xs ≡ ys)
+IsImage-same met a c one other xs ys h k =
+    let same = rows_same met (codes "image") (codes "image") h.of_files.rows k.of_files.rows h.of_files.called k.of_files.called in
+    let forms = IsFlag-same (codes "srec") h.of_files.rows k.of_files.rows (is_srec one) (is_srec other) same h.form_is k.form_is in
+    (AreValues-same h.of_files.rows k.of_files.rows a c same h.values_are k.values_are, forms_same one other forms, IsCalledOn-same met (codes "image") (codes "image") xs ys h.of_files k.of_files)
+
+pub IsImage-one : (met : Met) (a c : Origin) (one other : ImageForm) (xs ys : List Text) → IsImage met (values_of a) one xs → IsImage met (values_of c) other ys
+    → (a ≡ c) × (one ≡ other) × (xs ≡ ys)
+IsImage-one met a c one other xs ys h k =
+    let same = IsImage-same met (values_of a) (values_of c) one other xs ys h k in
+    (origins_same a c same.0, same.1, same.2)
+
+-- ---- where there is no conflict
 
 -- no text is asked for by both flags
 not_both : (text : LoadText) → asks_srec text ≡ true → asks_symbols text ≡ true → ⊥
 not_both (load_text.Image form) srec symbols = cc
 not_both load_text.Symbols srec symbols = cc
 
-pub no_conflict : (met : Met) (origin : Origin) (text : LoadText) (file : Text) → IsLoad met origin (asks_srec text) (asks_symbols text) file → IsConflict met → ⊥
-no_conflict met origin text file is conflict =
-    let same = IsLoad-same met origin conflict.origin (asks_srec text) true (asks_symbols text) true file conflict.file is conflict.is_load in
-    not_both text same.1 same.2
+-- addresses in a list or in a file are given once
+clear : (origin : Origin) (values : AddressValues) → values_of origin ≡ values → AreUnclear values → ⊥
+clear (in_list list) values same unclear = let lists : true ≡ false = ap (λ v. is_some v.list) same ∙ (unclear ∙ sym (ap (λ v. is_some v.file) same)) in cc
+clear (in_file name) values same unclear = let lists : false ≡ true = ap (λ v. is_some v.list) same ∙ (unclear ∙ sym (ap (λ v. is_some v.file) same)) in cc
 
-pub IsImage-same : (met : Met) (a b : Origin) (one other : ImageForm) (xs ys : List Text) → IsImage met a one xs → IsImage met b other ys → (a ≡ b) × (one ≡ other) × (xs ≡ ys)
-IsImage-same met a b one other xs ys h k =
-    let same = rows_same met (codes "image") (codes "image") h.of_files.rows k.of_files.rows h.of_files.called k.of_files.called in
-    let forms = IsFlag-same (codes "srec") h.of_files.rows k.of_files.rows (is_srec one) (is_srec other) same h.form_is k.form_is in
-    (IsAt-same h.of_files.rows k.of_files.rows a b same h.at_is k.at_is, forms_same one other forms, IsCalledOn-same met (codes "image") (codes "image") xs ys h.of_files k.of_files)
+pub no_conflict-load : (met : Met) (origin : Origin) (text : LoadText) (file : Text) → IsLoad met (values_of origin) (asks_srec text) (asks_symbols text) file → IsConflict met → ⊥
+no_conflict-load met origin text file is (two_texts values f both) =
+    let same = IsLoad-same met (values_of origin) values (asks_srec text) true (asks_symbols text) true file f is both in
+    not_both text same.1 same.2
+no_conflict-load met origin text file is (no_load values srec symbols f other unclear) =
+    clear origin values (IsLoad-same met (values_of origin) values (asks_srec text) srec (asks_symbols text) symbols file f is other).0 unclear
+no_conflict-load met origin text file is (no_image values form fs other unclear) =
+    names_apart met (codes "image") (codes "load") other.of_files.rows is.of_file.rows other.of_files.called is.of_file.called refl
+
+pub no_conflict-image : (met : Met) (origin : Origin) (form : ImageForm) (files : List Text) → IsImage met (values_of origin) form files → IsConflict met → ⊥
+no_conflict-image met origin form files is (two_texts values f both) =
+    names_apart met (codes "load") (codes "image") both.of_file.rows is.of_files.rows both.of_file.called is.of_files.called refl
+no_conflict-image met origin form files is (no_load values srec symbols f other unclear) =
+    names_apart met (codes "load") (codes "image") other.of_file.rows is.of_files.rows other.of_file.called is.of_files.called refl
+no_conflict-image met origin form files is (no_image values asked fs other unclear) =
+    clear origin values (IsImage-same met (values_of origin) values form asked files fs is other).0 unclear
+
+-- there is none in other subcommands
+pub no_conflict-other : (met : Met) (name : Text) (rows : List Row) → met ≡ Some (name, rows) → bytes_eq (codes "load") name ≡ false → bytes_eq (codes "image") name ≡ false → IsConflict met → ⊥
+no_conflict-other met name rows called no_load_is no_image_is (two_texts values f both) =
+    names_apart met (codes "load") name both.of_file.rows rows both.of_file.called called no_load_is
+no_conflict-other met name rows called no_load_is no_image_is (no_load values srec symbols f other unclear) =
+    names_apart met (codes "load") name other.of_file.rows rows other.of_file.called called no_load_is
+no_conflict-other met name rows called no_load_is no_image_is (no_image values form fs other unclear) =
+    names_apart met (codes "image") name other.of_files.rows rows other.of_files.called called no_image_is
 
 -- ---- what was found is whole, and these are the values in its rows
 
@@ -136,6 +181,14 @@ called_on met name rows files xs called files_are h =
 pub record Reads (rows : List Row) (name : Text) (given : Bool) : Type 0 where
   pub on : one_of name rows ≡ Some (codes "true") → given ≡ true
   pub off : one_of name rows ≡ Some (codes "false") → given ≡ false
+
+-- what `clap` reads of a flag, by the rows
+pub reads : (found : Found) (name : Text) (given : Bool) → (one_text found name ≡ Some (codes "true") → given ≡ true)
+    → (one_text found name ≡ Some (codes "false") → given ≡ false) → Reads (rows_of found) name given
+reads found name given on off = record {
+  on = λ is. on (one_text-rows found name ∙ is);
+  off = λ is. off (one_text-rows found name ∙ is);
+}
 
 -- the flag reads as `true` or `false`
 flag_same : (rows : List Row) (name : Text) (s given : Bool) → one_of name rows ≡ Some (bool_text s) → Reads rows name given → s ≡ given
@@ -172,87 +225,135 @@ says_link met rows (show f is) called out options files out_is strip short trim 
 says_link met rows (survey fs is) called out options files out_is strip short trim files_are =
     absurd (names_apart met (codes "survey") (codes "link") is.rows rows is.called called refl)
 
-pub says_load : (met : Met) (rows : List Row) → IsWhole met → met ≡ Some (codes "load", rows) → (origin : Origin) (srec symbols : Bool) (file : Text)
-    → IsAt rows origin → Reads rows (codes "srec") srec → Reads rows (codes "symbols") symbols → first_of (codes "file") rows ≡ Some file → IsLoad met origin srec symbols file
-says_load met rows (load l x y f is) called origin srec symbols file at_is srec_reads symbols_reads file_is =
-    let same = rows_same met (codes "load") (codes "load") is.of_file.rows rows is.of_file.called called in
-    record {
-      of_file = record { rows = rows; called = called; file_is = file_is };
-      at_is = at_is;
-      srec_is = says_flag is.of_file.rows rows (codes "srec") x srec same is.srec_is srec_reads;
-      symbols_is = says_flag is.of_file.rows rows (codes "symbols") y symbols same is.symbols_is symbols_reads;
-    }
-says_load met rows (link o s fs is) called origin srec symbols file at_is srec_reads symbols_reads file_is =
-    absurd (names_apart met (codes "link") (codes "load") is.of_files.rows rows is.of_files.called called refl)
-says_load met rows (image l f fs is) called origin srec symbols file at_is srec_reads symbols_reads file_is =
-    absurd (names_apart met (codes "image") (codes "load") is.of_files.rows rows is.of_files.called called refl)
-says_load met rows (check f is) called origin srec symbols file at_is srec_reads symbols_reads file_is =
-    absurd (names_apart met (codes "check") (codes "load") is.rows rows is.called called refl)
-says_load met rows (show f is) called origin srec symbols file at_is srec_reads symbols_reads file_is =
-    absurd (names_apart met (codes "show") (codes "load") is.rows rows is.called called refl)
-says_load met rows (survey fs is) called origin srec symbols file at_is srec_reads symbols_reads file_is =
-    absurd (names_apart met (codes "survey") (codes "load") is.rows rows is.called called refl)
+-- this is the name of one of the program's subcommands
+abbrev pub IsKnown : Option Text → Type 0
+IsKnown name = (name ≡ Some (codes "link")) ⊎ ((name ≡ Some (codes "load")) ⊎ ((name ≡ Some (codes "image"))
+    ⊎ ((name ≡ Some (codes "check")) ⊎ ((name ≡ Some (codes "show")) ⊎ (name ≡ Some (codes "survey"))))))
 
--- with both flags
-says_conflict : (met : Met) (rows : List Row) → IsWhole met → met ≡ Some (codes "load", rows)
-    → Reads rows (codes "srec") true → Reads rows (codes "symbols") true → IsConflict met
-says_conflict met rows (load l x y f is) called srec_reads symbols_reads =
+pub known : (met : Met) → IsWhole met → IsKnown (option_map (λ p. p.0) met)
+known met (link o s fs is) = inl (ap (option_map (λ p. p.0)) is.of_files.called)
+known met (load v x y f is) = inr (inl (ap (option_map (λ p. p.0)) is.of_file.called))
+known met (image v f fs is) = inr (inr (inl (ap (option_map (λ p. p.0)) is.of_files.called)))
+known met (check f is) = inr (inr (inr (inl (ap (option_map (λ p. p.0)) is.called))))
+known met (show f is) = inr (inr (inr (inr (inl (ap (option_map (λ p. p.0)) is.called)))))
+known met (survey fs is) = inr (inr (inr (inr (inr (ap (option_map (λ p. p.0)) is.called)))))
+
+-- FILE and the flags of `load`
+pub record FoundLoad (rows : List Row) : Type 0 where
+  pub file : Text
+  pub file_is : first_of (codes "file") rows ≡ Some file
+  pub srec : Bool
+  pub srec_is : IsFlag rows (codes "srec") srec
+  pub symbols : Bool
+  pub symbols_is : IsFlag rows (codes "symbols") symbols
+
+pub found_load : (met : Met) (rows : List Row) → IsWhole met → met ≡ Some (codes "load", rows) → FoundLoad rows
+found_load met rows (load v x y f is) called =
     let same = rows_same met (codes "load") (codes "load") is.of_file.rows rows is.of_file.called called in
     record {
-      origin = l;
       file = f;
-      is_load = record {
-        of_file = record { rows = rows; called = called; file_is = ap (first_of (codes "file")) (sym same) ∙ is.of_file.file_is };
-        at_is = subst (λ found. IsAt found l) same is.at_is;
-        srec_is = says_flag is.of_file.rows rows (codes "srec") x true same is.srec_is srec_reads;
-        symbols_is = says_flag is.of_file.rows rows (codes "symbols") y true same is.symbols_is symbols_reads;
-      };
+      file_is = ap (first_of (codes "file")) (sym same) ∙ is.of_file.file_is;
+      srec = x;
+      srec_is = subst (λ found. IsFlag found (codes "srec") x) same is.srec_is;
+      symbols = y;
+      symbols_is = subst (λ found. IsFlag found (codes "symbols") y) same is.symbols_is;
     }
-says_conflict met rows (link o s fs is) called srec_reads symbols_reads =
-    absurd (names_apart met (codes "link") (codes "load") is.of_files.rows rows is.of_files.called called refl)
-says_conflict met rows (image l f fs is) called srec_reads symbols_reads =
-    absurd (names_apart met (codes "image") (codes "load") is.of_files.rows rows is.of_files.called called refl)
-says_conflict met rows (check f is) called srec_reads symbols_reads =
-    absurd (names_apart met (codes "check") (codes "load") is.rows rows is.called called refl)
-says_conflict met rows (show f is) called srec_reads symbols_reads =
-    absurd (names_apart met (codes "show") (codes "load") is.rows rows is.called called refl)
-says_conflict met rows (survey fs is) called srec_reads symbols_reads =
-    absurd (names_apart met (codes "survey") (codes "load") is.rows rows is.called called refl)
+found_load met rows (link o s fs is) called = absurd (names_apart met (codes "link") (codes "load") is.of_files.rows rows is.of_files.called called refl)
+found_load met rows (image v f fs is) called = absurd (names_apart met (codes "image") (codes "load") is.of_files.rows rows is.of_files.called called refl)
+found_load met rows (check f is) called = absurd (names_apart met (codes "check") (codes "load") is.rows rows is.called called refl)
+found_load met rows (show f is) called = absurd (names_apart met (codes "show") (codes "load") is.rows rows is.called called refl)
+found_load met rows (survey fs is) called = absurd (names_apart met (codes "survey") (codes "load") is.rows rows is.called called refl)
 
--- the request that rejects both flags
-pub says_refused : (met : Met) (rows : List Row) → IsWhole met → met ≡ Some (codes "load", rows)
-    → Reads rows (codes "srec") true → Reads rows (codes "symbols") true → (request : Request) → Answers error.ArgumentConflict request → Says met request
-says_refused met rows whole called srec symbols (Link out options files) answers = absurd answers
-says_refused met rows whole called srec symbols (Load list text file) answers = absurd answers
-says_refused met rows whole called srec symbols (Image list form files) answers = absurd answers
-says_refused met rows whole called srec symbols (Check file) answers = absurd answers
-says_refused met rows whole called srec symbols (Show file) answers = absurd answers
-says_refused met rows whole called srec symbols (Survey files) answers = absurd answers
-says_refused met rows whole called srec symbols Version answers = cc
-says_refused met rows whole called srec symbols (Help text) answers = cc
-says_refused met rows whole called srec symbols (Refused text) answers = says_conflict met rows whole called srec symbols
-says_refused met rows whole called srec symbols OutOfMemory answers = tt
+-- the form and the files of `image`
+pub record FoundImage (met : Met) (rows : List Row) : Type 0 where
+  pub form : ImageForm
+  pub form_is : IsFlag rows (codes "srec") (is_srec form)
+  pub files : List Text
+  pub files_are : all_of (codes "file") rows ≡ Some files
+  pub of_files : IsCalledOn met (codes "image") files
 
-pub says_image : (met : Met) (rows : List Row) → IsWhole met → met ≡ Some (codes "image", rows) → (origin : Origin) (form : ImageForm) (files : List Text)
-    → IsAt rows origin → Reads rows (codes "srec") (is_srec form) → all_of (codes "file") rows ≡ Some files → IsImage met origin form files
-unfolding called_on
-says_image met rows (image l f fs is) called origin form files at_is srec files_are =
+pub found_image : (met : Met) (rows : List Row) → IsWhole met → met ≡ Some (codes "image", rows) → FoundImage met rows
+found_image met rows (image v f fs is) called =
     let same = rows_same met (codes "image") (codes "image") is.of_files.rows rows is.of_files.called called in
     record {
-      of_files = called_on met (codes "image") rows files fs called files_are is.of_files;
-      at_is = at_is;
-      form_is = says_flag is.of_files.rows rows (codes "srec") (is_srec f) (is_srec form) same is.form_is srec;
+      form = f;
+      form_is = subst (λ found. IsFlag found (codes "srec") (is_srec f)) same is.form_is;
+      files = fs;
+      files_are = ap (all_of (codes "file")) (sym same) ∙ is.of_files.files_are;
+      of_files = is.of_files;
     }
-says_image met rows (link o s fs is) called origin form files at_is srec files_are =
-    absurd (names_apart met (codes "link") (codes "image") is.of_files.rows rows is.of_files.called called refl)
-says_image met rows (load l x y f is) called origin form files at_is srec files_are =
-    absurd (names_apart met (codes "load") (codes "image") is.of_file.rows rows is.of_file.called called refl)
-says_image met rows (check f is) called origin form files at_is srec files_are =
-    absurd (names_apart met (codes "check") (codes "image") is.rows rows is.called called refl)
-says_image met rows (show f is) called origin form files at_is srec files_are =
-    absurd (names_apart met (codes "show") (codes "image") is.rows rows is.called called refl)
-says_image met rows (survey fs is) called origin form files at_is srec files_are =
-    absurd (names_apart met (codes "survey") (codes "image") is.rows rows is.called called refl)
+found_image met rows (link o s fs is) called = absurd (names_apart met (codes "link") (codes "image") is.of_files.rows rows is.of_files.called called refl)
+found_image met rows (load v x y f is) called = absurd (names_apart met (codes "load") (codes "image") is.of_file.rows rows is.of_file.called called refl)
+found_image met rows (check f is) called = absurd (names_apart met (codes "check") (codes "image") is.rows rows is.called called refl)
+found_image met rows (show f is) called = absurd (names_apart met (codes "show") (codes "image") is.rows rows is.called called refl)
+found_image met rows (survey fs is) called = absurd (names_apart met (codes "survey") (codes "image") is.rows rows is.called called refl)
+
+-- what was read of `load` and of `image`
+
+module _ (met : Met) (rows : List Row) (whole : IsWhole met) (called : met ≡ Some (codes "load", rows)) (values : AddressValues) (values_are : AreValues rows values) where
+  pub says_load : (srec symbols : Bool) (file : Text) → Reads rows (codes "srec") srec → Reads rows (codes "symbols") symbols
+      → first_of (codes "file") rows ≡ Some file → IsLoad met values srec symbols file
+  says_load srec symbols file srec_reads symbols_reads file_is =
+      let found = found_load met rows whole called in
+      record {
+        of_file = record { rows = rows; called = called; file_is = file_is };
+        values_are = values_are;
+        srec_is = says_flag rows rows (codes "srec") found.srec srec refl found.srec_is srec_reads;
+        symbols_is = says_flag rows rows (codes "symbols") found.symbols symbols refl found.symbols_is symbols_reads;
+      }
+
+  pub says_two_texts : Reads rows (codes "srec") true → Reads rows (codes "symbols") true → IsConflict met
+  says_two_texts srec_reads symbols_reads =
+      let found = found_load met rows whole called in
+      two_texts values found.file (says_load true true found.file srec_reads symbols_reads found.file_is)
+
+  pub says_no_load : AreUnclear values → IsConflict met
+  says_no_load unclear =
+      let found = found_load met rows whole called in
+      no_load values found.srec found.symbols found.file (record {
+        of_file = record { rows = rows; called = called; file_is = found.file_is };
+        values_are = values_are;
+        srec_is = found.srec_is;
+        symbols_is = found.symbols_is;
+      }) unclear
+
+module _ (met : Met) (rows : List Row) (whole : IsWhole met) (called : met ≡ Some (codes "image", rows)) (values : AddressValues) (values_are : AreValues rows values) where
+  pub says_image : (form : ImageForm) (files : List Text) → Reads rows (codes "srec") (is_srec form) → all_of (codes "file") rows ≡ Some files → IsImage met values form files
+  unfolding called_on
+  says_image form files srec_reads files_are =
+      let found = found_image met rows whole called in
+      record {
+        of_files = called_on met (codes "image") rows files found.files called files_are found.of_files;
+        values_are = values_are;
+        form_is = says_flag rows rows (codes "srec") (is_srec found.form) (is_srec form) refl found.form_is srec_reads;
+      }
+
+  pub says_no_image : AreUnclear values → IsConflict met
+  unfolding called_on
+  says_no_image unclear =
+      let found = found_image met rows whole called in
+      no_image values found.form found.files (record {
+        of_files = called_on met (codes "image") rows found.files found.files called found.files_are found.of_files;
+        values_are = values_are;
+        form_is = found.form_is;
+      }) unclear
+
+-- the request that rejects a conflict
+pub says_refused : (met : Met) → IsConflict met → (c : Conflict) (request : Request) → Answers (conflict_kind c) request → Says met request
+says_refused met conflict c (Link out options files) answers = absurd answers
+says_refused met conflict c (Load addresses text file) answers = absurd answers
+says_refused met conflict c (Image addresses form files) answers = absurd answers
+says_refused met conflict c (Check file) answers = absurd answers
+says_refused met conflict c (Show file) answers = absurd answers
+says_refused met conflict c (Survey files) answers = absurd answers
+says_refused met conflict Texts Version answers = cc
+says_refused met conflict TwoAddresses Version answers = cc
+says_refused met conflict NoAddresses Version answers = cc
+says_refused met conflict Texts (Help text) answers = cc
+says_refused met conflict TwoAddresses (Help text) answers = cc
+says_refused met conflict NoAddresses (Help text) answers = cc
+says_refused met conflict c (Refused text) answers = conflict
+says_refused met conflict c OutOfMemory answers = tt
 
 pub says_survey : (met : Met) (rows : List Row) → IsWhole met → met ≡ Some (codes "survey", rows) → (files : List Text)
     → all_of (codes "file") rows ≡ Some files → IsCalledOn met (codes "survey") files

@@ -1,8 +1,7 @@
 -- The status after the plain forms, and where memory ran out.
 use Rattle.std.proofs.Common.{◌∷◌, [], Bool, inl, inr, List, Option, refl, subst, ℕ}
 use Rattle.hunk_commands.specs.Request.{Ends, EndsImage, EndsLink, EndsLoad, EndsSurvey, EndsText, EndsVersion}
-use Rattle.hunk_commands.specs.Addresses.{origin_of}
-use Rattle.hunk_commands.specs.Addresses.Origin.{in_list}
+use Rattle.hunk_commands.specs.Addresses.{Origin, origin_of}
 use Rattle.amihunk.specs.CommandLine.{AsksCheck, AsksImage, AsksLink, AsksLoad, AsksShow, AsksSurvey, AsksVersion}
 use Rattle.hunk_commands.specs.Devices.{IsCutShort}
 use Rattle.hunk_commands.specs.Image.{IsImageFailure}
@@ -34,37 +33,37 @@ ends_link taken failed old new out options files (Refused text) status asks ends
 ends_link taken failed old new out options files OutOfMemory status asks ends =
     inr (not_begun taken failed old new (IsLinkFailure options.strip files out) files status (inl (inl refl)) ends)
 
-pub ends_image : {W : Type 0} (taken : W → Option (List ℕ)) (failed : W → Bool) (old new : W) (list : List ℕ) (form : ImageForm) (files : List (List ℕ)) (request : Request) (status : ℕ)
-    → AsksImage list form files request → Ends taken failed old new request status → EndsImage taken failed old new (in_list list) form files status
-ends_image taken failed old new list form files (Image l asked fs) status asks ends =
+pub ends_image : {W : Type 0} (taken : W → Option (List ℕ)) (failed : W → Bool) (old new : W) (origin : Origin) (form : ImageForm) (files : List (List ℕ)) (request : Request) (status : ℕ)
+    → AsksImage origin form files request → Ends taken failed old new request status → EndsImage taken failed old new origin form files status
+ends_image taken failed old new origin form files (Image l asked fs) status asks ends =
     subst (λ x. EndsImage taken failed old new x form files status) asks.0
     (subst (λ f. EndsImage taken failed old new (origin_of l) f files status) asks.1 (subst (λ y. EndsImage taken failed old new (origin_of l) asked y status) asks.2 ends))
-ends_image taken failed old new list form files (Link out options fs) status asks ends = absurd asks
-ends_image taken failed old new list form files (Load l asked f) status asks ends = absurd asks
-ends_image taken failed old new list form files (Check f) status asks ends = absurd asks
-ends_image taken failed old new list form files (Show f) status asks ends = absurd asks
-ends_image taken failed old new list form files (Survey fs) status asks ends = absurd asks
-ends_image taken failed old new list form files Version status asks ends = absurd asks
-ends_image taken failed old new list form files (Help text) status asks ends = absurd asks
-ends_image taken failed old new list form files (Refused text) status asks ends = absurd asks
-ends_image taken failed old new list form files OutOfMemory status asks ends =
-    inr (not_begun taken failed old new (IsImageFailure form (in_list list) files) files status (inl refl) ends)
+ends_image taken failed old new origin form files (Link out options fs) status asks ends = absurd asks
+ends_image taken failed old new origin form files (Load l asked f) status asks ends = absurd asks
+ends_image taken failed old new origin form files (Check f) status asks ends = absurd asks
+ends_image taken failed old new origin form files (Show f) status asks ends = absurd asks
+ends_image taken failed old new origin form files (Survey fs) status asks ends = absurd asks
+ends_image taken failed old new origin form files Version status asks ends = absurd asks
+ends_image taken failed old new origin form files (Help text) status asks ends = absurd asks
+ends_image taken failed old new origin form files (Refused text) status asks ends = absurd asks
+ends_image taken failed old new origin form files OutOfMemory status asks ends =
+    inr (not_begun taken failed old new (IsImageFailure form origin files) files status (inl refl) ends)
 
-pub ends_load : {W : Type 0} (taken : W → Option (List ℕ)) (failed : W → Bool) (old new : W) (list : List ℕ) (text : LoadText) (file : List ℕ) (request : Request) (status : ℕ)
-    → AsksLoad list text file request → Ends taken failed old new request status → EndsLoad taken failed old new (in_list list) text file status
-ends_load taken failed old new list text file (Load l asked f) status asks ends =
+pub ends_load : {W : Type 0} (taken : W → Option (List ℕ)) (failed : W → Bool) (old new : W) (origin : Origin) (text : LoadText) (file : List ℕ) (request : Request) (status : ℕ)
+    → AsksLoad origin text file request → Ends taken failed old new request status → EndsLoad taken failed old new origin text file status
+ends_load taken failed old new origin text file (Load l asked f) status asks ends =
     subst (λ x. EndsLoad taken failed old new x text file status) asks.0
     (subst (λ y. EndsLoad taken failed old new (origin_of l) y file status) asks.1 (subst (λ z. EndsLoad taken failed old new (origin_of l) asked z status) asks.2 ends))
-ends_load taken failed old new list text file (Check f) status asks ends = absurd asks
-ends_load taken failed old new list text file (Show f) status asks ends = absurd asks
-ends_load taken failed old new list text file (Link out options files) status asks ends = absurd asks
-ends_load taken failed old new list text file (Image l asked files) status asks ends = absurd asks
-ends_load taken failed old new list text file (Survey files) status asks ends = absurd asks
-ends_load taken failed old new list text file Version status asks ends = absurd asks
-ends_load taken failed old new list text file (Help said) status asks ends = absurd asks
-ends_load taken failed old new list text file (Refused said) status asks ends = absurd asks
-ends_load taken failed old new list text file OutOfMemory status asks ends =
-    inr (not_begun taken failed old new (IsLoadFailure text (in_list list) file) (file ∷ []) status (inl refl) ends)
+ends_load taken failed old new origin text file (Check f) status asks ends = absurd asks
+ends_load taken failed old new origin text file (Show f) status asks ends = absurd asks
+ends_load taken failed old new origin text file (Link out options files) status asks ends = absurd asks
+ends_load taken failed old new origin text file (Image l asked files) status asks ends = absurd asks
+ends_load taken failed old new origin text file (Survey files) status asks ends = absurd asks
+ends_load taken failed old new origin text file Version status asks ends = absurd asks
+ends_load taken failed old new origin text file (Help said) status asks ends = absurd asks
+ends_load taken failed old new origin text file (Refused said) status asks ends = absurd asks
+ends_load taken failed old new origin text file OutOfMemory status asks ends =
+    inr (not_begun taken failed old new (IsLoadFailure text origin file) (file ∷ []) status (inl refl) ends)
 
 pub ends_check : {W : Type 0} (taken : W → Option (List ℕ)) (failed : W → Bool) (old new : W) (file : List ℕ) (request : Request) (status : ℕ)
     → AsksCheck file request → Ends taken failed old new request status → EndsText taken failed old new Line file status

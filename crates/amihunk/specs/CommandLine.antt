@@ -1,12 +1,10 @@
 -- What the arguments of a command line ask for, as `clap` reads them.
-use Rattle.std.specs.Prelude.{◌≡◌, ◌≢◌, ◌<◌, ◌⊎◌, ⊤, ◌∷◌, ◌++◌, ℕ, Bool, List, [], true, false, codes, if◌then◌else◌, length, Option, Some}
-use Rattle.clap.specs.Lexer.{usize_max}
+use Rattle.std.specs.Borrow.{Bor}
+use Rattle.std.specs.Prelude.{◌≡◌, ◌≢◌, ◌<◌, ◌⊎◌, ⊤, ◌∷◌, ◌++◌, ℕ, Bool, List, [], true, false, codes, if◌then◌else◌, is_some, length, option_map, Option, Some, None}
 use Rattle.clap.specs.Takes.{is_given}
 use Rattle.clap.specs.Values.{bool_text}
 use Rattle.clap.specs.Walk.{texts}
-use Rattle.clap.specs.Words.{App, IsAmong, Kinds, Row, Rule, Shape, Text, all_of, fault_of, first_of}
-use Rattle.clap.specs.Words.{new_app, new_rule, one_of, subcommand_of, with_rule, with_subcommand}
-use Rattle.clap.specs.declared.builder.action.ArgAction.TheVariants.{SetTrue}
+use Rattle.clap.specs.Words.{IsAmong, Kinds, Row, Text, all_of, fault_of, first_of, one_of, subcommand_of}
 use Rattle.clap.specs.declared.error.ErrorKind.{ErrorKind}
 use Rattle.clap.specs.declared.error.ErrorKind.TheVariants as error
 use Rattle.hunk_tool.specs.declared.image_form.ImageForm.{ImageForm}
@@ -18,70 +16,9 @@ use Rattle.hunk_commands.specs.declared.load.LoadText.{LoadText}
 use Rattle.hunk_commands.specs.declared.load.LoadText.TheVariants as load_text
 use Rattle.hunk_commands.specs.declared.request.Request.{Request}
 use Rattle.hunk_commands.specs.declared.request.Request.TheVariants.{Link, Load, Image, Check, Show, Survey, Version, Help, Refused, OutOfMemory}
-
--- `--NAME VALUE`, which is required
-abbrev pub option_rule : Text → Rule
-option_rule name = record (new_rule name) { long = Some name; value_names = 1; required = true }
-
--- the flag `--NAME`
-abbrev pub flag_rule : Text → Rule
-flag_rule name = record (new_rule name) { long = Some name; action = Some SetTrue }
-
--- the same option or flag, with a letter for its name
-abbrev pub with_letter : ℕ → Rule → Rule
-with_letter letter rule = record rule { short = Some letter }
-
--- the letters `o` and `s`
-abbrev pub letter_o : ℕ
-letter_o = 111
-
-abbrev pub letter_s : ℕ
-letter_s = 115
-
--- `FILE`, which is required
-abbrev pub file_rule : Rule
-file_rule = record (new_rule (codes "file")) { value_names = 1; required = true }
-
--- `FILE...`, at least one of which is required
-abbrev pub files_rule : Rule
-files_rule = record file_rule { range = Some (record { start_inclusive = 1; end_inclusive = usize_max }) }
-
--- `link --out OUT [--strip] [--short] [--trim] FILE...`, where `-o` is `--out`, and `-s` is `--strip`
-abbrev pub link_shape : Shape
-link_shape = (with_rule (with_rule (with_rule (with_rule (with_rule
-    (new_app (codes "link")) (with_letter letter_o (option_rule (codes "out"))))
-    (with_letter letter_s (flag_rule (codes "strip")))) (flag_rule (codes "short"))) (flag_rule (codes "trim"))) files_rule).top
-
--- `load --at LIST [--srec] [--symbols] FILE`
-abbrev pub load_shape : Shape
-load_shape = (with_rule (with_rule (with_rule (with_rule
-    (new_app (codes "load")) (option_rule (codes "at"))) (flag_rule (codes "srec"))) (flag_rule (codes "symbols"))) file_rule).top
-
--- `image --at LIST [--srec] FILE...`
-abbrev pub image_shape : Shape
-image_shape = (with_rule (with_rule (with_rule
-    (new_app (codes "image")) (option_rule (codes "at"))) (flag_rule (codes "srec"))) files_rule).top
-
--- the program, which has a version, requires a subcommand, and has none called `help`
-abbrev pub bare_shape : Shape
-bare_shape = record (new_app (codes "amihunk")).top {
-  has_version = true;
-  subcommand_required = true;
-  disable_help_subcommand = true;
-}
-
--- a subcommand of this name, whose only argument is FILE
-abbrev pub file_shape : Text → Shape
-file_shape name = (with_rule (new_app name) file_rule).top
-
--- `survey FILE...`
-abbrev pub survey_shape : Shape
-survey_shape = (with_rule (new_app (codes "survey")) files_rule).top
-
-abbrev pub command_line : App
-command_line = with_subcommand (with_subcommand (with_subcommand (with_subcommand (with_subcommand (with_subcommand
-    (record { top = bare_shape; subs = [] }) link_shape) load_shape) image_shape)
-    (file_shape (codes "check"))) (file_shape (codes "show"))) survey_shape
+use Rattle.amihunk.specs.Syntax.{command_line}
+use Rattle.amihunk.specs.declared.command_line.Conflict.{Conflict}
+use Rattle.amihunk.specs.declared.command_line.Conflict.TheVariants.{Texts, TwoAddresses, NoAddresses}
 
 -- a subcommand's name, and what was found for its arguments
 abbrev pub Met : Type 0
@@ -128,45 +65,66 @@ abbrev pub asks_symbols : LoadText → Bool
 asks_symbols (load_text.Image form) = false
 asks_symbols load_text.Symbols = true
 
--- the addresses are in LIST, the value of `--at`
-abbrev pub IsAt : List Row → Origin → Type 0
-IsAt rows (in_list list) = first_of (codes "at") rows ≡ Some list
-IsAt rows (in_file name) = ⊥
+-- the values of `--at` and of `--at-file`, if they are given
+pub record AddressValues : Type 0 where
+  pub list : Option Text
+  pub file : Option Text
+
+abbrev pub values_given : (list file : Option (Bor Text)) → AddressValues
+values_given list file = record { list = option_map (λ value. value.now) list; file = option_map (λ value. value.now) file }
+
+-- the values by which these addresses are given
+abbrev pub values_of : Origin → AddressValues
+values_of (in_list list) = record { list = Some list; file = None }
+values_of (in_file name) = record { list = None; file = Some name }
+
+-- the addresses are given twice, or not at all
+abbrev pub AreUnclear : AddressValues → Type 0
+AreUnclear values = is_some values.list ≡ is_some values.file
+
+-- these are the values of the two options
+abbrev pub AreValues : List Row → AddressValues → Type 0
+AreValues rows values = (first_of (codes "at") rows ≡ values.list) × (first_of (codes "at-file") rows ≡ values.file)
 
 -- the subcommand is `load`, with these addresses, these flags and this FILE
-pub record IsLoad (met : Met) (origin : Origin) (srec symbols : Bool) (file : Text) : Type 0 where
+pub record IsLoad (met : Met) (values : AddressValues) (srec symbols : Bool) (file : Text) : Type 0 where
   pub of_file : IsCalled met (codes "load") file
-  pub at_is : IsAt of_file.rows origin
+  pub values_are : AreValues of_file.rows values
   pub srec_is : IsFlag of_file.rows (codes "srec") srec
   pub symbols_is : IsFlag of_file.rows (codes "symbols") symbols
 
--- the subcommand is `load`, with both flags
-pub record IsConflict (met : Met) : Type 0 where
-  pub origin : Origin
-  pub file : Text
-  pub is_load : IsLoad met origin true true file
-
 -- the subcommand is `image`, with these addresses, this form and these files
-pub record IsImage (met : Met) (origin : Origin) (form : ImageForm) (files : List Text) : Type 0 where
+pub record IsImage (met : Met) (values : AddressValues) (form : ImageForm) (files : List Text) : Type 0 where
   pub of_files : IsCalledOn met (codes "image") files
-  pub at_is : IsAt of_files.rows origin
+  pub values_are : AreValues of_files.rows values
   pub form_is : IsFlag of_files.rows (codes "srec") (is_srec form)
+
+-- the subcommand has arguments that exclude each other, or no addresses
+pub data IsConflict (met : Met) : Type 0 where
+  two_texts : (values : AddressValues) (file : Text) → IsLoad met values true true file → IsConflict met
+  no_load : (values : AddressValues) (srec symbols : Bool) (file : Text) → IsLoad met values srec symbols file → AreUnclear values → IsConflict met
+  no_image : (values : AddressValues) (form : ImageForm) (files : List Text) → IsImage met values form files → AreUnclear values → IsConflict met
+
+-- the kind of error with which `clap` rejects such arguments
+abbrev pub conflict_kind : Conflict → ErrorKind
+conflict_kind Texts = error.ArgumentConflict
+conflict_kind TwoAddresses = error.ArgumentConflict
+conflict_kind NoAddresses = error.MissingRequiredArgument
 
 -- the subcommand is one of the program's, with its required values
 pub data IsWhole (met : Met) : Type 0 where
   link : (out : Text) (options : LinkOptions) (files : List Text) → IsLink met out options files → IsWhole met
-  load : (origin : Origin) (srec symbols : Bool) (file : Text) → IsLoad met origin srec symbols file → IsWhole met
-  image : (origin : Origin) (form : ImageForm) (files : List Text) → IsImage met origin form files → IsWhole met
+  load : (values : AddressValues) (srec symbols : Bool) (file : Text) → IsLoad met values srec symbols file → IsWhole met
+  image : (values : AddressValues) (form : ImageForm) (files : List Text) → IsImage met values form files → IsWhole met
   check : (file : Text) → IsCalled met (codes "check") file → IsWhole met
   show : (file : Text) → IsCalled met (codes "show") file → IsWhole met
   survey : (files : List Text) → IsCalledOn met (codes "survey") files → IsWhole met
 
--- the request matches what was found: flags that exclude each other are rejected; nothing is said if
--- memory runs out
+-- the request matches what was found, or rejects a conflict; nothing is said if memory runs out
 abbrev pub Says : Met → Request → Type 0
 Says met (Link out options files) = IsLink met out.now options (texts files.items)
-Says met (Load addresses text file) = IsLoad met (origin_of addresses) (asks_srec text) (asks_symbols text) file.now
-Says met (Image addresses form files) = IsImage met (origin_of addresses) form (texts files.items)
+Says met (Load addresses text file) = IsLoad met (values_of (origin_of addresses)) (asks_srec text) (asks_symbols text) file.now
+Says met (Image addresses form files) = IsImage met (values_of (origin_of addresses)) form (texts files.items)
 Says met (Check file) = IsCalled met (codes "check") file.now
 Says met (Show file) = IsCalled met (codes "show") file.now
 Says met (Survey files) = IsCalledOn met (codes "survey") (texts files.items)
@@ -195,15 +153,15 @@ pub record IsRefusedBy (kinds : Kinds) : Type 0 where
   pub no_version : kind ≢ error.DisplayVersion
 
 -- what the arguments ask for: the subcommand that they name if nothing is wrong with them, help or the
--- version if they ask for it, a rejection if something is wrong or two flags exclude each other; nothing
--- is said if memory runs out
+-- version if they ask for it, a rejection if something is wrong or there is a conflict; nothing is said if
+-- memory runs out
 abbrev pub IsAskedBy : List Text → Request → Type 0
 IsAskedBy words (Link out options files) = (fault_of command_line words ≡ [])
     × IsLink (subcommand_of command_line words) out.now options (texts files.items)
 IsAskedBy words (Load addresses text file) = (fault_of command_line words ≡ [])
-    × IsLoad (subcommand_of command_line words) (origin_of addresses) (asks_srec text) (asks_symbols text) file.now
+    × IsLoad (subcommand_of command_line words) (values_of (origin_of addresses)) (asks_srec text) (asks_symbols text) file.now
 IsAskedBy words (Image addresses form files) = (fault_of command_line words ≡ [])
-    × IsImage (subcommand_of command_line words) (origin_of addresses) form (texts files.items)
+    × IsImage (subcommand_of command_line words) (values_of (origin_of addresses)) form (texts files.items)
 IsAskedBy words (Check file) = (fault_of command_line words ≡ [])
     × IsCalled (subcommand_of command_line words) (codes "check") file.now
 IsAskedBy words (Show file) = (fault_of command_line words ≡ [])
@@ -221,6 +179,11 @@ abbrev pub IsRefusal : Request → Type 0
 IsRefusal (Refused text) = ⊤
 IsRefusal OutOfMemory = ⊤
 IsRefusal _ = ⊥
+
+-- the request is the same, or both are rejections, whose texts may differ
+abbrev pub IsRetold : Request → Request → Type 0
+IsRetold (Refused text) (Refused other) = ⊤
+IsRetold request other = request ≡ other
 
 -- ---- the plain forms
 
@@ -268,13 +231,27 @@ abbrev pub text_words : LoadText → List Text
 text_words (load_text.Image form) = form_words form
 text_words load_text.Symbols = codes "--symbols" ∷ []
 
--- the arguments `PROGRAM load --at LIST [--srec | --symbols] FILE`
-abbrev pub load_line : Text → Text → LoadText → Text → List Text
-load_line program list text file = program ∷ codes "load" ∷ codes "--at" ∷ list ∷ (text_words text ++ file ∷ [])
+-- the name and the word of the option that gives these addresses
+abbrev pub option_name : Origin → Text
+option_name (in_list list) = codes "at"
+option_name (in_file name) = codes "at-file"
 
--- the arguments `PROGRAM image --at LIST [--srec] FILE...`
-abbrev pub image_line : Text → Text → ImageForm → List Text → List Text
-image_line program list form files = program ∷ codes "image" ∷ codes "--at" ∷ list ∷ (form_words form ++ files)
+abbrev pub option_word : Origin → Text
+option_word (in_list list) = codes "--at"
+option_word (in_file name) = codes "--at-file"
+
+-- and its value
+abbrev pub text_in : Origin → Text
+text_in (in_list list) = list
+text_in (in_file name) = name
+
+-- the arguments `PROGRAM load --at LIST [--srec | --symbols] FILE`, or with `--at-file FILE`
+abbrev pub load_line : Text → Origin → LoadText → Text → List Text
+load_line program origin text file = program ∷ codes "load" ∷ option_word origin ∷ text_in origin ∷ (text_words text ++ file ∷ [])
+
+-- the arguments `PROGRAM image --at LIST [--srec] FILE...`, or with `--at-file FILE`
+abbrev pub image_line : Text → Origin → ImageForm → List Text → List Text
+image_line program origin form files = program ∷ codes "image" ∷ option_word origin ∷ text_in origin ∷ (form_words form ++ files)
 
 -- the arguments `PROGRAM NAME FILE`
 abbrev pub file_line : Text → Text → Text → List Text
@@ -290,17 +267,17 @@ AsksLink out options files (Link o s fs) = (o.now ≡ out) × (s ≡ options) ×
 AsksLink out options files OutOfMemory = ⊤
 AsksLink out options files _ = ⊥
 
--- the request is `load` with this LIST, for this text of this FILE, or memory ran out
-abbrev pub AsksLoad : Text → LoadText → Text → Request → Type 0
-AsksLoad list text file (Load addresses asked f) = (origin_of addresses ≡ in_list list) × (asked ≡ text) × (f.now ≡ file)
-AsksLoad list text file OutOfMemory = ⊤
-AsksLoad list text file _ = ⊥
+-- the request is `load` with these addresses, for this text of this FILE, or memory ran out
+abbrev pub AsksLoad : Origin → LoadText → Text → Request → Type 0
+AsksLoad origin text file (Load addresses asked f) = (origin_of addresses ≡ origin) × (asked ≡ text) × (f.now ≡ file)
+AsksLoad origin text file OutOfMemory = ⊤
+AsksLoad origin text file _ = ⊥
 
--- the request is `image` with this LIST, this form and these files in this order, or memory ran out
-abbrev pub AsksImage : Text → ImageForm → List Text → Request → Type 0
-AsksImage list form files (Image addresses asked fs) = (origin_of addresses ≡ in_list list) × (asked ≡ form) × (texts fs.items ≡ files)
-AsksImage list form files OutOfMemory = ⊤
-AsksImage list form files _ = ⊥
+-- the request is `image` with these addresses, this form and these files in this order, or memory ran out
+abbrev pub AsksImage : Origin → ImageForm → List Text → Request → Type 0
+AsksImage origin form files (Image addresses asked fs) = (origin_of addresses ≡ origin) × (asked ≡ form) × (texts fs.items ≡ files)
+AsksImage origin form files OutOfMemory = ⊤
+AsksImage origin form files _ = ⊥
 
 -- the request is `check` with this FILE, or memory ran out
 abbrev pub AsksCheck : Text → Request → Type 0

@@ -1,21 +1,21 @@
 //! The arguments of the command line, as `clap` reads them.
-ghost use Rattle.std.specs.Prelude.{◌≡◌, ◌<◌, ℕ, All, IfOk, List, MatchOption, Some, codes, false, is_some, length, map, true};
+ghost use Rattle.std.specs.Prelude.{◌≡◌, ◌<◌, ℕ, All, IfErr, IfOk, List, MatchOption, Some, codes, is_some, length, map, option_map, true};
 ghost use Rattle.clap.specs.Walk.{texts};
-ghost use Rattle.clap.specs.Words.{FailsBy, all_of, app_of, fault_of, first_of, found_of, kind_of, rows_of};
-ghost use Rattle.clap.specs.Words.{rule_of, shape_of, subcommand_of, subcommand_rows_of};
-ghost use Rattle.clap.specs.declared.builder.command.Command.TheViews.{out-Command};
-ghost use Rattle.amihunk.specs.CommandLine.{Answers, AsksCheck, AsksImage, AsksLink, AsksLoad, AsksShow, IsAskedBy};
-ghost use Rattle.amihunk.specs.CommandLine.{IsNoFlag, IsRefusal, IsVersionWord, IsWhole, Says, brief_link_line, command_line};
-ghost use Rattle.amihunk.specs.CommandLine.{AsksSurvey, AsksVersion, asks_srec, asks_symbols, file_line, file_rule, is_srec, version_line};
-ghost use Rattle.amihunk.specs.CommandLine.{file_shape, files_rule, flag_rule, image_line, image_shape, link_line, link_shape};
-ghost use Rattle.amihunk.specs.CommandLine.{load_line, load_shape, option_rule, survey_line, survey_shape};
+ghost use Rattle.clap.specs.Words.{FailsBy, all_of, fault_of, first_of, found_of, kind_of, rows_of, subcommand_of, subcommand_rows_of};
+ghost use Rattle.amihunk.specs.Syntax.{command_line};
+ghost use Rattle.amihunk.specs.CommandLine.{Answers, AsksCheck, AsksImage, AsksLink, AsksLoad, AsksShow, AsksSurvey, AsksVersion};
+ghost use Rattle.amihunk.specs.CommandLine.{AreUnclear, IsAskedBy, IsNoFlag, IsRefusal, IsRetold, IsVersionWord, IsWhole, Says};
+ghost use Rattle.amihunk.specs.CommandLine.{asks_srec, asks_symbols, brief_link_line, conflict_kind, file_line, image_line, is_srec};
+ghost use Rattle.amihunk.specs.CommandLine.{link_line, load_line, survey_line, text_in, values_given, values_of, version_line};
+ghost use Rattle.hunk_commands.specs.Addresses.{Origin, origin_of};
 ghost use Rattle.hunk_commands.specs.declared.load.LoadText.{LoadText};
 ghost use Rattle.hunk_tool.specs.declared.image_form.ImageForm.{ImageForm};
 ghost use Rattle.hunk_tool.specs.declared.link_options.LinkOptions.{LinkOptions};
 
+use crate::syntax::{AddressOptions, command, image_command, load_command};
 use clap::error::ErrorKind;
-use clap::{Arg, ArgAction, ArgMatches, Command, Error};
-use hunk_commands::{Addresses, LoadText, Request, VERSION};
+use clap::{ArgMatches, Command, Error};
+use hunk_commands::{Addresses, LoadText, Request};
 use hunk_tool::{ImageForm, LinkOptions};
 use std::alloc::{AllocError, Global};
 use std::convert::AsStr;
@@ -29,12 +29,12 @@ pub fn read_words<'a, S: AsStr>(alloc: Global, words: &'a [S]) -> Request<'a>
     ensures brief { (program : List ℕ) (options : LinkOptions) (out : List ℕ) (files : List (List ℕ))
         → map S.text words.entry.now ≡ brief_link_line program options out files
         → IsNoFlag out → 0 < length files → All IsNoFlag files → AsksLink out options files result }
-    ensures load { (program list : List ℕ) (text : LoadText) (file : List ℕ)
-        → map S.text words.entry.now ≡ load_line program list text file
-        → IsNoFlag list → IsNoFlag file → AsksLoad list text file result }
-    ensures image { (program list : List ℕ) (form : ImageForm) (files : List (List ℕ))
-        → map S.text words.entry.now ≡ image_line program list form files
-        → IsNoFlag list → 0 < length files → All IsNoFlag files → AsksImage list form files result }
+    ensures load { (program : List ℕ) (origin : Origin) (text : LoadText) (file : List ℕ)
+        → map S.text words.entry.now ≡ load_line program origin text file
+        → IsNoFlag (text_in origin) → IsNoFlag file → AsksLoad origin text file result }
+    ensures image { (program : List ℕ) (origin : Origin) (form : ImageForm) (files : List (List ℕ))
+        → map S.text words.entry.now ≡ image_line program origin form files
+        → IsNoFlag (text_in origin) → 0 < length files → All IsNoFlag files → AsksImage origin form files result }
     ensures check { (program file : List ℕ)
         → map S.text words.entry.now ≡ file_line program (codes "check") file
         → IsNoFlag file → AsksCheck file result }
@@ -47,10 +47,48 @@ pub fn read_words<'a, S: AsStr>(alloc: Global, words: &'a [S]) -> Request<'a>
     ensures version { (program word : List ℕ)
         → map S.text words.entry.now ≡ version_line program word → IsVersionWord word → AsksVersion result }
 {
+    retold(alloc, words, request_for(alloc, words))
+}
+
+/// What these arguments ask for. A rejection has the text that `clap` gives it.
+fn request_for<'a, S: AsStr>(alloc: Global, words: &'a [S]) -> Request<'a>
+    ensures { IsAskedBy (map S.text words.entry.now) result }
+{
     match matches_of(alloc, words) {
         Ok(matches) => request_of(alloc, &matches).unwrap_or(Request::OutOfMemory),
         Err(error) => answer_to(alloc, &error),
     }
+}
+
+/// The same request; but a rejection of arguments without `--at-file` has the text that it had before
+/// there was this option.
+fn retold<'a, S: AsStr>(alloc: Global, words: &[S], request: Request<'a>) -> Request<'a>
+    ensures { IsRetold request.entry result }
+{
+    match request {
+        Request::Refused(text) => Request::Refused(text_without_file(alloc, words).unwrap_or(text)),
+        request => request,
+    }
+}
+
+/// The text with which a command line that takes addresses by `--at LIST` alone rejects these arguments.
+///
+/// `None` if it does not reject them, if one of them is `--at-file`, or if memory runs out.
+fn text_without_file<S: AsStr>(alloc: Global, words: &[S]) -> Option<String> {
+    if words
+        .iter()
+        .any(|word| word.as_str().starts_with("--at-file"))
+    {
+        return None;
+    }
+    let with_list = command(alloc, AddressOptions::ListAlone).ok()?;
+    let Err(error) = with_list.try_get_matches_from(words) else {
+        return None;
+    };
+    if error.kind() == ErrorKind::OutOfMemory {
+        return None;
+    }
+    error.to_string(alloc).ok()
 }
 
 /// Rejects arguments that are not UTF-8, as `clap` does.
@@ -68,7 +106,7 @@ pub fn refuse_bytes<'a>(alloc: Global) -> Request<'a>
 fn error_of(alloc: Global, kind: ErrorKind, text: &str) -> Result<Error, AllocError>
     ensures { IfOk result (λ e. kind_of e ≡ kind) }
 {
-    command(alloc)?.error(kind, text)
+    command(alloc, AddressOptions::ListOrFile)?.error(kind, text)
 }
 
 /// What `clap` makes of the arguments.
@@ -77,173 +115,7 @@ fn matches_of<'a, S: AsStr>(alloc: Global, words: &'a [S]) -> Result<ArgMatches<
     ensures rows { IfOk result (λ m. subcommand_rows_of m
         ≡ subcommand_of command_line (map S.text words.entry.now)) }
 {
-    command(alloc)?.try_get_matches_from(words)
-}
-
-/// The command line that the program accepts.
-fn command<'a>(alloc: Global) -> Result<Command<'a>, AllocError>
-    ensures { IfOk result (λ c. app_of c ≡ command_line) }
-{
-    Command::new(alloc, "amihunk")
-        .about("An Amiga hunk linker and loader")
-        .version(VERSION)
-        .disable_help_subcommand(true)
-        .subcommand_required(true)
-        .subcommand(link_command(alloc)?)?
-        .subcommand(load_command(alloc)?)?
-        .subcommand(image_command(alloc)?)?
-        .subcommand(check_command(alloc)?)?
-        .subcommand(show_command(alloc)?)?
-        .subcommand(survey_command(alloc)?)
-}
-
-/// The subcommand `link --out OUT [--strip] [--short] [--trim] FILE...`, where `-o` is `--out`, and
-/// `-s` is `--strip`.
-fn link_command<'a>(alloc: Global) -> Result<Command<'a>, AllocError>
-    ensures shape { IfOk result (λ c. shape_of c ≡ link_shape) }
-    ensures local { IfOk result (λ c. (out-Command c).has_globals ≡ false) }
-{
-    Command::new(alloc, "link")
-        .about("Links object files, and writes the load file")
-        .after_help(help::LINK)
-        .arg(option_argument(alloc, "out", "OUT", "The load file to write").short('o'))?
-        .arg(flag(alloc, "strip", "Leaves out symbols and debug blocks").short('s'))?
-        .arg(flag(
-            alloc,
-            "short",
-            "Writes the short form, with relocations in 16-bit lists where they fit",
-        ))?
-        .arg(flag(
-            alloc,
-            "trim",
-            "Leaves out zero longwords at the end of each hunk",
-        ))?
-        .arg(files_argument(alloc, "Object files, in the order of linking"))
-}
-
-/// The flag `--NAME`.
-fn flag<'a>(alloc: Global, name: &'a str, help: &'a str) -> Arg<'a>
-    ensures rule { rule_of result ≡ flag_rule name.now }
-    ensures local { result.global ≡ false }
-{
-    Arg::new(alloc, name)
-        .long(name)
-        .action(ArgAction::SetTrue)
-        .help(help)
-}
-
-/// The flag `--srec`.
-fn srec_flag<'a>(alloc: Global) -> Arg<'a>
-    ensures rule { rule_of result ≡ flag_rule (codes "srec") }
-    ensures local { result.global ≡ false }
-{
-    let help = "Prints Motorola S-records in place of the report";
-    flag(alloc, "srec", help)
-}
-
-/// The subcommand `load --at LIST [--srec] [--symbols] FILE`. No rule of `clap` here keeps the two
-/// flags apart: [`text_of`] does.
-fn load_command<'a>(alloc: Global) -> Result<Command<'a>, AllocError>
-    ensures shape { IfOk result (λ c. shape_of c ≡ load_shape) }
-    ensures local { IfOk result (λ c. (out-Command c).has_globals ≡ false) }
-{
-    Command::new(alloc, "load")
-        .about("Loads a file at addresses, and prints the bytes of its hunks")
-        .after_help(help::LOAD)
-        .arg(list_argument(alloc))?
-        .arg(srec_flag(alloc))?
-        .arg(flag(
-            alloc,
-            "symbols",
-            "Prints the address of each symbol in place of the report",
-        ))?
-        .arg(file_argument(alloc, "A load file"))
-}
-
-/// The subcommand `image --at LIST [--srec] FILE...`.
-fn image_command<'a>(alloc: Global) -> Result<Command<'a>, AllocError>
-    ensures shape { IfOk result (λ c. shape_of c ≡ image_shape) }
-    ensures local { IfOk result (λ c. (out-Command c).has_globals ≡ false) }
-{
-    Command::new(alloc, "image")
-        .about("Links object files at addresses, and prints the bytes of their hunks")
-        .after_help(help::IMAGE)
-        .arg(list_argument(alloc))?
-        .arg(srec_flag(alloc))?
-        .arg(files_argument(alloc, "Object files, in the order of linking"))
-}
-
-/// The subcommand `check FILE`.
-fn check_command<'a>(alloc: Global) -> Result<Command<'a>, AllocError>
-    ensures shape { IfOk result (λ c. shape_of c ≡ file_shape (codes "check")) }
-    ensures local { IfOk result (λ c. (out-Command c).has_globals ≡ false) }
-{
-    Command::new(alloc, "check")
-        .about("Checks a file, and prints which kind it is and how many units and hunks it has")
-        .after_help(help::CHECK)
-        .arg(file_argument(alloc, "An object file or a load file"))
-}
-
-/// The subcommand `show FILE`.
-fn show_command<'a>(alloc: Global) -> Result<Command<'a>, AllocError>
-    ensures shape { IfOk result (λ c. shape_of c ≡ file_shape (codes "show")) }
-    ensures local { IfOk result (λ c. (out-Command c).has_globals ≡ false) }
-{
-    Command::new(alloc, "show")
-        .about("Prints a listing of the units and hunks of a file, and of what is in them")
-        .after_help(help::SHOW)
-        .arg(file_argument(alloc, "An object file or a load file"))
-}
-
-/// The subcommand `survey FILE...`.
-fn survey_command<'a>(alloc: Global) -> Result<Command<'a>, AllocError>
-    ensures shape { IfOk result (λ c. shape_of c ≡ survey_shape) }
-    ensures local { IfOk result (λ c. (out-Command c).has_globals ≡ false) }
-{
-    Command::new(alloc, "survey")
-        .about("Tells of each file what it is, and how many there are of each kind")
-        .after_help(help::SURVEY)
-        .arg(files_argument(alloc, "Object files, load files and any others"))
-}
-
-/// The argument `--at LIST`.
-fn list_argument<'a>(alloc: Global) -> Arg<'a>
-    ensures rule { rule_of result ≡ option_rule (codes "at") }
-    ensures local { result.global ≡ false }
-{
-    let help = "The address of each hunk, in hexadecimal, with commas between";
-    option_argument(alloc, "at", "LIST", help)
-}
-
-/// The argument `--NAME VALUE`, which is required.
-fn option_argument<'a>(alloc: Global, name: &'a str, value: &'a str, help: &'a str) -> Arg<'a>
-    ensures rule { rule_of result ≡ option_rule name.now }
-    ensures local { result.global ≡ false }
-{
-    Arg::new(alloc, name)
-        .long(name)
-        .value_name(value)
-        .required(true)
-        .help(help)
-}
-
-/// The argument FILE, for one file.
-fn file_argument<'a>(alloc: Global, help: &'a str) -> Arg<'a>
-    ensures rule { rule_of result ≡ file_rule }
-    ensures local { result.global ≡ false }
-{
-    Arg::new(alloc, "file")
-        .value_name("FILE")
-        .required(true)
-        .help(help)
-}
-
-/// The arguments FILE..., for one file or more.
-fn files_argument<'a>(alloc: Global, help: &'a str) -> Arg<'a>
-    ensures rule { rule_of result ≡ files_rule }
-    ensures local { result.global ≡ false }
-{
-    file_argument(alloc, help).num_args(1..)
+    command(alloc, AddressOptions::ListOrFile)?.try_get_matches_from(words)
 }
 
 /// The request of a parse that found a subcommand.
@@ -261,21 +133,8 @@ fn request_of<'a>(alloc: Global, matches: &ArgMatches<'a>) -> Result<Request<'a>
             },
             files: files_of(alloc, values)?,
         }),
-        Some(("load", values)) => {
-            match text_of(values.get_flag("srec"), values.get_flag("symbols")) {
-                Some(text) => Ok(Request::Load {
-                    addresses: Addresses::List(value_of(values, "at")),
-                    text,
-                    file: value_of(values, "file"),
-                }),
-                None => refuse_both(alloc),
-            }
-        }
-        Some(("image", values)) => Ok(Request::Image {
-            addresses: Addresses::List(value_of(values, "at")),
-            form: form_of(values.get_flag("srec")),
-            files: files_of(alloc, values)?,
-        }),
+        Some(("load", values)) => load_request(alloc, values),
+        Some(("image", values)) => image_request(alloc, values),
         Some(("check", values)) => Ok(Request::Check {
             file: value_of(values, "file"),
         }),
@@ -286,6 +145,118 @@ fn request_of<'a>(alloc: Global, matches: &ArgMatches<'a>) -> Result<Request<'a>
             files: files_of(alloc, values)?,
         }),
         _ => unreachable!(),
+    }
+}
+
+/// The request of a parse that found the subcommand `load`.
+fn load_request<'a>(alloc: Global, values: &ArgMatches<'a>) -> Result<Request<'a>, AllocError>
+    requires { IsWhole (Some (codes "load", rows_of (found_of values.now))) }
+    ensures { IfOk result (Says (Some (codes "load", rows_of (found_of values.now)))) }
+{
+    let addresses = match addresses_of(
+        optional_value(values, "at"),
+        optional_value(values, "at-file"),
+    ) {
+        Ok(addresses) => addresses,
+        Err(conflict) => return refuse_load(alloc, conflict),
+    };
+    match text_of(values.get_flag("srec"), values.get_flag("symbols")) {
+        Some(text) => Ok(Request::Load {
+            addresses,
+            text,
+            file: value_of(values, "file"),
+        }),
+        None => refuse_load(alloc, Conflict::Texts),
+    }
+}
+
+/// Rejects such arguments of `load`.
+fn refuse_load<'a>(alloc: Global, conflict: Conflict) -> Result<Request<'a>, AllocError>
+    ensures { IfOk result (Answers (conflict_kind conflict)) }
+{
+    let load = load_command(alloc, AddressOptions::ListOrFile)?;
+    refuse(alloc, load, conflict)
+}
+
+/// The request of a parse that found the subcommand `image`.
+fn image_request<'a>(alloc: Global, values: &ArgMatches<'a>) -> Result<Request<'a>, AllocError>
+    requires { IsWhole (Some (codes "image", rows_of (found_of values.now))) }
+    ensures { IfOk result (Says (Some (codes "image", rows_of (found_of values.now)))) }
+{
+    match addresses_of(
+        optional_value(values, "at"),
+        optional_value(values, "at-file"),
+    ) {
+        Ok(addresses) => Ok(Request::Image {
+            addresses,
+            form: form_of(values.get_flag("srec")),
+            files: files_of(alloc, values)?,
+        }),
+        Err(conflict) => {
+            let image = image_command(alloc, AddressOptions::ListOrFile)?;
+            refuse(alloc, image, conflict)
+        }
+    }
+}
+
+/// Arguments that exclude each other, or of which one is missing.
+#[derive(Clone, Copy, Debug, PartialEq, Eq)]
+enum Conflict {
+    /// `--srec` and `--symbols`.
+    Texts,
+    /// `--at` and `--at-file`.
+    TwoAddresses,
+    /// Neither `--at` nor `--at-file`.
+    NoAddresses,
+}
+
+impl Conflict {
+    /// The kind of error with which `clap` rejects such arguments.
+    fn kind(self) -> ErrorKind
+        ensures { result ≡ conflict_kind self }
+    {
+        match self {
+            Conflict::Texts | Conflict::TwoAddresses => ErrorKind::ArgumentConflict,
+            Conflict::NoAddresses => ErrorKind::MissingRequiredArgument,
+        }
+    }
+
+    /// The words in which `clap` rejects such arguments.
+    fn text(self) -> &'static str {
+        match self {
+            Conflict::Texts => "the argument '--srec' cannot be used with '--symbols'",
+            Conflict::TwoAddresses => {
+                "the argument '--at <LIST>' cannot be used with '--at-file <FILE>'"
+            }
+            Conflict::NoAddresses => {
+                "the following required arguments were not provided:\n  <--at <LIST>|--at-file <FILE>>"
+            }
+        }
+    }
+}
+
+/// Rejects such arguments of a subcommand.
+fn refuse<'a>(
+    alloc: Global,
+    mut subcommand: Command<'a>,
+    conflict: Conflict,
+) -> Result<Request<'a>, AllocError>
+    ensures { IfOk result (Answers (conflict_kind conflict)) }
+{
+    let error = subcommand.error(conflict.kind(), conflict.text())?;
+    Ok(answer_to(alloc, &error))
+}
+
+/// The addresses that are asked for, of which there is one list, or one file.
+fn addresses_of<'a>(list: Option<&'a str>, file: Option<&'a str>) -> Result<Addresses<'a>, Conflict>
+    ensures ok { IfOk result (λ addresses. values_given list.entry file.entry ≡ values_of (origin_of addresses)) }
+    ensures err { IfErr result (λ _. AreUnclear (values_given list.entry file.entry)) }
+{
+    match (list, file) {
+        (Some(list), None) => Ok(Addresses::List(list)),
+        (None, Some(name)) => Ok(Addresses::File(name)),
+        (Some(_), Some(_)) => Err(Conflict::TwoAddresses),
+        (None, None) => Err(Conflict::NoAddresses),
     }
 }
 
@@ -301,16 +272,6 @@ fn text_of(srec: bool, symbols: bool) -> Option<LoadText>
     }
 }
 
-/// Rejects `--srec` together with `--symbols`, in the words in which `clap` rejects two arguments that
-/// exclude each other.
-fn refuse_both<'a>(alloc: Global) -> Result<Request<'a>, AllocError>
-    ensures { IfOk result (Answers ErrorKind.ArgumentConflict) }
-{
-    let text = "the argument '--srec' cannot be used with '--symbols'";
-    let error = error_of(alloc, ErrorKind::ArgumentConflict, text)?;
-    Ok(answer_to(alloc, &error))
-}
-
 /// The form in which an image is printed.
 fn form_of(srec: bool) -> ImageForm
     ensures { is_srec result ≡ srec }
@@ -320,6 +281,13 @@ fn form_of(srec: bool) -> ImageForm
     } else {
         ImageForm::Report
     }
+}
+
+/// The value of an argument, if it is given.
+fn optional_value<'a>(values: &ArgMatches<'a>, id: &str) -> Option<&'a str>
+    ensures { option_map (λ v. v.now) result ≡ first_of id.now (rows_of (found_of values.now)) }
+{
+    values.get_str(id)
 }
 
 /// The value of an argument that has one.
@@ -359,5 +327,3 @@ fn answer_to<'a>(alloc: Global, error: &Error) -> Request<'a>
         _ => Request::Refused(text),
     }
 }
-
-mod help;

@@ -3,11 +3,11 @@ ghost use Rattle.std.specs.Prelude.{◌≡◌, ◌<◌, ◌≤◌, ℕ, List, co
 ghost use Rattle.std.specs.List.{All};
 ghost use Rattle.hunk_tool.specs.declared.image_form.ImageForm.{ImageForm};
 ghost use Rattle.hunk_tool.specs.declared.link_options.LinkOptions.{LinkOptions};
-ghost use Rattle.hunk_commands.specs.Addresses.Origin.{in_list};
+ghost use Rattle.hunk_commands.specs.Addresses.{Origin};
 ghost use Rattle.hunk_commands.specs.declared.load.LoadText.{LoadText};
 ghost use Rattle.hunk_commands.specs.Request.{EndsImage, EndsLink, EndsLoad, EndsSurvey, EndsText, EndsVersion};
 ghost use Rattle.amihunk.specs.Program.{EndsLine};
-ghost use Rattle.amihunk.specs.CommandLine.{IsNoFlag, IsVersionWord, brief_link_line, file_line, image_line, link_line, load_line, survey_line, version_line};
+ghost use Rattle.amihunk.specs.CommandLine.{IsNoFlag, IsVersionWord, brief_link_line, file_line, image_line, link_line, load_line, survey_line, text_in, version_line};
 
 use crate::command_line::{read_words, refuse_bytes};
 use hunk_commands::{Request, Text, answer};
@@ -45,12 +45,12 @@ pub fn run<R: Files + Print + AllocGlobal, W: Sink, S: AsStr>(
     ensures brief { (program : List ℕ) (options : LinkOptions) (out : List ℕ) (files : List (List ℕ))
         → map S.text words.now ≡ brief_link_line program options out files
         → IsNoFlag out → 0 < length files → All IsNoFlag files → EndsLink W.taken W.failed errors.old errors.new out options files result }
-    ensures load { (program list : List ℕ) (text : LoadText) (file : List ℕ)
-        → map S.text words.now ≡ load_line program list text file
-        → IsNoFlag list → IsNoFlag file → EndsLoad W.taken W.failed errors.old errors.new (in_list list) text file result }
-    ensures image { (program list : List ℕ) (form : ImageForm) (files : List (List ℕ))
-        → map S.text words.now ≡ image_line program list form files
-        → IsNoFlag list → 0 < length files → All IsNoFlag files → EndsImage W.taken W.failed errors.old errors.new (in_list list) form files result }
+    ensures load { (program : List ℕ) (origin : Origin) (text : LoadText) (file : List ℕ)
+        → map S.text words.now ≡ load_line program origin text file
+        → IsNoFlag (text_in origin) → IsNoFlag file → EndsLoad W.taken W.failed errors.old errors.new origin text file result }
+    ensures image { (program : List ℕ) (origin : Origin) (form : ImageForm) (files : List (List ℕ))
+        → map S.text words.now ≡ image_line program origin form files
+        → IsNoFlag (text_in origin) → 0 < length files → All IsNoFlag files → EndsImage W.taken W.failed errors.old errors.new origin form files result }
     ensures check { (program file : List ℕ)
         → map S.text words.now ≡ file_line program (codes "check") file
         → IsNoFlag file → EndsText W.taken W.failed errors.old errors.new Text.Line file result }

@@ -30,8 +30,8 @@ pub enum Request<'a> {
         /// The arguments FILE..., in the order given, of which there is at least one.
         files: Vec<&'a str>,
     },
-    /// `load --at LIST [--srec | --symbols] FILE`: the image or the symbols of FILE, loaded at the
-    /// addresses in LIST.
+    /// `load --at LIST [--srec | --symbols] FILE`, or with `--at-file`: the image or the symbols of
+    /// FILE, loaded at the addresses.
     Load {
         /// Where the addresses come from: LIST, not yet parsed, or a file, not yet opened.
         addresses: Addresses<'a>,
@@ -41,8 +41,8 @@ pub enum Request<'a> {
         /// The argument FILE.
         file: &'a str,
     },
-    /// `image --at LIST [--srec] FILE...`: the memory that the object files FILE... define at the
-    /// addresses in LIST.
+    /// `image --at LIST [--srec] FILE...`, or with `--at-file`: the memory that the object files
+    /// FILE... define at the addresses.
     Image {
         /// Where the addresses come from: LIST, not yet parsed, or a file, not yet opened.
         addresses: Addresses<'a>,
@@ -120,7 +120,7 @@ pub fn answer<R: Files + Print + AllocGlobal, W: Sink>(
     }
 }
 
-/// Does `load --at LIST [--srec | --symbols] FILE`, and returns the exit status.
+/// Does `load`, and returns the exit status.
 fn answer_load<R: Files + Print + AllocGlobal, W: Sink>(
     rt: &R,
     errors: &mut W,
@@ -158,7 +158,7 @@ fn answer_link<R: Files + AllocGlobal, W: Sink>(
     }
 }
 
-/// Does `image --at LIST [--srec] FILE...`, and returns the exit status.
+/// Does `image`, and returns the exit status.
 fn answer_image<R: Files + Print + AllocGlobal, W: Sink>(
     rt: &R,
     errors: &mut W,

@@ -1,7 +1,7 @@
 use Rattle.std.proofs.Common.{◌≡◌, ◌∙◌, ap, refl, true, map, subst}
 use Rattle.std.proofs.lemmas.Result.{IfOk-weaker}
 use Rattle.clap.specs.Words.{App, FailsBy, app_of, fault_of, is_simple, is_simple_and_free, subcommand_of}
-use Rattle.amihunk.specs.CommandLine.{command_line}
+use Rattle.amihunk.specs.Syntax.{command_line}
 use Rattle.amihunk.proofs.command_line.matches_of.Goals as goal
 
 is_free : is_simple_and_free command_line ≡ true

@@ -2,8 +2,8 @@ use Rattle.amihunk.proofs.ProgramLemmas.{ends_check, ends_image, ends_link, ends
 use Rattle.amihunk.proofs.program.run.Goals as goal
 
 pub returns-clause-load : goal.returns-clause-load
-returns-clause-load g c program list text file is_line plain_list plain_file =
-    ends_load g.W.Sink.taken g.W.Sink.failed c.args.errors.now c.answer.new.errors list text file c.read_words.result c.answer.result (c.read_words.ensures.load program list text file is_line plain_list plain_file) c.answer.ensures
+returns-clause-load g c program origin text file is_line plain_value plain_file =
+    ends_load g.W.Sink.taken g.W.Sink.failed c.args.errors.now c.answer.new.errors origin text file c.read_words.result c.answer.result (c.read_words.ensures.load program origin text file is_line plain_value plain_file) c.answer.ensures
 
 pub returns-clause-check : goal.returns-clause-check
 returns-clause-check g c program file is_line plain =
@@ -18,8 +18,8 @@ returns-clause-link g c program options out files is_line plain_out some plain_f
     ends_link g.W.Sink.taken g.W.Sink.failed c.args.errors.now c.answer.new.errors out options files c.read_words.result c.answer.result (c.read_words.ensures.link program options out files is_line plain_out some plain_files) c.answer.ensures
 
 pub returns-clause-image : goal.returns-clause-image
-returns-clause-image g c program list form files is_line plain_list some plain_files =
-    ends_image g.W.Sink.taken g.W.Sink.failed c.args.errors.now c.answer.new.errors list form files c.read_words.result c.answer.result (c.read_words.ensures.image program list form files is_line plain_list some plain_files) c.answer.ensures
+returns-clause-image g c program origin form files is_line plain_value some plain_files =
+    ends_image g.W.Sink.taken g.W.Sink.failed c.args.errors.now c.answer.new.errors origin form files c.read_words.result c.answer.result (c.read_words.ensures.image program origin form files is_line plain_value some plain_files) c.answer.ensures
 
 pub returns-clause-survey : goal.returns-clause-survey
 returns-clause-survey g c program files is_line some plain_files =

@@ -15,6 +15,12 @@ The exit status is 0 if OUT was written, 1 if a FILE is not an object file or th
 2 if the command line is not understood, 3 if a FILE cannot be read or OUT cannot be written, and 4 if
 memory runs out.";
 
+/// The usage of `load`.
+pub const LOAD_USAGE: &str = "amihunk load [OPTIONS] <--at <LIST>|--at-file <FILE>> <FILE>";
+
+/// The usage of `image`.
+pub const IMAGE_USAGE: &str = "amihunk image [OPTIONS] <--at <LIST>|--at-file <FILE>> <FILE>...";
+
 /// The end of the help of `load`.
 pub const LOAD: &str = "\
 For each hunk it prints a line with the hunk's number, address and size in bytes, and then the
@@ -26,7 +32,8 @@ and `amihunk load --at 10000 --srec FILE` the same bytes as S-records
   S00A0000616D6968756E6B08
   S309000100004E754E7173
   S70500000000FA
-An address is the number of a byte, from 0 to FFFFFFFF.
+An address is the number of a byte, from 0 to FFFFFFFF. With `--at-file`, the addresses are read from a
+file, which may have any length: `amihunk load --at-file addresses FILE`.
 
 With `--symbols` it prints a line for each symbol of FILE, in file order, with the symbol's address,
 the number of its hunk, and its name. The address is that of the hunk plus the symbol's value, modulo
@@ -36,8 +43,8 @@ value 2
 `--srec` and `--symbols` exclude each other.
 
 The exit status is 0 if the text was printed, 1 if FILE is not a load file or its hunks cannot be
-placed at the addresses, 2 if LIST or the command line is not understood, 3 if FILE cannot be read or
-the text cannot be printed, and 4 if memory runs out.";
+placed at the addresses, 2 if the addresses or the command line are not understood, 3 if a file cannot
+be read or the text cannot be printed, and 4 if memory runs out.";
 
 /// The end of the help of `image`.
 pub const IMAGE: &str = "\
@@ -46,10 +53,11 @@ in the order of linking: the files in the order given, the units in the order of
 in the order of a unit. An address is the number of a byte, from 0 to FFFFFFFF. For example, this
 prints two hunks, the first of them at the address 10000:
   amihunk image --at 10000,20000 startup.o main.o
+With `--at-file`, the addresses are read from a file, which may have any length.
 
 The exit status is 0 if the bytes were printed, 1 if a FILE is not an object file, or the units do not
-link, or their hunks cannot be placed at the addresses, 2 if LIST or the command line is not
-understood, 3 if a FILE cannot be read or the bytes cannot be printed, and 4 if memory runs out.";
+link, or their hunks cannot be placed at the addresses, 2 if the addresses or the command line are not
+understood, 3 if a file cannot be read or the bytes cannot be printed, and 4 if memory runs out.";
 
 /// The end of the help of `check`.
 pub const CHECK: &str = "\

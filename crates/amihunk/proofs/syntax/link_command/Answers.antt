@@ -6,8 +6,8 @@ use Rattle.clap.specs.declared.builder.arg.Arg.{Arg}
 use Rattle.clap.specs.declared.builder.command.Command.{Command}
 use Rattle.clap.specs.declared.builder.command.Command.TheOpen.{Command-F}
 use Rattle.clap.specs.declared.builder.command.Command.TheViews.{out-Command}
-use Rattle.amihunk.specs.CommandLine.{letter_o, letter_s, with_letter}
-use Rattle.amihunk.proofs.command_line.link_command.Goals as goal
+use Rattle.amihunk.specs.Syntax.{letter_s, with_letter}
+use Rattle.amihunk.proofs.syntax.link_command.Goals as goal
 
 is_global : Arg → Bool
 is_global a = a.global
@@ -17,11 +17,9 @@ unfolding is_global
 returns-clause-shape c =
     let named : app_of c.after_help.result ≡ new_app (codes "link") =
     ap app_of_fields c.after_help.ensures ∙ (ap app_of_fields c.about.ensures ∙ c.new.ensures.app) in
-    let out_rule = ap rule_of c.short.ensures ∙ ap (with_letter letter_o) c.option_argument.ensures.rule in
-    let out_local = ap is_global c.short.ensures ∙ c.option_argument.ensures.local in
-    let out = c.in_ok-arg.ensures.shape out_local ∙ ap₂ with_rule named out_rule in
-    let strip_rule = ap rule_of c.short-2.ensures ∙ ap (with_letter letter_s) c.flag.ensures.rule in
-    let strip_local = ap is_global c.short-2.ensures ∙ c.flag.ensures.local in
+    let out = c.in_ok-arg.ensures.shape c.out_argument.ensures.local ∙ ap₂ with_rule named c.out_argument.ensures.rule in
+    let strip_rule = ap rule_of c.short.ensures ∙ ap (with_letter letter_s) c.flag.ensures.rule in
+    let strip_local = ap is_global c.short.ensures ∙ c.flag.ensures.local in
     let strip = c.in_ok-arg-2.ensures.shape strip_local ∙ ap₂ with_rule out strip_rule in
     let short = c.in_ok-arg-3.ensures.shape c.flag-2.ensures.local ∙ ap₂ with_rule strip c.flag-2.ensures.rule in
     let trim = c.in_ok-arg-4.ensures.shape c.flag-3.ensures.local ∙ ap₂ with_rule short c.flag-3.ensures.rule in
@@ -38,9 +36,8 @@ unfolding any_global is_global
 returns-clause-local c =
     let named : (out-Command c.after_help.result).has_globals ≡ false =
     ap any_global c.after_help.ensures ∙ (ap any_global c.about.ensures ∙ c.new.ensures.local) in
-    let out_local = ap is_global c.short.ensures ∙ c.option_argument.ensures.local in
-    let out = c.in_ok-arg.ensures.globals ∙ ap₂ ◌||◌ named out_local in
-    let strip_local = ap is_global c.short-2.ensures ∙ c.flag.ensures.local in
+    let out = c.in_ok-arg.ensures.globals ∙ ap₂ ◌||◌ named c.out_argument.ensures.local in
+    let strip_local = ap is_global c.short.ensures ∙ c.flag.ensures.local in
     let strip = c.in_ok-arg-2.ensures.globals ∙ ap₂ ◌||◌ out strip_local in
     let short = c.in_ok-arg-3.ensures.globals ∙ ap₂ ◌||◌ strip c.flag-2.ensures.local in
     let trim = c.in_ok-arg-4.ensures.globals ∙ ap₂ ◌||◌ short c.flag-3.ensures.local in

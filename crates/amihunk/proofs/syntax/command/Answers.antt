@@ -2,8 +2,8 @@ use Rattle.std.proofs.Common.{◌≡◌, ◌∙◌, ap, ap₂, codes, true, []}
 use Rattle.std.proofs.lemmas.Result.{IfOk-weaker}
 use Rattle.clap.specs.Words.{App, app_of, new_app, with_subcommand}
 use Rattle.clap.specs.Simple.{app_of_fields}
-use Rattle.amihunk.specs.CommandLine.{bare_shape}
-use Rattle.amihunk.proofs.command_line.command.Goals as goal
+use Rattle.amihunk.specs.Syntax.{bare_shape}
+use Rattle.amihunk.proofs.syntax.command.Goals as goal
 
 abbrev without_help : App → App
 without_help a = record { top = record a.top { disable_help_subcommand = true }; subs = a.subs }

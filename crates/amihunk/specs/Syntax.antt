@@ -1,0 +1,90 @@
+-- The command line that the program accepts, as `clap` is told of it.
+use Rattle.std.specs.Prelude.{ℕ, [], true, codes, Some}
+use Rattle.clap.specs.Lexer.{usize_max}
+use Rattle.clap.specs.Words.{App, Rule, Shape, Text, new_app, new_rule, with_rule, with_subcommand}
+use Rattle.clap.specs.declared.builder.action.ArgAction.TheVariants.{SetTrue}
+use Rattle.amihunk.specs.declared.syntax.AddressOptions.{AddressOptions}
+use Rattle.amihunk.specs.declared.syntax.AddressOptions.TheVariants.{ListAlone, ListOrFile}
+
+-- `--NAME VALUE`
+abbrev pub option_rule : Text → Rule
+option_rule name = record (new_rule name) { long = Some name; value_names = 1 }
+
+-- the same argument, which is required
+abbrev pub required_rule : Rule → Rule
+required_rule rule = record rule { required = true }
+
+-- the flag `--NAME`
+abbrev pub flag_rule : Text → Rule
+flag_rule name = record (new_rule name) { long = Some name; action = Some SetTrue }
+
+-- the same option or flag, with a letter for its name
+abbrev pub with_letter : ℕ → Rule → Rule
+with_letter letter rule = record rule { short = Some letter }
+
+-- the letters `o` and `s`
+abbrev pub letter_o : ℕ
+letter_o = 111
+
+abbrev pub letter_s : ℕ
+letter_s = 115
+
+-- `--out OUT`, which is required, or `-o OUT`
+abbrev pub out_rule : Rule
+out_rule = required_rule (with_letter letter_o (option_rule (codes "out")))
+
+-- `FILE`, which is required
+abbrev pub file_rule : Rule
+file_rule = record (new_rule (codes "file")) { value_names = 1; required = true }
+
+-- `FILE...`, at least one of which is required
+abbrev pub files_rule : Rule
+files_rule = record file_rule { range = Some (record { start_inclusive = 1; end_inclusive = usize_max }) }
+
+-- `link --out OUT [--strip] [--short] [--trim] FILE...`, where `-o` is `--out`, and `-s` is `--strip`
+abbrev pub link_shape : Shape
+link_shape = (with_rule (with_rule (with_rule (with_rule (with_rule
+    (new_app (codes "link")) out_rule)
+    (with_letter letter_s (flag_rule (codes "strip")))) (flag_rule (codes "short"))) (flag_rule (codes "trim"))) files_rule).top
+
+-- these options, by which addresses are given
+abbrev pub given_addresses : AddressOptions → App → App
+given_addresses ListOrFile app = with_rule (with_rule app (option_rule (codes "at"))) (option_rule (codes "at-file"))
+given_addresses ListAlone app = with_rule app (required_rule (option_rule (codes "at")))
+
+-- `load [--at LIST] [--at-file FILE] [--srec] [--symbols] FILE`, or `load --at LIST ..`
+abbrev pub load_shape : AddressOptions → Shape
+load_shape options = (with_rule (with_rule (with_rule
+    (given_addresses options (new_app (codes "load"))) (flag_rule (codes "srec"))) (flag_rule (codes "symbols"))) file_rule).top
+
+-- `image [--at LIST] [--at-file FILE] [--srec] FILE...`, or `image --at LIST ..`
+abbrev pub image_shape : AddressOptions → Shape
+image_shape options = (with_rule (with_rule
+    (given_addresses options (new_app (codes "image"))) (flag_rule (codes "srec"))) files_rule).top
+
+-- the program, which has a version, requires a subcommand, and has none called `help`
+abbrev pub bare_shape : Shape
+bare_shape = record (new_app (codes "amihunk")).top {
+  has_version = true;
+  subcommand_required = true;
+  disable_help_subcommand = true;
+}
+
+-- a subcommand of this name, whose only argument is FILE
+abbrev pub file_shape : Text → Shape
+file_shape name = (with_rule (new_app name) file_rule).top
+
+-- `survey FILE...`
+abbrev pub survey_shape : Shape
+survey_shape = (with_rule (new_app (codes "survey")) files_rule).top
+
+-- the command line that takes addresses by these options
+abbrev pub line_of : AddressOptions → App
+line_of options = with_subcommand (with_subcommand (with_subcommand (with_subcommand (with_subcommand (with_subcommand
+    (record { top = bare_shape; subs = [] }) link_shape) (load_shape options)) (image_shape options))
+    (file_shape (codes "check"))) (file_shape (codes "show"))) survey_shape
+
+-- the command line that the program accepts; of `--at` and `--at-file` it wants one, which no rule of
+-- `clap` says
+abbrev pub command_line : App
+command_line = line_of ListOrFile

@@ -1,0 +1,225 @@
+//! The command line that the program accepts, as `clap` is told of it.
+ghost use Rattle.std.specs.Prelude.{◌≡◌, IfOk, codes, false};
+ghost use Rattle.clap.specs.Words.{app_of, rule_of, shape_of};
+ghost use Rattle.clap.specs.declared.builder.command.Command.TheViews.{out-Command};
+ghost use Rattle.amihunk.specs.Syntax.{file_rule, file_shape, files_rule, flag_rule, given_addresses, image_shape};
+ghost use Rattle.amihunk.specs.Syntax.{line_of, link_shape, load_shape, option_rule, out_rule, survey_shape};
+
+use clap::{Arg, ArgAction, Command};
+use hunk_commands::VERSION;
+use std::alloc::{AllocError, Global};
+
+/// The options by which addresses may be given.
+#[derive(Clone, Copy, Debug, PartialEq, Eq)]
+pub enum AddressOptions {
+    /// `--at LIST` or `--at-file FILE`.
+    ListOrFile,
+    /// `--at LIST` alone, which is required.
+    ListAlone,
+}
+
+/// The command line that the program accepts.
+pub fn command<'a>(alloc: Global, options: AddressOptions) -> Result<Command<'a>, AllocError>
+    ensures { IfOk result (λ c. app_of c ≡ line_of options) }
+{
+    Command::new(alloc, "amihunk")
+        .about("An Amiga hunk linker and loader")
+        .version(VERSION)
+        .disable_help_subcommand(true)
+        .subcommand_required(true)
+        .subcommand(link_command(alloc)?)?
+        .subcommand(load_command(alloc, options)?)?
+        .subcommand(image_command(alloc, options)?)?
+        .subcommand(check_command(alloc)?)?
+        .subcommand(show_command(alloc)?)?
+        .subcommand(survey_command(alloc)?)
+}
+
+/// The subcommand `link --out OUT [--strip] [--short] [--trim] FILE...`, where `-o` is `--out`, and
+/// `-s` is `--strip`.
+fn link_command<'a>(alloc: Global) -> Result<Command<'a>, AllocError>
+    ensures shape { IfOk result (λ c. shape_of c ≡ link_shape) }
+    ensures local { IfOk result (λ c. (out-Command c).has_globals ≡ false) }
+{
+    Command::new(alloc, "link")
+        .about("Links object files, and writes the load file")
+        .after_help(help::LINK)
+        .arg(out_argument(alloc))?
+        .arg(flag(alloc, "strip", "Leaves out symbols and debug blocks").short('s'))?
+        .arg(flag(
+            alloc,
+            "short",
+            "Writes the short form, with relocations in 16-bit lists where they fit",
+        ))?
+        .arg(flag(
+            alloc,
+            "trim",
+            "Leaves out zero longwords at the end of each hunk",
+        ))?
+        .arg(files_argument(alloc, "Object files, in the order of linking"))
+}
+
+/// The argument `--out OUT` or `-o OUT`, which is required.
+fn out_argument<'a>(alloc: Global) -> Arg<'a>
+    ensures rule { rule_of result ≡ out_rule }
+    ensures local { result.global ≡ false }
+{
+    option(alloc, "out", "OUT", "The load file to write")
+        .short('o')
+        .required(true)
+}
+
+/// The flag `--NAME`.
+fn flag<'a>(alloc: Global, name: &'a str, help: &'a str) -> Arg<'a>
+    ensures rule { rule_of result ≡ flag_rule name.now }
+    ensures local { result.global ≡ false }
+{
+    Arg::new(alloc, name)
+        .long(name)
+        .action(ArgAction::SetTrue)
+        .help(help)
+}
+
+/// The flag `--srec`.
+fn srec_flag<'a>(alloc: Global) -> Arg<'a>
+    ensures rule { rule_of result ≡ flag_rule (codes "srec") }
+    ensures local { result.global ≡ false }
+{
+    let help = "Prints Motorola S-records in place of the report";
+    flag(alloc, "srec", help)
+}
+
+/// The subcommand `load --at LIST [--srec] [--symbols] FILE`, or with `--at-file FILE` in place of
+/// `--at LIST`. No rule of `clap` keeps the two flags apart, and none the two options: the command line
+/// is judged after the parse.
+pub fn load_command<'a>(alloc: Global, options: AddressOptions) -> Result<Command<'a>, AllocError>
+    ensures shape { IfOk result (λ c. shape_of c ≡ load_shape options) }
+    ensures local { IfOk result (λ c. (out-Command c).has_globals ≡ false) }
+{
+    let load = Command::new(alloc, "load")
+        .about("Loads a file at addresses, and prints the bytes of its hunks")
+        .after_help(help::LOAD);
+    with_addresses(alloc, load, options, help::LOAD_USAGE)?
+        .arg(srec_flag(alloc))?
+        .arg(flag(
+            alloc,
+            "symbols",
+            "Prints the address of each symbol in place of the report",
+        ))?
+        .arg(file_argument(alloc, "A load file"))
+}
+
+/// The subcommand `image --at LIST [--srec] FILE...`, or with `--at-file FILE` in place of `--at LIST`.
+pub fn image_command<'a>(alloc: Global, options: AddressOptions) -> Result<Command<'a>, AllocError>
+    ensures shape { IfOk result (λ c. shape_of c ≡ image_shape options) }
+    ensures local { IfOk result (λ c. (out-Command c).has_globals ≡ false) }
+{
+    let image = Command::new(alloc, "image")
+        .about("Links object files at addresses, and prints the bytes of their hunks")
+        .after_help(help::IMAGE);
+    with_addresses(alloc, image, options, help::IMAGE_USAGE)?
+        .arg(srec_flag(alloc))?
+        .arg(files_argument(alloc, "Object files, in the order of linking"))
+}
+
+/// A subcommand that is given addresses by these options.
+fn with_addresses<'a>(
+    alloc: Global,
+    command: Command<'a>,
+    options: AddressOptions,
+    usage: &'a str,
+) -> Result<Command<'a>, AllocError>
+    ensures shape { IfOk result (λ c. app_of c ≡ given_addresses options (app_of command.entry)) }
+    ensures local { (out-Command command.entry).has_globals ≡ false → IfOk result (λ c. (out-Command c).has_globals ≡ false) }
+{
+    match options {
+        AddressOptions::ListAlone => command.arg(list_argument(alloc).required(true)),
+        AddressOptions::ListOrFile => command
+            .override_usage(usage)
+            .arg(list_argument(alloc))?
+            .arg(addresses_argument(alloc)),
+    }
+}
+
+/// The subcommand `check FILE`.
+fn check_command<'a>(alloc: Global) -> Result<Command<'a>, AllocError>
+    ensures shape { IfOk result (λ c. shape_of c ≡ file_shape (codes "check")) }
+    ensures local { IfOk result (λ c. (out-Command c).has_globals ≡ false) }
+{
+    Command::new(alloc, "check")
+        .about("Checks a file, and prints which kind it is and how many units and hunks it has")
+        .after_help(help::CHECK)
+        .arg(file_argument(alloc, "An object file or a load file"))
+}
+
+/// The subcommand `show FILE`.
+fn show_command<'a>(alloc: Global) -> Result<Command<'a>, AllocError>
+    ensures shape { IfOk result (λ c. shape_of c ≡ file_shape (codes "show")) }
+    ensures local { IfOk result (λ c. (out-Command c).has_globals ≡ false) }
+{
+    Command::new(alloc, "show")
+        .about("Prints a listing of the units and hunks of a file, and of what is in them")
+        .after_help(help::SHOW)
+        .arg(file_argument(alloc, "An object file or a load file"))
+}
+
+/// The subcommand `survey FILE...`.
+fn survey_command<'a>(alloc: Global) -> Result<Command<'a>, AllocError>
+    ensures shape { IfOk result (λ c. shape_of c ≡ survey_shape) }
+    ensures local { IfOk result (λ c. (out-Command c).has_globals ≡ false) }
+{
+    Command::new(alloc, "survey")
+        .about("Tells of each file what it is, and how many there are of each kind")
+        .after_help(help::SURVEY)
+        .arg(files_argument(alloc, "Object files, load files and any others"))
+}
+
+/// The argument `--at LIST`.
+fn list_argument<'a>(alloc: Global) -> Arg<'a>
+    ensures rule { rule_of result ≡ option_rule (codes "at") }
+    ensures local { result.global ≡ false }
+{
+    let help = "The address of each hunk, in hexadecimal, with commas between";
+    option(alloc, "at", "LIST", help)
+}
+
+/// The argument `--at-file FILE`.
+fn addresses_argument<'a>(alloc: Global) -> Arg<'a>
+    ensures rule { rule_of result ≡ option_rule (codes "at-file") }
+    ensures local { result.global ≡ false }
+{
+    let help = "A file with these addresses, with commas, spaces or line ends between";
+    option(alloc, "at-file", "FILE", help)
+}
+
+/// The argument `--NAME VALUE`.
+fn option<'a>(alloc: Global, name: &'a str, value: &'a str, help: &'a str) -> Arg<'a>
+    ensures rule { rule_of result ≡ option_rule name.now }
+    ensures local { result.global ≡ false }
+{
+    Arg::new(alloc, name)
+        .long(name)
+        .value_name(value)
+        .help(help)
+}
+
+/// The argument FILE, for one file.
+fn file_argument<'a>(alloc: Global, help: &'a str) -> Arg<'a>
+    ensures rule { rule_of result ≡ file_rule }
+    ensures local { result.global ≡ false }
+{
+    Arg::new(alloc, "file")
+        .value_name("FILE")
+        .required(true)
+        .help(help)
+}
+
+/// The arguments FILE..., for one file or more.
+fn files_argument<'a>(alloc: Global, help: &'a str) -> Arg<'a>
+    ensures rule { rule_of result ≡ files_rule }
+    ensures local { result.global ≡ false }
+{
+    file_argument(alloc, help).num_args(1..)
+}
+
+mod help;
