@@ -11,10 +11,10 @@ use std::process::Abort;
 use std::test::Fail;
 
 /// Where the hunks of most cases are placed.
-pub(crate) const BASES: [u32; 2] = [0x0001_0000, 0x0002_0000];
+pub(crate) static BASES: [u32; 2] = [0x0001_0000, 0x0002_0000];
 
 // Bytes per read and per write: all at once, or in pieces.
-const PIECES: [usize; 4] = [4096, 1, 3, 5];
+static PIECES: [usize; 4] = [4096, 1, 3, 5];
 
 /// Object files that link.
 #[derive(Clone, Copy)]
@@ -42,7 +42,7 @@ pub(crate) fn becomes(rt: &impl Abort, alloc: Global, case: &Case<'_>) -> Result
         runs_to(rt, alloc, case, most)?;
         writes(rt, alloc, objects, Run::Image { bases }, most, report)?;
     }
-    for options in CHOICES {
+    for &options in &CHOICES {
         loads_alike(rt, alloc, case, options)?;
     }
     Ok(())

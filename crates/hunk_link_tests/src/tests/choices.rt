@@ -59,7 +59,7 @@ pub(crate) const STRIP_SHORT_TRIM: LinkOptions = LinkOptions {
 };
 
 /// Every choice. Those that trim come last, each in the place of the one that does the rest alone.
-pub(crate) const CHOICES: [LinkOptions; 8] = [
+pub(crate) static CHOICES: [LinkOptions; 8] = [
     PLAIN,
     STRIP,
     SHORT,

@@ -111,7 +111,7 @@ fn tells_what_a_writer_took(rt: HostRuntime) -> Result<(), Fail> {
 
 #[test]
 fn tells_what_a_writer_took_with_every_choice(rt: HostRuntime) -> Result<(), Fail> {
-    for (options, words) in FORMS {
+    for &(options, words) in &FORMS {
         let linked = bytes_of(rt.alloc(), words)?;
         let link = Run::Link { options };
         fails_at_each_byte(&rt, rt.alloc(), &[&ZEROS_LAST], link, &linked)?;

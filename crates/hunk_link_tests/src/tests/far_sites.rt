@@ -24,7 +24,7 @@ const NEXT_SIZE: u32 = 4;
 const PIECE: usize = 4096;
 
 // Where the two hunks are placed.
-const FAR_BASES: [u32; 2] = [0x0010_0000, 0x0020_0000];
+static FAR_BASES: [u32; 2] = [0x0010_0000, 0x0020_0000];
 
 // Sites of the first hunk, and what the load file has of them.
 #[derive(Clone, Copy)]

@@ -9,7 +9,7 @@ use std::test::Fail;
 
 /// Three hunks that end with zeros: code with a site that lies across two longwords, data with two
 /// sites, and data without a site. The sites of the second hunk have targets in descending order.
-pub(crate) const ZEROS_LAST: [u32; 44] = [
+pub(crate) static ZEROS_LAST: [u32; 44] = [
     0x3E7, 0, //
     0x3E9, 4, 0x4E714E71, 0, 0, 0, 0x3EC, 1, 0, 6, 0, //
     0x3F0, 1, 0x6C6F6F70, 2, 0, 0x3F2, //
@@ -19,7 +19,7 @@ pub(crate) const ZEROS_LAST: [u32; 44] = [
 ];
 
 /// Where its hunks are placed.
-pub(crate) const FORM_BASES: [u32; 4] = [0x0001_0000, 0x0002_0000, 0x0003_0000, 0x0004_0000];
+pub(crate) static FORM_BASES: [u32; 4] = [0x0001_0000, 0x0002_0000, 0x0003_0000, 0x0004_0000];
 
 /// Their memory there.
 pub(crate) const FORM_REPORT: &str = "hunk 0 at 00010000 size 16\n\
@@ -35,7 +35,7 @@ pub(crate) const FORM_REPORT: &str = "hunk 0 at 00010000 size 16\n\
 ///
 /// The relocations of the first hunk are four words in the short form. Those of the second one are
 /// seven, and one more that fills the last longword.
-pub(crate) const FORMS: [(LinkOptions, &[u32]); 8] = [
+pub(crate) static FORMS: [(LinkOptions, &[u32]); 8] = [
     (
         PLAIN,
         &[
@@ -124,7 +124,7 @@ pub(crate) const FORMS: [(LinkOptions, &[u32]); 8] = [
 
 #[test]
 fn writes_the_load_file_of_every_choice(rt: HostRuntime) -> Result<(), Fail> {
-    for (options, linked) in FORMS {
+    for &(options, linked) in &FORMS {
         let case = Case {
             objects: &[&ZEROS_LAST],
             options,

@@ -18,7 +18,7 @@ const MOST_ALLOCATIONS: u64 = 16;
 
 // The longwords of a load file: code with zeros after its content, among them the address of the
 // second hunk; data with the address of the first one; and zeros alone.
-const WORDS: [u32; 29] = [
+static WORDS: [u32; 29] = [
     0x3F3, 0, 3, 0, 2, 3, 1, 2, //
     0x3E9, 1, 0x4E714E75, 0x3EC, 1, 1, 8, 0, 0x3F2, //
     0x3EA, 1, 8, 0x3EC, 1, 0, 0, 0, 0x3F2, //
@@ -26,10 +26,10 @@ const WORDS: [u32; 29] = [
 ];
 
 // Where its hunks are loaded.
-const BASES: [u32; 3] = [0x0001_0000, 0x0002_0000, 0x0003_0000];
+static BASES: [u32; 3] = [0x0001_0000, 0x0002_0000, 0x0003_0000];
 
 // Their bytes there.
-const MEMORY: [&[u8]; 3] = [
+static MEMORY: [&[u8]; 3] = [
     &[0x4E, 0x71, 0x4E, 0x75, 0, 0, 0, 0, 0, 2, 0, 0],
     &[0, 1, 0, 8],
     &[0; 8],

@@ -138,7 +138,7 @@ fn refuses_each_growth_of_a_run(rt: HostRuntime) -> Result<(), Fail> {
 #[test]
 fn refuses_each_growth_with_every_choice(rt: HostRuntime) -> Result<(), Fail> {
     let mut counts = Vec::new(rt.alloc());
-    for (options, words) in FORMS {
+    for &(options, words) in &FORMS {
         let text = bytes_of(rt.alloc(), words)?;
         for run in [Run::Link { options }, Run::LinkToVec { options }] {
             let job = Job {
@@ -212,7 +212,7 @@ fn refuses_each_growth_of_a_link_and_a_load(rt: HostRuntime) -> Result<(), Fail>
         text: &text,
     };
     loads_once_none_fails(&rt, rt.alloc(), job, &BASES, REPORT.as_bytes())?;
-    for (options, words) in FORMS {
+    for &(options, words) in &FORMS {
         let text = bytes_of(rt.alloc(), words)?;
         let job = Job {
             objects: &[&ZEROS_LAST],

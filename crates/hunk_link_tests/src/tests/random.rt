@@ -98,7 +98,7 @@ fn links_units_made_at_random(rt: HostRuntime) -> Result<(), Fail> {
         let units = dice.roll(4).saturating_add(1) as usize;
         let plans = made_plans(rt.alloc(), &mut dice, units)?;
         let words = object_words(rt.alloc(), 0, units, &plans)?;
-        for options in CHOICES {
+        for &options in &CHOICES {
             let wanted = plain_link(rt.alloc(), &plans, options);
             tally.count(&wanted);
             links_to(&rt, rt.alloc(), &[&words], options, wanted.as_deref())?;

@@ -1,37 +1,37 @@
 //! The longwords of object files.
 
 /// Its hunk refers to `foo`.
-pub(crate) const REFERS: [u32; 13] = [
+pub(crate) static REFERS: [u32; 13] = [
     0x3E7, 0, 0x3E9, 2, 0x4EB90000, 0x00004E75, //
     0x3EF, 0x81000001, 0x666F6F00, 1, 2, 0, 0x3F2,
 ];
 
 /// Its hunk defines `foo` as an offset.
-pub(crate) const DEFINES: [u32; 12] = [
+pub(crate) static DEFINES: [u32; 12] = [
     0x3E7, 0, 0x3E9, 2, 0x4E714E71, 0x4E754E71, //
     0x3EF, 0x01000001, 0x666F6F00, 4, 0, 0x3F2,
 ];
 
 /// Its hunk defines `foo` as a number.
-pub(crate) const DEFINES_NUMBER: [u32; 12] = [
+pub(crate) static DEFINES_NUMBER: [u32; 12] = [
     0x3E7, 0, 0x3E9, 2, 0x4E714E71, 0x4E754E71, //
     0x3EF, 0x02000001, 0x666F6F00, 0xFFFFFFFF, 0, 0x3F2,
 ];
 
 /// Its first hunk has the address of its second one.
-pub(crate) const ADDRESS: [u32; 14] = [
+pub(crate) static ADDRESS: [u32; 14] = [
     0x3E7, 0, 0x3E9, 1, 8, 0x3EC, 1, 1, 0, 0, 0x3F2, //
     0x3EB, 4, 0x3F2,
 ];
 
 /// The same with the address of a hunk that it does not have.
-pub(crate) const FOREIGN: [u32; 14] = [
+pub(crate) static FOREIGN: [u32; 14] = [
     0x3E7, 0, 0x3E9, 1, 8, 0x3EC, 1, 2, 0, 0, 0x3F2, //
     0x3EB, 4, 0x3F2,
 ];
 
 /// A unit as an assembler writes it, with names, a symbol, and a debug block.
-pub(crate) const ASSEMBLED: [u32; 32] = [
+pub(crate) static ASSEMBLED: [u32; 32] = [
     0x3E7, 1, 0x74657374, 0x3E8, 1, 0x434F4445, //
     0x3E9, 2, 0x4EB90000, 0x00004E75, 0x3EC, 1, 1, 2, 0, //
     0x3EF, 0x01000001, 0x6D61696E, 0, 0, //
@@ -40,7 +40,7 @@ pub(crate) const ASSEMBLED: [u32; 32] = [
 ];
 
 /// `examples/main.o`: code that calls `print`, with the address of a text in its second hunk.
-pub(crate) const EXAMPLE_MAIN: [u32; 32] = [
+pub(crate) static EXAMPLE_MAIN: [u32; 32] = [
     0x3E7, 1, 0x6D61696E, //
     0x3E9, 4, 0x41F90000, 0x00004EB9, 0, 0x4E754E71, 0x3EC, 1, 1, 2, 0, //
     0x3EF, 0x01000001, 0x6D61696E, 0, 0x81000002, 0x7072696E, 0x74000000, 1, 8, 0, 0x3F2, //
@@ -48,7 +48,7 @@ pub(crate) const EXAMPLE_MAIN: [u32; 32] = [
 ];
 
 /// `examples/library.o`: it defines `print`, which copies a text into chip memory.
-pub(crate) const EXAMPLE_LIBRARY: [u32; 40] = [
+pub(crate) static EXAMPLE_LIBRARY: [u32; 40] = [
     0x3E7, 2, 0x6C696272, 0x61727900, //
     0x3E9, 5, 0x42390000, 0x00004E75, 0x43F90000, 0x000012D8, 0x66FC4E75, //
     0x3EC, 2, 1, 2, 10, 0, //
@@ -58,24 +58,24 @@ pub(crate) const EXAMPLE_LIBRARY: [u32; 40] = [
 ];
 
 /// A unit without hunks.
-pub(crate) const NO_HUNKS: [u32; 2] = [0x3E7, 0];
+pub(crate) static NO_HUNKS: [u32; 2] = [0x3E7, 0];
 
 /// The load file of the first two units.
-pub(crate) const LINKED: [u32; 22] = [
+pub(crate) static LINKED: [u32; 22] = [
     0x3F3, 0, 2, 0, 1, 2, 2, //
     0x3E9, 2, 0x4EB90000, 0x00044E75, 0x3EC, 1, 1, 2, 0, 0x3F2, //
     0x3E9, 2, 0x4E714E71, 0x4E754E71, 0x3F2,
 ];
 
 /// The same with relocations in 16-bit words.
-pub(crate) const LINKED_SHORT: [u32; 20] = [
+pub(crate) static LINKED_SHORT: [u32; 20] = [
     0x3F3, 0, 2, 0, 1, 2, 2, //
     0x3E9, 2, 0x4EB90000, 0x00044E75, 0x3FC, 0x00010001, 0x00020000, 0x3F2, //
     0x3E9, 2, 0x4E714E71, 0x4E754E71, 0x3F2,
 ];
 
 /// The load file of the assembler's unit.
-pub(crate) const LINKED_ALONE: [u32; 28] = [
+pub(crate) static LINKED_ALONE: [u32; 28] = [
     0x3F3, 0, 2, 0, 1, 2, 0x40000002, //
     0x3E9, 2, 0x4EB90000, 0x00004E75, 0x3EC, 1, 1, 2, 0, //
     0x3F0, 1, 0x6C6F6F70, 6, 0, 0x3F1, 1, 0x12345678, 0x3F2, //
@@ -83,14 +83,14 @@ pub(crate) const LINKED_ALONE: [u32; 28] = [
 ];
 
 /// The same without symbols and debug blocks.
-pub(crate) const STRIPPED: [u32; 20] = [
+pub(crate) static STRIPPED: [u32; 20] = [
     0x3F3, 0, 2, 0, 1, 2, 0x40000002, //
     0x3E9, 2, 0x4EB90000, 0x00004E75, 0x3EC, 1, 1, 2, 0, 0x3F2, //
     0x3EB, 2, 0x3F2,
 ];
 
 /// The same with relocations in 16-bit words.
-pub(crate) const SMALLEST_ALONE: [u32; 18] = [
+pub(crate) static SMALLEST_ALONE: [u32; 18] = [
     0x3F3, 0, 2, 0, 1, 2, 0x40000002, //
     0x3E9, 2, 0x4EB90000, 0x00004E75, 0x3FC, 0x00010001, 0x00020000, 0x3F2, //
     0x3EB, 2, 0x3F2,
