@@ -1,0 +1,3 @@
+pub mod ListsLemmas
+pub mod PartsLemmas
+pub mod TextLemmas

@@ -1,0 +1,11 @@
+-- The sites so far are in the array.
+use Rattle.hunk_json.specs.FileJson.{hunk_site_json}
+use Rattle.hunk_json.proofs.ListsLemmas.{Shown}
+use Rattle.hunk_json.proofs.load.sites_json.Given as goal
+
+abbrev pub invariant-loop-offset : goal.invariant-loop-offset
+invariant-loop-offset g l = record {
+  can_next : (goal.iterator-loop-offset g).can_next l.offset-iterator;
+  is_finite : (goal.iterator-loop-offset g).is_finite l.offset-iterator;
+  shown : Shown hunk_site_json l.items.items l.offset-iterator l.sites.entries;
+}

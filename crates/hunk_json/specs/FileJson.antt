@@ -1,0 +1,124 @@
+-- What a hunk file is as one JSON value. The members of an object stand in the order of their keys.
+use Rattle.std.specs.Prelude.{ℕ, ◌/◌, List, [], ◌∷◌, Bool, true, false, if◌then◌else◌, length, map, get_or, codes}
+use Rattle.std.specs.Str.{is_utf8}
+use Rattle.serde_json.specs.Data.{Data, boolean, number, unsigned, string, array, object, Members, no_members, member}
+use Rattle.serde_json.specs.View.{items_of}
+use Rattle.hunk_words.specs.declared.kinds.HunkKind.{HunkKind}
+use Rattle.hunk_words.specs.declared.kinds.HunkKind.TheVariants.{Code, Data as DataHunk, Bss}
+use Rattle.hunk_words.specs.declared.kinds.Memory.{Memory}
+use Rattle.hunk_words.specs.declared.kinds.Memory.TheVariants.{Any, Chip, Fast}
+use Rattle.hunk_objects.specs.ProgramUnit.{ObjectUnit}
+use Rattle.hunk_objects.specs.UnitHunk.{ObjectHunk}
+use Rattle.hunk_objects.specs.declared.unit_hunk.Adds.{Adds}
+use Rattle.hunk_objects.specs.declared.unit_hunk.Adds.TheVariants.{Hunk, Reference}
+use Rattle.hunk_objects.specs.declared.unit_hunk.Definition.{Definition}
+use Rattle.hunk_objects.specs.declared.unit_hunk.Definition.TheVariants.{At, Absolute}
+use Rattle.hunk_loadfile.specs.LoadHunk.{FileHunk}
+
+-- ---- numbers, lists, and objects of named parts
+
+abbrev pub natural : ℕ → Data
+natural n = number (unsigned n)
+
+-- the array of the values of these things
+abbrev pub listed : {T : Type 0} → (T → Data) → List T → Data
+listed value things = array (items_of (map value things))
+
+abbrev pub members_in : List (List ℕ × Data) → Members
+members_in [] = no_members
+members_in (part ∷ parts) = member part.0 part.1 (members_in parts)
+
+-- the object of these keys with these values
+abbrev pub named : List (List ℕ × Data) → Data
+named parts = object (members_in parts)
+
+-- ---- what hunks of either kind of file have
+
+abbrev pub kind_json : HunkKind → Data
+kind_json Code = string (codes "code")
+kind_json DataHunk = string (codes "data")
+kind_json Bss = string (codes "bss")
+
+abbrev pub memory_json : Memory → Data
+memory_json Any = string (codes "any")
+memory_json Chip = string (codes "chip")
+memory_json Fast = string (codes "fast")
+
+-- a text, if the bytes of the name are UTF-8; otherwise these bytes
+abbrev pub name_json : List ℕ → Data
+name_json name = if is_utf8 name then string name else listed natural name
+
+-- the offset of a site, and the hunk whose base is added there
+abbrev pub hunk_site_json : ℕ × ℕ → Data
+hunk_site_json site = named ((codes "hunk", natural site.1) ∷ (codes "offset", natural site.0) ∷ [])
+
+-- a name and a value
+abbrev pub symbol_json : List ℕ × ℕ → Data
+symbol_json symbol = named ((codes "name", name_json symbol.0) ∷ (codes "value", natural symbol.1) ∷ [])
+
+-- a debug block, of which only the number of longwords is told
+abbrev pub debug_json : List ℕ → Data
+debug_json words = natural (length words)
+
+-- ---- load files
+
+-- `stored` is the number of longwords that the file has for the hunk
+abbrev pub load_hunk_json : FileHunk → Data
+load_hunk_json hunk = named (
+    (codes "debugs", listed debug_json hunk.debugs)
+    ∷ (codes "kind", kind_json hunk.kind)
+    ∷ (codes "memory", memory_json hunk.memory)
+    ∷ (codes "sites", listed hunk_site_json hunk.sites.entries)
+    ∷ (codes "size", natural hunk.size)
+    ∷ (codes "stored", natural (length hunk.content / 4))
+    ∷ (codes "symbols", listed symbol_json hunk.symbols)
+    ∷ [])
+
+-- the load file of these hunks
+abbrev pub load_json : List FileHunk → Data
+load_json hunks = named ((codes "hunks", listed load_hunk_json hunks) ∷ (codes "kind", string (codes "load file")) ∷ [])
+
+-- ---- object files
+
+-- the offset of a site, and the name whose value is added there
+abbrev pub name_site_json : ℕ → List ℕ → Data
+name_site_json offset name = named ((codes "name", name_json name) ∷ (codes "offset", natural offset) ∷ [])
+
+-- a site that adds a hunk, or a reference, by its index among those of the same hunk
+abbrev pub adds_json : (references : List (List ℕ)) → (offset : ℕ) → Adds → Data
+adds_json references offset (Hunk hunk) = hunk_site_json (offset, hunk)
+adds_json references offset (Reference index) = name_site_json offset (get_or references index [])
+
+abbrev pub site_json : List (List ℕ) → ℕ × Adds → Data
+site_json references site = adds_json references site.0 site.1
+
+-- an offset in the hunk that defines the name, or a number
+abbrev pub stands_for_json : List ℕ → (absolute : Bool) → ℕ → Data
+stands_for_json name absolute value = named ((codes "absolute", boolean absolute) ∷ (codes "name", name_json name) ∷ (codes "value", natural value) ∷ [])
+
+abbrev pub meaning_json : List ℕ → Definition → Data
+meaning_json name (At offset) = stands_for_json name false offset
+meaning_json name (Absolute value) = stands_for_json name true value
+
+-- a name and what it stands for
+abbrev pub definition_json : List ℕ × Definition → Data
+definition_json definition = meaning_json definition.0 definition.1
+
+abbrev pub unit_hunk_json : ObjectHunk → Data
+unit_hunk_json hunk = named (
+    (codes "debugs", listed debug_json hunk.debugs)
+    ∷ (codes "definitions", listed definition_json hunk.definitions)
+    ∷ (codes "kind", kind_json hunk.kind)
+    ∷ (codes "memory", memory_json hunk.memory)
+    ∷ (codes "name", name_json hunk.name)
+    ∷ (codes "sites", listed (site_json hunk.references) hunk.sites.entries)
+    ∷ (codes "size", natural hunk.size)
+    ∷ (codes "symbols", listed symbol_json hunk.symbols)
+    ∷ [])
+
+abbrev pub unit_json : ObjectUnit → Data
+unit_json unit = named ((codes "hunks", listed unit_hunk_json unit.hunks) ∷ (codes "name", name_json unit.name) ∷ [])
+
+-- the object file of these units
+abbrev pub object_json : List ObjectUnit → Data
+object_json units = named ((codes "kind", string (codes "object file")) ∷ (codes "units", listed unit_json units) ∷ [])

@@ -1,0 +1,67 @@
+//! Load files: their texts, written by hand.
+
+use super::asserts::equals_at;
+use hunk_json::{load_json, load_json_text};
+use hunk_loadfile::{LoadFile, read_load};
+use hunk_test_support::load_words::{TWO_HUNKS, ZEROS};
+use hunk_test_support::{ROOM, bytes_of};
+use hunk_words::Pieces;
+use std::alloc::Global;
+use std::test::Fail;
+
+// Load files and their texts: sites of both kinds of relocation, symbols and debug blocks, and
+// content that is shorter than its hunk; and a hunk of which every list is empty.
+static FILES: [(&[u32], &str); 2] = [
+    (
+        &TWO_HUNKS,
+        "{\"hunks\":[\
+         {\"debugs\":[2],\"kind\":\"code\",\"memory\":\"any\",\
+         \"sites\":[{\"hunk\":1,\"offset\":2},{\"hunk\":0,\"offset\":8}],\
+         \"size\":4,\"stored\":4,\
+         \"symbols\":[{\"name\":\"main\",\"value\":0},{\"name\":\"sub\",\"value\":14}]},\
+         {\"debugs\":[0],\"kind\":\"data\",\"memory\":\"chip\",\
+         \"sites\":[],\"size\":2,\"stored\":1,\"symbols\":[]}\
+         ],\"kind\":\"load file\"}",
+    ),
+    (
+        &ZEROS,
+        "{\"hunks\":[\
+         {\"debugs\":[],\"kind\":\"bss\",\"memory\":\"any\",\
+         \"sites\":[],\"size\":5,\"stored\":0,\"symbols\":[]}\
+         ],\"kind\":\"load file\"}",
+    ),
+];
+
+// The load file of these longwords.
+fn file_of(alloc: Global, words: &[u32]) -> Result<LoadFile, Fail> {
+    let mut reader = Pieces::new(bytes_of(alloc, words, &[])?, ROOM, None);
+    Ok(read_load(alloc, &mut reader)?)
+}
+
+// Where an allocation failed, the text is asked for again: the file is as it was.
+fn text_of(alloc: Global, file: &LoadFile) -> Result<String, Fail> {
+    match load_json_text(alloc, file) {
+        Ok(text) => Ok(text),
+        Err(_) => Ok(load_json_text(alloc, file)?),
+    }
+}
+
+#[test]
+fn writes_load_files(rt: HostRuntime) -> Result<(), Fail> {
+    for (row, (words, wanted)) in FILES.iter().enumerate() {
+        let file = file_of(rt.alloc(), words)?;
+        let text = text_of(rt.alloc(), &file)?;
+        equals_at(&rt, row, text.as_str(), wanted);
+    }
+    Ok(())
+}
+
+#[test]
+fn gives_load_files_as_values(rt: HostRuntime) -> Result<(), Fail> {
+    for (row, (words, wanted)) in FILES.iter().enumerate() {
+        let value = load_json(rt.alloc(), &file_of(rt.alloc(), words)?)?;
+        let text = value.to_string(rt.alloc())?;
+        equals_at(&rt, row, text.as_str(), wanted);
+    }
+    Ok(())
+}
