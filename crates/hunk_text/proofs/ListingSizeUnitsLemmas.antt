@@ -109,7 +109,7 @@ printable-value : (t : ObjectTree) (ws : List ℕ) → IsFileOf Object t ws → 
 printable-value t ws file =
     printable-units (object_value t) (long_count (object_spelling t)) (omega (arith, long_count-le None (object_spelling t), ap length file.spelled, file.short_enough)) (ended-object t file.fits)
 
-printable-object : (units : List ObjectUnit) (bytes : List ℕ) → IsObjectOf units bytes → ArePrintable units
+pub printable-object : (units : List ObjectUnit) (bytes : List ℕ) → IsObjectOf units bytes → ArePrintable units
 printable-object units bytes file = subst ArePrintable file.is_object.value (printable-value file.is_object.tree (longwords bytes) file.is_object.is_file)
 
 -- The numbers of units and hunks in the first line have at most 64 bits.

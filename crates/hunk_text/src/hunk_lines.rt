@@ -12,8 +12,14 @@ use crate::quoted_name::write_around_name;
 use hunk_words::{HunkKind, Memory, Name, Sink, WriteFault};
 use std::alloc::Allocator;
 
-/// Writes how the line of a hunk begins: its number, its kind, its memory and its size in longwords.
-pub(crate) fn write_hunk_front<W: Sink>(
+/// Writes how the line of a hunk begins, after `written` bytes of a text: its number, its kind, its
+/// memory and its size in longwords. Returns the number of bytes written after that.
+///
+/// # Errors
+///
+/// [`WriteFault::Device`] if a write failed or took no byte, with the number of bytes of the text
+/// that were written.
+pub fn write_hunk_front<W: Sink>(
     writer: &mut W,
     written: u64,
     number: u64,

@@ -12,7 +12,7 @@
 
 pub mod digits;
 pub mod first_line;
-mod hunk_lines;
+pub mod hunk_lines;
 pub mod laws;
 pub mod load_listing;
 pub mod object_listing;
@@ -21,7 +21,8 @@ pub mod quoted_name;
 
 pub use digits::Digits;
 pub use first_line::{write_load_line, write_object_line};
+pub use hunk_lines::write_hunk_front;
 pub use load_listing::write_load_listing;
-pub use object_listing::write_object_listing;
+pub use object_listing::{write_definitions, write_object_listing};
 pub use printing::write_pieces;
 pub use quoted_name::{write_around_name, write_quoted};

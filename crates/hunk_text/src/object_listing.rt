@@ -201,8 +201,14 @@ fn name_at<A: Allocator + Copy>(names: &[Name<A>], index: u32) -> &[u8]
     }
 }
 
-/// Writes a line for each definition.
-fn write_definitions<A: Allocator + Copy, W: Sink>(
+/// Writes a line for each definition, in their order, after `written` bytes of a text, and returns the
+/// number of bytes written after that.
+///
+/// # Errors
+///
+/// [`WriteFault::Device`] if a write failed or took no byte, with the number of bytes of the text
+/// that were written.
+pub fn write_definitions<A: Allocator + Copy, W: Sink>(
     writer: &mut W,
     written: u64,
     definitions: &[(Name<A>, Definition)],
