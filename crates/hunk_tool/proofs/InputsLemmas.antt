@@ -31,13 +31,20 @@ AreObjects-more (file ∷ files) bytes units more are is = (
   ap (λ (all : List ObjectUnit). all ++ more) are.4 ∙ append_assoc are.0 are.1 more,
 )
 
--- One more input is an object file.
-HaveRead-more : (inputs : List Input) (input : Input) (units more : List ObjectUnit) → HaveRead inputs (λ files. AreObjects files units) → HasRead input.left input.left_then (IsObjectOf more) → IsTrue input.ended
-    → HaveRead (inputs ++ input ∷ []) (λ files. AreObjects files (units ++ more))
-HaveRead-more inputs input units more have has ended = record {
+length-WereRead : (inputs : List Input) (files : List (List ℕ)) → WereRead inputs files → length files ≡ length inputs
+length-WereRead [] [] were = refl
+length-WereRead [] (file ∷ files) were = absurd were
+length-WereRead (input ∷ inputs) [] were = absurd were
+length-WereRead (input ∷ inputs) (file ∷ files) were = omega (arith, length-WereRead inputs files were.1)
+
+-- One more input was read, and what holds with it is known.
+HaveRead-more : (inputs : List Input) (input : Input) (P Q : List (List ℕ) → Type 0) (Holds : List ℕ → Type 0)
+    → ((files : List (List ℕ)) (bytes : List ℕ) → length files ≡ length inputs → P files → Holds bytes → Q (files ++ bytes ∷ []))
+    → HaveRead inputs P → HasRead input.left input.left_then Holds → IsTrue input.ended → HaveRead (inputs ++ input ∷ []) Q
+HaveRead-more inputs input P Q Holds more have has ended = record {
   files = have.files ++ has.bytes ∷ [];
   were_read = WereRead-more inputs have.files input has.bytes have.were_read (record { consumed = has.consumed; ended = ended });
-  holds = AreObjects-more have.files has.bytes units more have.holds has.holds;
+  holds = more have.files has.bytes (length-WereRead inputs have.files have.were_read) have.holds has.holds;
 }
 
 -- ---- the readers, of which the inputs are told
@@ -71,17 +78,30 @@ rest_more olds nows count reader within same rest =
 -- ---- one more
 
 -- The reader with this number has been read too: it was one of the others.
-pub HaveRead-first : {R : Type 0} (left : R → Option (List ℕ)) (failed ended : R → Bool) (olds nows : List R) (count : ℕ) (reader new : R) (units more : List ObjectUnit)
+pub HaveRead-next : {R : Type 0} (left : R → Option (List ℕ)) (failed ended : R → Bool) (olds nows : List R) (count : ℕ) (reader new : R) (P Q : List (List ℕ) → Type 0) (Holds : List ℕ → Type 0)
+    → ((files : List (List ℕ)) (bytes : List ℕ) → length files ≡ count → P files → Holds bytes → Q (files ++ bytes ∷ []))
     → count < length olds → length nows ≡ length olds → drop count nows ≡ drop count olds
-    → HaveRead (inputs_of left failed ended (take count olds) (take count nows)) (λ files. AreObjects files units) → HasRead (left (get_or nows count reader)) (left new) (IsObjectOf more) → IsTrue (ended new)
-    → HaveRead (inputs_of left failed ended (take (count + 1) olds) (take (count + 1) (set nows count new))) (λ files. AreObjects files (units ++ more))
-HaveRead-first {R = R} left failed ended olds nows count reader new units more within same rest have has at_end =
+    → HaveRead (inputs_of left failed ended (take count olds) (take count nows)) P → HasRead (left (get_or nows count reader)) (left new) Holds → IsTrue (ended new)
+    → HaveRead (inputs_of left failed ended (take (count + 1) olds) (take (count + 1) (set nows count new))) Q
+HaveRead-next {R = R} left failed ended olds nows count reader new P Q Holds more within same rest have has at_end =
     let old : R = get_or nows count reader in
     let input : Input = record { left = left old; left_then = left new; failed = failed new; ended = ended new } in
     let old_is : take (count + 1) olds ≡ take count olds ++ old ∷ [] = let was = take_more olds count reader within in let e = same_reader olds nows count reader within same rest in cc in
     let inputs_are : inputs_of left failed ended (take count olds ++ old ∷ []) (take count nows ++ new ∷ []) ≡ inputs_of left failed ended (take count olds) (take count nows) ++ input ∷ [] =
     inputs_of-append left failed ended (take count olds) (take count nows) (old ∷ []) (new ∷ []) (omega (arith, length-take count olds, length-take count nows)) in
-    rw (old_is, take_more_set nows count new (omega arith), inputs_are) (HaveRead-more (inputs_of left failed ended (take count olds) (take count nows)) input units more have has at_end)
+    let counted : length (inputs_of left failed ended (take count olds) (take count nows)) ≡ count =
+    omega (arith, length-inputs_of left failed ended (take count olds) (take count nows), length-take count olds, length-take count nows) in
+    rw (old_is, take_more_set nows count new (omega arith), inputs_are)
+    (HaveRead-more (inputs_of left failed ended (take count olds) (take count nows)) input P Q Holds (λ files bytes all. more files bytes (all ∙ counted)) have has at_end)
+
+-- It is an object file.
+pub HaveRead-first : {R : Type 0} (left : R → Option (List ℕ)) (failed ended : R → Bool) (olds nows : List R) (count : ℕ) (reader new : R) (units more : List ObjectUnit)
+    → count < length olds → length nows ≡ length olds → drop count nows ≡ drop count olds
+    → HaveRead (inputs_of left failed ended (take count olds) (take count nows)) (λ files. AreObjects files units) → HasRead (left (get_or nows count reader)) (left new) (IsObjectOf more) → IsTrue (ended new)
+    → HaveRead (inputs_of left failed ended (take (count + 1) olds) (take (count + 1) (set nows count new))) (λ files. AreObjects files (units ++ more))
+HaveRead-first left failed ended olds nows count reader new units more =
+    HaveRead-next left failed ended olds nows count reader new (λ files. AreObjects files units) (λ files. AreObjects files (units ++ more)) (IsObjectOf more)
+    (λ files bytes counted are is. AreObjects-more files bytes units more are is)
 
 -- ---- the first that is not read
 

@@ -26,3 +26,6 @@ pub mod NameLengthLemmas
 pub mod IsOfInputsLemmas
 pub mod PartDigitsLemmas
 pub mod RanksLemmas
+pub mod ObjectFilesLemmas
+pub mod MapLemmas
+pub mod OriginsLemmas

@@ -22,4 +22,6 @@ pub mod Inputs
 pub mod LinkOptions
 pub mod Link
 pub mod Image
+pub mod ObjectFiles
+pub mod Map
 pub mod Headline

@@ -12,6 +12,8 @@
 //! - `inputs`: the object files that an operation reads.
 //! - `link`: links object files and writes the load file.
 //! - `link_options`: how object files are linked, and how their load file is written.
+//! - `object_files`: the units of object files, with their places.
+//! - `map`: the map of a link: where each hunk is from.
 //! - `image`: writes the memory that object files define.
 //! - `load`: loads a file and writes its image.
 //! - `symbols`: writes the symbols of a load file with their addresses.
@@ -45,6 +47,8 @@ pub mod link;
 mod link_line;
 pub mod link_options;
 pub mod load;
+pub mod map;
+pub mod object_files;
 mod part_digits;
 pub mod phrase;
 mod record;
@@ -65,6 +69,8 @@ pub use image_form::ImageForm;
 pub use link::{link_inputs, link_run, link_to_vec};
 pub use link_options::LinkOptions;
 pub use load::{load_run, load_run_with};
+pub use map::{link_files, write_map};
+pub use object_files::ObjectFiles;
 pub use phrase::Phrase;
 pub use show::show_run;
 pub use survey::{Finding, survey_file, survey_status, write_finding, write_totals};

@@ -9,6 +9,7 @@
 //! - `faults`: the lines and statuses of errors.
 //! - `files`: the bytes of files, and what loading them writes.
 //! - `kept`: errors that are returned again.
+//! - `maps`: the maps of linked files.
 //! - `memory`: allocations that fail.
 //! - `records`: images as S-records.
 //! - `refusals`: addresses that are rejected.
@@ -28,6 +29,7 @@ mod endless;
 mod faults;
 mod files;
 mod kept;
+mod maps;
 mod memory;
 mod records;
 mod refusals;

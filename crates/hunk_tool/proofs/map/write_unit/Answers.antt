@@ -1,0 +1,67 @@
+-- One more hunk.
+use Rattle.std.proofs.Common.{◌∙◌, ◌+◌, ◌<◌, List, ap, get_or, length, map, sym, subst, arith}
+use Rattle.std.specs.String.{string_bytes}
+use Rattle.std.proofs.lemmas.List.Elements.{All-get_or}
+use Rattle.hunk_objects.specs.UnitHunk.{ObjectHunk}
+use Rattle.hunk_tool.specs.Map.{map_from, map_lines, unit_origins}
+use Rattle.hunk_tool.specs.ObjectFiles.{IsShortHunk}
+use Rattle.hunk_tool.proofs.MapLemmas.{MapBegun-done, MapBegun-more, MapBegun-nothing, MapBegun-stop, WroteText-err, WroteText-ok, unit_rest, unit_rest-all, unit_rest-more, unit_rest-none}
+use Rattle.hunk_tool.proofs.map.write_unit.Goals as goal
+
+pub loop-number-init : goal.loop-number-init
+loop-number-init g c =
+    let names = map string_bytes c.args.names.now in
+    MapBegun-nothing g.W.Sink.taken g.W.Sink.failed c.args.writer.now (map_from names c.args.first c.args.hunks.now (unit_origins (c.args.place, c.args.unit.now)))
+    (unit_rest names c.args.first 0 c.args.hunks.now (c.args.place, c.args.unit.now)) (unit_rest-all names c.args.first c.args.hunks.now (c.args.place, c.args.unit.now))
+
+pub write_hunk-requires-clause-hunk : goal.write_hunk-requires-clause-hunk
+write_hunk-requires-clause-hunk g c =
+    let own = c.hunk-item.result in
+    let number = c.loop-number.number in
+    let hunks = c.args.unit.now.hunks in
+    let at = c.hunk-item.is ∙ ap (λ (hs : List ObjectHunk). get_or hs number own) c.hunks-hunk-items.ensures.value in
+    let within : number < length hunks = omega (arith, c.loop-number-test.true, ap length c.hunks-hunk-items.ensures.value) in
+    subst IsShortHunk (sym at) (All-get_or IsShortHunk hunks number own within c.requires.short.hunks)
+
+pub returns-then-is_err : goal.returns-then-is_err
+returns-then-is_err g c =
+    let names = map string_bytes c.args.names.now in
+    let first = c.args.first in
+    let number = c.loop-number.number in
+    let hunks = c.args.hunks.now in
+    let hunk = c.index-hunks-number.result in
+    let own = c.hunk-item.result in
+    let at = c.hunk-item.is ∙ ap (λ (hs : List ObjectHunk). get_or hs number own) c.hunks-hunk-items.ensures.value in
+    let inside : number < length c.args.unit.now.hunks = omega (arith, c.loop-number-test.true, ap length c.hunks-hunk-items.ensures.value) in
+    let text = map_lines names (first + number, (hunk, record { unit = (c.args.place, c.args.unit.now); number = number; hunk = own })) in
+    MapBegun-stop g.W.Sink.taken g.W.Sink.failed {E = Unit {0}} c.args.writer.now c.loop-number.writer c.write_hunk.new.writer (map_from names first hunks (unit_origins (c.args.place, c.args.unit.now)))
+    (unit_rest names first number hunks (c.args.place, c.args.unit.now)) text (unit_rest names first (number + 1) hunks (c.args.place, c.args.unit.now)) tt
+    (unit_rest-more names first number hunks (c.args.place, c.args.unit.now) hunk own (omega (arith, inside, c.requires.room)) inside c.index-hunks-number.is at)
+    c.loop-number.invariant
+    (WroteText-err g.W.Sink.taken g.W.Sink.failed {E = Unit {0}} c.loop-number.writer c.write_hunk.new.writer text tt c.write_hunk.result (sym c.is_err.ensures.value ∙ c.if-is_err.true) c.write_hunk.ensures.device c.write_hunk.ensures.wrote)
+
+pub loop-number-preserved : goal.loop-number-preserved
+loop-number-preserved g c =
+    let names = map string_bytes c.args.names.now in
+    let first = c.args.first in
+    let number = c.loop-number.number in
+    let hunks = c.args.hunks.now in
+    let hunk = c.index-hunks-number.result in
+    let own = c.hunk-item.result in
+    let at = c.hunk-item.is ∙ ap (λ (hs : List ObjectHunk). get_or hs number own) c.hunks-hunk-items.ensures.value in
+    let inside : number < length c.args.unit.now.hunks = omega (arith, c.loop-number-test.true, ap length c.hunks-hunk-items.ensures.value) in
+    let text = map_lines names (first + number, (hunk, record { unit = (c.args.place, c.args.unit.now); number = number; hunk = own })) in
+    MapBegun-more g.W.Sink.taken g.W.Sink.failed c.args.writer.now c.loop-number.writer c.write_hunk.new.writer (map_from names first hunks (unit_origins (c.args.place, c.args.unit.now)))
+    (unit_rest names first number hunks (c.args.place, c.args.unit.now)) text (unit_rest names first (number + 1) hunks (c.args.place, c.args.unit.now))
+    (unit_rest-more names first number hunks (c.args.place, c.args.unit.now) hunk own (omega (arith, inside, c.requires.room)) inside c.index-hunks-number.is at)
+    c.loop-number.invariant
+    (WroteText-ok g.W.Sink.taken g.W.Sink.failed c.loop-number.writer c.write_hunk.new.writer text c.write_hunk.result (sym c.is_err.ensures.value ∙ c.if-is_err.false) c.write_hunk.ensures.wrote)
+
+pub returns : goal.returns
+returns g c =
+    let names = map string_bytes c.args.names.now in
+    let first = c.args.first in
+    let number = c.loop-number.number in
+    let hunks = c.args.hunks.now in
+    MapBegun-done g.W.Sink.taken g.W.Sink.failed c.args.writer.now c.loop-number.writer (map_from names first hunks (unit_origins (c.args.place, c.args.unit.now))) (unit_rest names first number hunks (c.args.place, c.args.unit.now))
+    (unit_rest-none names first number hunks (c.args.place, c.args.unit.now) (omega (arith, c.loop-number-test.false, ap length c.hunks-hunk-items.ensures.value))) c.loop-number.invariant

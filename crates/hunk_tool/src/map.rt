@@ -1,0 +1,190 @@
+//! The map of a link: where each hunk of the load file is from, and what it defines.
+
+ghost use Rattle.std.specs.Prelude.{◌≡◌, ◌+◌, ◌≤◌, ◌<◌, ◌^◌, [], length, map, slice_index_or, IfOk, IfErr};
+ghost use Rattle.std.specs.String.{string_bytes};
+ghost use Rattle.hunk_words.specs.Streams.{IsDevice, Wrote};
+ghost use Rattle.hunk_loadfile.specs.WrittenForm.{IsShortEnough};
+ghost use Rattle.hunk_text.specs.Listing.{hunk_front};
+ghost use Rattle.hunk_tool.specs.FaultLine.{IsOfInputs};
+ghost use Rattle.hunk_tool.specs.Inputs.{HaveRead, inputs_of};
+ghost use Rattle.hunk_tool.specs.Link.{IsUnlinked};
+ghost use Rattle.hunk_tool.specs.Map.{LinkFiles, WroteText, map_from, map_line, map_lines, map_text, origins, unit_origins};
+ghost use Rattle.hunk_tool.specs.ObjectFiles.{IsShortHunk, IsShortUnit};
+
+use crate::object_files::{ObjectFiles, UnitPlace, read_files};
+use crate::tool_fault::ToolFault;
+use hunk_link::link;
+use hunk_loadfile::{LoadFile, LoadHunk};
+use hunk_objects::{ProgramUnit, UnitHunk};
+use hunk_text::{Digits, write_around_name, write_definitions, write_hunk_front};
+use hunk_words::{DeviceFault, HunkKind, Memory, Sink, Source, WriteFault};
+use std::alloc::{Allocator, Global};
+use std::marker::Model;
+
+/// A hunk of a unit, and where it is.
+#[derive(Drop)]
+struct Origin<'a, A: Allocator + Copy = Global> {
+    place: UnitPlace,
+    unit: &'a ProgramUnit<A>,
+    number: usize,
+    hunk: &'a UnitHunk<A>,
+}
+
+impl<'a, A: Allocator + Copy> Model for Origin<'a, A> {
+    ghost use Rattle.hunk_tool.specs.Map.{Origin as HunkOrigin};
+
+    ghost Value = { HunkOrigin };
+
+    ghost view = { λ o. record { unit = (o.place, o.unit.now); number = o.number; hunk = o.hunk.now } };
+}
+
+/// Reads and links as [`link_inputs`](crate::link_inputs) does, and keeps the units that it read, for
+/// [`write_map`]. The load file has a copy of what they contain.
+///
+/// # Errors
+///
+/// As [`link_inputs`](crate::link_inputs).
+pub fn link_files<A: Allocator + Copy, R: Source>(
+    alloc: A,
+    inputs: &mut [R],
+    strip: bool,
+) -> Result<(ObjectFiles<A>, LoadFile<A>), ToolFault<A>>
+    ensures linked { IfOk result (λ linked. HaveRead (inputs_of R.left R.failed R.ended inputs.old inputs.new) (LinkFiles strip linked.0 linked.1)) }
+    ensures short { IfOk result (λ linked. IsShortEnough linked.1) }
+    ensures matched { IfOk result (λ linked. length (origins linked.0) ≡ length linked.1) }
+    ensures unlinked { IfErr result (IsUnlinked strip (inputs_of R.left R.failed R.ended inputs.old inputs.new)) }
+    ensures writable { IfErr result (IsOfInputs (length inputs.old)) }
+{
+    let files = read_files(alloc, inputs)?;
+    let file = link(alloc, files.units(), strip)?;
+    Ok((files, file))
+}
+
+/// Writes the map of a load file that [`link_files`] linked, before it is trimmed: for each of its
+/// hunks, in order, a line of its number, kind, memory and size in longwords, and of the file, the
+/// unit and the hunk that it is from; and then a line for each definition of that hunk, in file
+/// order. `names` are those of the input files. It does not allocate, and does not flush.
+///
+/// # Errors
+///
+/// [`DeviceFault`] if a write failed or took no byte. The writer has then taken the first bytes of
+/// the map, and nothing else.
+pub fn write_map<A: Allocator + Copy, W: Sink>(
+    files: &ObjectFiles<A>,
+    names: &[String],
+    file: &LoadFile<A>,
+    writer: &mut W,
+) -> Result<(), DeviceFault>
+    requires { length (origins files.now) ≡ length file.now }
+    ensures { WroteText W.taken W.failed writer.old writer.new (map_text (map string_bytes names.now) file.now files.now) result }
+{
+    let hunks = file.hunks();
+    let places = files.places();
+    let mut first = 0;
+    for (index, unit) in files.units().iter().enumerate() {
+        write_unit(writer, &hunks[first..], first, names, places[index], unit)?;
+        first += unit.hunks().len();
+    }
+    Ok(())
+}
+
+/// Writes the lines of the hunks of a unit. They are the first of these hunks of the load file, which
+/// are numbered from `first`.
+fn write_unit<A: Allocator + Copy, W: Sink>(
+    writer: &mut W,
+    hunks: &[LoadHunk<A>],
+    first: usize,
+    names: &[String],
+    place: UnitPlace,
+    unit: &ProgramUnit<A>,
+) -> Result<(), DeviceFault>
+    requires counted { first + length hunks.now < 2 ^ 64 }
+    requires room { length unit.now.hunks ≤ length hunks.now }
+    requires short { IsShortUnit unit.now }
+    ensures { WroteText W.taken W.failed writer.old writer.new (map_from (map string_bytes names.now) first hunks.now (unit_origins (place, unit.now))) result }
+{
+    for (number, hunk) in unit.hunks().iter().enumerate() {
+        let origin = Origin {
+            place,
+            unit,
+            number,
+            hunk,
+        };
+        let rank = (first + number) as u64;
+        if write_hunk(writer, rank, &hunks[number], names, &origin).is_err() {
+            return Err(DeviceFault);
+        }
+    }
+    Ok(())
+}
+
+/// Writes the lines of a hunk of the load file, which has this number.
+fn write_hunk<A: Allocator + Copy, W: Sink>(
+    writer: &mut W,
+    number: u64,
+    hunk: &LoadHunk<A>,
+    names: &[String],
+    origin: &Origin<'_, A>,
+) -> Result<u64, WriteFault>
+    requires unit { length origin.now.unit.1.name ≤ 2 ^ 30 }
+    requires hunk { IsShortHunk origin.now.hunk }
+    ensures wrote { Wrote W.taken W.failed writer.old writer.new (map_lines (map string_bytes names.now) (number, (hunk.now, origin.now))) 0 result }
+    ensures device { IfErr result IsDevice }
+{
+    let written = write_line(writer, number, hunk, names, origin)?;
+    write_definitions(writer, written, origin.hunk.definitions())
+}
+
+/// Writes the first line of a hunk of the load file.
+fn write_line<A: Allocator + Copy, W: Sink>(
+    writer: &mut W,
+    number: u64,
+    hunk: &LoadHunk<A>,
+    names: &[String],
+    origin: &Origin<'_, A>,
+) -> Result<u64, WriteFault>
+    requires unit { length origin.now.unit.1.name ≤ 2 ^ 30 }
+    requires hunk { length origin.now.hunk.name ≤ 2 ^ 30 }
+    ensures wrote { Wrote W.taken W.failed writer.old writer.new (map_line (map string_bytes names.now) number hunk.now origin.now) 0 result }
+    ensures short { IfOk result (λ written. written < 2 ^ 63 + 2 ^ 35) }
+    ensures device { IfErr result IsDevice }
+{
+    let file = file_name(names, origin.place.file);
+    let unit = Digits::decimal(origin.place.number as u64);
+    let place = Digits::decimal(origin.number as u64);
+    let written = write_front(writer, number, hunk.kind, hunk.memory, hunk.size)?;
+    let written = write_around_name(
+        writer,
+        written,
+        &[b" ", file, b" unit ", unit.as_bytes(), b" "],
+        origin.unit.name().bytes(),
+        &[b" hunk ", place.as_bytes(), b" "],
+    )?;
+    write_around_name(writer, written, &[], origin.hunk.name().bytes(), &[b"\n"])
+}
+
+/// Writes how that line begins, for a hunk of this kind, memory and size.
+fn write_front<W: Sink>(
+    writer: &mut W,
+    number: u64,
+    kind: HunkKind,
+    memory: Memory,
+    size: u32,
+) -> Result<u64, WriteFault>
+    ensures wrote { Wrote W.taken W.failed writer.old writer.new (hunk_front number kind memory size) 0 result }
+    ensures short { IfOk result (λ written. written < 2 ^ 34) }
+    ensures device { IfErr result IsDevice }
+{
+    write_hunk_front(writer, 0, number, kind, memory, size)
+}
+
+/// The name of the file with this number, empty if there is none.
+fn file_name(names: &[String], file: usize) -> &[u8]
+    ensures value { result.now ≡ slice_index_or (map string_bytes names.now) file [] }
+    ensures short { length result.now < 2 ^ 63 }
+{
+    match names.get(file) {
+        Some(name) => name.as_bytes(),
+        None => b"",
+    }
+}
