@@ -21,6 +21,12 @@ pub record HasText (text : FileValue → List ℕ) (told bytes : List ℕ) : Typ
   pub is_file : IsOfItsKind value bytes
   pub is_text : told ≡ text value
 
+-- What was read is a file with the text of its value.
+pub HasText-read : (text : FileValue → List ℕ) (value : FileValue) (left left_then : Option (List ℕ)) → HasRead left left_then (IsOfItsKind value)
+    → HasRead left left_then (HasText text (text value))
+HasText-read text value left left_then read =
+    HasRead-weaker left left_then (IsOfItsKind value) (HasText text (text value)) (λ bytes is. record { value = value; is_file = is; is_text = refl }) read
+
 -- If nothing was made of the file, nothing was written.
 pub IsTextFault-read : (A : Type 0) (text : FileValue → List ℕ) (left left_then : Option (List ℕ)) (failed ended : Bool) (taken : Option (List ℕ)) (write_failed : Bool) (fault : ReadFault)
     → IsReadFault left left_then failed ended fault → IsTextFault {A = A} text (ends_of left left_then failed ended taken taken write_failed) (tool_fault_of_read 0 fault)

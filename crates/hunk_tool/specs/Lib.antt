@@ -14,6 +14,7 @@ pub mod Counters
 pub mod FileValue
 pub mod FileDecoder
 pub mod FileText
+pub mod HunkFile
 pub mod Check
 pub mod Show
 pub mod Survey

@@ -52,8 +52,10 @@ pub(crate) trait KindDecoder: Drop {
 
 /// What was made of a file of either kind.
 #[derive(Drop)]
-pub(crate) enum File<O, L> {
+pub enum File<O, L> {
+    /// Of an object file.
     Object(O),
+    /// Of a load file.
     Load(L),
 }
 

@@ -8,6 +8,7 @@
 //! - `survey`: what files are, the line about each, and their numbers.
 //! - `counters`: takers that check sites, and count what a file has.
 //! - `file_decoder`: reads a file of either kind; `first_bytes` tell which.
+//! - `hunk_file`: files of either kind, as values.
 //! - `counting`: decoders that check a file and count what it has.
 //! - `inputs`: the object files that an operation reads.
 //! - `link`: links object files and writes the load file.
@@ -38,6 +39,7 @@ pub mod fault_line;
 mod file_decoder;
 mod first_bytes;
 mod hex_digits;
+pub mod hunk_file;
 pub mod image;
 pub mod image_form;
 mod image_text;
@@ -63,6 +65,8 @@ pub use bases_file::{BasesFileFault, read_bases};
 pub use check::check_run;
 pub use counters::{LoadCounter, ObjectCounter};
 pub use fault_line::{write_fault, write_line};
+pub use file_decoder::File;
+pub use hunk_file::{HunkFile, read_hunk_file};
 pub use hunk_loader::PlaceFault;
 pub use image::{image_run, image_run_with};
 pub use image_form::ImageForm;

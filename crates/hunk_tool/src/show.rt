@@ -2,19 +2,16 @@
 
 ghost use Rattle.std.specs.Prelude.{◌^◌, ◌<◌, length, IsTrue, OnOk, IfErr};
 ghost use Rattle.hunk_words.specs.Streams.{HasRead, IsDevice, WroteAll};
-ghost use Rattle.hunk_words.specs.declared.event.FileKind.TheVariants.{Load, Object};
-ghost use Rattle.hunk_objects.specs.ProgramUnit.{IsObjectOf};
-ghost use Rattle.hunk_loadfile.specs.LoadFile.{IsLoadOf};
 ghost use Rattle.hunk_tool.specs.FileText.{IsTextFault, IsWritten};
+ghost use Rattle.hunk_tool.specs.HunkFile.{value_of};
 ghost use Rattle.hunk_tool.specs.Load.{ends_of};
-ghost use Rattle.hunk_tool.specs.Show.{listing_of, show_text};
+ghost use Rattle.hunk_tool.specs.Show.{show_text};
 
-use crate::file_decoder::{File, KindDecoder, read_file};
+use crate::file_decoder::File;
+use crate::hunk_file::{HunkFile, read_hunk_file};
 use crate::tool_fault::ToolFault;
-use hunk_loadfile::{LoadDecoder, LoadFile};
-use hunk_objects::{ObjectDecoder, ProgramUnit};
 use hunk_text::{write_load_listing, write_object_listing};
-use hunk_words::{Refusal, Sink, Source, WriteFault};
+use hunk_words::{Sink, Source, WriteFault};
 use std::alloc::Allocator;
 
 /// Reads a file to the reader's end, and writes its listing: the line that
@@ -46,61 +43,21 @@ pub fn show_run<A: Allocator + Copy, R: Source, W: Sink>(
         (R.left reader.old) (R.left reader.new) (R.failed reader.new) (R.ended reader.new)
         (W.taken writer.old) (W.taken writer.new) (W.failed writer.new))) }
 {
-    let file = read_file(reader, ObjectDecoder::new(alloc), LoadDecoder::new(alloc))?;
+    let file = read_hunk_file(alloc, reader)?;
     Ok(write_listing(&file, writer)?)
 }
 
 /// Writes the listing of a file. Does not allocate.
 fn write_listing<A: Allocator + Copy, W: Sink>(
-    file: &File<Vec<ProgramUnit<A>, A>, LoadFile<A>>,
+    file: &HunkFile<A>,
     writer: &mut W,
 ) -> Result<(), WriteFault>
-    requires { length (listing_of file.now) < 2 ^ 64 }
-    ensures wrote { WroteAll W.taken W.failed writer.old writer.new (listing_of file.now) result }
+    requires { length (show_text (value_of file.now)) < 2 ^ 64 }
+    ensures wrote { WroteAll W.taken W.failed writer.old writer.new (show_text (value_of file.now)) result }
     ensures device { IfErr result IsDevice }
 {
     match file {
         File::Object(units) => write_object_listing(units, writer),
         File::Load(file) => write_load_listing(file.hunks(), writer),
-    }
-}
-
-impl<A: Allocator + Copy> KindDecoder for ObjectDecoder<A> {
-    ghost use Rattle.hunk_objects.specs.ObjectDecoder.{StandsFor};
-
-    ghost stands_for = { StandsFor };
-
-    ghost KIND = { Object };
-
-    ghost is_value = { λ units bytes. IsObjectOf units.items bytes };
-
-    type Value = Vec<ProgramUnit<A>, A>;
-
-    fn feed(&mut self, piece: &[u8]) -> Result<(), Refusal> {
-        self.feed(piece)
-    }
-
-    fn finish(self) -> Result<Vec<ProgramUnit<A>, A>, Refusal> {
-        self.finish()
-    }
-}
-
-impl<A: Allocator + Copy> KindDecoder for LoadDecoder<A> {
-    ghost use Rattle.hunk_loadfile.specs.LoadDecoder.{StandsFor};
-
-    ghost stands_for = { StandsFor };
-
-    ghost KIND = { Load };
-
-    ghost is_value = { λ file bytes. IsLoadOf file bytes };
-
-    type Value = LoadFile<A>;
-
-    fn feed(&mut self, piece: &[u8]) -> Result<(), Refusal> {
-        self.feed(piece)
-    }
-
-    fn finish(self) -> Result<LoadFile<A>, Refusal> {
-        self.finish()
     }
 }
