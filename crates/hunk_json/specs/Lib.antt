@@ -1,1 +1,2 @@
 pub mod FileJson
+pub mod Run

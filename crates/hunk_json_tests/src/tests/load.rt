@@ -11,7 +11,7 @@ use std::test::Fail;
 
 // Load files and their texts: sites of both kinds of relocation, symbols and debug blocks, and
 // content that is shorter than its hunk; and a hunk of which every list is empty.
-static FILES: [(&[u32], &str); 2] = [
+pub(super) static FILES: [(&[u32], &str); 2] = [
     (
         &TWO_HUNKS,
         "{\"hunks\":[\

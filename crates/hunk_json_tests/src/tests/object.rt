@@ -29,7 +29,7 @@ const TWO_UNITS: [u32; 47] = [
 const NO_HUNKS: [u32; 2] = [0x3E7, 0];
 
 // Object files and their texts.
-static FILES: [(&[u32], &str); 3] = [
+pub(super) static FILES: [(&[u32], &str); 3] = [
     (
         &TWO_UNITS,
         "{\"kind\":\"object file\",\"units\":[\
