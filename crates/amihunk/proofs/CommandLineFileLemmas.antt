@@ -71,10 +71,6 @@ pub calls-check : Calls (codes "check") (built_file (codes "check"))
 unfolding clap_on_literals
 calls-check = record { met = refl; quiet = refl; found = refl; name_is = refl }
 
-pub calls-show : Calls (codes "show") (built_file (codes "show"))
-unfolding clap_on_literals
-calls-show = record { met = refl; quiet = refl; found = refl; name_is = refl }
-
 module _ (program name file : Text) (calls : Calls name (built_file name)) (plain : IsNoFlag file) where
   pub fault_of-file_line : fault_of command_line (file_line program name file) ≡ []
   fault_of-file_line =

@@ -1,7 +1,7 @@
 -- The plain form of the subcommand `image`.
 use Rattle.std.proofs.Common.{◌≡◌, ◌∙◌, false, ◌<◌, ◌≤◌, All, ap, arith, refl, None, List, [], ◌∷◌, ◌++◌, codes, length, Some}
 use Rattle.clap.specs.Lexer.{usize_max}
-use Rattle.clap.specs.Words.{Row, Text, all_of, fault_of, first_of, subcommand_of}
+use Rattle.clap.specs.Words.{Row, Text, all_of, fault_of, subcommand_of}
 use Rattle.clap.specs.Walk.{Held, nothing_held, walk_from}
 use Rattle.clap.proofs.OnLiterals.{clap_on_literals}
 use Rattle.hunk_tool.specs.declared.image_form.ImageForm.{ImageForm}

@@ -10,11 +10,11 @@ use Rattle.clap.specs.Faults.{check_fault, defaults_fault, entered_fault, level_
 use Rattle.clap.specs.Kinds.{check_kinds}
 use Rattle.amihunk.proofs.CommandLineUseLemmas.{AllDefaulting, Filled, HasDefault, IsDefaulted, IsFilling, filled-defaults, flag_read, has_row-defaults, is_flag, or_else-nil, value_given, values_given}
 use Rattle.amihunk.proofs.CommandLineRowLemmas.{AllFilling, filled-settled, filled-walk}
-use Rattle.amihunk.specs.Syntax.{bare_shape, command_line, file_shape, flag_rule, image_shape, letter_s, link_shape, load_shape, option_rule, survey_shape}
+use Rattle.amihunk.specs.Syntax.{bare_shape, command_line, file_shape, flag_rule, image_shape, letter_s, link_shape, load_shape, option_rule, show_shape, survey_shape}
 use Rattle.amihunk.specs.CommandLine.{AddressValues, IsCalled, IsFlag, IsWhole, is_srec}
 use Rattle.hunk_tool.specs.declared.image_form.ImageForm.{ImageForm}
 use Rattle.hunk_tool.specs.declared.image_form.ImageForm.TheVariants.{Report, SRecords}
-use Rattle.amihunk.specs.declared.syntax.AddressOptions.TheVariants.{ListOrFile}
+use Rattle.amihunk.specs.declared.syntax.Edition.TheVariants.{Present}
 use Rattle.amihunk.specs.CommandLine.IsWhole.{link, load, image, check, show, survey}
 
 -- ---- one level
@@ -41,7 +41,7 @@ right_where_faultless s words all defaults e =
 -- ---- the subcommands
 
 abbrev pub first_shape : List Shape → Shape
-first_shape [] = link_shape
+first_shape [] = survey_shape
 first_shape (s ∷ rest) = s
 
 -- a subcommand of the program as `clap` builds it
@@ -49,13 +49,16 @@ abbrev pub built_below : Shape → Shape
 built_below s = first_shape (built (with_subcommand (record { top = bare_shape; subs = [] }) s)).subs
 
 abbrev pub built_link : Shape
-built_link = built_below link_shape
+built_link = built_below (link_shape Present)
 
 abbrev pub built_load : Shape
-built_load = built_below (load_shape ListOrFile)
+built_load = built_below (load_shape Present)
 
 abbrev pub built_image : Shape
-built_image = built_below (image_shape ListOrFile)
+built_image = built_below (image_shape Present)
+
+abbrev pub built_show : Shape
+built_show = built_below (show_shape Present)
 
 abbrev pub built_file : Text → Shape
 built_file name = built_below (file_shape name)
@@ -87,30 +90,37 @@ both_given false b e = cc
 flag_filling : (letter : Option ℕ) (name : Text) → IsFilling false (filled (record (flag_rule name) { short = letter }))
 flag_filling letter name = inr (inr (record { action_is = refl; range_is = refl; missing_is = refl; reading_is = refl }, refl))
 
+-- an option takes a value
+option_filling : (name : Text) → is_flag name ≡ false → IsFilling false (filled (option_rule name))
+option_filling name other = inr (inl (inl refl, (omega arith, other)))
+
 link_filling : AllFilling false built_link.rules
 link_filling = (
   inr (inl (inl refl, (omega arith, refl))),
   (
-    flag_filling (Some letter_s) (codes "strip"),
-    (flag_filling None (codes "short"), (flag_filling None (codes "trim"), (inr (inl (inr refl, (omega arith, refl))), (inl refl, tt)))),
+    option_filling (codes "map") refl,
+    (
+      flag_filling (Some letter_s) (codes "strip"),
+      (flag_filling None (codes "short"), (flag_filling None (codes "trim"), (inr (inl (inr refl, (omega arith, refl))), (inl refl, tt)))),
+    ),
   ),
 )
 
 link_defaults : AllDefaulting built_link.rules
-link_defaults = (inl refl, (inr (refl, refl), (inr (refl, refl), (inr (refl, refl), (inl refl, (inl refl, tt))))))
+link_defaults = (inl refl, (inl refl, (inr (refl, refl), (inr (refl, refl), (inr (refl, refl), (inl refl, (inl refl, tt)))))))
 
 -- a flag has a row, by its default
 flag_default : (letter : Option ℕ) (name : Text) → HasDefault name (filled (record (flag_rule name) { short = letter }))
 flag_default letter name = record { id_is = refl; first = codes "false"; others = []; defaults_are = refl }
 
 strip_defaulted : IsDefaulted (codes "strip") built_link.rules
-strip_defaulted = inr (inl (flag_default (Some letter_s) (codes "strip")))
+strip_defaulted = inr (inr (inl (flag_default (Some letter_s) (codes "strip"))))
 
 short_defaulted : IsDefaulted (codes "short") built_link.rules
-short_defaulted = inr (inr (inl (flag_default None (codes "short"))))
+short_defaulted = inr (inr (inr (inl (flag_default None (codes "short")))))
 
 trim_defaulted : IsDefaulted (codes "trim") built_link.rules
-trim_defaulted = inr (inr (inr (inl (flag_default None (codes "trim")))))
+trim_defaulted = inr (inr (inr (inr (inl (flag_default None (codes "trim"))))))
 
 sound_link : IsSound built_link
 sound_link words e =
@@ -126,19 +136,16 @@ sound_link words e =
     let strip = read (codes "strip") refl strip_defaulted in
     let short = read (codes "short") refl short_defaulted in
     let trim = read (codes "trim") refl trim_defaulted in
-    link out.0 (record { strip = strip.0; short = short.0; trim = trim.0 }) files.0 (record {
+    link out.0 (first_of (codes "map") rows) (record { strip = strip.0; short = short.0; trim = trim.0 }) files.0 (record {
       of_files = record { rows = rows; called = refl; files_are = files.2; some = files.1 };
       out_is = out.1;
+      map_is = refl;
       strip_is = strip.1;
       short_is = short.1;
       trim_is = trim.1;
     })
 
 -- `load`
-
--- an option takes a value
-option_filling : (name : Text) → is_flag name ≡ false → IsFilling false (filled (option_rule name))
-option_filling name other = inr (inl (inl refl, (omega arith, other)))
 
 load_filling : AllFilling false built_load.rules
 load_filling = (
@@ -237,10 +244,25 @@ sound_check words e =
     let called = called_file (codes "check") words e in
     check called.0 called.1
 
-sound_show : IsSound (built_file (codes "show"))
+-- `show`
+
+show_filling : AllFilling false built_show.rules
+show_filling = (flag_filling None (codes "json"), (inr (inl (inl refl, (omega arith, refl))), (inl refl, tt)))
+
+show_defaults : AllDefaulting built_show.rules
+show_defaults = (inr (refl, refl), (inl refl, (inl refl, tt)))
+
+show_json : IsDefaulted (codes "json") built_show.rules
+show_json = inl (flag_default None (codes "json"))
+
+sound_show : IsSound built_show
 sound_show words e =
-    let called = called_file (codes "show") words e in
-    show called.0 called.1
+    let rows = rows_after built_show.rules [] words in
+    let right = right_where_faultless built_show words show_filling show_defaults e in
+    let file = value_given (codes "file") rows right.filled (one_given (is_given (codes "file") rows) right.checked) in
+    let settled_rows = (settled built_show.rules (walk built_show.rules [] nothing_held words).held).rows in
+    let json = flag_read (codes "json") rows refl right.filled (has_row-defaults (codes "json") built_show.rules settled_rows show_json) in
+    show json.0 file.0 (record { of_file = record { rows = rows; called = refl; file_is = file.1 }; json_is = json.1 })
 
 -- `survey`
 

@@ -9,11 +9,10 @@ use Rattle.clap.specs.Values.{bool_text}
 use Rattle.clap.specs.Words.{Row, Text, all_of, first_of, one_of, one_text, rows_of}
 use Rattle.clap.specs.declared.parser.matches.Found.{Found}
 use Rattle.clap.proofs.WalkLemmas.{one_text-rows}
-use Rattle.amihunk.specs.CommandLine.{AddressValues, Answers, AreUnclear, AreValues, IsCalled, IsCalledOn, IsConflict, IsFlag, IsImage, IsLink, IsLoad, IsWhole, Met, Says, asks_srec, asks_symbols, conflict_kind, is_srec, values_of}
+use Rattle.amihunk.specs.CommandLine.{AddressValues, Answers, AreUnclear, AreValues, IsCalled, IsCalledOn, IsConflict, IsFlag, IsImage, IsLink, IsLoad, IsShow, IsWhole, Met, Says, asks_srec, asks_symbols, conflict_kind, is_srec, values_of}
 use Rattle.amihunk.specs.CommandLine.IsConflict.{two_texts, no_load, no_image}
 use Rattle.amihunk.specs.declared.command_line.Conflict.{Conflict}
 use Rattle.amihunk.specs.declared.command_line.Conflict.TheVariants.{Texts, TwoAddresses, NoAddresses}
-use Rattle.clap.specs.declared.error.ErrorKind.TheVariants as error
 use Rattle.hunk_commands.specs.Addresses.{Origin}
 use Rattle.hunk_commands.specs.Addresses.Origin.{in_file, in_list}
 use Rattle.hunk_commands.specs.declared.load.LoadText.{LoadText}
@@ -62,15 +61,24 @@ options_same a b strip short trim =
     ∙ ap (λ x. record { strip = b.strip; short = x; trim = a.trim }) short
     ∙ ap (λ x. record { strip = b.strip; short = b.short; trim = x }) trim
 
-pub IsLink-same : (met : Met) (a b : Text) (s t : LinkOptions) (xs ys : List Text) → IsLink met a s xs → IsLink met b t ys → (a ≡ b) × (s ≡ t) × (xs ≡ ys)
-IsLink-same met a b s t xs ys h k =
+pub IsLink-same : (met : Met) (a b : Text) (m n : Option Text) (s t : LinkOptions) (xs ys : List Text) → IsLink met a m s xs → IsLink met b n t ys
+    → (a ≡ b) × (m ≡ n) × (s ≡ t) × (xs ≡ ys)
+IsLink-same met a b m n s t xs ys h k =
     let same = rows_same met (codes "link") (codes "link") h.of_files.rows k.of_files.rows h.of_files.called k.of_files.called in
     let outs : Some a ≡ Some b = sym h.out_is ∙ (ap (first_of (codes "out")) same ∙ k.out_is) in
+    let maps : m ≡ n = sym h.map_is ∙ (ap (first_of (codes "map")) same ∙ k.map_is) in
     let options = options_same s t
     (IsFlag-same (codes "strip") h.of_files.rows k.of_files.rows s.strip t.strip same h.strip_is k.strip_is)
     (IsFlag-same (codes "short") h.of_files.rows k.of_files.rows s.short t.short same h.short_is k.short_is)
     (IsFlag-same (codes "trim") h.of_files.rows k.of_files.rows s.trim t.trim same h.trim_is k.trim_is) in
-    (cc, options, IsCalledOn-same met (codes "link") (codes "link") xs ys h.of_files k.of_files)
+    (cc, maps, options, IsCalledOn-same met (codes "link") (codes "link") xs ys h.of_files k.of_files)
+
+pub IsShow-same : (met : Met) (i j : Bool) (x y : Text) → IsShow met i x → IsShow met j y → (i ≡ j) × (x ≡ y)
+IsShow-same met i j x y h k =
+    let same = rows_same met (codes "show") (codes "show") h.of_file.rows k.of_file.rows h.of_file.called k.of_file.called in (
+      IsFlag-same (codes "json") h.of_file.rows k.of_file.rows i j same h.json_is k.json_is,
+      IsCalled-same met (codes "show") (codes "show") x y h.of_file k.of_file,
+    )
 
 -- a form is told by whether `--srec` asks for it
 forms_same : (one other : ImageForm) → is_srec one ≡ is_srec other → one ≡ other
@@ -201,29 +209,48 @@ says_flag found rows name s given same is reads =
     let flags : s ≡ given = flag_same rows name s given value reads in
     record { given_is = ap (is_given name) (sym same) ∙ is.given_is ∙ flags; value_is = value ∙ ap (λ b. Some (bool_text b)) flags }
 
-pub says_link : (met : Met) (rows : List Row) → IsWhole met → met ≡ Some (codes "link", rows) → (out : Text) (options : LinkOptions) (files : List Text)
-    → first_of (codes "out") rows ≡ Some out → Reads rows (codes "strip") options.strip → Reads rows (codes "short") options.short → Reads rows (codes "trim") options.trim
-    → all_of (codes "file") rows ≡ Some files → IsLink met out options files
+pub says_link : (met : Met) (rows : List Row) → IsWhole met → met ≡ Some (codes "link", rows) → (out : Text) (map : Option Text) (options : LinkOptions) (files : List Text)
+    → first_of (codes "out") rows ≡ Some out → first_of (codes "map") rows ≡ map
+    → Reads rows (codes "strip") options.strip → Reads rows (codes "short") options.short → Reads rows (codes "trim") options.trim
+    → all_of (codes "file") rows ≡ Some files → IsLink met out map options files
 unfolding called_on
-says_link met rows (link o s fs is) called out options files out_is strip short trim files_are =
+says_link met rows (link o m s fs is) called out map options files out_is map_is strip short trim files_are =
     let same = rows_same met (codes "link") (codes "link") is.of_files.rows rows is.of_files.called called in
     record {
       of_files = called_on met (codes "link") rows files fs called files_are is.of_files;
       out_is = out_is;
+      map_is = map_is;
       strip_is = says_flag is.of_files.rows rows (codes "strip") s.strip options.strip same is.strip_is strip;
       short_is = says_flag is.of_files.rows rows (codes "short") s.short options.short same is.short_is short;
       trim_is = says_flag is.of_files.rows rows (codes "trim") s.trim options.trim same is.trim_is trim;
     }
-says_link met rows (load l x y f is) called out options files out_is strip short trim files_are =
+says_link met rows (load l x y f is) called out map options files out_is map_is strip short trim files_are =
     absurd (names_apart met (codes "load") (codes "link") is.of_file.rows rows is.of_file.called called refl)
-says_link met rows (image l form fs is) called out options files out_is strip short trim files_are =
+says_link met rows (image l form fs is) called out map options files out_is map_is strip short trim files_are =
     absurd (names_apart met (codes "image") (codes "link") is.of_files.rows rows is.of_files.called called refl)
-says_link met rows (check f is) called out options files out_is strip short trim files_are =
+says_link met rows (check f is) called out map options files out_is map_is strip short trim files_are =
     absurd (names_apart met (codes "check") (codes "link") is.rows rows is.called called refl)
-says_link met rows (show f is) called out options files out_is strip short trim files_are =
-    absurd (names_apart met (codes "show") (codes "link") is.rows rows is.called called refl)
-says_link met rows (survey fs is) called out options files out_is strip short trim files_are =
+says_link met rows (show j f is) called out map options files out_is map_is strip short trim files_are =
+    absurd (names_apart met (codes "show") (codes "link") is.of_file.rows rows is.of_file.called called refl)
+says_link met rows (survey fs is) called out map options files out_is map_is strip short trim files_are =
     absurd (names_apart met (codes "survey") (codes "link") is.rows rows is.called called refl)
+
+pub says_show : (met : Met) (rows : List Row) → IsWhole met → met ≡ Some (codes "show", rows) → (json : Bool) (file : Text)
+    → Reads rows (codes "json") json → first_of (codes "file") rows ≡ Some file → IsShow met json file
+says_show met rows (show j f is) called json file reads file_is = record {
+  of_file = record { rows = rows; called = called; file_is = file_is };
+  json_is = says_flag is.of_file.rows rows (codes "json") j json (rows_same met (codes "show") (codes "show") is.of_file.rows rows is.of_file.called called) is.json_is reads;
+}
+says_show met rows (link o m s fs is) called json file reads file_is =
+    absurd (names_apart met (codes "link") (codes "show") is.of_files.rows rows is.of_files.called called refl)
+says_show met rows (load l x y f is) called json file reads file_is =
+    absurd (names_apart met (codes "load") (codes "show") is.of_file.rows rows is.of_file.called called refl)
+says_show met rows (image l form fs is) called json file reads file_is =
+    absurd (names_apart met (codes "image") (codes "show") is.of_files.rows rows is.of_files.called called refl)
+says_show met rows (check f is) called json file reads file_is =
+    absurd (names_apart met (codes "check") (codes "show") is.rows rows is.called called refl)
+says_show met rows (survey fs is) called json file reads file_is =
+    absurd (names_apart met (codes "survey") (codes "show") is.rows rows is.called called refl)
 
 -- this is the name of one of the program's subcommands
 abbrev pub IsKnown : Option Text → Type 0
@@ -231,11 +258,11 @@ IsKnown name = (name ≡ Some (codes "link")) ⊎ ((name ≡ Some (codes "load")
     ⊎ ((name ≡ Some (codes "check")) ⊎ ((name ≡ Some (codes "show")) ⊎ (name ≡ Some (codes "survey"))))))
 
 pub known : (met : Met) → IsWhole met → IsKnown (option_map (λ p. p.0) met)
-known met (link o s fs is) = inl (ap (option_map (λ p. p.0)) is.of_files.called)
+known met (link o m s fs is) = inl (ap (option_map (λ p. p.0)) is.of_files.called)
 known met (load v x y f is) = inr (inl (ap (option_map (λ p. p.0)) is.of_file.called))
 known met (image v f fs is) = inr (inr (inl (ap (option_map (λ p. p.0)) is.of_files.called)))
 known met (check f is) = inr (inr (inr (inl (ap (option_map (λ p. p.0)) is.called))))
-known met (show f is) = inr (inr (inr (inr (inl (ap (option_map (λ p. p.0)) is.called)))))
+known met (show j f is) = inr (inr (inr (inr (inl (ap (option_map (λ p. p.0)) is.of_file.called)))))
 known met (survey fs is) = inr (inr (inr (inr (inr (ap (option_map (λ p. p.0)) is.called)))))
 
 -- FILE and the flags of `load`
@@ -258,10 +285,10 @@ found_load met rows (load v x y f is) called =
       symbols = y;
       symbols_is = subst (λ found. IsFlag found (codes "symbols") y) same is.symbols_is;
     }
-found_load met rows (link o s fs is) called = absurd (names_apart met (codes "link") (codes "load") is.of_files.rows rows is.of_files.called called refl)
+found_load met rows (link o m s fs is) called = absurd (names_apart met (codes "link") (codes "load") is.of_files.rows rows is.of_files.called called refl)
 found_load met rows (image v f fs is) called = absurd (names_apart met (codes "image") (codes "load") is.of_files.rows rows is.of_files.called called refl)
 found_load met rows (check f is) called = absurd (names_apart met (codes "check") (codes "load") is.rows rows is.called called refl)
-found_load met rows (show f is) called = absurd (names_apart met (codes "show") (codes "load") is.rows rows is.called called refl)
+found_load met rows (show j f is) called = absurd (names_apart met (codes "show") (codes "load") is.of_file.rows rows is.of_file.called called refl)
 found_load met rows (survey fs is) called = absurd (names_apart met (codes "survey") (codes "load") is.rows rows is.called called refl)
 
 -- the form and the files of `image`
@@ -282,10 +309,10 @@ found_image met rows (image v f fs is) called =
       files_are = ap (all_of (codes "file")) (sym same) ∙ is.of_files.files_are;
       of_files = is.of_files;
     }
-found_image met rows (link o s fs is) called = absurd (names_apart met (codes "link") (codes "image") is.of_files.rows rows is.of_files.called called refl)
+found_image met rows (link o m s fs is) called = absurd (names_apart met (codes "link") (codes "image") is.of_files.rows rows is.of_files.called called refl)
 found_image met rows (load v x y f is) called = absurd (names_apart met (codes "load") (codes "image") is.of_file.rows rows is.of_file.called called refl)
 found_image met rows (check f is) called = absurd (names_apart met (codes "check") (codes "image") is.rows rows is.called called refl)
-found_image met rows (show f is) called = absurd (names_apart met (codes "show") (codes "image") is.rows rows is.called called refl)
+found_image met rows (show j f is) called = absurd (names_apart met (codes "show") (codes "image") is.of_file.rows rows is.of_file.called called refl)
 found_image met rows (survey fs is) called = absurd (names_apart met (codes "survey") (codes "image") is.rows rows is.called called refl)
 
 -- what was read of `load` and of `image`
@@ -340,11 +367,11 @@ module _ (met : Met) (rows : List Row) (whole : IsWhole met) (called : met ≡ S
 
 -- the request that rejects a conflict
 pub says_refused : (met : Met) → IsConflict met → (c : Conflict) (request : Request) → Answers (conflict_kind c) request → Says met request
-says_refused met conflict c (Link out options files) answers = absurd answers
+says_refused met conflict c (Link out map options files) answers = absurd answers
 says_refused met conflict c (Load addresses text file) answers = absurd answers
 says_refused met conflict c (Image addresses form files) answers = absurd answers
 says_refused met conflict c (Check file) answers = absurd answers
-says_refused met conflict c (Show file) answers = absurd answers
+says_refused met conflict c (Show json file) answers = absurd answers
 says_refused met conflict c (Survey files) answers = absurd answers
 says_refused met conflict Texts Version answers = cc
 says_refused met conflict TwoAddresses Version answers = cc
@@ -358,7 +385,7 @@ says_refused met conflict c OutOfMemory answers = tt
 pub says_survey : (met : Met) (rows : List Row) → IsWhole met → met ≡ Some (codes "survey", rows) → (files : List Text)
     → all_of (codes "file") rows ≡ Some files → IsCalledOn met (codes "survey") files
 says_survey met rows (survey fs is) called files files_are = called_on met (codes "survey") rows files fs called files_are is
-says_survey met rows (link o s fs is) called files files_are =
+says_survey met rows (link o m s fs is) called files files_are =
     absurd (names_apart met (codes "link") (codes "survey") is.of_files.rows rows is.of_files.called called refl)
 says_survey met rows (load l x y f is) called files files_are =
     absurd (names_apart met (codes "load") (codes "survey") is.of_file.rows rows is.of_file.called called refl)
@@ -366,5 +393,5 @@ says_survey met rows (image l form fs is) called files files_are =
     absurd (names_apart met (codes "image") (codes "survey") is.of_files.rows rows is.of_files.called called refl)
 says_survey met rows (check f is) called files files_are =
     absurd (names_apart met (codes "check") (codes "survey") is.rows rows is.called called refl)
-says_survey met rows (show f is) called files files_are =
-    absurd (names_apart met (codes "show") (codes "survey") is.rows rows is.called called refl)
+says_survey met rows (show j f is) called files files_are =
+    absurd (names_apart met (codes "show") (codes "survey") is.of_file.rows rows is.of_file.called called refl)

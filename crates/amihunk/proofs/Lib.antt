@@ -7,6 +7,7 @@ pub mod CommandLineRowLemmas
 pub mod CommandLineLoadLemmas
 pub mod CommandLineValueLemmas
 pub mod CommandLineUseLemmas
+pub mod CommandLineShowLemmas
 pub mod CommandLineSubcommandLemmas
 pub mod CommandLineOptionLemmas
 pub mod CommandLineFlagsLemmas

@@ -1,6 +1,6 @@
 -- What the arguments of a command line ask for, as `clap` reads them.
 use Rattle.std.specs.Borrow.{Bor}
-use Rattle.std.specs.Prelude.{◌≡◌, ◌≢◌, ◌<◌, ◌⊎◌, ⊤, ◌∷◌, ◌++◌, ℕ, Bool, List, [], true, false, codes, if◌then◌else◌, is_some, length, option_map, Option, Some, None}
+use Rattle.std.specs.Prelude.{◌≡◌, ◌≢◌, ◌<◌, ◌⊎◌, ⊤, ◌∷◌, ◌++◌, Bool, List, [], true, false, codes, if◌then◌else◌, is_some, length, option_map, Option, Some, None}
 use Rattle.clap.specs.Takes.{is_given}
 use Rattle.clap.specs.Values.{bool_text}
 use Rattle.clap.specs.Walk.{texts}
@@ -12,6 +12,7 @@ use Rattle.hunk_tool.specs.declared.image_form.ImageForm.TheVariants.{Report, SR
 use Rattle.hunk_tool.specs.declared.link_options.LinkOptions.{LinkOptions}
 use Rattle.hunk_commands.specs.Addresses.{Origin, origin_of}
 use Rattle.hunk_commands.specs.Addresses.Origin.{in_file, in_list}
+use Rattle.hunk_commands.specs.Request.{given_text}
 use Rattle.hunk_commands.specs.declared.load.LoadText.{LoadText}
 use Rattle.hunk_commands.specs.declared.load.LoadText.TheVariants as load_text
 use Rattle.hunk_commands.specs.declared.request.Request.{Request}
@@ -42,10 +43,11 @@ pub record IsFlag (rows : List Row) (name : Text) (given : Bool) : Type 0 where
   pub given_is : is_given name rows ≡ given
   pub value_is : one_of name rows ≡ Some (bool_text given)
 
--- the subcommand is `link`, with this OUT, these flags and these files
-pub record IsLink (met : Met) (out : Text) (options : LinkOptions) (files : List Text) : Type 0 where
+-- the subcommand is `link`, with this OUT, this MAP if one is given, these flags and these files
+pub record IsLink (met : Met) (out : Text) (map : Option Text) (options : LinkOptions) (files : List Text) : Type 0 where
   pub of_files : IsCalledOn met (codes "link") files
   pub out_is : first_of (codes "out") of_files.rows ≡ Some out
+  pub map_is : first_of (codes "map") of_files.rows ≡ map
   pub strip_is : IsFlag of_files.rows (codes "strip") options.strip
   pub short_is : IsFlag of_files.rows (codes "short") options.short
   pub trim_is : IsFlag of_files.rows (codes "trim") options.trim
@@ -99,6 +101,11 @@ pub record IsImage (met : Met) (values : AddressValues) (form : ImageForm) (file
   pub values_are : AreValues of_files.rows values
   pub form_is : IsFlag of_files.rows (codes "srec") (is_srec form)
 
+-- the subcommand is `show`, with this flag and this FILE
+pub record IsShow (met : Met) (json : Bool) (file : Text) : Type 0 where
+  pub of_file : IsCalled met (codes "show") file
+  pub json_is : IsFlag of_file.rows (codes "json") json
+
 -- the subcommand has arguments that exclude each other, or no addresses
 pub data IsConflict (met : Met) : Type 0 where
   two_texts : (values : AddressValues) (file : Text) → IsLoad met values true true file → IsConflict met
@@ -113,20 +120,20 @@ conflict_kind NoAddresses = error.MissingRequiredArgument
 
 -- the subcommand is one of the program's, with its required values
 pub data IsWhole (met : Met) : Type 0 where
-  link : (out : Text) (options : LinkOptions) (files : List Text) → IsLink met out options files → IsWhole met
+  link : (out : Text) (map : Option Text) (options : LinkOptions) (files : List Text) → IsLink met out map options files → IsWhole met
   load : (values : AddressValues) (srec symbols : Bool) (file : Text) → IsLoad met values srec symbols file → IsWhole met
   image : (values : AddressValues) (form : ImageForm) (files : List Text) → IsImage met values form files → IsWhole met
   check : (file : Text) → IsCalled met (codes "check") file → IsWhole met
-  show : (file : Text) → IsCalled met (codes "show") file → IsWhole met
+  show : (json : Bool) (file : Text) → IsShow met json file → IsWhole met
   survey : (files : List Text) → IsCalledOn met (codes "survey") files → IsWhole met
 
 -- the request matches what was found, or rejects a conflict; nothing is said if memory runs out
 abbrev pub Says : Met → Request → Type 0
-Says met (Link out options files) = IsLink met out.now options (texts files.items)
+Says met (Link out map options files) = IsLink met out.now (given_text map) options (texts files.items)
 Says met (Load addresses text file) = IsLoad met (values_of (origin_of addresses)) (asks_srec text) (asks_symbols text) file.now
 Says met (Image addresses form files) = IsImage met (values_of (origin_of addresses)) form (texts files.items)
 Says met (Check file) = IsCalled met (codes "check") file.now
-Says met (Show file) = IsCalled met (codes "show") file.now
+Says met (Show json file) = IsShow met json file.now
 Says met (Survey files) = IsCalledOn met (codes "survey") (texts files.items)
 Says met (Refused text) = IsConflict met
 Says met OutOfMemory = ⊤
@@ -134,11 +141,11 @@ Says met _ = ⊥
 
 -- the request for arguments that `clap` rejects with this kind of error
 abbrev pub Answers : ErrorKind → Request → Type 0
-Answers k (Link out options files) = ⊥
+Answers k (Link out map options files) = ⊥
 Answers k (Load addresses text file) = ⊥
 Answers k (Image addresses form files) = ⊥
 Answers k (Check file) = ⊥
-Answers k (Show file) = ⊥
+Answers k (Show json file) = ⊥
 Answers k (Survey files) = ⊥
 Answers k Version = k ≡ error.DisplayVersion
 Answers k (Help text) = k ≡ error.DisplayHelp
@@ -156,16 +163,16 @@ pub record IsRefusedBy (kinds : Kinds) : Type 0 where
 -- version if they ask for it, a rejection if something is wrong or there is a conflict; nothing is said if
 -- memory runs out
 abbrev pub IsAskedBy : List Text → Request → Type 0
-IsAskedBy words (Link out options files) = (fault_of command_line words ≡ [])
-    × IsLink (subcommand_of command_line words) out.now options (texts files.items)
+IsAskedBy words (Link out map options files) = (fault_of command_line words ≡ [])
+    × IsLink (subcommand_of command_line words) out.now (given_text map) options (texts files.items)
 IsAskedBy words (Load addresses text file) = (fault_of command_line words ≡ [])
     × IsLoad (subcommand_of command_line words) (values_of (origin_of addresses)) (asks_srec text) (asks_symbols text) file.now
 IsAskedBy words (Image addresses form files) = (fault_of command_line words ≡ [])
     × IsImage (subcommand_of command_line words) (values_of (origin_of addresses)) form (texts files.items)
 IsAskedBy words (Check file) = (fault_of command_line words ≡ [])
     × IsCalled (subcommand_of command_line words) (codes "check") file.now
-IsAskedBy words (Show file) = (fault_of command_line words ≡ [])
-    × IsCalled (subcommand_of command_line words) (codes "show") file.now
+IsAskedBy words (Show json file) = (fault_of command_line words ≡ [])
+    × IsShow (subcommand_of command_line words) json file.now
 IsAskedBy words (Survey files) = (fault_of command_line words ≡ [])
     × IsCalledOn (subcommand_of command_line words) (codes "survey") (texts files.items)
 IsAskedBy words Version = IsAmong error.DisplayVersion (fault_of command_line words)
@@ -192,6 +199,11 @@ abbrev pub IsNoFlag : Text → Type 0
 IsNoFlag [] = ⊤
 IsNoFlag (c ∷ rest) = c ≢ 45
 
+-- the argument does not begin with a hyphen, if it is given
+abbrev pub IsNoFlagIn : Option Text → Type 0
+IsNoFlagIn None = ⊤
+IsNoFlagIn (Some text) = IsNoFlag text
+
 -- the word, if it is given
 abbrev pub word_if : Bool → Text → List Text
 word_if given word = if given then word ∷ [] else []
@@ -201,18 +213,23 @@ abbrev pub option_words : LinkOptions → List Text
 option_words options =
     word_if options.strip (codes "--strip") ++ (word_if options.short (codes "--short") ++ word_if options.trim (codes "--trim"))
 
--- the arguments `PROGRAM link --out OUT [--strip] [--short] [--trim] FILE...`
-abbrev pub link_line : Text → LinkOptions → Text → List Text → List Text
-link_line program options out files = program ∷ codes "link" ∷ codes "--out" ∷ out ∷ (option_words options ++ files)
+-- the words `--map MAP`, if MAP is given
+abbrev pub map_words : Option Text → List Text
+map_words None = []
+map_words (Some map) = codes "--map" ∷ map ∷ []
+
+-- the arguments `PROGRAM link --out OUT [--map MAP] [--strip] [--short] [--trim] FILE...`
+abbrev pub link_line : Text → LinkOptions → Text → Option Text → List Text → List Text
+link_line program options out map files = program ∷ codes "link" ∷ codes "--out" ∷ out ∷ ((map_words map ++ option_words options) ++ files)
 
 -- the same words, with `-s` for `--strip`
 abbrev pub brief_words : LinkOptions → List Text
 brief_words options =
     word_if options.strip (codes "-s") ++ (word_if options.short (codes "--short") ++ word_if options.trim (codes "--trim"))
 
--- the arguments `PROGRAM link -o OUT [-s] [--short] [--trim] FILE...`
-abbrev pub brief_link_line : Text → LinkOptions → Text → List Text → List Text
-brief_link_line program options out files = program ∷ codes "link" ∷ codes "-o" ∷ out ∷ (brief_words options ++ files)
+-- the arguments `PROGRAM link -o OUT [--map MAP] [-s] [--short] [--trim] FILE...`
+abbrev pub brief_link_line : Text → LinkOptions → Text → Option Text → List Text → List Text
+brief_link_line program options out map files = program ∷ codes "link" ∷ codes "-o" ∷ out ∷ ((map_words map ++ brief_words options) ++ files)
 
 -- the word is `--version` or `-V`
 abbrev pub IsVersionWord : Text → Type 0
@@ -257,15 +274,24 @@ image_line program origin form files = program ∷ codes "image" ∷ option_word
 abbrev pub file_line : Text → Text → Text → List Text
 file_line program name file = program ∷ name ∷ file ∷ []
 
+-- the word `--json`, if it is given
+abbrev pub json_words : Bool → List Text
+json_words json = word_if json (codes "--json")
+
+-- the arguments `PROGRAM show [--json] FILE`
+abbrev pub show_line : Text → Bool → Text → List Text
+show_line program json file = program ∷ codes "show" ∷ (json_words json ++ file ∷ [])
+
 -- the arguments `PROGRAM survey FILE...`
 abbrev pub survey_line : Text → List Text → List Text
 survey_line program files = program ∷ codes "survey" ∷ files
 
--- the request is `link` with this OUT, these options, and these files in this order; or memory ran out
-abbrev pub AsksLink : Text → LinkOptions → List Text → Request → Type 0
-AsksLink out options files (Link o s fs) = (o.now ≡ out) × (s ≡ options) × (texts fs.items ≡ files)
-AsksLink out options files OutOfMemory = ⊤
-AsksLink out options files _ = ⊥
+-- the request is `link` with this OUT, this MAP if one is given, these options, and these files in this
+-- order; or memory ran out
+abbrev pub AsksLink : Text → Option Text → LinkOptions → List Text → Request → Type 0
+AsksLink out map options files (Link o m s fs) = (o.now ≡ out) × (given_text m ≡ map) × (s ≡ options) × (texts fs.items ≡ files)
+AsksLink out map options files OutOfMemory = ⊤
+AsksLink out map options files _ = ⊥
 
 -- the request is `load` with these addresses, for this text of this FILE, or memory ran out
 abbrev pub AsksLoad : Origin → LoadText → Text → Request → Type 0
@@ -285,11 +311,11 @@ AsksCheck file (Check f) = f.now ≡ file
 AsksCheck file OutOfMemory = ⊤
 AsksCheck file _ = ⊥
 
--- the same of `show`
-abbrev pub AsksShow : Text → Request → Type 0
-AsksShow file (Show f) = f.now ≡ file
-AsksShow file OutOfMemory = ⊤
-AsksShow file _ = ⊥
+-- the request is `show`, with `--json` or without, with this FILE, or memory ran out
+abbrev pub AsksShow : Bool → Text → Request → Type 0
+AsksShow json file (Show j f) = (j ≡ json) × (f.now ≡ file)
+AsksShow json file OutOfMemory = ⊤
+AsksShow json file _ = ⊥
 
 -- the request is `survey` with these files in this order, or memory ran out
 abbrev pub AsksSurvey : List Text → Request → Type 0

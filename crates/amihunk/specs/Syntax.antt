@@ -3,8 +3,8 @@ use Rattle.std.specs.Prelude.{ℕ, [], true, codes, Some}
 use Rattle.clap.specs.Lexer.{usize_max}
 use Rattle.clap.specs.Words.{App, Rule, Shape, Text, new_app, new_rule, with_rule, with_subcommand}
 use Rattle.clap.specs.declared.builder.action.ArgAction.TheVariants.{SetTrue}
-use Rattle.amihunk.specs.declared.syntax.AddressOptions.{AddressOptions}
-use Rattle.amihunk.specs.declared.syntax.AddressOptions.TheVariants.{ListAlone, ListOrFile}
+use Rattle.amihunk.specs.declared.syntax.Edition.{Edition}
+use Rattle.amihunk.specs.declared.syntax.Edition.TheVariants.{Former, Present}
 
 -- `--NAME VALUE`
 abbrev pub option_rule : Text → Rule
@@ -41,26 +41,41 @@ file_rule = record (new_rule (codes "file")) { value_names = 1; required = true 
 abbrev pub files_rule : Rule
 files_rule = record file_rule { range = Some (record { start_inclusive = 1; end_inclusive = usize_max }) }
 
--- `link --out OUT [--strip] [--short] [--trim] FILE...`, where `-o` is `--out`, and `-s` is `--strip`
-abbrev pub link_shape : Shape
-link_shape = (with_rule (with_rule (with_rule (with_rule (with_rule
-    (new_app (codes "link")) out_rule)
+-- the option by which a map is asked for
+abbrev pub given_map : Edition → App → App
+given_map Present app = with_rule app (option_rule (codes "map"))
+given_map Former app = app
+
+-- `link --out OUT [--map MAP] [--strip] [--short] [--trim] FILE...`, where `-o` is `--out`, and `-s` is
+-- `--strip`
+abbrev pub link_shape : Edition → Shape
+link_shape edition = (with_rule (with_rule (with_rule (with_rule
+    (given_map edition (with_rule (new_app (codes "link")) out_rule))
     (with_letter letter_s (flag_rule (codes "strip")))) (flag_rule (codes "short"))) (flag_rule (codes "trim"))) files_rule).top
 
--- these options, by which addresses are given
-abbrev pub given_addresses : AddressOptions → App → App
-given_addresses ListOrFile app = with_rule (with_rule app (option_rule (codes "at"))) (option_rule (codes "at-file"))
-given_addresses ListAlone app = with_rule app (required_rule (option_rule (codes "at")))
+-- the options by which addresses are given
+abbrev pub given_addresses : Edition → App → App
+given_addresses Present app = with_rule (with_rule app (option_rule (codes "at"))) (option_rule (codes "at-file"))
+given_addresses Former app = with_rule app (required_rule (option_rule (codes "at")))
 
 -- `load [--at LIST] [--at-file FILE] [--srec] [--symbols] FILE`, or `load --at LIST ..`
-abbrev pub load_shape : AddressOptions → Shape
-load_shape options = (with_rule (with_rule (with_rule
-    (given_addresses options (new_app (codes "load"))) (flag_rule (codes "srec"))) (flag_rule (codes "symbols"))) file_rule).top
+abbrev pub load_shape : Edition → Shape
+load_shape edition = (with_rule (with_rule (with_rule
+    (given_addresses edition (new_app (codes "load"))) (flag_rule (codes "srec"))) (flag_rule (codes "symbols"))) file_rule).top
 
 -- `image [--at LIST] [--at-file FILE] [--srec] FILE...`, or `image --at LIST ..`
-abbrev pub image_shape : AddressOptions → Shape
-image_shape options = (with_rule (with_rule
-    (given_addresses options (new_app (codes "image"))) (flag_rule (codes "srec"))) files_rule).top
+abbrev pub image_shape : Edition → Shape
+image_shape edition = (with_rule (with_rule
+    (given_addresses edition (new_app (codes "image"))) (flag_rule (codes "srec"))) files_rule).top
+
+-- the flag by which JSON is asked for
+abbrev pub given_json : Edition → App → App
+given_json Present app = with_rule app (flag_rule (codes "json"))
+given_json Former app = app
+
+-- `show [--json] FILE`
+abbrev pub show_shape : Edition → Shape
+show_shape edition = (with_rule (given_json edition (new_app (codes "show"))) file_rule).top
 
 -- the program, which has a version, requires a subcommand, and has none called `help`
 abbrev pub bare_shape : Shape
@@ -78,13 +93,13 @@ file_shape name = (with_rule (new_app name) file_rule).top
 abbrev pub survey_shape : Shape
 survey_shape = (with_rule (new_app (codes "survey")) files_rule).top
 
--- the command line that takes addresses by these options
-abbrev pub line_of : AddressOptions → App
-line_of options = with_subcommand (with_subcommand (with_subcommand (with_subcommand (with_subcommand (with_subcommand
-    (record { top = bare_shape; subs = [] }) link_shape) (load_shape options)) (image_shape options))
-    (file_shape (codes "check"))) (file_shape (codes "show"))) survey_shape
+-- the command line in this edition
+abbrev pub line_of : Edition → App
+line_of edition = with_subcommand (with_subcommand (with_subcommand (with_subcommand (with_subcommand (with_subcommand
+    (record { top = bare_shape; subs = [] }) (link_shape edition)) (load_shape edition)) (image_shape edition))
+    (file_shape (codes "check"))) (show_shape edition)) survey_shape
 
 -- the command line that the program accepts; of `--at` and `--at-file` it wants one, which no rule of
 -- `clap` says
 abbrev pub command_line : App
-command_line = line_of ListOrFile
+command_line = line_of Present

@@ -1,18 +1,18 @@
 //! The arguments of the command line, as `clap` reads them.
-ghost use Rattle.std.specs.Prelude.{◌≡◌, ◌<◌, ℕ, All, IfErr, IfOk, List, MatchOption, Some, codes, is_some, length, map, option_map, true};
+ghost use Rattle.std.specs.Prelude.{◌≡◌, ◌<◌, ℕ, All, Bool, IfErr, IfOk, List, MatchOption, Option, Some, codes, is_some, length, map, option_map, true};
 ghost use Rattle.clap.specs.Walk.{texts};
 ghost use Rattle.clap.specs.Words.{FailsBy, all_of, fault_of, first_of, found_of, kind_of, rows_of, subcommand_of, subcommand_rows_of};
 ghost use Rattle.amihunk.specs.Syntax.{command_line};
 ghost use Rattle.amihunk.specs.CommandLine.{Answers, AsksCheck, AsksImage, AsksLink, AsksLoad, AsksShow, AsksSurvey, AsksVersion};
-ghost use Rattle.amihunk.specs.CommandLine.{AreUnclear, IsAskedBy, IsNoFlag, IsRefusal, IsRetold, IsVersionWord, IsWhole, Says};
+ghost use Rattle.amihunk.specs.CommandLine.{AreUnclear, IsAskedBy, IsNoFlag, IsNoFlagIn, IsRefusal, IsRetold, IsVersionWord, IsWhole, Says};
 ghost use Rattle.amihunk.specs.CommandLine.{asks_srec, asks_symbols, brief_link_line, conflict_kind, file_line, image_line, is_srec};
-ghost use Rattle.amihunk.specs.CommandLine.{link_line, load_line, survey_line, text_in, values_given, values_of, version_line};
+ghost use Rattle.amihunk.specs.CommandLine.{link_line, load_line, show_line, survey_line, text_in, values_given, values_of, version_line};
 ghost use Rattle.hunk_commands.specs.Addresses.{Origin, origin_of};
 ghost use Rattle.hunk_commands.specs.declared.load.LoadText.{LoadText};
 ghost use Rattle.hunk_tool.specs.declared.image_form.ImageForm.{ImageForm};
 ghost use Rattle.hunk_tool.specs.declared.link_options.LinkOptions.{LinkOptions};
 
-use crate::syntax::{AddressOptions, command, image_command, load_command};
+use crate::syntax::{Edition, command, image_command, load_command};
 use clap::error::ErrorKind;
 use clap::{ArgMatches, Command, Error};
 use hunk_commands::{Addresses, LoadText, Request};
@@ -20,15 +20,18 @@ use hunk_tool::{ImageForm, LinkOptions};
 use std::alloc::{AllocError, Global};
 use std::convert::AsStr;
 
+/// The options that the former edition of the command line does not have.
+const NEW_OPTIONS: [&str; 3] = ["--at-file", "--map", "--json"];
+
 /// Reads the arguments of a command line, the first of which is the program's name.
 pub fn read_words<'a, S: AsStr>(alloc: Global, words: &'a [S]) -> Request<'a>
     ensures answer { IsAskedBy (map S.text words.entry.now) result }
-    ensures link { (program : List ℕ) (options : LinkOptions) (out : List ℕ) (files : List (List ℕ))
-        → map S.text words.entry.now ≡ link_line program options out files
-        → IsNoFlag out → 0 < length files → All IsNoFlag files → AsksLink out options files result }
-    ensures brief { (program : List ℕ) (options : LinkOptions) (out : List ℕ) (files : List (List ℕ))
-        → map S.text words.entry.now ≡ brief_link_line program options out files
-        → IsNoFlag out → 0 < length files → All IsNoFlag files → AsksLink out options files result }
+    ensures link { (program : List ℕ) (options : LinkOptions) (out : List ℕ) (map_file : Option (List ℕ)) (files : List (List ℕ))
+        → map S.text words.entry.now ≡ link_line program options out map_file files
+        → IsNoFlag out → IsNoFlagIn map_file → 0 < length files → All IsNoFlag files → AsksLink out map_file options files result }
+    ensures brief { (program : List ℕ) (options : LinkOptions) (out : List ℕ) (map_file : Option (List ℕ)) (files : List (List ℕ))
+        → map S.text words.entry.now ≡ brief_link_line program options out map_file files
+        → IsNoFlag out → IsNoFlagIn map_file → 0 < length files → All IsNoFlag files → AsksLink out map_file options files result }
     ensures load { (program : List ℕ) (origin : Origin) (text : LoadText) (file : List ℕ)
         → map S.text words.entry.now ≡ load_line program origin text file
         → IsNoFlag (text_in origin) → IsNoFlag file → AsksLoad origin text file result }
@@ -38,9 +41,9 @@ pub fn read_words<'a, S: AsStr>(alloc: Global, words: &'a [S]) -> Request<'a>
     ensures check { (program file : List ℕ)
         → map S.text words.entry.now ≡ file_line program (codes "check") file
         → IsNoFlag file → AsksCheck file result }
-    ensures show { (program file : List ℕ)
-        → map S.text words.entry.now ≡ file_line program (codes "show") file
-        → IsNoFlag file → AsksShow file result }
+    ensures show { (program : List ℕ) (json : Bool) (file : List ℕ)
+        → map S.text words.entry.now ≡ show_line program json file
+        → IsNoFlag file → AsksShow json file result }
     ensures survey { (program : List ℕ) (files : List (List ℕ))
         → map S.text words.entry.now ≡ survey_line program files
         → 0 < length files → All IsNoFlag files → AsksSurvey files result }
@@ -60,35 +63,37 @@ fn request_for<'a, S: AsStr>(alloc: Global, words: &'a [S]) -> Request<'a>
     }
 }
 
-/// The same request; but a rejection of arguments without `--at-file` has the text that it had before
-/// there was this option.
+/// The same request; but a rejection of arguments that none of [`NEW_OPTIONS`] is among has the text that
+/// it had before there were these options.
 fn retold<'a, S: AsStr>(alloc: Global, words: &[S], request: Request<'a>) -> Request<'a>
     ensures { IsRetold request.entry result }
 {
     match request {
-        Request::Refused(text) => Request::Refused(text_without_file(alloc, words).unwrap_or(text)),
+        Request::Refused(text) => Request::Refused(former_text(alloc, words).unwrap_or(text)),
         request => request,
     }
 }
 
-/// The text with which a command line that takes addresses by `--at LIST` alone rejects these arguments.
+/// The text with which the former edition of the command line rejects these arguments.
 ///
-/// `None` if it does not reject them, if one of them is `--at-file`, or if memory runs out.
-fn text_without_file<S: AsStr>(alloc: Global, words: &[S]) -> Option<String> {
-    if words
-        .iter()
-        .any(|word| word.as_str().starts_with("--at-file"))
-    {
+/// `None` if it does not reject them, if one of [`NEW_OPTIONS`] is among them, or if memory runs out.
+fn former_text<S: AsStr>(alloc: Global, words: &[S]) -> Option<String> {
+    if words.iter().any(|word| is_new_option(word.as_str())) {
         return None;
     }
-    let with_list = command(alloc, AddressOptions::ListAlone).ok()?;
-    let Err(error) = with_list.try_get_matches_from(words) else {
+    let former = command(alloc, Edition::Former).ok()?;
+    let Err(error) = former.try_get_matches_from(words) else {
         return None;
     };
     if error.kind() == ErrorKind::OutOfMemory {
         return None;
     }
     error.to_string(alloc).ok()
+}
+
+/// Whether this argument is one of [`NEW_OPTIONS`], with a value or without.
+fn is_new_option(word: &str) -> bool {
+    NEW_OPTIONS.iter().any(|option| word.starts_with(option))
 }
 
 /// Rejects arguments that are not UTF-8, as `clap` does.
@@ -106,7 +111,7 @@ pub fn refuse_bytes<'a>(alloc: Global) -> Request<'a>
 fn error_of(alloc: Global, kind: ErrorKind, text: &str) -> Result<Error, AllocError>
     ensures { IfOk result (λ e. kind_of e ≡ kind) }
 {
-    command(alloc, AddressOptions::ListOrFile)?.error(kind, text)
+    command(alloc, Edition::Present)?.error(kind, text)
 }
 
 /// What `clap` makes of the arguments.
@@ -115,7 +120,7 @@ fn matches_of<'a, S: AsStr>(alloc: Global, words: &'a [S]) -> Result<ArgMatches<
     ensures rows { IfOk result (λ m. subcommand_rows_of m
         ≡ subcommand_of command_line (map S.text words.entry.now)) }
 {
-    command(alloc, AddressOptions::ListOrFile)?.try_get_matches_from(words)
+    command(alloc, Edition::Present)?.try_get_matches_from(words)
 }
 
 /// The request of a parse that found a subcommand.
@@ -126,6 +131,7 @@ fn request_of<'a>(alloc: Global, matches: &ArgMatches<'a>) -> Result<Request<'a>
     match matches.subcommand() {
         Some(("link", values)) => Ok(Request::Link {
             out: value_of(values, "out"),
+            map: optional_value(values, "map"),
             options: LinkOptions {
                 strip: values.get_flag("strip"),
                 short: values.get_flag("short"),
@@ -139,6 +145,7 @@ fn request_of<'a>(alloc: Global, matches: &ArgMatches<'a>) -> Result<Request<'a>
             file: value_of(values, "file"),
         }),
         Some(("show", values)) => Ok(Request::Show {
+            json: values.get_flag("json"),
             file: value_of(values, "file"),
         }),
         Some(("survey", values)) => Ok(Request::Survey {
@@ -174,7 +181,7 @@ fn load_request<'a>(alloc: Global, values: &ArgMatches<'a>) -> Result<Request<'a
 fn refuse_load<'a>(alloc: Global, conflict: Conflict) -> Result<Request<'a>, AllocError>
     ensures { IfOk result (Answers (conflict_kind conflict)) }
 {
-    let load = load_command(alloc, AddressOptions::ListOrFile)?;
+    let load = load_command(alloc, Edition::Present)?;
     refuse(alloc, load, conflict)
 }
 
@@ -193,7 +200,7 @@ fn image_request<'a>(alloc: Global, values: &ArgMatches<'a>) -> Result<Request<'
             files: files_of(alloc, values)?,
         }),
         Err(conflict) => {
-            let image = image_command(alloc, AddressOptions::ListOrFile)?;
+            let image = image_command(alloc, Edition::Present)?;
             refuse(alloc, image, conflict)
         }
     }

@@ -1,13 +1,14 @@
 //! The program: the arguments of the command line, what they ask for, and the exit status.
-ghost use Rattle.std.specs.Prelude.{◌≡◌, ◌<◌, ◌≤◌, ℕ, List, codes, length, map};
+ghost use Rattle.std.specs.Prelude.{◌≡◌, ◌<◌, ◌≤◌, ℕ, Bool, List, Option, codes, length, map};
 ghost use Rattle.std.specs.List.{All};
 ghost use Rattle.hunk_tool.specs.declared.image_form.ImageForm.{ImageForm};
 ghost use Rattle.hunk_tool.specs.declared.link_options.LinkOptions.{LinkOptions};
 ghost use Rattle.hunk_commands.specs.Addresses.{Origin};
 ghost use Rattle.hunk_commands.specs.declared.load.LoadText.{LoadText};
-ghost use Rattle.hunk_commands.specs.Request.{EndsImage, EndsLink, EndsLoad, EndsSurvey, EndsText, EndsVersion};
+ghost use Rattle.hunk_commands.specs.Request.{EndsImage, EndsLink, EndsLoad, EndsSurvey, EndsText, EndsVersion, shown};
 ghost use Rattle.amihunk.specs.Program.{EndsLine};
-ghost use Rattle.amihunk.specs.CommandLine.{IsNoFlag, IsVersionWord, brief_link_line, file_line, image_line, link_line, load_line, survey_line, text_in, version_line};
+ghost use Rattle.amihunk.specs.CommandLine.{IsNoFlag, IsNoFlagIn, IsVersionWord, brief_link_line, file_line, image_line, link_line, load_line};
+ghost use Rattle.amihunk.specs.CommandLine.{show_line, survey_line, text_in, version_line};
 
 use crate::command_line::{read_words, refuse_bytes};
 use hunk_commands::{Request, Text, answer};
@@ -39,12 +40,12 @@ pub fn run<R: Files + Print + AllocGlobal, W: Sink, S: AsStr>(
     words: &[S],
 ) -> u8
     ensures line { EndsLine W.taken W.failed errors.old errors.new (map S.text words.now) result }
-    ensures link { (program : List ℕ) (options : LinkOptions) (out : List ℕ) (files : List (List ℕ))
-        → map S.text words.now ≡ link_line program options out files
-        → IsNoFlag out → 0 < length files → All IsNoFlag files → EndsLink W.taken W.failed errors.old errors.new out options files result }
-    ensures brief { (program : List ℕ) (options : LinkOptions) (out : List ℕ) (files : List (List ℕ))
-        → map S.text words.now ≡ brief_link_line program options out files
-        → IsNoFlag out → 0 < length files → All IsNoFlag files → EndsLink W.taken W.failed errors.old errors.new out options files result }
+    ensures link { (program : List ℕ) (options : LinkOptions) (out : List ℕ) (map_file : Option (List ℕ)) (files : List (List ℕ))
+        → map S.text words.now ≡ link_line program options out map_file files
+        → IsNoFlag out → IsNoFlagIn map_file → 0 < length files → All IsNoFlag files → EndsLink W.taken W.failed errors.old errors.new out map_file options files result }
+    ensures brief { (program : List ℕ) (options : LinkOptions) (out : List ℕ) (map_file : Option (List ℕ)) (files : List (List ℕ))
+        → map S.text words.now ≡ brief_link_line program options out map_file files
+        → IsNoFlag out → IsNoFlagIn map_file → 0 < length files → All IsNoFlag files → EndsLink W.taken W.failed errors.old errors.new out map_file options files result }
     ensures load { (program : List ℕ) (origin : Origin) (text : LoadText) (file : List ℕ)
         → map S.text words.now ≡ load_line program origin text file
         → IsNoFlag (text_in origin) → IsNoFlag file → EndsLoad W.taken W.failed errors.old errors.new origin text file result }
@@ -54,9 +55,9 @@ pub fn run<R: Files + Print + AllocGlobal, W: Sink, S: AsStr>(
     ensures check { (program file : List ℕ)
         → map S.text words.now ≡ file_line program (codes "check") file
         → IsNoFlag file → EndsText W.taken W.failed errors.old errors.new Text.Line file result }
-    ensures show { (program file : List ℕ)
-        → map S.text words.now ≡ file_line program (codes "show") file
-        → IsNoFlag file → EndsText W.taken W.failed errors.old errors.new Text.Listing file result }
+    ensures show { (program : List ℕ) (json : Bool) (file : List ℕ)
+        → map S.text words.now ≡ show_line program json file
+        → IsNoFlag file → EndsText W.taken W.failed errors.old errors.new (shown json) file result }
     ensures survey { (program : List ℕ) (files : List (List ℕ))
         → map S.text words.now ≡ survey_line program files
         → 0 < length files → All IsNoFlag files → EndsSurvey W.taken W.failed errors.old errors.new files result }

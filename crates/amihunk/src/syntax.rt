@@ -2,49 +2,50 @@
 ghost use Rattle.std.specs.Prelude.{◌≡◌, IfOk, codes, false};
 ghost use Rattle.clap.specs.Words.{app_of, rule_of, shape_of};
 ghost use Rattle.clap.specs.declared.builder.command.Command.TheViews.{out-Command};
-ghost use Rattle.amihunk.specs.Syntax.{file_rule, file_shape, files_rule, flag_rule, given_addresses, image_shape};
-ghost use Rattle.amihunk.specs.Syntax.{line_of, link_shape, load_shape, option_rule, out_rule, survey_shape};
+ghost use Rattle.amihunk.specs.Syntax.{file_rule, file_shape, files_rule, flag_rule, given_addresses, given_json, given_map};
+ghost use Rattle.amihunk.specs.Syntax.{image_shape, line_of, link_shape, load_shape, option_rule, out_rule, show_shape, survey_shape};
 
 use clap::{Arg, ArgAction, Command};
 use hunk_commands::VERSION;
 use std::alloc::{AllocError, Global};
 
-/// The options by which addresses may be given.
+/// An edition of the command line.
 #[derive(Clone, Copy, Debug, PartialEq, Eq)]
-pub enum AddressOptions {
-    /// `--at LIST` or `--at-file FILE`.
-    ListOrFile,
-    /// `--at LIST` alone, which is required.
-    ListAlone,
+pub enum Edition {
+    /// The one that the program accepts.
+    Present,
+    /// The one before there were `--at-file`, `--map` and `--json`, in which `--at` is required.
+    Former,
 }
 
-/// The command line that the program accepts.
-pub fn command<'a>(alloc: Global, options: AddressOptions) -> Result<Command<'a>, AllocError>
-    ensures { IfOk result (λ c. app_of c ≡ line_of options) }
+/// The command line in this edition.
+pub fn command<'a>(alloc: Global, edition: Edition) -> Result<Command<'a>, AllocError>
+    ensures { IfOk result (λ c. app_of c ≡ line_of edition) }
 {
     Command::new(alloc, "amihunk")
         .about("An Amiga hunk linker and loader")
         .version(VERSION)
         .disable_help_subcommand(true)
         .subcommand_required(true)
-        .subcommand(link_command(alloc)?)?
-        .subcommand(load_command(alloc, options)?)?
-        .subcommand(image_command(alloc, options)?)?
+        .subcommand(link_command(alloc, edition)?)?
+        .subcommand(load_command(alloc, edition)?)?
+        .subcommand(image_command(alloc, edition)?)?
         .subcommand(check_command(alloc)?)?
-        .subcommand(show_command(alloc)?)?
+        .subcommand(show_command(alloc, edition)?)?
         .subcommand(survey_command(alloc)?)
 }
 
-/// The subcommand `link --out OUT [--strip] [--short] [--trim] FILE...`, where `-o` is `--out`, and
-/// `-s` is `--strip`.
-fn link_command<'a>(alloc: Global) -> Result<Command<'a>, AllocError>
-    ensures shape { IfOk result (λ c. shape_of c ≡ link_shape) }
+/// The subcommand `link --out OUT [--map MAP] [--strip] [--short] [--trim] FILE...`, where `-o` is
+/// `--out`, and `-s` is `--strip`.
+fn link_command<'a>(alloc: Global, edition: Edition) -> Result<Command<'a>, AllocError>
+    ensures shape { IfOk result (λ c. shape_of c ≡ link_shape edition) }
     ensures local { IfOk result (λ c. (out-Command c).has_globals ≡ false) }
 {
-    Command::new(alloc, "link")
+    let link = Command::new(alloc, "link")
         .about("Links object files, and writes the load file")
         .after_help(help::LINK)
-        .arg(out_argument(alloc))?
+        .arg(out_argument(alloc))?;
+    with_map(alloc, link, edition)?
         .arg(flag(alloc, "strip", "Leaves out symbols and debug blocks").short('s'))?
         .arg(flag(
             alloc,
@@ -57,6 +58,30 @@ fn link_command<'a>(alloc: Global) -> Result<Command<'a>, AllocError>
             "Leaves out zero longwords at the end of each hunk",
         ))?
         .arg(files_argument(alloc, "Object files, in the order of linking"))
+}
+
+/// A subcommand that may be asked for a map.
+fn with_map<'a>(
+    alloc: Global,
+    command: Command<'a>,
+    edition: Edition,
+) -> Result<Command<'a>, AllocError>
+    ensures shape { IfOk result (λ c. app_of c ≡ given_map edition (app_of command.entry)) }
+    ensures local { (out-Command command.entry).has_globals ≡ false → IfOk result (λ c. (out-Command c).has_globals ≡ false) }
+{
+    match edition {
+        Edition::Former => Ok(command),
+        Edition::Present => command.arg(map_argument(alloc)),
+    }
+}
+
+/// The argument `--map MAP`.
+fn map_argument<'a>(alloc: Global) -> Arg<'a>
+    ensures rule { rule_of result ≡ option_rule (codes "map") }
+    ensures local { result.global ≡ false }
+{
+    let help = "The file to write that tells where each hunk is from";
+    option(alloc, "map", "MAP", help)
 }
 
 /// The argument `--out OUT` or `-o OUT`, which is required.
@@ -92,14 +117,14 @@ fn srec_flag<'a>(alloc: Global) -> Arg<'a>
 /// The subcommand `load --at LIST [--srec] [--symbols] FILE`, or with `--at-file FILE` in place of
 /// `--at LIST`. No rule of `clap` keeps the two flags apart, and none the two options: the command line
 /// is judged after the parse.
-pub fn load_command<'a>(alloc: Global, options: AddressOptions) -> Result<Command<'a>, AllocError>
-    ensures shape { IfOk result (λ c. shape_of c ≡ load_shape options) }
+pub fn load_command<'a>(alloc: Global, edition: Edition) -> Result<Command<'a>, AllocError>
+    ensures shape { IfOk result (λ c. shape_of c ≡ load_shape edition) }
     ensures local { IfOk result (λ c. (out-Command c).has_globals ≡ false) }
 {
     let load = Command::new(alloc, "load")
         .about("Loads a file at addresses, and prints the bytes of its hunks")
         .after_help(help::LOAD);
-    with_addresses(alloc, load, options, help::LOAD_USAGE)?
+    with_addresses(alloc, load, edition, help::LOAD_USAGE)?
         .arg(srec_flag(alloc))?
         .arg(flag(
             alloc,
@@ -110,31 +135,31 @@ pub fn load_command<'a>(alloc: Global, options: AddressOptions) -> Result<Comman
 }
 
 /// The subcommand `image --at LIST [--srec] FILE...`, or with `--at-file FILE` in place of `--at LIST`.
-pub fn image_command<'a>(alloc: Global, options: AddressOptions) -> Result<Command<'a>, AllocError>
-    ensures shape { IfOk result (λ c. shape_of c ≡ image_shape options) }
+pub fn image_command<'a>(alloc: Global, edition: Edition) -> Result<Command<'a>, AllocError>
+    ensures shape { IfOk result (λ c. shape_of c ≡ image_shape edition) }
     ensures local { IfOk result (λ c. (out-Command c).has_globals ≡ false) }
 {
     let image = Command::new(alloc, "image")
         .about("Links object files at addresses, and prints the bytes of their hunks")
         .after_help(help::IMAGE);
-    with_addresses(alloc, image, options, help::IMAGE_USAGE)?
+    with_addresses(alloc, image, edition, help::IMAGE_USAGE)?
         .arg(srec_flag(alloc))?
         .arg(files_argument(alloc, "Object files, in the order of linking"))
 }
 
-/// A subcommand that is given addresses by these options.
+/// A subcommand that is given addresses.
 fn with_addresses<'a>(
     alloc: Global,
     command: Command<'a>,
-    options: AddressOptions,
+    edition: Edition,
     usage: &'a str,
 ) -> Result<Command<'a>, AllocError>
-    ensures shape { IfOk result (λ c. app_of c ≡ given_addresses options (app_of command.entry)) }
+    ensures shape { IfOk result (λ c. app_of c ≡ given_addresses edition (app_of command.entry)) }
     ensures local { (out-Command command.entry).has_globals ≡ false → IfOk result (λ c. (out-Command c).has_globals ≡ false) }
 {
-    match options {
-        AddressOptions::ListAlone => command.arg(list_argument(alloc).required(true)),
-        AddressOptions::ListOrFile => command
+    match edition {
+        Edition::Former => command.arg(list_argument(alloc).required(true)),
+        Edition::Present => command
             .override_usage(usage)
             .arg(list_argument(alloc))?
             .arg(addresses_argument(alloc)),
@@ -152,15 +177,39 @@ fn check_command<'a>(alloc: Global) -> Result<Command<'a>, AllocError>
         .arg(file_argument(alloc, "An object file or a load file"))
 }
 
-/// The subcommand `show FILE`.
-fn show_command<'a>(alloc: Global) -> Result<Command<'a>, AllocError>
-    ensures shape { IfOk result (λ c. shape_of c ≡ file_shape (codes "show")) }
+/// The subcommand `show [--json] FILE`.
+fn show_command<'a>(alloc: Global, edition: Edition) -> Result<Command<'a>, AllocError>
+    ensures shape { IfOk result (λ c. shape_of c ≡ show_shape edition) }
     ensures local { IfOk result (λ c. (out-Command c).has_globals ≡ false) }
 {
-    Command::new(alloc, "show")
+    let show = Command::new(alloc, "show")
         .about("Prints a listing of the units and hunks of a file, and of what is in them")
-        .after_help(help::SHOW)
-        .arg(file_argument(alloc, "An object file or a load file"))
+        .after_help(help::SHOW);
+    with_json(alloc, show, edition)?.arg(file_argument(alloc, "An object file or a load file"))
+}
+
+/// A subcommand that may be asked for JSON.
+fn with_json<'a>(
+    alloc: Global,
+    command: Command<'a>,
+    edition: Edition,
+) -> Result<Command<'a>, AllocError>
+    ensures shape { IfOk result (λ c. app_of c ≡ given_json edition (app_of command.entry)) }
+    ensures local { (out-Command command.entry).has_globals ≡ false → IfOk result (λ c. (out-Command c).has_globals ≡ false) }
+{
+    match edition {
+        Edition::Former => Ok(command),
+        Edition::Present => command.arg(json_flag(alloc)),
+    }
+}
+
+/// The flag `--json`.
+fn json_flag<'a>(alloc: Global) -> Arg<'a>
+    ensures rule { rule_of result ≡ flag_rule (codes "json") }
+    ensures local { result.global ≡ false }
+{
+    let help = "Prints the listing as one JSON document";
+    flag(alloc, "json", help)
 }
 
 /// The subcommand `survey FILE...`.

@@ -7,6 +7,7 @@
 //! - `inputs`: files that are open at once.
 //! - `links`: the load file of object files.
 //! - `loads`: the report and the symbols of a load file.
+//! - `maps`: the load file of object files, and its map.
 //! - `requests`: the status of each request, and the line of its failure.
 //! - `surveys`: what a survey tells of files.
 //! - `texts`: the texts about a file.
@@ -19,6 +20,7 @@ mod images;
 mod inputs;
 mod links;
 mod loads;
+mod maps;
 mod requests;
 mod surveys;
 mod texts;

@@ -1,12 +1,19 @@
--- What is known of object files and of OUT after `link`, or why it failed.
-use Rattle.std.specs.Prelude.{◌≡◌, ◌⊎◌, ℕ, Bool, List, Option, Contains}
+-- What is known of object files, of OUT and of MAP after `link`, or why it failed.
+use Rattle.std.specs.Prelude.{◌≡◌, ◌⊎◌, ℕ, Bool, List, Option, Some, None, Contains}
+use Rattle.std.specs.Io.KnownBytes.{Appends}
+use Rattle.hunk_words.specs.Name.{bytes_of}
 use Rattle.hunk_loadfile.specs.LoadHunk.{FileHunk}
+use Rattle.hunk_loadfile.specs.Rules.{IsLoadFile}
+use Rattle.hunk_loadfile.specs.WrittenForm.{written_in}
 use Rattle.hunk_tool.specs.Inputs.{HaveRead}
-use Rattle.hunk_tool.specs.Link.{IsLinked, IsUnlinked, LinkTo}
+use Rattle.hunk_tool.specs.Link.{IsLinked, IsUnlinked, LinkTo, linked_hunks}
+use Rattle.hunk_tool.specs.LinkOptions.{form_of, trimmed_if}
+use Rattle.hunk_tool.specs.Map.{LinkFiles, map_text}
+use Rattle.hunk_tool.specs.ObjectFiles.{AreFileUnits, FileUnit, units_of}
 use Rattle.hunk_tool.specs.declared.link_options.LinkOptions.{LinkOptions}
 use Rattle.hunk_tool.specs.declared.tool_fault.ToolFault.TheVariants.{OutOfMemory}
 use Rattle.hunk_commands.specs.declared.failure.Failure.{Failure}
-use Rattle.hunk_commands.specs.declared.failure.Failure.TheVariants.{Opening, Tool}
+use Rattle.hunk_commands.specs.declared.failure.Failure.TheVariants.{Opening, Tool, Writing}
 use Rattle.hunk_commands.specs.Devices.{IsCutShort}
 use Rattle.hunk_commands.specs.Inputs.{OfInputs}
 
@@ -35,3 +42,63 @@ IsUnwritten out failure = IsCutShort failure
 abbrev pub IsLinkFailure : (strip : Bool) (files : List (List ℕ)) (out : List ℕ) → Failure → Type 0
 IsLinkFailure strip files out failure =
     AreUnlinked strip files failure ⊎ ((file : List FileHunk) × DoLinkTo strip files file × IsUnwritten out failure)
+
+-- ---- with a map
+
+-- the inputs, read to their ends, are object files with these units, which link, and this is their load
+-- file
+abbrev pub DoLinkFiles : (strip : Bool) (files : List (List ℕ)) (units : List FileUnit) (file : List FileHunk) → Type 0
+DoLinkFiles strip files units file = OfInputs files (λ inputs. HaveRead inputs (LinkFiles strip units file))
+
+-- the load file as the options have it, which was written to some file in full
+pub record IsWrittenOut (options : LinkOptions) (linked file : List FileHunk) : Type 0 where
+  pub file_is : file ≡ trimmed_if options.trim linked
+  pub valid : IsLoadFile file
+  pub old : Option (List ℕ)
+  pub new : Option (List ℕ)
+  pub written : Appends old new (bytes_of (written_in (form_of options) file))
+
+-- the map of this load file and these units is all that was written to some file
+pub record HasMap (names : List (List ℕ)) (file : List FileHunk) (units : List FileUnit) : Type 0 where
+  pub old : Option (List ℕ)
+  pub new : Option (List ℕ)
+  pub written : Appends old new (map_text names file units)
+
+-- the object files link, the bytes of their load file were written, and its map, with these names of the
+-- files
+pub record IsLinkedWithMap (options : LinkOptions) (names : List (List ℕ)) (old new : Option (List ℕ)) (files : List (List ℕ)) : Type 0 where
+  pub linked : IsLinked options old new files
+  pub units : List FileUnit
+  pub are : AreFileUnits units files
+  pub units_are : linked.units ≡ units_of units
+  pub has_map : HasMap names (linked_hunks linked.units options) units
+
+-- the inputs link, the bytes of their load file are all that was written to OUT, and its map is all that
+-- was written to MAP
+pub record IsMapped (options : LinkOptions) (names files : List (List ℕ)) : Type 0 where
+  pub old : Option (List ℕ)
+  pub new : Option (List ℕ)
+  pub linked : OfInputs files (λ inputs. HaveRead inputs (IsLinkedWithMap options names old new))
+
+-- why MAP was not written in full: it cannot be created, a write to it failed, or out of memory
+abbrev pub IsUnmapped : (map : List ℕ) → Failure → Type 0
+IsUnmapped map (Opening name) = name.now ≡ map
+IsUnmapped map (Writing name) = name.now ≡ map
+IsUnmapped map (Tool fault) = fault ≡ OutOfMemory 0
+IsUnmapped map _ = ⊥
+
+-- why `link` with a map failed: MAP is created after OUT has been written in full
+abbrev pub IsMapFailure : LinkOptions → (files : List (List ℕ)) (out map : List ℕ) → Failure → Type 0
+IsMapFailure options files out map failure = IsLinkFailure options.strip files out failure ⊎ (IsMade options files × IsUnmapped map failure)
+
+-- ---- as MAP is given, or not
+
+-- what was done
+abbrev pub IsDone : LinkOptions → (files : List (List ℕ)) → Option (List ℕ) → Type 0
+IsDone options files None = IsMade options files
+IsDone options files (Some map) = IsMapped options files files
+
+-- and why not
+abbrev pub IsUndone : LinkOptions → (files : List (List ℕ)) (out : List ℕ) → Option (List ℕ) → Failure → Type 0
+IsUndone options files out None failure = IsLinkFailure options.strip files out failure
+IsUndone options files out (Some map) failure = IsMapFailure options files out map failure

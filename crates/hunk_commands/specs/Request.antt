@@ -1,5 +1,6 @@
 -- The exit status after a request, and the line of its failure.
-use Rattle.std.specs.Prelude.{◌≡◌, ◌⊎◌, ◌∷◌, [], ℕ, List, Bool, Option}
+use Rattle.std.specs.Borrow.{Bor}
+use Rattle.std.specs.Prelude.{◌≡◌, ◌⊎◌, ◌∷◌, [], ℕ, List, Bool, Option, if◌then◌else◌, option_map}
 use Rattle.hunk_commands.specs.Inputs.{file_names}
 use Rattle.hunk_tool.specs.declared.image_form.ImageForm.{ImageForm}
 use Rattle.hunk_tool.specs.declared.link_options.LinkOptions.{LinkOptions}
@@ -7,7 +8,7 @@ use Rattle.hunk_tool.specs.declared.tool_fault.ToolFault.TheVariants as tool_fau
 use Rattle.hunk_commands.specs.Addresses.{Origin, origin_of}
 use Rattle.hunk_commands.specs.Failure.{failure_line, status_of, TellsLine}
 use Rattle.hunk_commands.specs.Load.{IsLoadFailure, IsLoaded}
-use Rattle.hunk_commands.specs.Link.{IsLinkFailure, IsMade}
+use Rattle.hunk_commands.specs.Link.{IsDone, IsUndone}
 use Rattle.hunk_commands.specs.Image.{AreImaged, IsImageFailure}
 use Rattle.hunk_commands.specs.Devices.{IsCutShort}
 use Rattle.hunk_commands.specs.Survey.{IsSurveyedSomewhere}
@@ -17,7 +18,7 @@ use Rattle.hunk_commands.specs.declared.failure.Failure.{Failure}
 use Rattle.hunk_commands.specs.declared.failure.Failure.TheVariants.{Tool}
 use Rattle.hunk_commands.specs.declared.load.LoadText.{LoadText}
 use Rattle.hunk_commands.specs.declared.text.Text.{Text}
-use Rattle.hunk_commands.specs.declared.text.Text.TheVariants.{Line, Listing}
+use Rattle.hunk_commands.specs.declared.text.Text.TheVariants.{Json, Line, Listing}
 use Rattle.hunk_commands.specs.declared.request.Request.{Request}
 use Rattle.hunk_commands.specs.declared.request.Request.TheVariants.{Load, Link, Image, Check, Show, Survey, Version, Help, Refused, OutOfMemory}
 
@@ -34,15 +35,23 @@ abbrev pub EndsLoad : {W : Type 0} (taken : W → Option (List ℕ)) (failed : W
 EndsLoad taken failed old new origin text file status =
     ((status ≡ 0) × IsLoaded text origin) ⊎ IsFailed taken failed old new (IsLoadFailure text origin file) (file ∷ []) status
 
+-- the argument, if it is given
+abbrev pub given_text : Option (Bor (List ℕ)) → Option (List ℕ)
+given_text = option_map (λ text. text.now)
+
 -- the status after `link`
-abbrev pub EndsLink : {W : Type 0} (taken : W → Option (List ℕ)) (failed : W → Bool) (old new : W) (out : List ℕ) (options : LinkOptions) (files : List (List ℕ)) → ℕ → Type 0
-EndsLink taken failed old new out options files status =
-    ((status ≡ 0) × IsMade options files) ⊎ IsFailed taken failed old new (IsLinkFailure options.strip files out) files status
+abbrev pub EndsLink : {W : Type 0} (taken : W → Option (List ℕ)) (failed : W → Bool) (old new : W) (out : List ℕ) (map : Option (List ℕ)) (options : LinkOptions) (files : List (List ℕ)) → ℕ → Type 0
+EndsLink taken failed old new out map options files status =
+    ((status ≡ 0) × IsDone options files map) ⊎ IsFailed taken failed old new (IsUndone options files out map) files status
 
 -- the status after `image`
 abbrev pub EndsImage : {W : Type 0} (taken : W → Option (List ℕ)) (failed : W → Bool) (old new : W) (origin : Origin) (form : ImageForm) (files : List (List ℕ)) → ℕ → Type 0
 EndsImage taken failed old new origin form files status =
     ((status ≡ 0) × AreImaged form origin files) ⊎ IsFailed taken failed old new (IsImageFailure form origin files) files status
+
+-- what `show` prints of a file, with `--json` or without
+abbrev pub shown : (json : Bool) → Text
+shown json = if json then Json else Listing
 
 -- the status after a text about FILE
 abbrev pub EndsText : {W : Type 0} (taken : W → Option (List ℕ)) (failed : W → Bool) (old new : W) (text : Text) (file : List ℕ) → ℕ → Type 0
@@ -62,10 +71,10 @@ EndsVersion taken failed old new status =
 -- the status after a request
 abbrev pub Ends : {W : Type 0} (taken : W → Option (List ℕ)) (failed : W → Bool) (old new : W) → Request → ℕ → Type 0
 Ends taken failed old new (Load addresses text file) status = EndsLoad taken failed old new (origin_of addresses) text file.now status
-Ends taken failed old new (Link out options files) status = EndsLink taken failed old new out.now options (file_names files.items) status
+Ends taken failed old new (Link out map options files) status = EndsLink taken failed old new out.now (given_text map) options (file_names files.items) status
 Ends taken failed old new (Image addresses form files) status = EndsImage taken failed old new (origin_of addresses) form (file_names files.items) status
 Ends taken failed old new (Check file) status = EndsText taken failed old new Line file.now status
-Ends taken failed old new (Show file) status = EndsText taken failed old new Listing file.now status
+Ends taken failed old new (Show json file) status = EndsText taken failed old new (shown json) file.now status
 Ends taken failed old new (Survey files) status = EndsSurvey taken failed old new (file_names files.items) status
 Ends taken failed old new Version status = EndsVersion taken failed old new status
 Ends taken failed old new (Help text) status = (status ≡ 0) ⊎ (status ≡ 3)

@@ -1,6 +1,7 @@
 -- What is known of a file and the standard output after a text about the file was printed, or why it
 -- was not.
 use Rattle.std.specs.Prelude.{◌≡◌, ◌⊎◌, ℕ, List, ⊤}
+use Rattle.hunk_json.specs.Run.{json_text}
 use Rattle.hunk_tool.specs.Check.{check_text}
 use Rattle.hunk_tool.specs.FileText.{IsTextFault, IsWritten}
 use Rattle.hunk_tool.specs.FileValue.{FileValue}
@@ -9,13 +10,14 @@ use Rattle.hunk_tool.specs.declared.tool_fault.ToolFault.TheVariants.{OutOfMemor
 use Rattle.hunk_commands.specs.declared.failure.Failure.{Failure}
 use Rattle.hunk_commands.specs.declared.failure.Failure.TheVariants.{Opening, Printing, Tool}
 use Rattle.hunk_commands.specs.declared.text.Text.{Text}
-use Rattle.hunk_commands.specs.declared.text.Text.TheVariants.{Line, Listing}
+use Rattle.hunk_commands.specs.declared.text.Text.TheVariants.{Json, Line, Listing}
 use Rattle.hunk_commands.specs.Devices.{Printed, StoppedBy}
 
 -- the text about a file of this value
 abbrev pub text_of : Text → FileValue → List ℕ
 text_of Line = check_text
 text_of Listing = show_text
+text_of Json = json_text
 
 -- the bytes that were read are a file of the kind that its first four bytes tell, and its text is
 -- all that was written

@@ -33,6 +33,8 @@ pub enum Failure<'a> {
     Opening(&'a str),
     /// A read of the file of addresses with this name failed.
     Reading(&'a str),
+    /// The file with this name, the map of a link, did not take everything that was written to it.
+    Writing(&'a str),
     /// The output did not take everything that was written to it.
     Printing,
     /// What `hunk_tool` returned.
@@ -53,7 +55,8 @@ impl<'a> Failure<'a> {
     {
         match self {
             Failure::BadNumber { .. } => COMMAND_LINE,
-            Failure::Opening(_) | Failure::Reading(_) | Failure::Printing => DEVICE,
+            Failure::Opening(_) | Failure::Reading(_) | Failure::Writing(_) | Failure::Printing =>
+                DEVICE,
             Failure::Tool(fault) => status_of(fault),
         }
     }
@@ -87,6 +90,7 @@ fn write_failure<W: Sink>(
         Failure::BadNumber { addresses, index } => write_bad_number(*addresses, *index, errors),
         Failure::Opening(file) => write_about(file, "cannot be opened", errors),
         Failure::Reading(file) => write_about(file, "read failed", errors),
+        Failure::Writing(file) => write_about(file, "write failed", errors),
         Failure::Printing => {
             let output: ToolFault = ToolFault::Output { written: 0 };
             write_fault(files, &output, errors)

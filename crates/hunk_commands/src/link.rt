@@ -1,15 +1,17 @@
-//! The request `link`: the load file of object files.
-ghost use Rattle.std.specs.Prelude.{IfOk, IfErr, OnOk, length};
+//! The request `link`: the load file of object files, and the map of it.
+ghost use Rattle.std.specs.Prelude.{◌≡◌, IfOk, IfErr, OnOk, length, map};
+ghost use Rattle.std.specs.String.{string_bytes};
 ghost use Rattle.hunk_commands.specs.Inputs.{file_names};
 ghost use Rattle.hunk_loadfile.specs.WrittenForm.{IsShortEnough};
+ghost use Rattle.hunk_tool.specs.Map.{origins};
 ghost use Rattle.hunk_commands.specs.Failure.{IsOfFiles};
-ghost use Rattle.hunk_commands.specs.Link.{AreUnlinked, DoLinkTo, IsLinkFailure, IsMade};
+ghost use Rattle.hunk_commands.specs.Link.{AreUnlinked, DoLinkFiles, DoLinkTo, HasMap, IsLinkFailure, IsMade, IsMapFailure, IsMapped, IsUnmapped, IsUnwritten, IsWrittenOut};
 
-use crate::devices::{create, write_file};
+use crate::devices::{buffered, create, flushed, write_file};
 use crate::failure::Failure;
 use crate::inputs::open_inputs;
 use hunk_loadfile::LoadFile;
-use hunk_tool::{LinkOptions, link_inputs};
+use hunk_tool::{LinkOptions, ObjectFiles, link_files, link_inputs, write_map};
 use std::rt::Files;
 
 /// Links the object files named `files`, and writes their load file to the file named `out`, as
@@ -35,9 +37,37 @@ pub fn link<'a, R: Files + AllocGlobal>(
     ensures of_files { IfErr result (IsOfFiles (length files.entry.now)) }
 {
     let linked = linked(rt, options.strip, files)?;
-    let file = options.trimmed(linked);
-    let output = create(rt, out)?;
-    write_file(rt.alloc(), output, &file, options.form())?;
+    write_out(rt, out, options, linked)?;
+    Ok(())
+}
+
+/// Links as [`link`] does, and then writes the map of the load file to the file named `map_file`, which
+/// tells where each of its hunks is from. In the map, the files have these names.
+///
+/// The map is made of the units of the files, which are kept for it. It is written after the whole load
+/// file, which stays if the map is not written.
+///
+/// # Errors
+///
+/// - Those of [`link`]; then the map is not begun.
+/// - [`Failure::Opening`] with `map_file` if it cannot be created.
+/// - [`Failure::Writing`] with `map_file` if it did not take everything that was written to it.
+/// - [`Failure::Tool`] with out of memory, also if the map is not begun for it.
+pub fn link_with_map<'a, R: Files + AllocGlobal>(
+    rt: &R,
+    out: &'a str,
+    map_file: &'a str,
+    options: LinkOptions,
+    files: &[&'a str],
+    names: &[String],
+) -> Result<(), Failure<'a>>
+    ensures ok { OnOk result (IsMapped options (map string_bytes names.now) (file_names files.entry.now)) }
+    ensures err { IfErr result (IsMapFailure options (file_names files.entry.now) out.entry.now map_file.entry.now) }
+    ensures of_files { IfErr result (IsOfFiles (length files.entry.now)) }
+{
+    let (units, linked) = linked_files(rt, options.strip, files)?;
+    let file = write_out(rt, out, options, linked)?;
+    write_map_file(rt, map_file, &units, names, &file)?;
     Ok(())
 }
 
@@ -57,5 +87,63 @@ fn linked<'a, R: Files + AllocGlobal>(
     match link_inputs(rt.alloc(), inputs.as_mut_slice(), strip) {
         Ok(file) => Ok(file),
         Err(fault) => Err(Failure::Tool(fault)),
+    }
+}
+
+/// The same load file, with the units of the object files.
+fn linked_files<'a, R: Files + AllocGlobal>(
+    rt: &R,
+    strip: bool,
+    files: &[&'a str],
+) -> Result<(ObjectFiles, LoadFile), Failure<'a>>
+    ensures ok { IfOk result (λ linked. DoLinkFiles strip (file_names files.entry.now) linked.0 linked.1) }
+    ensures short { IfOk result (λ linked. IsShortEnough linked.1) }
+    ensures matched { IfOk result (λ linked. length (origins linked.0) ≡ length linked.1) }
+    ensures err { IfErr result (AreUnlinked strip (file_names files.entry.now)) }
+    ensures of_files { IfErr result (IsOfFiles (length files.entry.now)) }
+{
+    let mut inputs = open_inputs(rt, rt.alloc(), files)?;
+    match link_files(rt.alloc(), inputs.as_mut_slice(), strip) {
+        Ok(linked) => Ok(linked),
+        Err(fault) => Err(Failure::Tool(fault)),
+    }
+}
+
+/// Writes a load file to the file named `out`, as `options` say, and returns it as it was written.
+fn write_out<'a, R: Files + AllocGlobal>(
+    rt: &R,
+    out: &'a str,
+    options: LinkOptions,
+    linked: LoadFile,
+) -> Result<LoadFile, Failure<'a>>
+    ensures ok { IfOk result (IsWrittenOut options linked) }
+    ensures err { IfErr result (IsUnwritten out.entry.now) }
+{
+    let file = options.trimmed(linked);
+    let output = create(rt, out)?;
+    write_file(rt.alloc(), output, &file, options.form())?;
+    Ok(file)
+}
+
+/// Writes the map of a load file to the file named `map_file`, through a buffer.
+fn write_map_file<'a, R: Files + AllocGlobal>(
+    rt: &R,
+    map_file: &'a str,
+    units: &ObjectFiles,
+    names: &[String],
+    file: &LoadFile,
+) -> Result<(), Failure<'a>>
+    requires { length (origins units.now) ≡ length file.now }
+    ensures ok { OnOk result (HasMap (map string_bytes names.now) file.now units.now) }
+    ensures err { IfErr result (IsUnmapped map_file.entry.now) }
+{
+    let output = create(rt, map_file)?;
+    let mut writer = buffered(rt.alloc(), output)?;
+    if write_map(units, names, file, &mut writer).is_err() {
+        return Err(Failure::Writing(map_file));
+    }
+    match flushed(writer) {
+        Ok(_) => Ok(()),
+        Err(_) => Err(Failure::Writing(map_file)),
     }
 }

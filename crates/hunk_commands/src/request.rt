@@ -1,13 +1,15 @@
 //! What a command line asks for, and doing it.
-ghost use Rattle.std.specs.Prelude.{◌≡◌, IfOk, map, string_bytes};
+ghost use Rattle.std.specs.Prelude.{◌≡◌, IfErr, IfOk, OnOk, length, map, string_bytes};
 ghost use Rattle.hunk_commands.specs.Addresses.{origin_of};
+ghost use Rattle.hunk_commands.specs.Failure.{IsOfFiles};
 ghost use Rattle.hunk_commands.specs.Inputs.{file_names};
-ghost use Rattle.hunk_commands.specs.Request.{Ends, EndsImage, EndsLink, EndsLoad, EndsSurvey, EndsText};
+ghost use Rattle.hunk_commands.specs.Link.{IsDone, IsUndone};
+ghost use Rattle.hunk_commands.specs.Request.{Ends, EndsImage, EndsLink, EndsLoad, EndsSurvey, EndsText, given_text, shown};
 
 use crate::addresses::Addresses;
 use crate::failure::{COMMAND_LINE, DONE, Failure, report_failure};
 use crate::image::image;
-use crate::link::link;
+use crate::link::{link, link_with_map};
 use crate::load::{LoadText, load};
 use crate::survey::survey;
 use crate::text::{Text, print_text};
@@ -20,11 +22,13 @@ use std::rt::Files;
 /// What the arguments of a command line ask for.
 #[derive(Debug, Drop)]
 pub enum Request<'a> {
-    /// `link --out OUT [--strip] [--short] [--trim] FILE...`: the load file of the object files
-    /// FILE..., written to OUT.
+    /// `link --out OUT [--map MAP] [--strip] [--short] [--trim] FILE...`: the load file of the object
+    /// files FILE..., written to OUT, and the map of it, written to MAP.
     Link {
         /// The argument OUT.
         out: &'a str,
+        /// The argument MAP, if it is given.
+        map: Option<&'a str>,
         /// Which of `--strip`, `--short` and `--trim` are given.
         options: LinkOptions,
         /// The arguments FILE..., in the order given, of which there is at least one.
@@ -56,8 +60,10 @@ pub enum Request<'a> {
         /// The argument FILE.
         file: &'a str,
     },
-    /// `show FILE`: a listing of FILE.
+    /// `show [--json] FILE`: a listing of FILE, or a JSON document.
     Show {
+        /// Whether `--json` is given.
+        json: bool,
         /// The argument FILE.
         file: &'a str,
     },
@@ -88,9 +94,10 @@ pub fn answer<R: Files + Print + AllocGlobal, W: Sink>(
     match request {
         Request::Link {
             out,
+            map,
             options,
             files,
-        } => answer_link(rt, errors, out, options, files.as_slice()),
+        } => answer_link(rt, errors, out, map, options, files.as_slice()),
         Request::Load {
             addresses,
             text,
@@ -102,7 +109,7 @@ pub fn answer<R: Files + Print + AllocGlobal, W: Sink>(
             files,
         } => answer_image(rt, errors, addresses, form, files.as_slice()),
         Request::Check { file } => answer_text(rt, errors, Text::Line, file),
-        Request::Show { file } => answer_text(rt, errors, Text::Listing, file),
+        Request::Show { json, file } => answer_text(rt, errors, shown(json), file),
         Request::Survey { files } => answer_survey(rt, errors, files.as_slice()),
         Request::Version => match print_version(rt) {
             Ok(()) => DONE,
@@ -139,22 +146,43 @@ fn answer_load<R: Files + Print + AllocGlobal, W: Sink>(
     }
 }
 
-/// Does `link --out OUT [--strip] [--short] [--trim] FILE...`, and returns the exit status.
+/// Does `link`, and returns the exit status.
 fn answer_link<R: Files + AllocGlobal, W: Sink>(
     rt: &R,
     errors: &mut W,
     out: &str,
+    map_file: Option<&str>,
     options: LinkOptions,
     files: &[&str],
 ) -> u8
-    ensures { EndsLink W.taken W.failed errors.old errors.new out.now options (file_names files.now) result }
+    ensures { EndsLink W.taken W.failed errors.old errors.new out.now (given_text map_file.entry) options (file_names files.now) result }
 {
     let Ok(names) = names_of(rt.alloc(), files) else {
         return report_failure(errors, &[], &Failure::out_of_memory());
     };
-    match link(rt, out, options, files) {
+    match link_as_asked(rt, out, map_file, options, files, names.as_slice()) {
         Ok(()) => DONE,
         Err(failure) => report_failure(errors, names.as_slice(), &failure),
+    }
+}
+
+/// Links, and writes the map if one is asked for.
+fn link_as_asked<'a, R: Files + AllocGlobal>(
+    rt: &R,
+    out: &'a str,
+    map_file: Option<&'a str>,
+    options: LinkOptions,
+    files: &[&'a str],
+    names: &[String],
+) -> Result<(), Failure<'a>>
+    requires { map string_bytes names.now ≡ file_names files.now }
+    ensures ok { OnOk result (IsDone options (file_names files.entry.now) (given_text map_file.entry)) }
+    ensures err { IfErr result (IsUndone options (file_names files.entry.now) out.entry.now (given_text map_file.entry)) }
+    ensures of_files { IfErr result (IsOfFiles (length files.entry.now)) }
+{
+    match map_file {
+        None => link(rt, out, options, files),
+        Some(map_file) => link_with_map(rt, out, map_file, options, files, names),
     }
 }
 
@@ -200,6 +228,13 @@ fn names_of(alloc: Global, files: &[&str]) -> Result<Vec<String>, AllocError>
         names.push(String::from_str(alloc, file)?)?;
     }
     Ok(names)
+}
+
+/// What `show` prints of a file.
+fn shown(json: bool) -> Text
+    ensures { result ≡ shown json }
+{
+    if json { Text::Json } else { Text::Listing }
 }
 
 /// Does a request for a text about FILE, and returns the exit status.

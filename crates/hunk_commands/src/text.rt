@@ -8,6 +8,7 @@ ghost use Rattle.hunk_commands.specs.Text.{IsTextFailure, IsTold, text_of};
 
 use crate::devices::{buffered, flushed, open};
 use crate::failure::Failure;
+use hunk_json::json_run;
 use hunk_tool::{ToolFault, check_run, show_run};
 use hunk_words::{Sink, Source, Watched};
 use std::alloc::Global;
@@ -22,6 +23,8 @@ pub enum Text {
     Line,
     /// A listing of its units and hunks, and of what is in them.
     Listing,
+    /// What the listing tells, as one JSON document.
+    Json,
 }
 
 /// Reads the file named `file`, and prints the text about it.
@@ -48,7 +51,7 @@ pub fn print_text<'a, R: Files + Print + AllocGlobal>(
 ///
 /// # Errors
 ///
-/// - [`Failure::Tool`] with what [`check_run`] or [`show_run`] returns, or out of memory.
+/// - [`Failure::Tool`] with what [`check_run`], [`show_run`] or [`json_run`] returns, or out of memory.
 /// - [`Failure::Printing`] if `output` did not take the end of the text.
 pub fn print_text_to<'a, I: Read + Drop, O: Write + Drop>(
     alloc: Global,
@@ -83,5 +86,6 @@ fn write_text<R: Source, W: Sink>(
     match text {
         Text::Line => check_run(alloc, reader, writer),
         Text::Listing => show_run(alloc, reader, writer),
+        Text::Json => json_run(alloc, reader, writer),
     }
 }

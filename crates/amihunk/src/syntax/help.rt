@@ -8,12 +8,17 @@ files in the order given, the units in the order of a file, and the hunks in the
 Neither `--short` nor `--trim` changes the bytes of the hunks in memory, but not every old loader
 reads the short form, which has blocks of type 1020.
 
+With `--map` it writes to MAP, after OUT, a line for each hunk of the load file, with the file, the
+unit and the hunk that it is from, and below it a line for each name that the hunk defines:
+  hunk 0 code any 2 longwords main.o unit 0 \"test\" hunk 0 \"CODE\"
+    define \"main\" at 00000000
+
 For example, this writes a short and trimmed load file without symbols and debug blocks:
   amihunk link --out program --strip --short --trim startup.o main.o
 
 The exit status is 0 if OUT was written, 1 if a FILE is not an object file or the units do not link,
-2 if the command line is not understood, 3 if a FILE cannot be read or OUT cannot be written, and 4 if
-memory runs out.";
+2 if the command line is not understood, 3 if a FILE cannot be read or OUT or MAP cannot be written,
+and 4 if memory runs out.";
 
 /// The usage of `load`.
 pub const LOAD_USAGE: &str = "amihunk load [OPTIONS] <--at <LIST>|--at-file <FILE>> <FILE>";
@@ -91,6 +96,10 @@ then its name, or how many longwords of it the file stores. The lines below it a
 which the address of a hunk or the value of a name is added, the names that the hunk defines, its
 symbols, and the number of longwords in each debug block. A longword has 4 bytes. Offsets, addresses
 and values are hexadecimal, and offsets and addresses count bytes.
+
+With `--json` it prints what the listing tells as one JSON document, on one line, in which all numbers
+are decimal. For example, `amihunk show --json FILE` prints for that load file
+  {\"hunks\":[{\"debugs\":[],\"kind\":\"code\",\"memory\":\"any\",\"sites\":[],\"size\":2,\"stored\":1,\"symbols\":[]}],\"kind\":\"load file\"}
 
 The exit status is 0 if the listing was printed, 1 if FILE is neither an object file nor a load file,
 2 if the command line is not understood, 3 if FILE cannot be read or the listing cannot be printed,

@@ -47,6 +47,8 @@ fn tells_each_failure_in_a_line(rt: HostRuntime) -> Result<(), Fail> {
     is_told(&rt, alloc, &Failure::Opening("x"), opening, 3)?;
     let reading = "amihunk: y: read failed\n";
     is_told(&rt, alloc, &Failure::Reading("y"), reading, 3)?;
+    let writing = "amihunk: y: write failed\n";
+    is_told(&rt, alloc, &Failure::Writing("y"), writing, 3)?;
     let printing = "amihunk: output: write failed\n";
     is_told(&rt, alloc, &Failure::Printing, printing, 3)?;
     let unread = Failure::Tool(ToolFault::InputDevice { file: 0 });

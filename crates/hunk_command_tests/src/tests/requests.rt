@@ -26,6 +26,7 @@ fn link_ends<'a>(
     };
     let request = Request::Link {
         out,
+        map: None,
         options: PLAIN,
         files: files.to_vec(alloc)?,
     };

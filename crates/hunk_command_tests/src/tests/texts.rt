@@ -73,3 +73,33 @@ fn tells_why_there_is_no_text(rt: HostRuntime) {
         equals(&rt, unwritten.err(), Some(Failure::Printing));
     }
 }
+
+#[test]
+fn tells_what_is_in_a_file_as_json(rt: HostRuntime) {
+    let alloc = rt.alloc();
+    let files: [(&[u8], &str); 2] = [
+        (
+            &ONE_UNIT,
+            "{\"kind\":\"object file\",\"units\":[{\"hunks\":[\
+             {\"debugs\":[1],\"definitions\":[{\"absolute\":false,\"name\":\"main\",\"value\":0}],\
+             \"kind\":\"code\",\"memory\":\"any\",\"name\":\"CODE\",\
+             \"sites\":[{\"hunk\":1,\"offset\":2}],\
+             \"size\":2,\"symbols\":[{\"name\":\"loop\",\"value\":6}]},\
+             {\"debugs\":[],\"definitions\":[],\"kind\":\"bss\",\"memory\":\"chip\",\"name\":\"\",\
+             \"sites\":[],\"size\":2,\"symbols\":[]}],\"name\":\"test\"}]}\n",
+        ),
+        (
+            &ONE_HUNK,
+            "{\"hunks\":[{\"debugs\":[],\"kind\":\"code\",\"memory\":\"any\",\"sites\":[],\
+             \"size\":1,\"stored\":1,\"symbols\":[]}],\"kind\":\"load file\"}\n",
+        ),
+    ];
+    for (file, line) in &files {
+        let text = print_text_to(alloc, Text::Json, *file, Vec::new(alloc));
+        holds(
+            &rt,
+            &line,
+            text.is_ok_and(|bytes| bytes.as_slice() == line.as_bytes()),
+        );
+    }
+}

@@ -1,4 +1,4 @@
-use Rattle.std.proofs.Common.{◌≡◌, ◌∙◌, codes, refl, Some, subst, sym}
+use Rattle.std.proofs.Common.{◌∙◌, codes, refl, Some, subst, sym}
 use Rattle.std.proofs.lemmas.Result.{IfOk-weaker}
 use Rattle.clap.specs.Walk.{texts}
 use Rattle.clap.specs.Words.{found_of, rows_of}

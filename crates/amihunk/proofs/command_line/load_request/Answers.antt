@@ -1,4 +1,4 @@
-use Rattle.std.proofs.Common.{◌≡◌, ◌∙◌, codes, refl, Some, subst, sym, true}
+use Rattle.std.proofs.Common.{◌∙◌, codes, refl, Some, subst, sym, true}
 use Rattle.std.proofs.lemmas.Result.{IfOk-weaker}
 use Rattle.clap.specs.Words.{found_of, rows_of}
 use Rattle.hunk_commands.specs.Addresses.{origin_of}

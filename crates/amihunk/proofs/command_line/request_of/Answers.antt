@@ -1,9 +1,10 @@
-use Rattle.std.proofs.Common.{◌≡◌, codes, inl, inr, rules, Some, subst}
+use Rattle.std.proofs.Common.{◌≡◌, codes, inl, inr, rules, Some, subst, sym}
 use Rattle.std.specs.Option.{option_map}
 use Rattle.clap.specs.Walk.{texts}
 use Rattle.clap.specs.Words.{found_of, rows_of, subcommand_rows_of}
+use Rattle.hunk_commands.specs.Request.{given_text}
 use Rattle.amihunk.specs.CommandLine.{IsWhole}
-use Rattle.amihunk.proofs.CommandLineValueLemmas.{IsKnown, known, reads, says_link, says_survey}
+use Rattle.amihunk.proofs.CommandLineValueLemmas.{IsKnown, known, reads, says_link, says_show, says_survey}
 use Rattle.amihunk.proofs.command_line.request_of.Goals as goal
 
 pub load_request-requires : goal.load_request-requires
@@ -24,12 +25,21 @@ returns-in_ok-files_of-in-Some-link-default c =
     let strip = c.get_flag in
     let short = c.get_flag-in-Some-link-default in
     let trim = c.get_flag-in-Some-link-default-2 in
-    says_link (subcommand_rows_of c.args.matches.now) (rows_of found) c.requires called c.value_of.result.now
-    (record { strip = strip.result; short = short.result; trim = trim.result }) (texts files.field-0.items) c.value_of.ensures
+    says_link (subcommand_rows_of c.args.matches.now) (rows_of found) c.requires called c.value_of.result.now (given_text c.optional_value.result)
+    (record { strip = strip.result; short = short.result; trim = trim.result }) (texts files.field-0.items) c.value_of.ensures (sym c.optional_value.ensures)
     (reads found (codes "strip") strip.result strip.ensures.value strip.ensures.other)
     (reads found (codes "short") short.result short.ensures.value short.ensures.other)
     (reads found (codes "trim") trim.result trim.ensures.value trim.ensures.other)
     files.ensures
+
+pub returns-in-Some-show-default : goal.returns-in-Some-show-default
+returns-in-Some-show-default c =
+    let found = found_of c.in-Some-show-default.values.now in
+    let called : subcommand_rows_of c.args.matches.now ≡ Some (codes "show", rows_of found) = search rules in
+    let json = c.get_flag-in-Some-show-default in
+    says_show (subcommand_rows_of c.args.matches.now) (rows_of found) c.requires called json.result c.value_of-in-Some-show-default.result.now
+    (reads found (codes "json") json.result json.ensures.value json.ensures.other)
+    c.value_of-in-Some-show-default.ensures
 
 pub returns-in_ok-files_of-in-Some-survey-default : goal.returns-in_ok-files_of-in-Some-survey-default
 returns-in_ok-files_of-in-Some-survey-default c =

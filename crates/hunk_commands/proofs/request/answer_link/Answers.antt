@@ -1,16 +1,21 @@
 -- Not done: there is no memory for the names of the files, or the link failed.
-use Rattle.std.proofs.Common.{◌∙◌, [], ap, inl, inr, map, refl, string_bytes}
+use Rattle.std.proofs.Common.{◌∙◌, [], ap, inr, map, string_bytes}
 use Rattle.hunk_commands.specs.Inputs.{file_names}
-use Rattle.hunk_commands.specs.Link.{IsLinkFailure}
+use Rattle.hunk_commands.specs.Link.{IsUndone}
+use Rattle.hunk_commands.specs.Request.{given_text}
+use Rattle.hunk_commands.proofs.LinkLemmas.{IsUndone-memory}
 use Rattle.hunk_commands.proofs.RequestLemmas.{is_failed, not_begun, out_of_memory_told}
 use Rattle.hunk_commands.proofs.request.answer_link.Goals as goal
 
 pub returns-in_default : goal.returns-in_default
 returns-in_default g c =
-    inr (not_begun g.W.Sink.taken g.W.Sink.failed c.args.errors.now c.report_failure.new.errors (IsLinkFailure c.args.options.strip (file_names c.args.files.now) c.args.out.now) (file_names c.args.files.now) c.report_failure.result (inl (inl refl))
+    let files = file_names c.args.files.now in
+    let map = given_text c.args.map_file in
+    inr (not_begun g.W.Sink.taken g.W.Sink.failed c.args.errors.now c.report_failure.new.errors (IsUndone c.args.options files c.args.out.now map) files c.report_failure.result (IsUndone-memory c.args.options files c.args.out.now map)
     (out_of_memory_told g.W.Sink.taken g.W.Sink.failed c.args.errors.now c.report_failure.new.errors [] c.out_of_memory.result c.report_failure.result c.out_of_memory.ensures c.report_failure.ensures.status c.report_failure.ensures.line))
 
 pub returns : goal.returns
 returns g c =
-    inr (is_failed g.W.Sink.taken g.W.Sink.failed c.args.errors.now c.report_failure-in-Err.new.errors (IsLinkFailure c.args.options.strip (file_names c.args.files.now) c.args.out.now) (file_names c.args.files.now) _ c.in-Err.failure c.report_failure-in-Err.result
-    (ap (map string_bytes) c.as_slice.ensures.value ∙ c.in-Ok.ensures) c.in-Err.ensures.err c.report_failure-in-Err.ensures.status c.report_failure-in-Err.ensures.line)
+    let files = file_names c.args.files.now in
+    inr (is_failed g.W.Sink.taken g.W.Sink.failed c.args.errors.now c.report_failure-in-Err.new.errors (IsUndone c.args.options files c.args.out.now (given_text c.args.map_file)) files _ c.in-Err.failure c.report_failure-in-Err.result
+    (ap (map string_bytes) c.as_slice-in-Err.ensures.value ∙ c.in-Ok.ensures) c.in-Err.ensures.err c.report_failure-in-Err.ensures.status c.report_failure-in-Err.ensures.line)
