@@ -1,6 +1,6 @@
-"""A plain model of linking and loading: units as Python values, their object files, and the memory that they define.
+"""A plain model of linking and loading: units as Python values, their object files, the memory that they define, and the map.
 
-It knows nothing of load files, and nothing of how the program links: the memory is computed from the units alone.
+It knows nothing of load files, and nothing of how the program links: all of it is computed from the units alone.
 """
 import random
 import struct
@@ -8,15 +8,28 @@ import struct
 UNIT, NAME, CODE, DATA, BSS, RELOC32, EXT, SYMBOL, DEBUG, END, HEADER = *range(0x3E7, 0x3ED), *range(0x3EF, 0x3F4)
 DEF, ABS, REF32 = 1, 2, 129
 KINDS = {CODE: "code", DATA: "data", BSS: "bss"}
+MEMORIES = ("any", "chip", "fast")
 MODULUS = 1 << 32
 
 
 class Hunk:
     """A hunk of a unit. Its sites are pairs of an offset in bytes, and the number of a hunk of the unit or a name."""
 
-    def __init__(self, kind, words):
-        self.kind, self.words = kind, words
+    def __init__(self, kind, words, name=b"", memory="any"):
+        self.kind, self.words, self.name, self.memory = kind, words, name, memory
         self.sites, self.definitions, self.symbols, self.debugs = [], [], [], []
+
+
+class Unit(list):
+    """The hunks of a unit that has a name. One without a name may also be a plain list."""
+
+    def __init__(self, hunks, name):
+        super().__init__(hunks)
+        self.name = name
+
+
+def name_of(unit):
+    return getattr(unit, "name", b"")
 
 
 def words(*numbers):
@@ -27,6 +40,11 @@ def words(*numbers):
 def text(name):
     """A name as it is stored: its longwords, without their number."""
     return name + b"\0" * (-len(name) % 4)
+
+
+def titled(type_, name):
+    """A block that has a name alone."""
+    return words(type_, len(text(name)) // 4) + text(name)
 
 
 def block_of_sites(hunk):
@@ -55,7 +73,9 @@ def block_of_names(hunk):
 
 def hunk_bytes(hunk):
     content = b"" if hunk.kind == BSS else words(*hunk.words)
-    parts = [words(hunk.kind, len(hunk.words)), content, block_of_sites(hunk), block_of_names(hunk)]
+    head = words(MEMORIES.index(hunk.memory) << 30 | hunk.kind, len(hunk.words))
+    title = titled(NAME, hunk.name) if hunk.name else b""
+    parts = [title, head, content, block_of_sites(hunk), block_of_names(hunk)]
     if hunk.symbols:
         rows = [words(len(text(name)) // 4) + text(name) + words(value) for name, value in hunk.symbols]
         parts.append(words(SYMBOL) + b"".join(rows) + words(0))
@@ -65,7 +85,7 @@ def hunk_bytes(hunk):
 
 def object_file(units):
     """The object file of some units, each a list of hunks."""
-    return b"".join(words(UNIT, 0) + b"".join(map(hunk_bytes, unit)) for unit in units)
+    return b"".join(titled(UNIT, name_of(unit)) + b"".join(map(hunk_bytes, unit)) for unit in units)
 
 
 def memory_of(units, bases):
@@ -109,11 +129,29 @@ def records_of(bases, memory):
     return "".join(lines)
 
 
+def quoted(name):
+    """A name as it is printed."""
+    return '"' + "".join(chr(it) if 32 <= it < 127 and it not in b'"\\' else f"\\x{it:02x}" for it in name) + '"'
+
+
 def symbols_of(units, bases):
-    """What `load` prints with `--symbols`, unless the symbols were left out. The names are plain."""
+    """What `load` prints with `--symbols`, unless the symbols were left out."""
     hunks = [hunk for unit in units for hunk in unit]
-    lines = [f'{(base + value) % MODULUS:08x} hunk {number} "{name.decode()}"'
+    lines = [f"{(base + value) % MODULUS:08x} hunk {number} {quoted(name)}"
              for number, (base, hunk) in enumerate(zip(bases, hunks)) for name, value in hunk.symbols]
+    return "".join(f"{line}\n" for line in lines)
+
+
+def map_of(files):
+    """What `link` writes with `--map`, of files that are each a name and its units."""
+    lines, number = [], 0
+    for file, units in files:
+        for place, unit in enumerate(units):
+            for own, hunk in enumerate(unit):
+                front = f"hunk {number} {KINDS[hunk.kind]} {hunk.memory} {len(hunk.words)} longwords"
+                lines.append(f"{front} {file} unit {place} {quoted(name_of(unit))} hunk {own} {quoted(hunk.name)}")
+                lines += [f"  define {quoted(name)} {'at' if kind == DEF else 'as'} {value:08x}" for kind, name, value in hunk.definitions]
+                number += 1
     return "".join(f"{line}\n" for line in lines)
 
 
@@ -152,6 +190,38 @@ def random_units(seed):
         hunk = dice.choice(dice.choice(units))
         hunk.definitions.append((dice.choice([DEF, ABS]), name, dice.randrange(MODULUS)))
     return units
+
+
+def random_name(dice, least=0):
+    """A name of plain letters, of characters of one to four bytes, or of any bytes but 0."""
+    kind, size = dice.randrange(3), dice.randrange(least, 9)
+    if kind == 0:
+        return bytes(dice.choices(b"abcXYZ019_. ", k=size))
+    if kind == 1:
+        return "".join(dice.choices('a"\\/\b\t\n\f\r\x01\x1f\x7f\x80\xe9\u2028\u20ac\U0001f600', k=size)).encode()
+    return bytes(dice.choices(range(1, 256), k=size))
+
+
+def random_named_units(seed):
+    """The units of `random_units`, in which everything has a random name, and the hunks are in any memory."""
+    dice = random.Random(seed)
+    units = [Unit(unit, random_name(dice)) for unit in random_units(seed)]
+    hunks = [hunk for unit in units for hunk in unit]
+    defined = [name for hunk in hunks for _, name, _ in hunk.definitions]
+    # The digit at the end keeps them apart.
+    names = {name: random_name(dice) + b"%d" % number for number, name in enumerate(defined)}
+    for hunk in hunks:
+        hunk.name, hunk.memory = random_name(dice), dice.choice(MEMORIES)
+        hunk.sites = [(offset, names.get(target, target)) for offset, target in hunk.sites]
+        hunk.definitions = [(kind, names[name], value) for kind, name, value in hunk.definitions]
+        hunk.symbols = [(random_name(dice, 1), value) for _, value in hunk.symbols]
+    return units
+
+
+def dealt_out(dice, units):
+    """The units of each of some files, in their order."""
+    ends = sorted(dice.choices(range(1, len(units) + 1), k=dice.randrange(3))) + [len(units)]
+    return [units[start:end] for start, end in zip([0, *ends[:-1]], ends) if start < end]
 
 
 def random_bases(seed, units):
