@@ -24,14 +24,10 @@ def random_units_are_linked_and_loaded_as_their_memory(program):
         bases = model.random_bases(seed, units)
         memory = model.memory_of(units, bases)
         report, records, at = model.report_of(bases, memory), model.records_of(bases, memory), model.addresses(bases)
-        # The units are dealt out to some files, in their order.
-        ends = sorted(dice.choices(range(1, len(units) + 1), k=dice.randrange(3))) + [len(units)]
-        starts = [0, *ends[:-1]]
-        files = []
-        for start, end in zip(starts, ends):
-            if start < end:
-                files.append(f"{seed}-{len(files)}.o")
-                program.write(files[-1], model.object_file(units[start:end]))
+        parts = model.dealt_out(dice, units)
+        files = [f"{seed}-{number}.o" for number in range(len(parts))]
+        for file, part in zip(files, parts):
+            program.write(file, model.object_file(part))
         options = [it for it in ("--strip", "--short", "--trim") if dice.random() < 0.5]
         program.prints("", "link", "--out", "out", *options, *files)
         program.prints(report, "load", "--at", at, "out")
@@ -41,8 +37,7 @@ def random_units_are_linked_and_loaded_as_their_memory(program):
         program.prints(report, "load", "--at-file", "addresses", "out")
         program.prints(report, "image", "--at-file", "addresses", *files)
         program.prints(f"load file: {len(bases)} hunks\n", "check", "out")
-        hunks = sum(map(len, units[: ends[0]]))
-        program.prints(f"object file: {ends[0]} units, {hunks} hunks\n", "check", files[0])
+        program.prints(f"object file: {len(parts[0])} units, {sum(map(len, parts[0]))} hunks\n", "check", files[0])
         program.prints(records, "load", "--at", at, "--srec", "out")
         program.prints("" if "--strip" in options else model.symbols_of(units, bases), "load", "--at", at, "--symbols", "out")
         program.prints(records, "image", "--srec", "--at", at, *files)
@@ -129,7 +124,7 @@ def files_that_are_refused_are_named_with_the_place(program):
     name = "a file\xe9"
     for bytes_, place, reason in rows:
         program.write(name, bytes_)
-        for command in (["load", "--at", "0"], ["check"], ["show"]):
+        for command in (["load", "--at", "0"], ["check"], ["show"], ["show", "--json"]):
             program.fails(REFUSED, f"{name.encode().decode('latin-1')}: longword {place}: {reason}", *command, name)
 
 
@@ -207,7 +202,7 @@ def out_may_be_one_of_the_files_and_is_shortened(program):
 def what_cannot_be_opened_or_created_is_named(program):
     program.write("x.o", OBJECT_FILE)
     program.write("bad.o", b"abc")
-    for command in (["check"], ["show"], ["load", "--at", "0"]):
+    for command in (["check"], ["show"], ["show", "--json"], ["load", "--at", "0"]):
         program.fails(DEVICE, "missing: cannot be opened", *command, "missing")
     # All files are opened, in order, before the first is read.
     many = ["bad.o"] * 40
@@ -220,7 +215,7 @@ def what_cannot_be_opened_or_created_is_named(program):
 @test
 def a_failed_read_is_named(program):
     os.mkdir(program.at("folder"))
-    for command in (["check"], ["show"], ["load", "--at", "0"], ["image", "--at", "0"], ["link", "--out", "out"]):
+    for command in (["check"], ["show"], ["show", "--json"], ["load", "--at", "0"], ["image", "--at", "0"], ["link", "--out", "out"]):
         program.fails(DEVICE, "folder: read failed", *command, "folder")
     assert not os.path.exists(program.at("out"))
 
@@ -231,8 +226,8 @@ def a_failed_write_is_told(program):
     program.write("x", LOAD_FILE)
     program.fails(DEVICE, "output: write failed", "link", "--out", "/dev/full", "x.o")
     with open("/dev/full", "wb") as full:
-        for command in (["check", "x"], ["show", "x"], ["load", "--at", "0", "x"], ["load", "--srec", "--at", "0", "x"],
-                        ["image", "--at", "0", "x.o"], ["survey", "x", "x.o"], ["--version"]):
+        for command in (["check", "x"], ["show", "x"], ["show", "--json", "x"], ["show", "--json", "x.o"], ["load", "--at", "0", "x"],
+                        ["load", "--srec", "--at", "0", "x"], ["image", "--at", "0", "x.o"], ["survey", "x", "x.o"], ["--version"]):
             program.fails(DEVICE, "output: write failed", *command, stdout=full)
 
 
@@ -263,7 +258,10 @@ def nothing_is_printed_of_a_file_with_a_bad_end(program):
     program.prints("", "link", "--out", "x", "x.o")
     program.write("x", program.read("x")[:-1])
     program.write("x.o", program.read("x.o") + b"\0")
-    for command, name, place in ((["load", "--at", "0"], "x", 5008), (["show"], "x", 5008), (["image", "--at", "0"], "x.o", 5005)):
+    for command, name, place in (
+        (["load", "--at", "0"], "x", 5008), (["show"], "x", 5008), (["show", "--json"], "x", 5008), (["show", "--json"], "x.o", 5005),
+        (["image", "--at", "0"], "x.o", 5005),
+    ):
         program.fails(REFUSED, f"{name}: longword {place}: file ends inside a longword", *command, name)
 
 

@@ -1,0 +1,164 @@
+"""What `show --json` prints, against Python's own writer of JSON, and against texts written by hand."""
+import json
+import random
+
+import model
+from harness import DEVICE, DONE, NO_MEMORY, equals, test
+from model import ABS, BSS, CODE, DATA, DEF, END, HEADER, KINDS, Hunk, Unit, words
+from runs import LITTLE_MEMORY
+
+
+def name_value(name):
+    """A name: a text, or its bytes if they are not UTF-8."""
+    try:
+        return name.decode()
+    except UnicodeDecodeError:
+        return list(name)
+
+
+def hunk_value(hunk, strip=False):
+    """What hunks of either kind of file have, but for their sites."""
+    symbols = [{"name": name_value(name), "value": value} for name, value in hunk.symbols]
+    debugs = [len(debug) for debug in hunk.debugs]
+    kept = {"debugs": [], "symbols": []} if strip else {"debugs": debugs, "symbols": symbols}
+    return kept | {"kind": KINDS[hunk.kind], "memory": hunk.memory, "size": len(hunk.words)}
+
+
+def unit_hunk_value(hunk):
+    sites = [({"hunk": target} if isinstance(target, int) else {"name": name_value(target)}) | {"offset": offset}
+             for offset, target in sorted(hunk.sites, key=lambda site: site[0])]
+    definitions = [{"absolute": kind == ABS, "name": name_value(name), "value": value} for kind, name, value in hunk.definitions]
+    return hunk_value(hunk) | {"definitions": definitions, "name": name_value(hunk.name), "sites": sites}
+
+
+def object_value(units):
+    """What is told of the object file of some units."""
+    parts = [{"hunks": [unit_hunk_value(hunk) for hunk in unit], "name": name_value(model.name_of(unit))} for unit in units]
+    return {"kind": "object file", "units": parts}
+
+
+def load_sites(units):
+    """The sites of each hunk of the load file of some units, by rising offset, with the number of the hunk that each adds."""
+    numbers, first, own = {}, 0, []
+    for unit in units:
+        own.append(range(first, first + len(unit)))
+        for number, hunk in zip(own[-1], unit):
+            numbers |= {name: number for kind, name, _ in hunk.definitions if kind == DEF}
+        first += len(unit)
+    # A name that stands for a number is added by the linker, and leaves no site.
+    return [sorted((offset, ranks[target] if isinstance(target, int) else numbers[target])
+                   for offset, target in hunk.sites if isinstance(target, int) or target in numbers)
+            for unit, ranks in zip(units, own) for hunk in unit]
+
+
+def load_value(units, options=()):
+    """What is told of the load file of some units, linked with these options."""
+    hunks = [hunk for unit in units for hunk in unit]
+    values = []
+    for hunk, content, sites in zip(hunks, model.memory_of(units, [0] * len(hunks)), load_sites(units)):
+        stored = 0 if hunk.kind == BSS else len(hunk.words)
+        if "--trim" in options:
+            ends = [len(content.rstrip(b"\0")), *(offset + 4 for offset, _ in sites)]
+            stored = (max(ends) + 3) // 4
+        told = [{"hunk": number, "offset": offset} for offset, number in sites]
+        values.append(hunk_value(hunk, "--strip" in options) | {"sites": told, "stored": stored})
+    return {"hunks": values, "kind": "load file"}
+
+
+def prints_document(program, value, name):
+    """`show --json` prints the value, and as Python writes it."""
+    status, out, errors = program.run("show", "--json", name)
+    equals((status, errors), (DONE, ""), name)
+    bytes_ = out.encode("latin-1")
+    equals(json.loads(bytes_), value, name)
+    text = json.dumps(value, separators=(",", ":"), ensure_ascii=False, sort_keys=True)
+    equals(bytes_, text.encode() + b"\n", name)
+
+
+@test
+def documents_tell_what_is_in_random_files(program):
+    for seed in range(100):
+        dice, units = random.Random(seed), model.random_named_units(seed)
+        parts = model.dealt_out(dice, units)
+        files = [f"{seed}-{number}.o" for number in range(len(parts))]
+        for file, part in zip(files, parts):
+            program.write(file, model.object_file(part))
+            prints_document(program, object_value(part), file)
+        options = [it for it in ("--strip", "--short", "--trim") if dice.random() < 0.5]
+        program.prints("", "link", "--out", "out", *options, *files)
+        prints_document(program, load_value(units, options), "out")
+
+
+@test
+def documents_are_these_texts(program):
+    code, zeros = Hunk(CODE, [0, 0], b"CODE"), Hunk(BSS, [0, 0], memory="chip")
+    code.sites, code.definitions = [(2, 1)], [(DEF, b"main", 0)]
+    code.symbols, code.debugs = [(b"loop", 6)], [[7]]
+    program.write("x.o", model.object_file([Unit([code, zeros], b"test")]))
+    program.prints("", "link", "--out", "x", "x.o")
+    program.prints(
+        '{"kind":"object file","units":[{"hunks":[{"debugs":[1],"definitions":[{"absolute":false,"name":"main","value":0}],'
+        '"kind":"code","memory":"any","name":"CODE","sites":[{"hunk":1,"offset":2}],"size":2,"symbols":[{"name":"loop","value":6}]},'
+        '{"debugs":[],"definitions":[],"kind":"bss","memory":"chip","name":"","sites":[],"size":2,"symbols":[]}],"name":"test"}]}\n',
+        "show", "--json", "x.o",
+    )
+    program.prints(
+        '{"hunks":[{"debugs":[1],"kind":"code","memory":"any","sites":[{"hunk":1,"offset":2}],"size":2,"stored":2,'
+        '"symbols":[{"name":"loop","value":6}]},{"debugs":[],"kind":"bss","memory":"chip","sites":[],"size":2,"stored":0,"symbols":[]}],'
+        '"kind":"load file"}\n',
+        "show", "--json", "x",
+    )
+    # The load file of the help.
+    program.write("x", words(HEADER, 0, 1, 0, 0, 2, CODE, 1, 0x4E754E71, END))
+    program.prints(
+        '{"hunks":[{"debugs":[],"kind":"code","memory":"any","sites":[],"size":2,"stored":1,"symbols":[]}],"kind":"load file"}\n',
+        "show", "--json", "x",
+    )
+    program.write("none.o", model.object_file([[]]))
+    program.prints('{"kind":"object file","units":[{"hunks":[],"name":""}]}\n', "show", "--json", "none.o")
+
+
+# Names, and what stands for each.
+NAMES = (
+    (b"", '""'),
+    (b'"\\/', '"\\"\\\\/"'),
+    (bytes(range(1, 16)), '"\\u0001\\u0002\\u0003\\u0004\\u0005\\u0006\\u0007\\b\\t\\n\\u000b\\f\\r\\u000e\\u000f"'),
+    (b"\x10\x1a\x1f \x7f", '"\\u0010\\u001a\\u001f \x7f"'),
+    ("\x80\xe9\u0800\u2028\uffff\U00010000\U0010ffff".encode(), '"\x80\xe9\u0800\u2028\uffff\U00010000\U0010ffff"'),
+    (b"\xff", "[255]"),
+    (b"caf\xe9", "[99,97,102,233]"),
+    (b"a\xe2\x82", "[97,226,130]"),
+    (b"\x80", "[128]"),
+    # A character in more bytes than it needs, half of a surrogate pair, and one past the last character.
+    (b"\xc0\xaf", "[192,175]"),
+    (b"\xed\xa0\x80", "[237,160,128]"),
+    (b"\xf4\x90\x80\x80", "[244,144,128,128]"),
+)
+
+
+@test
+def names_are_texts_or_bytes(program):
+    for name, told in NAMES:
+        hunk = Hunk(CODE, [0], name)
+        hunk.sites, hunk.definitions = [(0, name)], [(ABS, name, 7)]
+        if name:
+            hunk.symbols = [(name, 8)]
+        program.write("x.o", model.object_file([Unit([hunk], name)]))
+        symbols = f'{{"name":{told},"value":8}}' if name else ""
+        text = (
+            f'{{"kind":"object file","units":[{{"hunks":[{{"debugs":[],"definitions":[{{"absolute":true,"name":{told},"value":7}}],'
+            f'"kind":"code","memory":"any","name":{told},"sites":[{{"name":{told},"offset":0}}],"size":1,"symbols":[{symbols}]}}],'
+            f'"name":{told}}}]}}\n'
+        )
+        program.prints(text.encode().decode("latin-1"), "show", "--json", "x.o")
+
+
+@test
+def a_document_is_as_long_as_it_must_be(program):
+    hunks = 65535
+    program.write("most", words(HEADER, 0, hunks, 0, hunks - 1, *[0] * hunks) + words(DATA, 0, END) * hunks)
+    prints_document(program, load_value([[Hunk(DATA, [])] * hunks]), "most")
+    with open("/dev/full", "wb") as full:
+        program.fails(DEVICE, "output: write failed", "show", "--json", "most", stdout=full)
+    # It is made whole before any of it is printed.
+    program.fails(NO_MEMORY, "out of memory", "show", "--json", "most", limit=LITTLE_MEMORY)
