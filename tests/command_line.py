@@ -9,7 +9,8 @@ from model import CODE, END, HEADER, RELOC32, SYMBOL, Hunk, words
 HERE = os.path.dirname(os.path.abspath(__file__))
 SHORT = 0x3FC
 # Files, some of which are named as an option or as a command, and the first longword of each one's hunk.
-FILES = {"x": 1, "y": 2, "z": 3, "link": 4, "strip": 5, "--strip": 6, "--short": 7, "--trim": 8, "--at": 9, "--srec": 10, "--at-file": 11}
+FILES = {"x": 1, "y": 2, "z": 3, "link": 4, "strip": 5, "--strip": 6, "--short": 7, "--trim": 8, "--at": 9, "--srec": 10,
+         "--at-file": 11, "--map": 12, "--json": 13}
 
 
 def write_files(program):
@@ -32,7 +33,12 @@ def load_file(names, options):
     return b"".join(parts)
 
 
-# The words of a link into the file o, its options and its files.
+def map_of(names):
+    """The map of their link."""
+    return "".join(f'hunk {hunk} code any 2 longwords {name} unit 0 "" hunk 0 ""\n' for hunk, name in enumerate(names))
+
+
+# The words of a link into the file o, with a map in the file m, its options and its files.
 LINKS = (
     ("--out o x", "", "x"),
     ("--out o x y x", "", "x y x"),
@@ -57,6 +63,12 @@ LINKS = (
     ("-oo x y -s", "strip", "x y"),
     ("-o=o --strip x y", "strip", "x y"),
     ("x -s --out o y", "strip", "x y"),
+    ("--out o --map m x y", "map", "x y"),
+    ("--map=m x --out=o y x", "map", "x y x"),
+    ("x y -so o --map m", "strip map", "x y"),
+    ("--trim --map m -oo --short x y", "short trim map", "x y"),
+    ("--out o -- --map x", "", "--map x"),
+    ("--map m --out o -- --json --map", "map", "--json --map"),
 )
 
 
@@ -65,8 +77,10 @@ def the_words_of_a_link_come_in_any_order(program):
     write_files(program)
     for line, options, names in LINKS:
         program.write("o", b"")
+        program.write("m", b"")
         program.prints("", "link", *line.split())
         equals(program.read("o"), load_file(names.split(), options.split()), line)
+        equals(program.read("m"), map_of(names.split()).encode() if "map" in options else b"", line)
 
 
 # The words of `image` at the addresses 0, 100 and 200, as many as there are files: the addresses are put in for LIST, and into
@@ -118,6 +132,20 @@ def the_words_of_a_load_come_in_any_order(program):
     for line in ("--at 10000 --symbols x", "--symbols x --at=00010000", "x --symbols --at 10000",
                  "--at-file list --symbols x"):
         program.prints('00010000 hunk 0 "s"\n', "load", *line.split())
+
+
+@test
+def the_words_of_a_show_come_in_any_order(program):
+    write_files(program)
+    listing = 'object file: 1 units, 1 hunks\nunit 0 ""\nhunk 0 code any 2 longwords ""\n  00000000 adds hunk 0\n  symbol "s" 00000000\n'
+    for line in ("x", "-- x", "-- --json"):
+        program.prints(listing, "show", *line.split())
+    document = (
+        '{"kind":"object file","units":[{"hunks":[{"debugs":[],"definitions":[],"kind":"code","memory":"any","name":"",'
+        '"sites":[{"hunk":0,"offset":0}],"size":2,"symbols":[{"name":"s","value":0}]}],"name":""}]}\n'
+    )
+    for line in ("--json x", "x --json", "--json -- x", "--json -- --json"):
+        program.prints(document, "show", *line.split())
 
 
 def lines_of(name):
