@@ -12,7 +12,7 @@ _amihunk() {
 
     case "$command $before" in
         'load --at' | 'image --at') return ;; # a list of addresses
-        'link --out' | 'link -o' | 'load --at-file' | 'image --at-file')
+        'link --out' | 'link -o' | 'link --map' | 'load --at-file' | 'image --at-file')
             mapfile -t COMPREPLY < <(compgen -f -- "$word")
             return
             ;;
@@ -21,10 +21,11 @@ _amihunk() {
     local options
     case "$command" in
         '') options='--help --version' ;;
-        link) options='--out --strip --short --trim --help' ;;
+        link) options='--out --map --strip --short --trim --help' ;;
         load) options='--at --at-file --srec --symbols --help' ;;
         image) options='--at --at-file --srec --help' ;;
-        check | show | survey) options='--help' ;;
+        show) options='--json --help' ;;
+        check | survey) options='--help' ;;
         *) return ;;
     esac
     case "$command $word" in
