@@ -41,16 +41,16 @@ file_rule = record (new_rule (codes "file")) { value_names = 1; required = true 
 abbrev pub files_rule : Rule
 files_rule = record file_rule { range = Some (record { start_inclusive = 1; end_inclusive = usize_max }) }
 
--- the option by which a map is asked for
-abbrev pub given_map : Edition → App → App
-given_map Present app = with_rule app (option_rule (codes "map"))
-given_map Former app = app
+-- an argument that the former edition does not have
+abbrev pub with_new_rule : Edition → App → Rule → App
+with_new_rule Present app rule = with_rule app rule
+with_new_rule Former app rule = app
 
 -- `link --out OUT [--map MAP] [--strip] [--short] [--trim] FILE...`, where `-o` is `--out`, and `-s` is
 -- `--strip`
 abbrev pub link_shape : Edition → Shape
 link_shape edition = (with_rule (with_rule (with_rule (with_rule
-    (given_map edition (with_rule (new_app (codes "link")) out_rule))
+    (with_new_rule edition (with_rule (new_app (codes "link")) out_rule) (option_rule (codes "map")))
     (with_letter letter_s (flag_rule (codes "strip")))) (flag_rule (codes "short"))) (flag_rule (codes "trim"))) files_rule).top
 
 -- the options by which addresses are given
@@ -68,14 +68,9 @@ abbrev pub image_shape : Edition → Shape
 image_shape edition = (with_rule (with_rule
     (given_addresses edition (new_app (codes "image"))) (flag_rule (codes "srec"))) files_rule).top
 
--- the flag by which JSON is asked for
-abbrev pub given_json : Edition → App → App
-given_json Present app = with_rule app (flag_rule (codes "json"))
-given_json Former app = app
-
 -- `show [--json] FILE`
 abbrev pub show_shape : Edition → Shape
-show_shape edition = (with_rule (given_json edition (new_app (codes "show"))) file_rule).top
+show_shape edition = (with_rule (with_new_rule edition (new_app (codes "show")) (flag_rule (codes "json"))) file_rule).top
 
 -- the program, which has a version, requires a subcommand, and has none called `help`
 abbrev pub bare_shape : Shape

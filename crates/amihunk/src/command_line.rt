@@ -160,7 +160,7 @@ fn load_request<'a>(alloc: Global, values: &ArgMatches<'a>) -> Result<Request<'a
     requires { IsWhole (Some (codes "load", rows_of (found_of values.now))) }
     ensures { IfOk result (Says (Some (codes "load", rows_of (found_of values.now)))) }
 {
-    let addresses = match addresses_of(
+    let addresses = match addresses_given(
         optional_value(values, "at"),
         optional_value(values, "at-file"),
     ) {
@@ -190,7 +190,7 @@ fn image_request<'a>(alloc: Global, values: &ArgMatches<'a>) -> Result<Request<'
     requires { IsWhole (Some (codes "image", rows_of (found_of values.now))) }
     ensures { IfOk result (Says (Some (codes "image", rows_of (found_of values.now)))) }
 {
-    match addresses_of(
+    match addresses_given(
         optional_value(values, "at"),
         optional_value(values, "at-file"),
     ) {
@@ -255,7 +255,10 @@ fn refuse<'a>(
 }
 
 /// The addresses that are asked for, of which there is one list, or one file.
-fn addresses_of<'a>(list: Option<&'a str>, file: Option<&'a str>) -> Result<Addresses<'a>, Conflict>
+fn addresses_given<'a>(
+    list: Option<&'a str>,
+    file: Option<&'a str>,
+) -> Result<Addresses<'a>, Conflict>
     ensures ok { IfOk result (λ addresses. values_given list.entry file.entry ≡ values_of (origin_of addresses)) }
     ensures err { IfErr result (λ _. AreUnclear (values_given list.entry file.entry)) }
 {

@@ -2,8 +2,8 @@
 ghost use Rattle.std.specs.Prelude.{◌≡◌, IfOk, codes, false};
 ghost use Rattle.clap.specs.Words.{app_of, rule_of, shape_of};
 ghost use Rattle.clap.specs.declared.builder.command.Command.TheViews.{out-Command};
-ghost use Rattle.amihunk.specs.Syntax.{file_rule, file_shape, files_rule, flag_rule, given_addresses, given_json, given_map};
-ghost use Rattle.amihunk.specs.Syntax.{image_shape, line_of, link_shape, load_shape, option_rule, out_rule, show_shape, survey_shape};
+ghost use Rattle.amihunk.specs.Syntax.{file_rule, file_shape, files_rule, flag_rule, given_addresses, image_shape, line_of};
+ghost use Rattle.amihunk.specs.Syntax.{link_shape, load_shape, option_rule, out_rule, show_shape, survey_shape, with_new_rule};
 
 use clap::{Arg, ArgAction, Command};
 use hunk_commands::VERSION;
@@ -45,7 +45,7 @@ fn link_command<'a>(alloc: Global, edition: Edition) -> Result<Command<'a>, Allo
         .about("Links object files, and writes the load file")
         .after_help(help::LINK)
         .arg(out_argument(alloc))?;
-    with_map(alloc, link, edition)?
+    with_new(link, edition, map_argument(alloc))?
         .arg(flag(alloc, "strip", "Leaves out symbols and debug blocks").short('s'))?
         .arg(flag(
             alloc,
@@ -60,18 +60,19 @@ fn link_command<'a>(alloc: Global, edition: Edition) -> Result<Command<'a>, Allo
         .arg(files_argument(alloc, "Object files, in the order of linking"))
 }
 
-/// A subcommand that may be asked for a map.
-fn with_map<'a>(
-    alloc: Global,
+/// A subcommand with an argument that the former edition does not have.
+fn with_new<'a>(
     command: Command<'a>,
     edition: Edition,
+    argument: Arg<'a>,
 ) -> Result<Command<'a>, AllocError>
-    ensures shape { IfOk result (λ c. app_of c ≡ given_map edition (app_of command.entry)) }
+    requires { argument.global ≡ false }
+    ensures shape { IfOk result (λ c. app_of c ≡ with_new_rule edition (app_of command.entry) (rule_of argument.entry)) }
     ensures local { (out-Command command.entry).has_globals ≡ false → IfOk result (λ c. (out-Command c).has_globals ≡ false) }
 {
     match edition {
         Edition::Former => Ok(command),
-        Edition::Present => command.arg(map_argument(alloc)),
+        Edition::Present => command.arg(argument),
     }
 }
 
@@ -185,22 +186,10 @@ fn show_command<'a>(alloc: Global, edition: Edition) -> Result<Command<'a>, Allo
     let show = Command::new(alloc, "show")
         .about("Prints a listing of the units and hunks of a file, and of what is in them")
         .after_help(help::SHOW);
-    with_json(alloc, show, edition)?.arg(file_argument(alloc, "An object file or a load file"))
-}
-
-/// A subcommand that may be asked for JSON.
-fn with_json<'a>(
-    alloc: Global,
-    command: Command<'a>,
-    edition: Edition,
-) -> Result<Command<'a>, AllocError>
-    ensures shape { IfOk result (λ c. app_of c ≡ given_json edition (app_of command.entry)) }
-    ensures local { (out-Command command.entry).has_globals ≡ false → IfOk result (λ c. (out-Command c).has_globals ≡ false) }
-{
-    match edition {
-        Edition::Former => Ok(command),
-        Edition::Present => command.arg(json_flag(alloc)),
-    }
+    with_new(show, edition, json_flag(alloc))?.arg(file_argument(
+        alloc,
+        "An object file or a load file",
+    ))
 }
 
 /// The flag `--json`.

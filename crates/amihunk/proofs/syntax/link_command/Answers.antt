@@ -6,7 +6,7 @@ use Rattle.clap.specs.declared.builder.arg.Arg.{Arg}
 use Rattle.clap.specs.declared.builder.command.Command.{Command}
 use Rattle.clap.specs.declared.builder.command.Command.TheOpen.{Command-F}
 use Rattle.clap.specs.declared.builder.command.Command.TheViews.{out-Command}
-use Rattle.amihunk.specs.Syntax.{given_map, letter_s, with_letter}
+use Rattle.amihunk.specs.Syntax.{letter_s, with_letter, with_new_rule}
 use Rattle.amihunk.proofs.syntax.link_command.Goals as goal
 
 is_global : Arg → Bool
@@ -20,7 +20,7 @@ returns-clause-shape c =
     let out = c.in_ok-link.ensures.shape c.out_argument.ensures.local ∙ ap₂ with_rule named c.out_argument.ensures.rule in
     let strip_rule = ap rule_of c.short.ensures ∙ ap (with_letter letter_s) c.flag.ensures.rule in
     let strip_local = ap is_global c.short.ensures ∙ c.flag.ensures.local in
-    let mapped = c.in_ok-with_map.ensures.shape ∙ ap (given_map c.args.edition) out in
+    let mapped = c.in_ok-with_new.ensures.shape ∙ ap₂ (with_new_rule c.args.edition) out c.map_argument.ensures.rule in
     let strip = c.in_ok-arg.ensures.shape strip_local ∙ ap₂ with_rule mapped strip_rule in
     let short = c.in_ok-arg-2.ensures.shape c.flag-2.ensures.local ∙ ap₂ with_rule strip c.flag-2.ensures.rule in
     let trim = c.in_ok-arg-3.ensures.shape c.flag-3.ensures.local ∙ ap₂ with_rule short c.flag-3.ensures.rule in
@@ -38,7 +38,7 @@ returns-clause-local c =
     let named : (out-Command c.after_help.result).has_globals ≡ false =
     ap any_global c.after_help.ensures ∙ (ap any_global c.about.ensures ∙ c.new.ensures.local) in
     let out = c.in_ok-link.ensures.globals ∙ ap₂ ◌||◌ named c.out_argument.ensures.local in
-    let mapped = c.in_ok-with_map.ensures.local out in
+    let mapped = c.in_ok-with_new.ensures.local out in
     let strip_local = ap is_global c.short.ensures ∙ c.flag.ensures.local in
     let strip = c.in_ok-arg.ensures.globals ∙ ap₂ ◌||◌ mapped strip_local in
     let short = c.in_ok-arg-2.ensures.globals ∙ ap₂ ◌||◌ strip c.flag-2.ensures.local in
