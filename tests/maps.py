@@ -4,7 +4,7 @@ import random
 import resource
 
 import model
-from harness import DEVICE, NO_MEMORY, REFUSED, equals, test
+from harness import BAD_WORDS, DEVICE, NO_MEMORY, REFUSED, equals, test
 from model import ABS, BSS, CODE, DATA, DEF, END, UNIT, Hunk, Unit, words
 from runs import LITTLE_MEMORY, LOAD_FILE, OBJECT_FILE
 
@@ -55,6 +55,16 @@ def a_map_may_be_one_of_the_files(program):
     program.prints("", "link", "--map", "x.o", "--out", "out", "x.o")
     equals(program.read("out"), LOAD_FILE)
     equals(program.read("x.o"), MAP.encode())
+
+
+@test
+def a_map_does_not_replace_the_load_file(program):
+    program.write("x.o", OBJECT_FILE)
+    for file in ("x.o", "missing"):
+        program.fails(BAD_WORDS, "out: given for both --out and --map", "link", "--out", "out", "--map", "out", file)
+        assert not os.path.exists(program.at("out"))
+    program.fails(BAD_WORDS, "x.o: given for both --out and --map", "link", "-o", "x.o", "--map", "x.o", "x.o")
+    equals(program.read("x.o"), OBJECT_FILE)
 
 
 @test

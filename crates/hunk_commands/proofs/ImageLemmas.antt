@@ -9,7 +9,7 @@ use Rattle.hunk_tool.specs.declared.image_form.ImageForm.{ImageForm}
 use Rattle.hunk_tool.specs.declared.tool_fault.ToolFault.TheVariants.{OutOfMemory}
 use Rattle.hunk_commands.specs.Image.{AreImaged, AtBasesOfInputs, HaveNoReport, HaveReport, IsImageFailure, IsUnprinted}
 use Rattle.hunk_commands.specs.declared.failure.Failure.{Failure}
-use Rattle.hunk_commands.specs.declared.failure.Failure.TheVariants.{BadNumber, Opening, Printing, Reading, Tool, Writing}
+use Rattle.hunk_commands.specs.declared.failure.Failure.TheVariants.{BadNumber, Opening, Printing, Reading, SameFile, Tool, Writing}
 use Rattle.hunk_commands.proofs.InputsLemmas.{OfInputs-readers}
 
 -- Memory ran out before anything was read or written.
@@ -40,6 +40,7 @@ unprinted_where form origin files bases left failed ended olds news old (BadNumb
 unprinted_where form origin files bases left failed ended olds news old (Opening name) numbers_are count same why = absurd why
 unprinted_where form origin files bases left failed ended olds news old (Reading name) numbers_are count same why = absurd why
 unprinted_where form origin files bases left failed ended olds news old (Writing name) numbers_are count same why = absurd why
+unprinted_where form origin files bases left failed ended olds news old (SameFile name) numbers_are count same why = absurd why
 unprinted_where form origin files bases left failed ended olds news old Printing numbers_are count same why =
     inr (at_bases_of_readers origin files bases left failed ended olds news old (HaveReport form) numbers_are count same why)
 unprinted_where form origin files bases left failed ended olds news old (Tool fault) numbers_are count same why =

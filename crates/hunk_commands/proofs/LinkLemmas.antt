@@ -1,5 +1,5 @@
 -- What was written to OUT and to MAP, and why OUT was not written in full.
-use Rattle.std.proofs.Common.{◌≡◌, ◌∙◌, ap, Bool, false, inl, length, List, None, Option, refl, Some, subst, sym, true, ℕ}
+use Rattle.std.proofs.Common.{◌≡◌, ◌∙◌, ap, Bool, false, inl, inr, length, List, None, Option, refl, Some, subst, sym, true, ℕ}
 use Rattle.std.proofs.lemmas.List.{length-map}
 use Rattle.std.specs.Io.KnownBytes.{Appends}
 use Rattle.hunk_words.specs.Name.{bytes_of}
@@ -21,13 +21,14 @@ use Rattle.hunk_commands.specs.Devices.{IsCutShort}
 use Rattle.hunk_commands.specs.Link.{DoLinkFiles, DoLinkTo, HasMap, IsLinkedWithMap, IsMade, IsMapped, IsUndone, IsUnwritten, IsWrittenOut}
 use Rattle.hunk_commands.specs.declared.failure.Failure.{Failure}
 use Rattle.hunk_commands.proofs.InputsLemmas.{OfInputs-weaker}
-use Rattle.hunk_commands.specs.declared.failure.Failure.TheVariants.{BadNumber, Opening, Printing, Reading, Tool, Writing}
+use Rattle.hunk_commands.specs.declared.failure.Failure.TheVariants.{BadNumber, Opening, Printing, Reading, SameFile, Tool, Writing}
 
 pub IsUnwritten-cut_short : (out : List ℕ) (failure : Failure) → IsCutShort failure → IsUnwritten out failure
 IsUnwritten-cut_short out (BadNumber addresses index) is = is
 IsUnwritten-cut_short out (Opening name) is = absurd is
 IsUnwritten-cut_short out (Reading name) is = is
 IsUnwritten-cut_short out (Writing name) is = is
+IsUnwritten-cut_short out (SameFile name) is = is
 IsUnwritten-cut_short out Printing is = is
 IsUnwritten-cut_short out (Tool fault) is = is
 
@@ -89,7 +90,7 @@ module _ (options : LinkOptions) (units : List FileUnit) (linked file : List Fil
 -- memory ran out before anything was done
 pub IsUndone-memory : (options : LinkOptions) (files : List (List ℕ)) (out : List ℕ) (map : Option (List ℕ)) → IsUndone options files out map (Tool (OutOfMemory 0))
 IsUndone-memory options files out None = inl (inl refl)
-IsUndone-memory options files out (Some map) = inl (inl (inl refl))
+IsUndone-memory options files out (Some map) = inr (inl (inl (inl refl)))
 
 pub length-trimmed_if : (trim : Bool) (linked file : List FileHunk) → file ≡ trimmed_if trim linked → length linked ≡ length file
 length-trimmed_if true linked file is = sym (ap (λ (hunks : List FileHunk). length hunks) is ∙ length-map linked trimmed_hunk)

@@ -8,17 +8,19 @@ use Rattle.hunk_tool.specs.FaultLine.{fault_line, IsOfInputs}
 use Rattle.hunk_tool.specs.declared.tool_fault.ToolFault.TheVariants.{Output}
 use Rattle.hunk_tool.specs.ToolFault.{status}
 use Rattle.hunk_commands.specs.declared.failure.Failure.{Failure}
-use Rattle.hunk_commands.specs.declared.failure.Failure.TheVariants.{BadNumber, Opening, Printing, Reading, Tool, Writing}
+use Rattle.hunk_commands.specs.declared.failure.Failure.TheVariants.{BadNumber, Opening, Printing, Reading, SameFile, Tool, Writing}
 use Rattle.hunk_commands.specs.Addresses.{Origin, origin_of}
 use Rattle.hunk_commands.specs.Addresses.Origin.{in_file, in_list}
 
--- 2 if the addresses are rejected, 3 if a file cannot be opened, or a read of the addresses or a write
--- failed, also one of the map, and otherwise the status of what `hunk_tool` returned
+-- 2 if the addresses are rejected, or OUT and MAP are one file, 3 if a file cannot be opened, or a read
+-- of the addresses or a write failed, also one of the map, and otherwise the status of what `hunk_tool`
+-- returned
 abbrev pub status_of : Failure → ℕ
 status_of (BadNumber addresses index) = 2
 status_of (Opening file) = 3
 status_of (Reading file) = 3
 status_of (Writing file) = 3
+status_of (SameFile file) = 2
 status_of Printing = 3
 status_of (Tool fault) = status fault
 
@@ -47,6 +49,7 @@ failure_line names (BadNumber addresses index) = bad_number_line (origin_of addr
 failure_line names (Opening file) = about_line file.now (codes "cannot be opened")
 failure_line names (Reading file) = about_line file.now (codes "read failed")
 failure_line names (Writing file) = about_line file.now (codes "write failed")
+failure_line names (SameFile file) = about_line file.now (codes "given for both --out and --map")
 failure_line names Printing = fault_line {A = Global} names (Output 0)
 failure_line names (Tool fault) = fault_line names fault
 

@@ -1,5 +1,5 @@
 -- What is known of object files, of OUT and of MAP after `link`, or why it failed.
-use Rattle.std.specs.Prelude.{◌≡◌, ◌⊎◌, ℕ, Bool, List, Option, Some, None, Contains}
+use Rattle.std.specs.Prelude.{◌≡◌, ◌≢◌, ◌⊎◌, ℕ, Bool, List, Option, Some, None, Contains}
 use Rattle.std.specs.Io.KnownBytes.{Appends}
 use Rattle.hunk_words.specs.Name.{bytes_of}
 use Rattle.hunk_loadfile.specs.LoadHunk.{FileHunk}
@@ -13,7 +13,7 @@ use Rattle.hunk_tool.specs.ObjectFiles.{AreFileUnits, FileUnit, units_of}
 use Rattle.hunk_tool.specs.declared.link_options.LinkOptions.{LinkOptions}
 use Rattle.hunk_tool.specs.declared.tool_fault.ToolFault.TheVariants.{OutOfMemory}
 use Rattle.hunk_commands.specs.declared.failure.Failure.{Failure}
-use Rattle.hunk_commands.specs.declared.failure.Failure.TheVariants.{Opening, Tool, Writing}
+use Rattle.hunk_commands.specs.declared.failure.Failure.TheVariants.{Opening, SameFile, Tool, Writing}
 use Rattle.hunk_commands.specs.Devices.{IsCutShort}
 use Rattle.hunk_commands.specs.Inputs.{OfInputs}
 
@@ -87,16 +87,23 @@ IsUnmapped map (Writing name) = name.now ≡ map
 IsUnmapped map (Tool fault) = fault ≡ OutOfMemory 0
 IsUnmapped map _ = ⊥
 
--- why `link` with a map failed: MAP is created after OUT has been written in full
+-- OUT and MAP have one name
+abbrev pub AreOne : (out map : List ℕ) → Failure → Type 0
+AreOne out map (SameFile name) = (name.now ≡ map) × (out ≡ map)
+AreOne out map _ = ⊥
+
+-- why `link` with a map failed: the names are compared first, and MAP is created after OUT has been
+-- written in full
 abbrev pub IsMapFailure : LinkOptions → (files : List (List ℕ)) (out map : List ℕ) → Failure → Type 0
-IsMapFailure options files out map failure = IsLinkFailure options.strip files out failure ⊎ (IsMade options files × IsUnmapped map failure)
+IsMapFailure options files out map failure =
+    AreOne out map failure ⊎ (IsLinkFailure options.strip files out failure ⊎ (IsMade options files × IsUnmapped map failure))
 
 -- ---- as MAP is given, or not
 
 -- what was done
-abbrev pub IsDone : LinkOptions → (files : List (List ℕ)) → Option (List ℕ) → Type 0
-IsDone options files None = IsMade options files
-IsDone options files (Some map) = IsMapped options files files
+abbrev pub IsDone : LinkOptions → (files : List (List ℕ)) (out : List ℕ) → Option (List ℕ) → Type 0
+IsDone options files out None = IsMade options files
+IsDone options files out (Some map) = IsMapped options files files × (out ≢ map)
 
 -- and why not
 abbrev pub IsUndone : LinkOptions → (files : List (List ℕ)) (out : List ℕ) → Option (List ℕ) → Failure → Type 0

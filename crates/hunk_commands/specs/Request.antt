@@ -42,7 +42,7 @@ given_text = option_map (λ text. text.now)
 -- the status after `link`
 abbrev pub EndsLink : {W : Type 0} (taken : W → Option (List ℕ)) (failed : W → Bool) (old new : W) (out : List ℕ) (map : Option (List ℕ)) (options : LinkOptions) (files : List (List ℕ)) → ℕ → Type 0
 EndsLink taken failed old new out map options files status =
-    ((status ≡ 0) × IsDone options files map) ⊎ IsFailed taken failed old new (IsUndone options files out map) files status
+    ((status ≡ 0) × IsDone options files out map) ⊎ IsFailed taken failed old new (IsUndone options files out map) files status
 
 -- the status after `image`
 abbrev pub EndsImage : {W : Type 0} (taken : W → Option (List ℕ)) (failed : W → Bool) (old new : W) (origin : Origin) (form : ImageForm) (files : List (List ℕ)) → ℕ → Type 0

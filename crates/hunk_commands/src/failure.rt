@@ -35,6 +35,8 @@ pub enum Failure<'a> {
     Reading(&'a str),
     /// The file with this name, the map of a link, did not take everything that was written to it.
     Writing(&'a str),
+    /// The load file of a link and its map are to be written to one file, with this name.
+    SameFile(&'a str),
     /// The output did not take everything that was written to it.
     Printing,
     /// What `hunk_tool` returned.
@@ -54,7 +56,7 @@ impl<'a> Failure<'a> {
         ensures { result ≡ status_of self.now }
     {
         match self {
-            Failure::BadNumber { .. } => COMMAND_LINE,
+            Failure::BadNumber { .. } | Failure::SameFile(_) => COMMAND_LINE,
             Failure::Opening(_) | Failure::Reading(_) | Failure::Writing(_) | Failure::Printing =>
                 DEVICE,
             Failure::Tool(fault) => status_of(fault),
@@ -91,6 +93,7 @@ fn write_failure<W: Sink>(
         Failure::Opening(file) => write_about(file, "cannot be opened", errors),
         Failure::Reading(file) => write_about(file, "read failed", errors),
         Failure::Writing(file) => write_about(file, "write failed", errors),
+        Failure::SameFile(file) => write_about(file, "given for both --out and --map", errors),
         Failure::Printing => {
             let output: ToolFault = ToolFault::Output { written: 0 };
             write_fault(files, &output, errors)

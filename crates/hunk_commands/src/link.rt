@@ -1,5 +1,5 @@
 //! The request `link`: the load file of object files, and the map of it.
-ghost use Rattle.std.specs.Prelude.{◌≡◌, IfOk, IfErr, OnOk, length, map};
+ghost use Rattle.std.specs.Prelude.{◌≡◌, Err, IfOk, IfErr, OnOk, length, map};
 ghost use Rattle.std.specs.String.{string_bytes};
 ghost use Rattle.hunk_commands.specs.Inputs.{file_names};
 ghost use Rattle.hunk_loadfile.specs.WrittenForm.{IsShortEnough};
@@ -49,6 +49,7 @@ pub fn link<'a, R: Files + AllocGlobal>(
 ///
 /// # Errors
 ///
+/// - [`Failure::SameFile`] if `out` and `map_file` are the same name. Then no file is touched.
 /// - Those of [`link`]; then the map is not begun.
 /// - [`Failure::Opening`] with `map_file` if it cannot be created.
 /// - [`Failure::Writing`] with `map_file` if it did not take everything that was written to it.
@@ -62,9 +63,13 @@ pub fn link_with_map<'a, R: Files + AllocGlobal>(
     names: &[String],
 ) -> Result<(), Failure<'a>>
     ensures ok { OnOk result (IsMapped options (map string_bytes names.now) (file_names files.entry.now)) }
+    ensures one { out.entry.now ≡ map_file.entry.now → result ≡ Err (Failure.SameFile map_file.entry) }
     ensures err { IfErr result (IsMapFailure options (file_names files.entry.now) out.entry.now map_file.entry.now) }
     ensures of_files { IfErr result (IsOfFiles (length files.entry.now)) }
 {
+    if out == map_file {
+        return Err(Failure::SameFile(map_file));
+    }
     let (units, linked) = linked_files(rt, options.strip, files)?;
     let file = write_out(rt, out, options, linked)?;
     write_map_file(rt, map_file, &units, names, &file)?;

@@ -176,7 +176,7 @@ fn link_as_asked<'a, R: Files + AllocGlobal>(
     names: &[String],
 ) -> Result<(), Failure<'a>>
     requires { map string_bytes names.now ≡ file_names files.now }
-    ensures ok { OnOk result (IsDone options (file_names files.entry.now) (given_text map_file.entry)) }
+    ensures ok { OnOk result (IsDone options (file_names files.entry.now) out.entry.now (given_text map_file.entry)) }
     ensures err { IfErr result (IsUndone options (file_names files.entry.now) out.entry.now (given_text map_file.entry)) }
     ensures of_files { IfErr result (IsOfFiles (length files.entry.now)) }
 {

@@ -17,8 +17,8 @@ For example, this writes a short and trimmed load file without symbols and debug
   amihunk link --out program --strip --short --trim startup.o main.o
 
 The exit status is 0 if everything was written, 1 if a FILE is not an object file or the units do not
-link, 2 if the command line is not understood, 3 if a FILE cannot be read or OUT or MAP cannot be
-written, and 4 if memory runs out.";
+link, 2 if the command line is not understood or OUT and MAP are the same, 3 if a FILE cannot be read
+or OUT or MAP cannot be written, and 4 if memory runs out.";
 
 /// The usage of `load`.
 pub const LOAD_USAGE: &str = "amihunk load [OPTIONS] <--at <LIST>|--at-file <FILE>> <FILE>";

@@ -49,6 +49,8 @@ fn tells_each_failure_in_a_line(rt: HostRuntime) -> Result<(), Fail> {
     is_told(&rt, alloc, &Failure::Reading("y"), reading, 3)?;
     let writing = "amihunk: y: write failed\n";
     is_told(&rt, alloc, &Failure::Writing("y"), writing, 3)?;
+    let one_file = "amihunk: y: given for both --out and --map\n";
+    is_told(&rt, alloc, &Failure::SameFile("y"), one_file, 2)?;
     let printing = "amihunk: output: write failed\n";
     is_told(&rt, alloc, &Failure::Printing, printing, 3)?;
     let unread = Failure::Tool(ToolFault::InputDevice { file: 0 });

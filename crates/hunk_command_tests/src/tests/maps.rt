@@ -79,6 +79,20 @@ fn tells_why_the_map_is_not_written(rt: HostRuntime) -> Result<(), Fail> {
 }
 
 #[test]
+fn refuses_one_name_for_both_files(rt: HostRuntime) -> Result<(), Fail> {
+    let one = Err(Failure::SameFile("out"));
+    is_linked(
+        &rt,
+        rt.alloc(),
+        ("out", "out"),
+        &["caller", "x"],
+        one,
+        0,
+        (&[], ""),
+    )
+}
+
+#[test]
 fn begins_no_map_without_a_load_file(rt: HostRuntime) -> Result<(), Fail> {
     let none: (&[u8], &str) = (&[], "");
     let missing = Err(Failure::Opening("x"));
