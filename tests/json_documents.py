@@ -5,7 +5,7 @@ import random
 import model
 from harness import DEVICE, DONE, NO_MEMORY, equals, test
 from model import ABS, BSS, CODE, DATA, DEF, END, HEADER, KINDS, Hunk, Unit, words
-from runs import LITTLE_MEMORY
+from runs import LITTLE_MEMORY, write_parts
 
 
 def name_value(name):
@@ -80,11 +80,9 @@ def documents_tell_what_is_in_random_files(program):
     for seed in range(100):
         dice, units = random.Random(seed), model.random_named_units(seed)
         parts = model.dealt_out(dice, units)
-        files = [f"{seed}-{number}.o" for number in range(len(parts))]
+        files, options = write_parts(program, seed, parts), model.random_options(dice)
         for file, part in zip(files, parts):
-            program.write(file, model.object_file(part))
             prints_document(program, object_value(part), file)
-        options = [it for it in ("--strip", "--short", "--trim") if dice.random() < 0.5]
         program.prints("", "link", "--out", "out", *options, *files)
         prints_document(program, load_value(units, options), "out")
 

@@ -6,7 +6,7 @@ import resource
 import model
 from harness import BAD_WORDS, DEVICE, NO_MEMORY, REFUSED, equals, test
 from model import ABS, BSS, CODE, DATA, DEF, END, UNIT, Hunk, Unit, words
-from runs import LITTLE_MEMORY, LOAD_FILE, OBJECT_FILE
+from runs import LITTLE_MEMORY, LOAD_FILE, OBJECT_FILE, write_parts
 
 # The map of OBJECT_FILE as the file x.o.
 MAP = 'hunk 0 code any 1 longwords x.o unit 0 "" hunk 0 ""\n'
@@ -16,11 +16,10 @@ MAP = 'hunk 0 code any 1 longwords x.o unit 0 "" hunk 0 ""\n'
 def a_map_tells_where_each_hunk_is_from(program):
     for seed in range(100):
         dice, units = random.Random(seed), model.random_named_units(seed)
-        files = [(f"{seed}-{number}.o", part) for number, part in enumerate(model.dealt_out(dice, units))]
+        parts = model.dealt_out(dice, units)
+        files = list(zip(write_parts(program, seed, parts), parts))
         dice.shuffle(files)
-        for name, part in files:
-            program.write(name, model.object_file(part))
-        names, options = [name for name, _ in files], [it for it in ("--strip", "--short", "--trim") if dice.random() < 0.5]
+        names, options = [name for name, _ in files], model.random_options(dice)
         program.prints("", "link", "--out", "plain", *options, *names)
         program.prints("", "link", "--out", "out", "--map", "map", *options, *names)
         equals(program.read("out"), program.read("plain"), seed)

@@ -224,6 +224,11 @@ def dealt_out(dice, units):
     return [units[start:end] for start, end in zip([0, *ends[:-1]], ends) if start < end]
 
 
+def random_options(dice):
+    """Some of the options of a link."""
+    return [it for it in ("--strip", "--short", "--trim") if dice.random() < 0.5]
+
+
 def random_bases(seed, units):
     """Addresses at which the hunks are apart, in any order, and somewhere in 32 bits."""
     dice = random.Random(seed)

@@ -17,6 +17,14 @@ LITTLE_MEMORY = (resource.RLIMIT_AS, 40 << 20)
 RECORDS = "S00A0000616D6968756E6B08\nS309000100004E754E7173\nS70500000000FA\n"
 
 
+def write_parts(program, seed, parts):
+    """Writes the object file of each of some lists of units, and returns the names of the files."""
+    files = [f"{seed}-{number}.o" for number in range(len(parts))]
+    for file, part in zip(files, parts):
+        program.write(file, model.object_file(part))
+    return files
+
+
 @test
 def random_units_are_linked_and_loaded_as_their_memory(program):
     for seed in range(400):
@@ -25,10 +33,7 @@ def random_units_are_linked_and_loaded_as_their_memory(program):
         memory = model.memory_of(units, bases)
         report, records, at = model.report_of(bases, memory), model.records_of(bases, memory), model.addresses(bases)
         parts = model.dealt_out(dice, units)
-        files = [f"{seed}-{number}.o" for number in range(len(parts))]
-        for file, part in zip(files, parts):
-            program.write(file, model.object_file(part))
-        options = [it for it in ("--strip", "--short", "--trim") if dice.random() < 0.5]
+        files, options = write_parts(program, seed, parts), model.random_options(dice)
         program.prints("", "link", "--out", "out", *options, *files)
         program.prints(report, "load", "--at", at, "out")
         program.prints(report, "image", "--at", at, *files)
