@@ -72,7 +72,7 @@ bind-err (Some s) c f r h = inl (ap (λ x. Some x) (err-one h))
 
 -- ---- the machine's reason is blamed
 
-is-due : (kind : FileKind) (ws : List ℕ) (k : Kind) (s : List Kind) (seen : List ℕ) → Reads (start kind) ws (k ∷ s) → seen_all [] (labels (start kind) ws) ≡ seen → IsDue kind ws k seen
+pub is-due : (kind : FileKind) (ws : List ℕ) (k : Kind) (s : List Kind) (seen : List ℕ) → Reads (start kind) ws (k ∷ s) → seen_all [] (labels (start kind) ws) ≡ seen → IsDue kind ws k seen
 is-due kind ws k s seen r is = record {
   some = completion kind ws k s r;
   bears = λ c. borne-due kind ws (k ∷ s) c r;
@@ -104,7 +104,7 @@ blames-width (half x) kind ws k s seen bad r wide short small reads is h =
     ]
 
 -- only a load file ends where nothing is expected
-load-ends : (kind : FileKind) (ws : List ℕ) → Reads (start kind) ws [] → kind ≡ Load
+pub load-ends : (kind : FileKind) (ws : List ℕ) → Reads (start kind) ws [] → kind ≡ Load
 load-ends Load ws r = refl
 load-ends Object ws r =
     let t = read-spelled Object ws [] r tt in
@@ -127,7 +127,7 @@ some-one : {A : Type 0} {a b : A} → Some a ≡ Some b → a ≡ b
 some-one h = cc
 
 -- what is expected is what the machine expects
-due-read : (kind : FileKind) (ws : List ℕ) (d : Progress) (k : Kind) (seen : List ℕ) → WordsRead (initial_progress kind) ws d → IsDue kind ws k seen → (due d.stack ≡ k) × (d.seen ≡ seen)
+pub due-read : (kind : FileKind) (ws : List ℕ) (d : Progress) (k : Kind) (seen : List ℕ) → WordsRead (initial_progress kind) ws d → IsDue kind ws k seen → (due d.stack ≡ k) × (d.seen ≡ seen)
 due-read kind ws d k seen r is =
     (some-one (sym (borne-due kind ws d.stack is.some r.reads) ∙ is.bears is.some), sym r.seen ∙ sym (borne-seen kind ws is.some) ∙ is.before is.some)
 

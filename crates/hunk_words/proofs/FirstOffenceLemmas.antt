@@ -119,6 +119,17 @@ ends-early kind ws rest d longs short h not = record {
   is_reason = refl;
 }
 
+-- after a valid prefix only the longword after it can offend
+pub offends-last : (kind : FileKind) (ws : List ℕ) (w place : ℕ) (r : Reason) → IsValidPrefix kind ws → OffendsAt kind (ws ++ (w ∷ [])) place r → place ≡ length ws
+offends-last kind ws w place r good o = elim (cuts ws o.front [] o.behind w o.bad o.parts) [
+  | same p q ↦ o.at_place ∙ ap (λ x. length x) (sym p)
+  | shorter more p ↦
+      let long : length o.front ≡ length (ws ++ (w ∷ [])) + length more = ap (λ x. length x) p ∙ length-append (ws ++ (w ∷ [])) more in
+      let all : length (ws ++ (w ∷ [])) ≡ length o.front + suc (length o.behind) = ap (λ x. length x) o.parts ∙ length-append o.front (o.bad ∷ o.behind) in
+      absurd (omega (arith, long, all))
+  | longer more p ↦ absurd (o.no_longer (front-front kind (o.front ++ (o.bad ∷ [])) more (subst (λ x. IsValidPrefix kind x) p good)))
+]
+
 -- ---- a file or a first offence
 
 complete-or-not : (s : List Kind) → IsComplete s ⊎ (IsComplete s → ⊥)

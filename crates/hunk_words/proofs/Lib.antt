@@ -35,6 +35,7 @@ pub mod ReadingSameLemmas
 pub mod ValuesLemmas
 pub mod FirstOffenceLemmas
 pub mod LongwordsByteLemmas
+pub mod DueLemmas
 pub mod DecoderCoreLemmas
 pub mod DecoderLemmas
 pub mod DecoderRefusalLemmas

@@ -15,6 +15,7 @@ pub mod SiteContext
 pub mod State
 pub mod Taker
 pub mod Numbers
+pub mod Due
 pub mod DecoderCore
 pub mod Decoder
 pub mod Examples

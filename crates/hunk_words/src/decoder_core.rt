@@ -2,6 +2,7 @@
 
 ghost use Rattle.std.specs.Prelude.{◌≡◌, ℕ, ◌+◌, ◌*◌, ◌<◌, ◌≤◌, List, [], ◌∷◌, ◌++◌, length, Option, Some, None, IsTrue, IsFalse, IfOk, OnOk};
 ghost use Rattle.hunk_words.specs.DecoderCore.{Behind, StandsBy, StandsFor, SomeTaken, OffsetsTaken, TakesSome, EndAnswered, Keeps, in_offsets, kept, refused_at, taker_of};
+ghost use Rattle.hunk_words.specs.Due.{Dues, dues_read};
 ghost use Rattle.hunk_words.specs.Files.{IsValidPrefix, most_longwords};
 ghost use Rattle.hunk_words.specs.Longwords.{longwords};
 ghost use Rattle.hunk_words.specs.Machine.{IsComplete};
@@ -9,6 +10,7 @@ ghost use Rattle.hunk_words.specs.Reading.{start_of};
 ghost use Rattle.hunk_words.specs.State.{Around, IsState, expected_view, view};
 ghost use Rattle.hunk_words.specs.declared.fault.Refusal.{Refusal};
 
+use crate::due::{Due, due_of};
 use crate::event::FileKind;
 use crate::fault::{Fault, Reason, Refusal};
 use crate::numbers::{NumberRefusal, take_offset, take_word, take_words};
@@ -328,6 +330,15 @@ impl<T: Taker> Core<T> {
         ensures { (ws : List ℕ) → kept self.now ≡ None → StandsFor T.KIND T.stands_for self.now ws → result ≡ length ws }
     {
         self.state.place
+    }
+
+    /// What is due after the longwords taken, if it keeps no error. Where two 16-bit words are due, it is
+    /// the first of them.
+    pub fn due(&self) -> Due
+        ensures due { (ws : List ℕ) → kept self.now ≡ None → StandsFor T.KIND T.stands_for self.now ws → Dues T.KIND ws result }
+        ensures read { (ws : List ℕ) (w : ℕ) → kept self.now ≡ None → StandsFor T.KIND T.stands_for self.now ws → dues_read T.KIND (ws ++ w ∷ []) ≡ dues_read T.KIND ws ++ (result, w) ∷ [] }
+    {
+        due_of(self.state.state.due)
     }
 
     /// The taker, once the file is whole, if the input ends `rest` bytes after the longwords taken.

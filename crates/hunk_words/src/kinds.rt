@@ -136,6 +136,15 @@ pub(crate) fn block_type(number: u32) -> BlockType
     }
 }
 
+impl BlockType {
+    /// The type of the block that a type longword begins. The two upper bits are not part of it.
+    pub fn of_longword(longword: u32) -> BlockType
+        ensures { result ≡ kinds.type_of (kinds.low longword) }
+    {
+        block_type(low(longword))
+    }
+}
+
 impl HunkKind {
     /// The kind of a hunk with a content block of this type, 1001 to 1003.
     pub fn of_block_type(number: u32) -> HunkKind

@@ -1,5 +1,6 @@
 //! Laws about the definitions of the format, each a function without a body.
 
+ghost use Rattle.hunk_words.specs.Due.{DueIsOne};
 ghost use Rattle.hunk_words.specs.Examples.{LoadExamples, ObjectExamples, ShortExamples, ValueExamples};
 ghost use Rattle.hunk_words.specs.EventLaws.{ObjectTold, LoadTold, ObjectOneValue, LoadOneValue, ObjectLimit, LoadLimit};
 ghost use Rattle.hunk_words.specs.FirstOffenceLaws.{ReadIsPrefix, PrefixIsRead, StopsAfterPrefix, StopsAtOffence, TooLongOffends, CompleteIsFile, EndsAfterPrefix, FileOrOffence, FileHasNone, OffenceIsOne};
@@ -60,6 +61,11 @@ pub fn refused_begins_none()
 pub fn every_file_bears_due()
     ensures object { ObjectDue }
     ensures load { LoadDue }
+{}
+
+/// After a valid prefix one thing is due.
+pub fn one_thing_is_due()
+    ensures { DueIsOne }
 {}
 
 /// What is read up to where a file may end is the spelling of a tree.

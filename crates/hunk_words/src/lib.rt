@@ -16,7 +16,7 @@
 //! - `taker`: what takes the events of a file.
 //! - `decoder_core`, `decoder`: decode the longwords and the bytes of a file, and send its events
 //!   to a taker.
-//! - `state`: what is expected next in a file.
+//! - `state`: what is expected next in a file; `due`: the same, as it is told to a person.
 //! - `step`: judges a number by the function for what is expected, which is in one of the next four.
 //! - `type_steps`, `header_steps`, `block_steps`, `short_steps`: numbers of type longwords, headers,
 //!   blocks and lists of 16-bit relocations.
@@ -28,6 +28,7 @@ pub mod debug_info;
 pub mod decoder;
 pub mod decoder_core;
 pub mod doshunks;
+mod due;
 pub mod event;
 pub mod fault;
 mod header_steps;
@@ -54,6 +55,7 @@ pub mod watched;
 pub use debug_info::DebugInfo;
 pub use decoder::Decoder;
 pub use decoder_core::{Core, CoreState};
+pub use due::Due;
 pub use event::{Event, FileKind};
 pub use fault::{DeviceFault, Fault, ReadFault, Reason, Refusal, WriteFault};
 pub use kinds::{BlockType, EntryType, Half, HunkKind, Memory};
