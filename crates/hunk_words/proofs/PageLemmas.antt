@@ -1,7 +1,8 @@
 -- What holds of the sites of one page.
 use Rattle.std.proofs.Common.{◌≡◌, ℕ, zero, suc, ◌+◌, ◌-◌, ◌^◌, ◌<◌, ◌≤◌, ◌⊎◌, inl, inr, ⊎_elim, Some, None, Option, IsSome, Bool, true, false, cond, if◌then◌else◌, List, [], ◌∷◌, ◌++◌, length, take, drop, get_or, insert, refl, sym, ap, ◌∙◌, arith, take-append-drop}
-use Rattle.std.proofs.lemmas.Bool.{cases_lt}
+use Rattle.std.proofs.lemmas.Bool.{cases_lt, cases_eq}
 use Rattle.std.proofs.lemmas.List.{get_or_read}
+use Rattle.std.proofs.lemmas.List.Edits.{insert_end}
 use Rattle.std.specs.declared.cmp.Ordering.{Ordering}
 use Rattle.std.specs.declared.cmp.Ordering.TheVariants.{Less, Equal, Greater}
 use Rattle.std.specs.Cmp.{nat_cmp_is}
@@ -28,22 +29,23 @@ pub LieWithin-append : {T : Type 0} (from to : ℕ) (xs ys : List (ℕ × T)) �
 LieWithin-append from to [] ys first second = second
 LieWithin-append from to (x ∷ xs) ys first second = (first.0, first.1, LieWithin-append from to xs ys first.2 second)
 
-pub LieWithin-take : {T : Type 0} (from to count : ℕ) (sites : List (ℕ × T)) → LieWithin from to sites → LieWithin from to (take count sites)
-LieWithin-take from to zero sites within = tt
-LieWithin-take from to (suc count) [] within = tt
-LieWithin-take from to (suc count) (site ∷ sites) within = (within.0, within.1, LieWithin-take from to count sites within.2)
-
-pub LieWithin-drop : {T : Type 0} (from to count : ℕ) (sites : List (ℕ × T)) → LieWithin from to sites → LieWithin from to (drop count sites)
-LieWithin-drop from to zero sites within = within
-LieWithin-drop from to (suc count) [] within = tt
-LieWithin-drop from to (suc count) (site ∷ sites) within = LieWithin-drop from to count sites within.2
-
--- a site that was inserted lies there too
-pub LieWithin-insert : {T : Type 0} (from to place offset : ℕ) (target : T) (sites : List (ℕ × T))
-    → LieWithin from to sites → from ≤ offset → offset + 4 ≤ to → LieWithin from to (insert sites place (offset, target))
-LieWithin-insert from to place offset target sites within low high =
-    LieWithin-append from to (take place sites) ((offset, target) ∷ drop place sites)
-    (LieWithin-take from to place sites within) (low, high, LieWithin-drop from to place sites within)
+-- a site that was put in lies there too
+pub LieWithin-insert_entry : {T : Type 0} (from to offset : ℕ) (target : T) (sites : List (ℕ × T))
+    → LieWithin from to sites → from ≤ offset → offset + 4 ≤ to → LieWithin from to (insert_entry nat_cmp sites offset target)
+LieWithin-insert_entry from to offset target [] within low high = (low, high, tt)
+LieWithin-insert_entry from to offset target (site ∷ sites) within low high = elim (cases_lt offset site.0) [
+  | inl below ↦
+      let less : nat_cmp offset site.0 ≡ Less = sym (nat_cmp_is offset site.0 Less below) in
+      rw less (low, high, within)
+  | inr above ↦ elim (cases_eq offset site.0) [
+    | inl equal ↦
+        let is_equal : nat_cmp offset site.0 ≡ Equal = sym (nat_cmp_is offset site.0 Equal equal) in
+        rw is_equal within
+    | inr apart ↦
+        let greater : nat_cmp offset site.0 ≡ Greater = sym (nat_cmp_is offset site.0 Greater (omega arith)) in
+        rw greater (within.0, within.1, LieWithin-insert_entry from to offset target sites within.2 low high)
+  ]
+]
 
 -- there is no site where none lies
 pub target_at-outside : {T : Type 0} (from to offset : ℕ) (sites : List (ℕ × T))
@@ -150,13 +152,6 @@ IsFreePlace-free offset place sites free meets =
     Meets-between 0 (2 ^ 32 + 3) offset (take place sites) (drop place sites) free.before free.after
     (rw take-append-drop meets)
 
--- so that the sites stay apart
-pub AreSpaced-insert : {T : Type 0} (offset place : ℕ) (target : T) (sites : List (ℕ × T))
-    → AreSpaced sites → offset < 2 ^ 32 → IsFreePlace sites offset place → AreSpaced (insert sites place (offset, target))
-AreSpaced-insert offset place target sites spaced small free =
-    rw (IsFreePlace-insert offset place target sites free)
-    (StandFrom-insert_entry 0 (2 ^ 32 + 3) offset target sites spaced (omega arith) (omega arith) (IsFreePlace-free offset place sites free))
-
 -- each site begins at `from` or after it
 pub StandFrom-least : {T : Type 0} (from limit : ℕ) (sites : List (ℕ × T)) (k : ℕ) (d : ℕ × T) → StandFrom from limit sites → k < length sites → from ≤ (get_or sites k d).0
 StandFrom-least from limit [] k d apart inside = absurd (omega arith)
@@ -247,6 +242,18 @@ target_at-none offset place sites spaced inside before after =
     ap (λ all. target_at all offset) (sym (take-append-drop place sites))
     ∙ target_at-append_right offset (take place sites) (drop place sites) not_low ∙ not_high
 
+-- no site begins before an offset that the first one does not begin before
+pub parts-first : {T : Type 0} (offset : ℕ) (sites : List (ℕ × T)) → AreSpaced sites
+    → ((d : ℕ × T) → 0 < length sites → offset ≤ (get_or sites 0 d).0)
+    → IsPartitionPoint (λ (site : ℕ × T). site.0 < offset) (λ (site : ℕ × T). offset ≤ site.0) sites 0
+parts-first offset sites spaced first = (
+  λ k d low below. absurd (omega arith),
+  λ k d low below.
+      let rises = StandFrom-rises 0 (2 ^ 32 + 3) sites spaced 0 k d (omega arith) below in
+      let begins = first d (omega arith) in
+      omega arith,
+)
+
 -- the sites are parted by an offset that the last one begins before
 pub parts-last : {T : Type 0} (offset count : ℕ) (last : ℕ × T) (sites : List (ℕ × T)) → AreSpaced sites → count ≡ length sites
     → ((d : ℕ × T) → last ≡ get_or sites (length sites - 1) d) → last.0 < offset
@@ -295,7 +302,32 @@ IsFreePlace-read offset place sites spaced inside last first =
 
 -- sites stay apart where one that meets none is put in, or none is
 pub StandFrom-added : {T : Type 0} (ok : Bool) (limit offset : ℕ) (target : T) (old new : List (ℕ × T)) → StandFrom 0 limit old
-    → offset + 4 ≤ limit → (Meets old offset → ⊥) → new ≡ (if ok then insert_entry nat_cmp old offset target else old) → StandFrom 0 limit new
+    → offset + 4 ≤ limit → (ok ≡ true → Meets old offset → ⊥) → new ≡ (if ok then insert_entry nat_cmp old offset target else old) → StandFrom 0 limit new
 StandFrom-added true limit offset target old new apart high free new_is =
-    rw new_is (StandFrom-insert_entry 0 limit offset target old apart (omega arith) high free)
+    rw new_is (StandFrom-insert_entry 0 limit offset target old apart (omega arith) high (free refl))
 StandFrom-added false limit offset target old new apart high free new_is = rw new_is apart
+
+-- and so do those of a page
+pub AreSpaced-added : {T : Type 0} (ok : Bool) (offset : ℕ) (target : T) (old new : List (ℕ × T)) → AreSpaced old → offset < 2 ^ 32
+    → (Meets old offset → ⊥) → new ≡ (if ok then insert_entry nat_cmp old offset target else old) → AreSpaced new
+AreSpaced-added ok offset target old new spaced small free new_is =
+    StandFrom-added ok (2 ^ 32 + 3) offset target old new spaced (omega arith) (λ done meets. free meets) new_is
+
+-- what is inserted at a free place is put in
+pub IsFreePlace-added : {T : Type 0} (ok : Bool) (offset place : ℕ) (target : T) (old new : List (ℕ × T)) → IsFreePlace old offset place
+    → new ≡ (if ok then insert old place (offset, target) else old) → new ≡ (if ok then insert_entry nat_cmp old offset target else old)
+IsFreePlace-added true offset place target old new free new_is = new_is ∙ IsFreePlace-insert offset place target old free
+IsFreePlace-added false offset place target old new free new_is = new_is
+
+-- and so is what is pushed, where the place behind all sites is free
+pub IsFreePlace-pushed : {T : Type 0} (ok : Bool) (offset : ℕ) (target : T) (old new : List (ℕ × T)) → IsFreePlace old offset (length old)
+    → new ≡ (if ok then old ++ (offset, target) ∷ [] else old) → new ≡ (if ok then insert_entry nat_cmp old offset target else old)
+IsFreePlace-pushed true offset target old new free new_is =
+    new_is ∙ sym (insert_end old (offset, target)) ∙ IsFreePlace-insert offset (length old) target old free
+IsFreePlace-pushed false offset target old new free new_is = new_is
+
+-- as it is where the last site ends at the offset or before it
+pub IsFreePlace-last : {T : Type 0} (offset : ℕ) (last : ℕ × T) (sites : List (ℕ × T)) → AreSpaced sites
+    → ((d : ℕ × T) → last ≡ get_or sites (length sites - 1) d) → last.0 + 4 ≤ offset → IsFreePlace sites offset (length sites)
+IsFreePlace-last offset last sites spaced read end =
+    IsFreePlace-from offset (length sites) sites spaced (omega arith) (λ positive d. rw (← (read d)) end) (λ below d. absurd (omega arith))

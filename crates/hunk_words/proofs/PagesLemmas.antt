@@ -1,5 +1,5 @@
 -- What holds of the pages of a hunk's sites.
-use Rattle.std.proofs.Common.{◌≡◌, ℕ, zero, suc, ◌+◌, ◌-◌, ◌*◌, ◌/◌, ◌<◌, ◌≤◌, inl, inr, Option, Some, None, IsSome, is_some, MatchOption, Bool, true, false, if◌then◌else◌, List, [], ◌∷◌, ◌++◌, length, get_or, set, insert, replicate, refl, sym, ap, ◌∙◌, arith, append_assoc}
+use Rattle.std.proofs.Common.{◌≡◌, ℕ, zero, suc, ◌+◌, ◌-◌, ◌*◌, ◌/◌, ◌<◌, ◌≤◌, inl, inr, Option, Some, None, IsSome, is_some, MatchOption, Bool, true, false, if◌then◌else◌, List, [], ◌∷◌, ◌++◌, length, get_or, set, replicate, refl, sym, ap, ◌∙◌, ◌↔◌, arith, append_assoc}
 use Rattle.std.proofs.lemmas.List.{get_or_read, replicate_more, set-get_or}
 use Rattle.std.proofs.lemmas.Bool.{cases_lt}
 use Rattle.std.specs.Ordering.{nat_cmp}
@@ -7,7 +7,7 @@ use Rattle.std.specs.BTreeMap.{insert_entry}
 use Rattle.hunk_words.specs.Page.{LieWithin, IsFreePlace}
 use Rattle.hunk_words.specs.Pages.{AppendsEmptyPages, LieInPages, all_sites, page_at}
 use Rattle.hunk_words.specs.Sites.{Meets, SharesByte, target_at}
-use Rattle.hunk_words.proofs.PageLemmas.{LieWithin-weaker, LieWithin-append, LieWithin-insert, IsFreePlace-free, IsFreePlace-insert, target_at-outside, target_at-append_left, target_at-append_right, IsSome-append_left, IsSome-append_right, insert_entry-append_left, insert_entry-append_right}
+use Rattle.hunk_words.proofs.PageLemmas.{LieWithin-weaker, LieWithin-append, LieWithin-insert_entry, IsFreePlace-free, target_at-outside, target_at-append_left, target_at-append_right, IsSome-append_left, IsSome-append_right, insert_entry-append_left, insert_entry-append_right}
 
 -- the sites of a page lie there
 pub LieInPages-page_at : {T : Type 0} (first number : ℕ) (pages : List (List (ℕ × T)))
@@ -51,13 +51,13 @@ IsSome-all_sites (suc number) offset (page ∷ pages) found = IsSome-append_righ
 pub Meets-all_sites : {T : Type 0} (number offset : ℕ) (pages : List (List (ℕ × T))) → Meets (page_at pages number) offset → Meets (all_sites pages) offset
 Meets-all_sites number offset pages meets = (meets.0, IsSome-all_sites number meets.0 pages meets.1, meets.2)
 
--- a site meets none where it meets none of its page, of the page of the third byte before it, and of the page that its last
--- byte lies in
+-- a site that meets one meets one of its own page, where it meets none of the page of the third byte before it, nor of the
+-- page that its last byte lies in
 pub Meets-pages : {T : Type 0} (offset before number after : ℕ) (pages : List (List (ℕ × T))) → LieInPages 0 pages
     → before ≡ (offset - 3) / 4096 → number ≡ offset / 4096 → after ≡ (offset + 3) / 4096
     → (before < number → Meets (page_at pages before) offset → ⊥) → (number < after → Meets (page_at pages after) offset → ⊥)
-    → (Meets (page_at pages number) offset → ⊥) → Meets (all_sites pages) offset → ⊥
-Meets-pages offset before number after pages within is_before is_number is_after free_before free_after free meets =
+    → Meets (all_sites pages) offset → Meets (page_at pages number) offset
+Meets-pages offset before number after pages within is_before is_number is_after free_before free_after meets =
     let other : ℕ = meets.0 in
     let its : ℕ = other / 4096 in
     let near : SharesByte offset other = meets.2 in
@@ -65,10 +65,10 @@ Meets-pages offset before number after pages within is_before is_number is_after
     let found : IsSome (target_at (page_at pages its) other) = rw here at meets.1 in
     let there : Meets (page_at pages its) offset = (other, found, near) in
     elim (cases_lt its number) [
-      | inl below ↦ let same : its ≡ before = omega arith in free_before (omega arith) (rw same at there)
+      | inl below ↦ let same : its ≡ before = omega arith in absurd (free_before (omega arith) (rw same at there))
       | inr above ↦ elim (cases_lt number its) [
-        | inl beyond ↦ let same : its ≡ after = omega arith in free_after (omega arith) (rw same at there)
-        | inr equal ↦ let same : its ≡ number = omega arith in free (rw same at there)
+        | inl beyond ↦ let same : its ≡ after = omega arith in absurd (free_after (omega arith) (rw same at there))
+        | inr equal ↦ let same : its ≡ number = omega arith in (rw same at there)
       ]
     ]
 
@@ -85,17 +85,10 @@ pub Meets-place : {T : Type 0} (offset number : ℕ) (place : Option ℕ) (pages
 Meets-place offset number None pages meets some = absurd cc
 Meets-place offset number (Some place) pages free some = IsFreePlace-free offset place (page_at pages number) free
 
--- what a look at its own page says, where those beside it have no site that it meets
-pub Meets-own_place : {T : Type 0} (offset before number after : ℕ) (place : Option ℕ) (pages : List (List (ℕ × T))) → LieInPages 0 pages
-    → before ≡ (offset - 3) / 4096 → number ≡ offset / 4096 → after ≡ (offset + 3) / 4096
-    → (before < number → Meets (page_at pages before) offset → ⊥) → (number < after → Meets (page_at pages after) offset → ⊥)
-    → MatchOption place (Meets (page_at pages number) offset) (IsFreePlace (page_at pages number) offset)
-    → MatchOption place (Meets (all_sites pages) offset) (λ _. Meets (all_sites pages) offset → ⊥)
-Meets-own_place offset before number after None pages within is_before is_number is_after free_before free_after meets =
-    Meets-all_sites number offset pages meets
-Meets-own_place offset before number after (Some place) pages within is_before is_number is_after free_before free_after free =
-    Meets-pages offset before number after pages within is_before is_number is_after free_before free_after
-    (IsFreePlace-free offset place (page_at pages number) free)
+-- where a site meets none but those of its own page, what its page refuses is refused
+pub overlaps-own_page : {T : Type 0} (offset number : ℕ) (refused : Type 0) (pages : List (List (ℕ × T)))
+    → (Meets (all_sites pages) offset → Meets (page_at pages number) offset) → (refused ↔ Meets (page_at pages number) offset) → refused ↔ Meets (all_sites pages) offset
+overlaps-own_page offset number refused pages own overlap = (λ no. Meets-all_sites number offset pages (overlap.0 no), λ meets. overlap.1 (own meets))
 
 -- an insertion into its page is an insertion into all sites
 pub all_sites-set : {T : Type 0} (first number offset : ℕ) (target : T) (pages : List (List (ℕ × T)))
@@ -129,16 +122,6 @@ pub all_sites-extended : {T : Type 0} (more : ℕ) (pages : List (List (ℕ × T
 all_sites-extended more [] = all_sites-replicate more
 all_sites-extended more (page ∷ pages) = ap (λ rest. page ++ rest) (all_sites-extended more pages)
 
-page_at-replicate : {T : Type 0} (more number : ℕ) → page_at {T = T} (replicate more []) number ≡ []
-page_at-replicate zero number = refl
-page_at-replicate (suc more) zero = refl
-page_at-replicate (suc more) (suc number) = page_at-replicate more number
-
-pub page_at-extended : {T : Type 0} (more number : ℕ) (pages : List (List (ℕ × T))) → page_at (pages ++ replicate more []) number ≡ page_at pages number
-page_at-extended more number [] = page_at-replicate more number
-page_at-extended more zero (page ∷ pages) = refl
-page_at-extended more (suc number) (page ∷ pages) = page_at-extended more number pages
-
 LieInPages-replicate : (T : Type 0) (first more : ℕ) → LieInPages {T = T} first (replicate more [])
 LieInPages-replicate T first zero = tt
 LieInPages-replicate T first (suc more) = (tt, LieInPages-replicate T (first + 1) more)
@@ -150,9 +133,6 @@ LieInPages-extended first more (page ∷ pages) within = (within.0, LieInPages-e
 pub AppendsEmptyPages-all_sites : {T : Type 0} (old new : List (List (ℕ × T))) → AppendsEmptyPages old new → all_sites new ≡ all_sites old
 AppendsEmptyPages-all_sites old new extends = rw extends.1 (all_sites-extended extends.0 old)
 
-pub AppendsEmptyPages-page_at : {T : Type 0} (number : ℕ) (old new : List (List (ℕ × T))) → AppendsEmptyPages old new → page_at new number ≡ page_at old number
-AppendsEmptyPages-page_at number old new extends = rw extends.1 (page_at-extended extends.0 number old)
-
 pub AppendsEmptyPages-LieInPages : {T : Type 0} (old new : List (List (ℕ × T))) → AppendsEmptyPages old new → LieInPages 0 old → LieInPages 0 new
 AppendsEmptyPages-LieInPages old new extends within = rw extends.1 (LieInPages-extended 0 extends.0 old within)
 
@@ -161,40 +141,29 @@ pub AppendsEmptyPages-push : {T : Type 0} (old new newer : List (List (ℕ × T)
 AppendsEmptyPages-push old new newer extends pushed =
     (extends.0 + 1, pushed ∙ ap (λ pages. pages ++ [] ∷ []) extends.1 ∙ append_assoc old (replicate extends.0 []) ([] ∷ []) ∙ ap (λ more. old ++ more) (replicate_more extends.0 []))
 
--- a site that is inserted at its place in its page
-pub insert-pages : {T : Type 0} (offset place number : ℕ) (target : T) (pages : List (List (ℕ × T)))
-    → LieInPages 0 pages → IsFreePlace (page_at pages number) offset place → number ≡ offset / 4096 → number < length pages
-    → LieInPages 0 (set pages number (insert (page_at pages number) place (offset, target)))
-    × (all_sites (set pages number (insert (page_at pages number) place (offset, target))) ≡ insert_entry nat_cmp (all_sites pages) offset target)
-insert-pages offset place number target pages within free is_number inside =
-    let low : 4096 * (0 + number) ≤ offset = omega arith in
-    let high : offset < 4096 * (0 + number) + 4096 = omega arith in (
-      LieInPages-set 0 number (insert (page_at pages number) place (offset, target)) pages within
-          (LieWithin-insert (4096 * (0 + number)) (4096 * (0 + number) + 4099) place offset target (page_at pages number) (LieInPages-page_at 0 number pages within) low (omega arith)),
-      ap (λ page. all_sites (set pages number page)) (IsFreePlace-insert offset place target (page_at pages number) free)
-          ∙ all_sites-set 0 number offset target pages within inside low high,
-    )
-
--- a place that is free in a page stays free where empty pages were appended
-pub IsFreePlace-extended : {T : Type 0} (offset place number : ℕ) (page : List (ℕ × T)) (old pages : List (List (ℕ × T)))
-    → AppendsEmptyPages old pages → IsFreePlace (page_at old (offset / 4096)) offset place → number ≡ offset / 4096 → number < length pages → page ≡ get_or pages number page
-    → IsFreePlace page offset place
-IsFreePlace-extended offset place number page old pages extends free is_number inside read =
-    rw (get_or_read pages number page inside read [] ∙ AppendsEmptyPages-page_at number old pages extends ∙ ap (page_at old) is_number) free
-
--- the same where there was room for it, and nothing where there was none, in pages to which empty ones were appended
-pub insert-extended : {T : Type 0} (ok : Bool) (offset place number : ℕ) (target : T) (page new : List (ℕ × T)) (old pages : List (List (ℕ × T)))
-    → LieInPages 0 old → AppendsEmptyPages old pages → IsFreePlace (page_at old (offset / 4096)) offset place → number ≡ offset / 4096 → number < length pages
-    → page ≡ get_or pages number page → new ≡ (if ok then insert page place (offset, target) else page)
-    → LieInPages 0 (set pages number new) × (all_sites (set pages number new) ≡ (if ok then insert_entry nat_cmp (all_sites old) offset target else all_sites old))
-insert-extended true offset place number target page new old pages within extends free is_number inside read new_is =
+-- a site that is put into its page, or none
+pub added-pages : {T : Type 0} (ok : Bool) (offset number : ℕ) (target : T) (page new : List (ℕ × T)) (pages : List (List (ℕ × T)))
+    → LieInPages 0 pages → number ≡ offset / 4096 → number < length pages → page ≡ get_or pages number page
+    → new ≡ (if ok then insert_entry nat_cmp page offset target else page)
+    → LieInPages 0 (set pages number new) × (all_sites (set pages number new) ≡ (if ok then insert_entry nat_cmp (all_sites pages) offset target else all_sites pages))
+added-pages true offset number target page new pages within is_number inside read new_is =
     let page_is : page ≡ page_at pages number = get_or_read pages number page inside read [] in
-    let same : page_at pages number ≡ page_at old (offset / 4096) = AppendsEmptyPages-page_at number old pages extends ∙ ap (page_at old) is_number in
-    let free_here : IsFreePlace (page_at pages number) offset place = rw same free in
-    let inserted : new ≡ insert (page_at pages number) place (offset, target) = new_is ∙ ap (λ sites. insert sites place (offset, target)) page_is in
-    let done = insert-pages offset place number target pages (AppendsEmptyPages-LieInPages old pages extends within) free_here is_number inside in
-    (rw inserted done.0, rw inserted (done.1 ∙ ap (λ all. insert_entry nat_cmp all offset target) (AppendsEmptyPages-all_sites old pages extends)))
-insert-extended false offset place number target page new old pages within extends free is_number inside read new_is =
+    let low : 4096 * (0 + number) ≤ offset = omega arith in
+    let high : offset < 4096 * (0 + number) + 4096 = omega arith in
+    let put_in : new ≡ insert_entry nat_cmp (page_at pages number) offset target = new_is ∙ ap (λ sites. insert_entry nat_cmp sites offset target) page_is in
+    let lies = LieWithin-insert_entry (4096 * (0 + number)) (4096 * (0 + number) + 4099) offset target (page_at pages number) (LieInPages-page_at 0 number pages within) low (omega arith) in
+    let in_pages = LieInPages-set 0 number (insert_entry nat_cmp (page_at pages number) offset target) pages within lies in
+    (rw put_in in_pages, rw put_in (all_sites-set 0 number offset target pages within inside low high))
+added-pages false offset number target page new pages within is_number inside read new_is =
     let page_is : new ≡ page_at pages number = new_is ∙ get_or_read pages number page inside read [] in
     let kept : set pages number new ≡ pages = ap (λ sites. set pages number sites) page_is ∙ set-get_or pages number [] in
-    (rw kept (AppendsEmptyPages-LieInPages old pages extends within), rw kept (AppendsEmptyPages-all_sites old pages extends))
+    (rw kept within, rw kept refl)
+
+-- the same where pages without sites were appended before
+pub added-extended : {T : Type 0} (ok : Bool) (offset number : ℕ) (target : T) (page new : List (ℕ × T)) (old pages : List (List (ℕ × T)))
+    → LieInPages 0 old → AppendsEmptyPages old pages → number ≡ offset / 4096 → number < length pages → page ≡ get_or pages number page
+    → new ≡ (if ok then insert_entry nat_cmp page offset target else page)
+    → LieInPages 0 (set pages number new) × (all_sites (set pages number new) ≡ (if ok then insert_entry nat_cmp (all_sites old) offset target else all_sites old))
+added-extended ok offset number target page new old pages within extends is_number inside read new_is =
+    rw (AppendsEmptyPages-all_sites old pages extends)
+    at (added-pages ok offset number target page new pages (AppendsEmptyPages-LieInPages old pages extends within) is_number inside read new_is)

@@ -1,5 +1,5 @@
 -- What holds of sites that are apart.
-use Rattle.std.proofs.Common.{◌≡◌, ℕ, ◌+◌, ◌-◌, ◌*◌, ◌≤◌, inl, inr, ⊎_elim, Some, IsSome, Bool, true, false, cond, List, [], ◌∷◌, length, refl, sym, ap, ◌∙◌, ◌==◌, if◌then◌else◌, eq-eqb, arith}
+use Rattle.std.proofs.Common.{◌≡◌, ℕ, ◌+◌, ◌-◌, ◌*◌, ◌≤◌, inl, inr, ⊎_elim, Some, IsSome, Result, Ok, Err, OnOk, is_ok, Bool, true, false, cond, List, [], ◌∷◌, length, refl, sym, ap, ◌∙◌, ◌==◌, if◌then◌else◌, eq-eqb, arith}
 use Rattle.std.proofs.lemmas.Bool.{cases_lt, cases_eq, ne_eqb}
 use Rattle.std.proofs.iter.runs.Sources.{from_front}
 use Rattle.std.specs.declared.cmp.Ordering.TheVariants.{Less, Equal, Greater}
@@ -85,6 +85,13 @@ target_at-insert_entry es offset target other = elim (cases_eq offset other) [
       let test : (offset == other) ≡ false = ne_eqb offset other apart in
       rw test (target_at-elsewhere es offset target other apart)
 ]
+
+-- and behind one that was put in, or refused
+pub target_at-added : {T E : Type 0} (added : Result (Unit {0}) E) (offset : ℕ) (target : T) (old new : List (ℕ × T))
+    → new ≡ (if is_ok added then insert_entry nat_cmp old offset target else old)
+    → OnOk added ((other : ℕ) → target_at new other ≡ (if offset == other then Some target else target_at old other))
+target_at-added (Ok done) offset target old new new_is = rw new_is (λ other. target_at-insert_entry old offset target other)
+target_at-added (Err refusal) offset target old new new_is = tt
 
 -- a site that meets none may be put in
 pub StandFrom-insert_entry : {T : Type 0} (from limit offset : ℕ) (target : T) (es : List (ℕ × T))

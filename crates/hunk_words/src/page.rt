@@ -1,11 +1,14 @@
 //! The sites of one page of a hunk.
-ghost use Rattle.std.specs.Prelude.{◌≡◌, ℕ, ◌+◌, ◌*◌, ◌<◌, ◌≤◌, ◌^◌, [], length, insert, is_ok, if◌then◌else◌, MatchOption, vec_len};
+ghost use Rattle.std.specs.Prelude.{◌≡◌, ◌≢◌, ℕ, ◌+◌, ◌*◌, ◌<◌, ◌≤◌, ◌^◌, ◌↔◌, [], length, is_ok, if◌then◌else◌, MatchBool, MatchOption};
+ghost use Rattle.std.specs.BTreeMap.{insert_entry};
 ghost use Rattle.std.specs.List.Sorted.{IsPartitionPoint};
 ghost use Rattle.std.specs.Option.{option_copied};
+ghost use Rattle.std.specs.Ordering.{nat_cmp};
 ghost use Rattle.std.specs.Slice.Iter.{iter_rest};
 ghost use Rattle.hunk_words.specs.Page.{AreSpaced, IsFreePlace};
 ghost use Rattle.hunk_words.specs.Sites.{Meets, target_at};
 
+use crate::sites::SiteRefusal;
 use std::alloc::{AllocError, Allocator};
 use std::marker::Model;
 use std::slice;
@@ -35,23 +38,6 @@ fn more_room(sites: usize, near: usize) -> usize {
         .max(sites)
 }
 
-// Inserts a site at its place. In most files sites come by rising offset, so most are the last one.
-fn put<T: Copy, A: Allocator + Copy>(
-    sites: &mut Vec<(u32, T), A>,
-    place: usize,
-    site: (u32, T),
-) -> Result<(), AllocError>
-    requires { place ≤ vec_len sites.old }
-    ensures { sites.new.items ≡ (if is_ok result then insert sites.old.items place site else sites.old.items) }
-{
-    if place == sites.len() {
-        sites.push(site)?;
-    } else {
-        sites.insert(place, site)?;
-    }
-    Ok(())
-}
-
 // How many sites of a page begin before the offset, where they are spread evenly over the page.
 fn likely_count(sites: usize, offset: u32) -> usize
     requires { 4 * sites < 2 ^ 33 }
@@ -63,11 +49,16 @@ fn likely_count(sites: usize, offset: u32) -> usize
 // How many sites of a page begin before the offset. Most files spread them evenly, so a search from the
 // likely count takes a few steps, and reads sites that lie side by side. A binary search reads all over
 // the page, and in files whose relocations stand in no order it waits for memory at most of its steps.
+// The first site is looked at before: in files whose offsets fall, none begins before the offset.
 fn count_below<T>(sites: &[(u32, T)], offset: u32) -> usize
     requires { AreSpaced sites.now }
     ensures within { result ≤ length sites.now }
     ensures parts { IsPartitionPoint (λ (site : ℕ × T). site.0 < offset) (λ (site : ℕ × T). offset ≤ site.0) sites.now result }
 {
+    match sites.first() {
+        Some((first, _)) if *first < offset => (),
+        _ => return 0,
+    }
     let mut count = likely_count(sites.len(), offset);
     while count < sites.len() && sites[count].0 < offset {
         count += 1;
@@ -76,6 +67,22 @@ fn count_below<T>(sites: &[(u32, T)], offset: u32) -> usize
         count -= 1;
     }
     count
+}
+
+// Whether a site at the offset shares no byte with the two sites beside its place.
+fn is_apart<T>(sites: &[(u32, T)], place: usize, offset: u32) -> bool
+    requires spaced { AreSpaced sites.now }
+    requires within { place ≤ length sites.now }
+    requires parts { IsPartitionPoint (λ (site : ℕ × T). site.0 < offset) (λ (site : ℕ × T). offset ≤ site.0) sites.now place }
+    ensures { MatchBool result (IsFreePlace sites.now offset place) (Meets sites.now offset) }
+{
+    if 0 < place && offset - sites[place - 1].0 < SITE_BYTES {
+        return false;
+    }
+    if place < sites.len() && sites[place].0 - offset < SITE_BYTES {
+        return false;
+    }
+    true
 }
 
 /// The sites of a page with their targets, by rising offset. No two share a byte.
@@ -132,13 +139,11 @@ impl<T: Copy, A: Allocator + Copy> Page<T, A> {
         ensures { MatchOption result (Meets self.now offset) (IsFreePlace self.now offset) }
     {
         let place = self.count_before(offset);
-        if 0 < place && offset - self.sites[place - 1].0 < SITE_BYTES {
-            return None;
+        if is_apart(&self.sites, place, offset) {
+            Some(place)
+        } else {
+            None
         }
-        if place < self.sites.len() && self.sites[place].0 - offset < SITE_BYTES {
-            return None;
-        }
-        Some(place)
     }
 
     /// Whether one more site needs an allocation.
@@ -157,9 +162,39 @@ impl<T: Copy, A: Allocator + Copy> Page<T, A> {
     /// Inserts a site at its place. If an allocation fails, the page stays as it was.
     pub fn insert(&mut self, place: usize, offset: u32, target: T) -> Result<(), AllocError>
         requires { IsFreePlace self.old offset place }
-        ensures { self.new ≡ (if is_ok result then insert self.old place (offset, target) else self.old) }
+        ensures { self.new ≡ (if is_ok result then insert_entry nat_cmp self.old offset target else self.old) }
     {
-        put(&mut self.sites, place, (offset, target))
+        self.sites.insert(place, (offset, target))?;
+        Ok(())
+    }
+
+    /// Adds a site, or returns `Overlap` where it would share a byte with a site of the page. In most
+    /// files sites come by rising offset, so the last one is looked at first. If an allocation fails,
+    /// the page stays as it was.
+    pub fn add(&mut self, offset: u32, target: T) -> Result<(), SiteRefusal>
+        ensures outside { result ≢ Err SiteRefusal.Outside }
+        ensures overlap { (result ≡ Err SiteRefusal.Overlap) ↔ Meets self.old offset }
+        ensures added { self.new ≡ (if is_ok result then insert_entry nat_cmp self.old offset target else self.old) }
+    {
+        let added = match self.sites.last() {
+            Some((last, _)) if *last < offset => {
+                if offset - *last < SITE_BYTES {
+                    return Err(SiteRefusal::Overlap);
+                }
+                self.sites.push((offset, target))
+            }
+            _ => {
+                let place = count_below(&self.sites, offset);
+                if !is_apart(&self.sites, place, offset) {
+                    return Err(SiteRefusal::Overlap);
+                }
+                self.sites.insert(place, (offset, target))
+            }
+        };
+        match added {
+            Ok(()) => Ok(()),
+            Err(_) => Err(SiteRefusal::OutOfMemory),
+        }
     }
 
     /// The target of the site at an offset.

@@ -2,7 +2,8 @@
 //!
 //! A page is 4,096 bytes of the hunk, and a site belongs to the page that it begins in. So a page has
 //! at most 1,024 sites, and only sites of the same page and of the two beside it can share a byte.
-ghost use Rattle.std.specs.Prelude.{◌≡◌, ◌+◌, ◌*◌, ◌/◌, ◌^◌, ◌<◌, is_ok, if◌then◌else◌, IfSome, MatchOption, OnOk, vec_len};
+ghost use Rattle.std.specs.Prelude.{◌≡◌, ◌≢◌, ◌/◌, ◌^◌, ◌<◌, ◌↔◌, is_ok, if◌then◌else◌, MatchOption, OnOk, vec_len};
+ghost use Rattle.std.specs.Bool.{OnFalse, OnTrue};
 ghost use Rattle.std.specs.BTreeMap.{insert_entry};
 ghost use Rattle.std.specs.Option.{option_copied};
 ghost use Rattle.std.specs.Ordering.{nat_cmp};
@@ -11,6 +12,7 @@ ghost use Rattle.hunk_words.specs.Pages.{LieInPages, AppendsEmptyPages, all_site
 ghost use Rattle.hunk_words.specs.Sites.{Meets, target_at};
 
 use crate::page::{PAGE_BYTES, Page, SITE_BYTES};
+use crate::sites::SiteRefusal;
 use std::alloc::{AllocError, Allocator};
 
 // How far the last byte of a site lies from its first one.
@@ -50,23 +52,23 @@ fn place_beside<T: Copy, A: Allocator + Copy>(
     place_in(pages, number, offset)
 }
 
-/// The place for a site at the offset in its page, or `None` where it would share a byte with another
-/// site. Within three bytes of the end of its page, that one may belong to the page beside it.
-pub fn free_place<T: Copy, A: Allocator + Copy>(pages: &[Page<T, A>], offset: u32) -> Option<usize>
+// Whether a site at the offset shares no byte with the sites of the pages beside its own. It can share
+// one with them only within three bytes of either end of its page.
+fn is_free_beside<T: Copy, A: Allocator + Copy>(pages: &[Page<T, A>], offset: u32) -> bool
     requires { LieInPages 0 pages.now }
-    ensures none { MatchOption result (Meets (all_sites pages.now) offset) (λ _. Meets (all_sites pages.now) offset → ⊥) }
-    ensures place { IfSome result (IsFreePlace (page_at pages.now (offset / 4096)) offset) }
+    ensures free { OnTrue result (Meets (all_sites pages.now) offset → Meets (page_at pages.now (offset / 4096)) offset) }
+    ensures meets { OnFalse result (Meets (all_sites pages.now) offset) }
 {
     let number = page_number(u64::from(offset));
     let first = page_number(u64::from(offset).saturating_sub(LAST_BYTE));
     if first < number && place_beside(pages, first, offset).is_none() {
-        return None;
+        return false;
     }
     let last = page_number(u64::from(offset) + LAST_BYTE);
     if number < last && place_beside(pages, last, offset).is_none() {
-        return None;
+        return false;
     }
-    place_in(pages, number, offset)
+    true
 }
 
 // Appends empty pages up to the one with the number. Where they are moved, room is made for a quarter
@@ -124,36 +126,55 @@ fn grow<T: Copy, A: Allocator + Copy>(
     pages[number].make_room(near)
 }
 
-// Makes room for one more site in the page with the number, if there is none.
-fn make_room<T: Copy, A: Allocator + Copy>(
+// Adds a site to the page with the number, which is full or not there yet. An overlap is told before
+// memory is asked for.
+#[inline(never)]
+fn grow_and_add<T: Copy, A: Allocator + Copy>(
     pages: &mut Vec<Page<T, A>, A>,
     number: usize,
-) -> Result<(), AllocError>
-    requires { number < 2 ^ 32 }
-    ensures reached { OnOk result (number < vec_len pages.new) }
-    ensures extends { AppendsEmptyPages pages.old.items pages.new.items }
-{
-    if number < pages.len() && !pages[number].is_full() {
-        return Ok(());
-    }
-    grow(pages, number)
-}
-
-/// Inserts a site at its place in its page. If an allocation fails, the sites stay as they were.
-pub fn insert<T: Copy, A: Allocator + Copy>(
-    pages: &mut Vec<Page<T, A>, A>,
-    place: usize,
     offset: u32,
     target: T,
-) -> Result<(), AllocError>
+) -> Result<(), SiteRefusal>
     requires in_pages { LieInPages 0 pages.old.items }
-    requires free { IsFreePlace (page_at pages.old.items (offset / 4096)) offset place }
+    requires number { number ≡ offset / 4096 }
     ensures in_pages { LieInPages 0 pages.new.items }
-    ensures inserted { all_sites pages.new.items ≡ (if is_ok result then insert_entry nat_cmp (all_sites pages.old.items) offset target else all_sites pages.old.items) }
+    ensures outside { result ≢ Err SiteRefusal.Outside }
+    ensures overlap { (result ≡ Err SiteRefusal.Overlap) ↔ Meets (page_at pages.old.items number) offset }
+    ensures added { all_sites pages.new.items ≡ (if is_ok result then insert_entry nat_cmp (all_sites pages.old.items) offset target else all_sites pages.old.items) }
 {
+    let Some(place) = place_in(pages, number, offset) else {
+        return Err(SiteRefusal::Overlap);
+    };
+    if grow(pages, number).is_err() {
+        return Err(SiteRefusal::OutOfMemory);
+    }
+    match pages[number].insert(place, offset, target) {
+        Ok(()) => Ok(()),
+        Err(_) => Err(SiteRefusal::OutOfMemory),
+    }
+}
+
+/// Adds a site to its page, or returns `Overlap` where it would share a byte with another site, which
+/// may belong to a page beside. If an allocation fails, the sites stay as they were.
+pub fn add<T: Copy, A: Allocator + Copy>(
+    pages: &mut Vec<Page<T, A>, A>,
+    offset: u32,
+    target: T,
+) -> Result<(), SiteRefusal>
+    requires { LieInPages 0 pages.old.items }
+    ensures in_pages { LieInPages 0 pages.new.items }
+    ensures outside { result ≢ Err SiteRefusal.Outside }
+    ensures overlap { (result ≡ Err SiteRefusal.Overlap) ↔ Meets (all_sites pages.old.items) offset }
+    ensures added { all_sites pages.new.items ≡ (if is_ok result then insert_entry nat_cmp (all_sites pages.old.items) offset target else all_sites pages.old.items) }
+{
+    if !is_free_beside(pages, offset) {
+        return Err(SiteRefusal::Overlap);
+    }
     let number = page_number(u64::from(offset));
-    make_room(pages, number)?;
-    pages[number].insert(place, offset, target)
+    match pages.get_mut(number) {
+        Some(page) if !page.is_full() => page.add(offset, target),
+        _ => grow_and_add(pages, number, offset, target),
+    }
 }
 
 /// The target of the site at an offset.

@@ -80,13 +80,7 @@ impl<T: Copy, A: Allocator + Copy> Sites<T, A> {
         if u64::from(offset) + u64::from(SITE_BYTES) > self.limit {
             return Err(SiteRefusal::Outside);
         }
-        match pages::free_place(&self.pages, offset) {
-            None => Err(SiteRefusal::Overlap),
-            Some(place) => match pages::insert(&mut self.pages, place, offset, target) {
-                Ok(()) => Ok(()),
-                Err(_) => Err(SiteRefusal::OutOfMemory),
-            },
-        }
+        pages::add(&mut self.pages, offset, target)
     }
 
     /// The limit, in bytes. The sites are apart and below it, so there is at most one for every four

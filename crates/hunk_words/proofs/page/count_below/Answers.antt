@@ -1,6 +1,6 @@
 use Rattle.std.proofs.Common.{◌+◌, ◌-◌, ◌^◌, ◌<◌, ◌≤◌, ◌≡◌, get_or, arith}
 use Rattle.std.proofs.lemmas.List.{get_or_read}
-use Rattle.hunk_words.proofs.PageLemmas.{StandFrom-rises}
+use Rattle.hunk_words.proofs.PageLemmas.{StandFrom-rises, parts-first}
 use Rattle.hunk_words.proofs.SitesLemmas.{AreApart-few}
 use Rattle.hunk_words.proofs.page.count_below.Goals as goal
 use Rattle.hunk_words.proofs.page.count_below.Goals.{then-loop-count-test+else-sites-count, else-loop-count-test}
@@ -33,3 +33,7 @@ returns-else-offset-sites-clause-parts g c = (
       omega (arith, before, rises),
   c.loop-count-2.invariant.after,
 )
+
+pub returns-in_default-clause-parts : goal.returns-in_default-clause-parts
+returns-in_default-clause-parts g c =
+    parts-first c.args.offset c.args.sites.now c.requires (λ d inside. rw (← (c.in-Some.ensures.item.3.1 d)) c.if-first-offset.false)
