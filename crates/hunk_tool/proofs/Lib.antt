@@ -12,6 +12,9 @@ pub mod ImageTextExampleLemmas
 pub mod ImageTextLemmas
 pub mod CountersLemmas
 pub mod FileDecoderLemmas
+pub mod PhraseLemmas
+pub mod PathLemmas
+pub mod FollowerLemmas
 pub mod FileTextLemmas
 pub mod CountingLemmas
 pub mod CheckLemmas
@@ -29,3 +32,4 @@ pub mod RanksLemmas
 pub mod ObjectFilesLemmas
 pub mod MapLemmas
 pub mod OriginsLemmas
+pub mod PlacesTextLemmas

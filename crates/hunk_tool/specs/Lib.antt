@@ -1,3 +1,8 @@
+pub mod Path
+pub mod Explanation
+pub mod Follower
+pub mod ExplanationText
+pub mod PlacesText
 pub mod Bases
 pub mod BasesFile
 pub mod PartDigits

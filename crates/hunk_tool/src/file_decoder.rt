@@ -117,7 +117,7 @@ pub(crate) struct FileDecoder<O, L> {
 
 impl<O: KindDecoder, L: KindDecoder> FileDecoder<O, L> {
     /// A decoder before the first byte, with decoders of both kinds before theirs.
-    fn new(object: O, load: L) -> Self
+    pub(crate) fn new(object: O, load: L) -> Self
         requires object { O.stands_for object [] }
         requires load { L.stands_for load [] }
         requires object_kind { O.KIND ≡ Object }
@@ -130,8 +130,8 @@ impl<O: KindDecoder, L: KindDecoder> FileDecoder<O, L> {
         }
     }
 
-    // What the whole file is. One of fewer than four bytes is read as an object file.
-    fn finish(self) -> Result<File<O::Value, L::Value>, Refusal>
+    /// What the whole file is. One of fewer than four bytes is read as an object file.
+    pub(crate) fn finish(self) -> Result<File<O::Value, L::Value>, Refusal>
         ensures value { IfOk result (λ file. (bytes : List ℕ) → StandsFor O.KIND O.stands_for L.KIND L.stands_for self bytes → IsFileOf O.is_value L.is_value (kind_of_bytes bytes) file bytes) }
         ensures refused { IfErr result (λ refusal. (bytes : List ℕ) → StandsFor O.KIND O.stands_for L.KIND L.stands_for self bytes → RefusesInput (kind_of_bytes bytes) bytes refusal) }
     {

@@ -26,7 +26,11 @@
 //! - `tool_fault`: why an operation failed.
 //! - `fault_line`: the line that reports why an operation failed.
 //! - `link_line`: the line that reports why units do not link.
+//! - `explain`: reads a file once more, to tell where and why it is refused.
+//! - `explanation`: what is told of its first offence; `explanation_text`: the lines of that.
+//! - `follower`: follows the longwords of a file up to it; `path`: in which unit, hunk and block.
 //! - `part_digits`: the digits of an address, as they come.
+//! - `places_text`: the lines that tell what hunks need, beside their addresses.
 //! - `phrase`: texts with at most one number.
 #![tactic(auto)]
 
@@ -35,9 +39,13 @@ pub mod bases_file;
 pub mod check;
 pub mod counters;
 mod counting;
+pub mod explain;
+pub mod explanation;
+mod explanation_text;
 pub mod fault_line;
 mod file_decoder;
 mod first_bytes;
+mod follower;
 mod hex_digits;
 pub mod hunk_file;
 pub mod image;
@@ -52,7 +60,9 @@ pub mod load;
 pub mod map;
 pub mod object_files;
 mod part_digits;
+mod path;
 pub mod phrase;
+mod places_text;
 mod record;
 mod rows;
 pub mod show;
@@ -64,6 +74,9 @@ pub use bases::{BasesFault, parse_bases};
 pub use bases_file::{BasesFileFault, read_bases};
 pub use check::check_run;
 pub use counters::{LoadCounter, ObjectCounter};
+pub use explain::{explain_file, explain_load, explain_object};
+pub use explanation::{Explanation, Found};
+pub use explanation_text::write_explanation;
 pub use fault_line::{write_fault, write_line};
 pub use file_decoder::File;
 pub use hunk_file::{HunkFile, read_hunk_file};
@@ -76,6 +89,7 @@ pub use load::{load_run, load_run_with};
 pub use map::{link_files, write_map};
 pub use object_files::ObjectFiles;
 pub use phrase::Phrase;
+pub use places_text::write_places;
 pub use show::show_run;
 pub use survey::{Finding, survey_file, survey_status, write_finding, write_totals};
 pub use symbols::symbols_run;

@@ -1,10 +1,12 @@
 //! Texts with at most one number.
 
-ghost use Rattle.std.specs.Prelude.{◌≡◌, ◌++◌, ◌+◌, ◌≤◌, length};
+ghost use Rattle.std.specs.Prelude.{◌≡◌, ◌++◌, ◌+◌, ◌≤◌, length, IfErr};
 ghost use Rattle.std.specs.Fmt.{decimal};
 ghost use Rattle.hunk_text.specs.Digits.{eight_digits};
+ghost use Rattle.hunk_words.specs.Streams.{IsDevice, WroteAll};
 
-use hunk_text::Digits;
+use hunk_text::{Digits, write_pieces};
+use hunk_words::{Sink, WriteFault};
 
 /// A text with at most one number in it, and at most 64 bytes around it.
 #[derive(Drop)]
@@ -16,7 +18,7 @@ pub struct Phrase {
 }
 
 impl Phrase {
-    ghost use Rattle.hunk_tool.specs.Phrase.{phrase_text};
+    ghost use Rattle.hunk_tool.specs.Phrase.{phrase_text, phrases_text};
 
     pub(crate) fn before(&self) -> &[u8]
         ensures { result.now ≡ self.now.before.now }
@@ -70,5 +72,23 @@ impl Phrase {
             digits: Digits::hexadecimal(number),
             after,
         }
+    }
+
+    /// Writes these phrases, one after another, of which there are few. It does not allocate.
+    ///
+    /// # Errors
+    ///
+    /// [`WriteFault::Device`] where a write failed, or took no byte.
+    pub(crate) fn write_all<W: Sink>(phrases: &[Phrase], writer: &mut W) -> Result<(), WriteFault>
+        requires { length phrases.now ≤ 64 }
+        ensures wrote { WroteAll W.taken W.failed writer.old writer.new (phrases_text phrases.now) result }
+        ensures device { IfErr result IsDevice }
+    {
+        let mut written = 0;
+        for phrase in phrases {
+            let pieces: [&[u8]; 3] = [phrase.before(), phrase.digits(), phrase.after()];
+            written = write_pieces(writer, written, &pieces)?;
+        }
+        Ok(())
     }
 }

@@ -6,6 +6,7 @@
 //! - `decoders`: what checks the bytes of a file.
 //! - `devices`: readers and writers that fail.
 //! - `endless`: a reader that never ends.
+//! - `explanations`: what is told of the first offence of a file, and of hunks beside addresses.
 //! - `faults`: the lines and statuses of errors.
 //! - `files`: the bytes of files, and what loading them writes.
 //! - `kept`: errors that are returned again.
@@ -26,6 +27,7 @@ mod bases_file;
 mod decoders;
 mod devices;
 mod endless;
+mod explanations;
 mod faults;
 mod files;
 mod kept;
