@@ -64,6 +64,16 @@ impl<'a> Failure<'a> {
     }
 }
 
+impl From<ToolFault> for Failure<'_> {
+    ghost use Rattle.hunk_commands.specs.declared.failure.Failure.{Failure};
+
+    ghost from_gives = { λ fault failure. failure ≡ Failure.Tool fault };
+
+    fn from(fault: ToolFault) -> Self {
+        Failure::Tool(fault)
+    }
+}
+
 /// Writes the line of a failure to `errors`, and returns the exit status. `files` are the names of
 /// the files that an engine's answer counts.
 ///

@@ -68,8 +68,6 @@ pub fn image_to<'a, I: Source, O: Write + Drop>(
     ensures of_files { IfErr result (IsOfFiles (length inputs.old)) }
 {
     let mut writer = buffered(alloc, output)?;
-    match image_run_with(alloc, inputs, bases, form, &mut writer) {
-        Ok(()) => flushed(writer),
-        Err(fault) => Err(Failure::Tool(fault)),
-    }
+    image_run_with(alloc, inputs, bases, form, &mut writer)?;
+    flushed(writer)
 }

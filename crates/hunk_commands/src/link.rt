@@ -1,9 +1,11 @@
 //! The request `link`: the load file of object files, and the map of it.
 ghost use Rattle.std.specs.Prelude.{◌≡◌, Err, IfOk, IfErr, OnOk, length, map};
+ghost use Rattle.std.specs.Io.KnownBytes.{Appends};
 ghost use Rattle.std.specs.String.{string_bytes};
 ghost use Rattle.hunk_commands.specs.Inputs.{file_names};
 ghost use Rattle.hunk_loadfile.specs.WrittenForm.{IsShortEnough};
-ghost use Rattle.hunk_tool.specs.Map.{origins};
+ghost use Rattle.hunk_tool.specs.Map.{map_text, origins};
+ghost use Rattle.hunk_commands.specs.Devices.{IsCutShort};
 ghost use Rattle.hunk_commands.specs.Failure.{IsOfFiles};
 ghost use Rattle.hunk_commands.specs.Link.{AreUnlinked, DoLinkFiles, DoLinkTo, HasMap, IsLinkFailure, IsMade, IsMapFailure, IsMapped, IsUnmapped, IsUnwritten, IsWrittenOut};
 
@@ -12,6 +14,8 @@ use crate::failure::Failure;
 use crate::inputs::open_inputs;
 use hunk_loadfile::LoadFile;
 use hunk_tool::{LinkOptions, ObjectFiles, link_files, link_inputs, write_map};
+use std::alloc::Global;
+use std::io::Write;
 use std::rt::Files;
 
 /// Links the object files named `files`, and writes their load file to the file named `out`, as
@@ -89,10 +93,7 @@ fn linked<'a, R: Files + AllocGlobal>(
     ensures of_files { IfErr result (IsOfFiles (length files.entry.now)) }
 {
     let mut inputs = open_inputs(rt, rt.alloc(), files)?;
-    match link_inputs(rt.alloc(), inputs.as_mut_slice(), strip) {
-        Ok(file) => Ok(file),
-        Err(fault) => Err(Failure::Tool(fault)),
-    }
+    Ok(link_inputs(rt.alloc(), inputs.as_mut_slice(), strip)?)
 }
 
 /// The same load file, with the units of the object files.
@@ -108,10 +109,7 @@ fn linked_files<'a, R: Files + AllocGlobal>(
     ensures of_files { IfErr result (IsOfFiles (length files.entry.now)) }
 {
     let mut inputs = open_inputs(rt, rt.alloc(), files)?;
-    match link_files(rt.alloc(), inputs.as_mut_slice(), strip) {
-        Ok(linked) => Ok(linked),
-        Err(fault) => Err(Failure::Tool(fault)),
-    }
+    Ok(link_files(rt.alloc(), inputs.as_mut_slice(), strip)?)
 }
 
 /// Writes a load file to the file named `out`, as `options` say, and returns it as it was written.
@@ -130,7 +128,7 @@ fn write_out<'a, R: Files + AllocGlobal>(
     Ok(file)
 }
 
-/// Writes the map of a load file to the file named `map_file`, through a buffer.
+/// Writes the map of a load file to the file named `map_file`.
 fn write_map_file<'a, R: Files + AllocGlobal>(
     rt: &R,
     map_file: &'a str,
@@ -143,12 +141,34 @@ fn write_map_file<'a, R: Files + AllocGlobal>(
     ensures err { IfErr result (IsUnmapped map_file.entry.now) }
 {
     let output = create(rt, map_file)?;
-    let mut writer = buffered(rt.alloc(), output)?;
-    if write_map(units, names, file, &mut writer).is_err() {
-        return Err(Failure::Writing(map_file));
-    }
-    match flushed(writer) {
+    match write_map_to(rt.alloc(), units, names, file, output) {
         Ok(_) => Ok(()),
-        Err(_) => Err(Failure::Writing(map_file)),
+        Err(Failure::Printing) => Err(Failure::Writing(map_file)),
+        Err(failure) => Err(failure),
+    }
+}
+
+/// Writes the map of a load file that [`link_files`] linked, through a buffer, and returns `output`,
+/// flushed. In the map, the files have these names.
+///
+/// # Errors
+///
+/// - [`Failure::Printing`] if `output` did not take everything that was written to it.
+/// - [`Failure::Tool`] with out of memory, before anything was written.
+pub fn write_map_to<'a, O: Write + Drop>(
+    alloc: Global,
+    units: &ObjectFiles,
+    names: &[String],
+    file: &LoadFile,
+    output: O,
+) -> Result<O, Failure<'a>>
+    requires { length (origins units.now) ≡ length file.now }
+    ensures ok { IfOk result (λ after. Appends (O.contents output) (O.contents after) (map_text (map string_bytes names.now) file.now units.now)) }
+    ensures err { IfErr result IsCutShort }
+{
+    let mut writer = buffered(alloc, output)?;
+    match write_map(units, names, file, &mut writer) {
+        Ok(()) => flushed(writer),
+        Err(_) => Err(Failure::Printing),
     }
 }

@@ -68,10 +68,8 @@ pub fn load_to<'a, I: Read + Drop, O: Write + Drop>(
 {
     let mut reader = Watched::new(input);
     let mut writer = buffered(alloc, output)?;
-    match write_text(alloc, text, &mut reader, bases, &mut writer) {
-        Ok(()) => flushed(writer),
-        Err(fault) => Err(Failure::Tool(fault)),
-    }
+    write_text(alloc, text, &mut reader, bases, &mut writer)?;
+    flushed(writer)
 }
 
 /// Writes this text of the load file that is read from `reader`.

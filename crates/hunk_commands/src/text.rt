@@ -65,10 +65,8 @@ pub fn print_text_to<'a, I: Read + Drop, O: Write + Drop>(
 {
     let mut reader = Watched::new(input);
     let mut writer = buffered(alloc, output)?;
-    match write_text(alloc, text, &mut reader, &mut writer) {
-        Ok(()) => flushed(writer),
-        Err(fault) => Err(Failure::Tool(fault)),
-    }
+    write_text(alloc, text, &mut reader, &mut writer)?;
+    flushed(writer)
 }
 
 /// Writes the text about the file that is read from `reader`.

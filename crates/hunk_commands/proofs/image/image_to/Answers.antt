@@ -7,5 +7,7 @@ returns-in_err-writer-clause-err g c =
     let p = err_from_is_err_and c.from_residual.result c.from_residual.ensures.1 in
     rw (p.1, p.2, c.in_err-writer.ensures.err) (report_not_begun c.args.form c.args.bases.now _ (g.O.Write.contents c.args.output))
 
-pub returns-clause-err : goal.returns-clause-err
-returns-clause-err g c = record { taken = _; old_is = c.in_ok-writer.ensures.ok; why = c.in-Err.ensures.err }
+pub returns-in_err-image_run_with-clause-err : goal.returns-in_err-image_run_with-clause-err
+returns-in_err-image_run_with-clause-err g c =
+    let p = err_from_is_err_and c.from_residual-in_err-image_run_with.result c.from_residual-in_err-image_run_with.ensures.1 in
+    rw (p.1, p.2) (record { taken = _; old_is = c.in_ok-writer.ensures.ok; why = c.in_err-image_run_with.ensures.err })

@@ -1,14 +1,16 @@
 use Rattle.std.proofs.Common.{◌≡◌, ◌∙◌, inr, length}
+use Rattle.std.proofs.lemmas.Result.{err_from_is_err_and}
 use Rattle.hunk_tool.specs.Link.{IsUnlinked}
 use Rattle.hunk_commands.proofs.InputsLemmas.{OfInputs-readers}
 use Rattle.hunk_commands.proofs.link.linked_files.Goals as goal
 
-pub returns-in-Ok-clause-ok : goal.returns-in-Ok-clause-ok
-returns-in-Ok-clause-ok g c =
+pub returns-clause-ok : goal.returns-clause-ok
+returns-clause-ok g c =
     let count : length c.as_mut_slice.result.now ≡ length c.args.files.now = c.as_mut_slice.ensures.len ∙ c.in_ok-inputs.ensures.count in
-    OfInputs-readers c.args.files.now _ _ _ _ _ _ count c.link_files.auto.inputs c.in-Ok.ensures.linked
+    OfInputs-readers c.args.files.now _ _ _ _ _ _ count c.link_files.auto.inputs c.in_ok-link_files.ensures.linked
 
-pub returns-clause-err : goal.returns-clause-err
-returns-clause-err g c =
+pub returns-in_err-link_files-clause-err : goal.returns-in_err-link_files-clause-err
+returns-in_err-link_files-clause-err g c =
+    let p = err_from_is_err_and c.from_residual-in_err-link_files.result c.from_residual-in_err-link_files.ensures.1 in
     let count : length c.as_mut_slice.result.now ≡ length c.args.files.now = c.as_mut_slice.ensures.len ∙ c.in_ok-inputs.ensures.count in
-    inr (OfInputs-readers c.args.files.now _ _ _ _ _ (λ inputs. IsUnlinked c.args.strip inputs c.in-Err.fault) count c.link_files.auto.inputs c.in-Err.ensures.unlinked)
+    rw (p.1, p.2) (inr (OfInputs-readers c.args.files.now _ _ _ _ _ (λ inputs. IsUnlinked c.args.strip inputs c.in_err-link_files.field-0.0) count c.link_files.auto.inputs c.in_err-link_files.ensures.unlinked))

@@ -10,6 +10,7 @@ returns-in_err-writer-clause-err g c =
     rw (p.1, p.2, c.in_err-writer.ensures.err)
     (text_stopped_at_once (text_of c.args.text) (g.I.Read.remaining c.args.input) (g.O.Write.contents c.args.output))
 
-pub returns-clause-err : goal.returns-clause-err
-returns-clause-err g c =
-    stopped_between _ _ _ _ _ (ap g.I.Read.remaining c.new-reader.ensures.inner) c.in_ok-writer.ensures.ok c.in-Err.ensures.err
+pub returns-in_err-write_text-clause-err : goal.returns-in_err-write_text-clause-err
+returns-in_err-write_text-clause-err g c =
+    let p = err_from_is_err_and c.from_residual-in_err-write_text.result c.from_residual-in_err-write_text.ensures.1 in
+    rw (p.1, p.2) (stopped_between _ _ _ _ _ (ap g.I.Read.remaining c.new-reader.ensures.inner) c.in_ok-writer.ensures.ok c.in_err-write_text.ensures.err)
