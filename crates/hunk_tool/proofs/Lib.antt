@@ -30,6 +30,12 @@ pub mod IsOfInputsLemmas
 pub mod PartDigitsLemmas
 pub mod RanksLemmas
 pub mod ObjectFilesLemmas
+pub mod WrittenTextLemmas
 pub mod MapLemmas
 pub mod OriginsLemmas
+pub mod OriginLemmas
 pub mod PlacesTextLemmas
+pub mod TextPartLemmas
+pub mod DefinedNamesLemmas
+pub mod UndefinedLemmas
+pub mod LinkExplanationLemmas

@@ -1,67 +1,23 @@
 -- The lines of a map, one hunk after another, and how long each is.
-use Rattle.std.proofs.Common.{◌≡◌, ◌∙◌, ℕ, ◌+◌, ◌^◌, ◌<◌, ◌≤◌, List, [], ◌∷◌, ◌++◌, length, drop, get_or, map, Bool, true, false, sum_by, take, ◌-◌, Option, Result, Ok, Err, add-zero, zero-add, refl, sym, ap, ap₂, subst, append-nil, append_assoc, arith}
-use Rattle.std.specs.Prelude.{codes, slice_index_or, IfErr, IfOk}
-use Rattle.std.specs.Result.{is_err}
+use Rattle.std.proofs.Common.{◌≡◌, ◌∙◌, ℕ, ◌+◌, ◌^◌, ◌<◌, ◌≤◌, List, [], ◌∷◌, ◌++◌, length, drop, get_or, map, Bool, sum_by, take, ◌-◌, Option, Result, Ok, Err, add-zero, refl, sym, ap, ap₂, append_assoc, arith}
+use Rattle.std.specs.Prelude.{codes, slice_index_or, IfOk}
 use Rattle.std.specs.Fmt.{decimal}
-use Rattle.std.specs.Io.KnownBytes.{Appends}
 use Rattle.std.specs.List.{enumerate_from}
-use Rattle.std.proofs.KnownBytes.{Appends-nil, Appends-trans}
 use Rattle.std.proofs.lemmas.List.{drop-drop, drop_all, drop_more, get_or-map, length-append, length-drop, length-map, take_all}
 use Rattle.std.proofs.lemmas.List.Sums.{sum_by-cons}
 use Rattle.std.proofs.lemmas.List.FromFn.{length-enumerate_from}
-use Rattle.hunk_words.specs.Streams.{IsDevice, Wrote, WriteStopped}
+use Rattle.hunk_words.specs.Streams.{Wrote}
 use Rattle.hunk_words.specs.declared.fault.WriteFault.{WriteFault}
-use Rattle.hunk_words.specs.declared.fault.WriteFault.TheVariants.{Device, OutOfMemory}
-use Rattle.hunk_words.proofs.StreamsWritingLemmas.{Wrote-stop, Wrote-then}
 use Rattle.hunk_objects.specs.ProgramUnit.{ObjectUnit, hunk_count}
 use Rattle.hunk_objects.specs.UnitHunk.{ObjectHunk}
 use Rattle.hunk_loadfile.specs.LoadHunk.{FileHunk}
 use Rattle.hunk_text.specs.Listing.{hunk_front}
 use Rattle.hunk_text.specs.QuotedName.{quoted}
 use Rattle.hunk_text.proofs.ListingSizeLemmas.{length-escaped_all-le}
-use Rattle.hunk_tool.specs.Map.{Origin, WroteText, map_from, map_line, map_lines, origins, origins_from, unit_origins}
+use Rattle.hunk_tool.specs.Map.{map_from, map_line, map_lines}
 use Rattle.hunk_tool.specs.ObjectFiles.{FileUnit, units_of}
+use Rattle.hunk_tool.specs.Origins.{Origin, origins, origins_from, unit_origins}
 use Rattle.hunk_tool.specs.declared.object_files.UnitPlace.{UnitPlace}
-
--- ---- writing without a count
-
-module _ {W : Type 0} (taken : W → Option (List ℕ)) (failed : W → Bool) where
-  later : (old new : W) (text : List ℕ) (start written : ℕ) → WriteStopped taken failed old new text 0 (Device written) → WriteStopped taken failed old new text start (Device (start + written))
-  later old new text start written (took, fails) =
-      (record { front = took.front; within = took.within; counted = omega (arith, took.counted); taken = took.taken }, fails)
-
-  -- the first part was written, and then the rest, or not
-  pub WroteText-then : {E : Type 0} (old between new : W) (text first rest : List ℕ) (r : Result (Unit {0}) E) → text ≡ first ++ rest
-      → Appends (taken old) (taken between) first × (failed between ≡ failed old)
-      → WroteText taken failed between new rest r → WroteText taken failed old new text r
-  WroteText-then old between new text first rest (Ok done) is (moved, quiet) (moves, quieter) =
-      (subst (Appends (taken old) (taken new)) (sym is) (Appends-trans (taken old) (taken between) (taken new) first rest moved moves), quieter ∙ quiet)
-  WroteText-then old between new text first rest (Err fault) is (moved, quiet) (written, stopped) = (
-    length first + written,
-    Wrote-then taken failed old between new text first rest 0 (length first) (Err (Device (length first + written))) is
-        (sym (zero-add (length first)), moved, quiet) (later between new rest (length first) written stopped),
-  )
-
-  -- it stopped in the first part
-  pub WroteText-stop : {E : Type 0} (old new : W) (text first rest : List ℕ) (fault : E) → text ≡ first ++ rest
-      → WroteText taken failed old new first (Err fault) → WroteText taken failed old new text (Err fault)
-  WroteText-stop old new text first rest fault is (written, stopped) = (written, Wrote-stop taken failed old new text first rest 0 (Device written) is stopped)
-
-  -- what was counted from 0
-  WroteText-fault : {E : Type 0} (old new : W) (text : List ℕ) (stopped : WriteFault) (fault : E) → IsDevice stopped
-      → Wrote taken failed old new text 0 (Err stopped) → WroteText taken failed old new text (Err fault)
-  WroteText-fault old new text (Device written) fault device stopped = (written, stopped)
-  WroteText-fault old new text (OutOfMemory written) fault device stopped = absurd device
-
-  pub WroteText-err : {E : Type 0} (old new : W) (text : List ℕ) (fault : E) (r : Result ℕ WriteFault) → is_err r ≡ true → IfErr r IsDevice
-      → Wrote taken failed old new text 0 r → WroteText taken failed old new text (Err fault)
-  WroteText-err old new text fault (Ok written) is device wrote = let no : false ≡ true = is in absurd cc
-  WroteText-err old new text fault (Err stopped) is device wrote = WroteText-fault old new text stopped fault device wrote
-
-  pub WroteText-ok : (old new : W) (text : List ℕ) (r : Result ℕ WriteFault) → is_err r ≡ false
-      → Wrote taken failed old new text 0 r → Appends (taken old) (taken new) text × (failed new ≡ failed old)
-  WroteText-ok old new text (Ok written) is wrote = (wrote.1, wrote.2)
-  WroteText-ok old new text (Err stopped) is wrote = let no : true ≡ false = is in absurd cc
 
 -- ---- the lines of the hunks
 
@@ -80,34 +36,6 @@ map_from-split names number (hunk ∷ hunks) (origin ∷ first) rest few =
     ap (λ text. lines ++ text) (map_from-split names (number + 1) hunks first rest (omega (arith, few)))
     ∙ sym (append_assoc lines (map_from names (number + 1) hunks first) _)
     ∙ ap (λ from. (lines ++ map_from names (number + 1) hunks first) ++ map_from names from (drop (length first) hunks) rest) (omega arith)
-
--- Of the whole text, the lines before those of these hunks were written.
-pub record MapBegun {W : Type 0} (taken : W → Option (List ℕ)) (failed : W → Bool) (old now : W) (whole rest : List ℕ) : Type 0 where
-  pub done : List ℕ
-  pub parts : whole ≡ done ++ rest
-  pub wrote : Appends (taken old) (taken now) done × (failed now ≡ failed old)
-
-module _ {W : Type 0} (taken : W → Option (List ℕ)) (failed : W → Bool) where
-  pub MapBegun-nothing : (old : W) (whole rest : List ℕ) → whole ≡ rest → MapBegun taken failed old old whole rest
-  MapBegun-nothing old whole rest is = record { done = []; parts = is; wrote = (Appends-nil (taken old), refl) }
-
-  pub MapBegun-more : (old between new : W) (whole before text rest : List ℕ) → before ≡ text ++ rest → MapBegun taken failed old between whole before
-      → Appends (taken between) (taken new) text × (failed new ≡ failed between) → MapBegun taken failed old new whole rest
-  MapBegun-more old between new whole before text rest is begun (moves, quieter) = record {
-    done = begun.done ++ text;
-    parts = begun.parts ∙ ap (λ more. begun.done ++ more) is ∙ sym (append_assoc begun.done text rest);
-    wrote = (Appends-trans (taken old) (taken between) (taken new) begun.done text begun.wrote.0 moves, quieter ∙ begun.wrote.1);
-  }
-
-  pub MapBegun-stop : {E : Type 0} (old between new : W) (whole before text rest : List ℕ) (fault : E) → before ≡ text ++ rest → MapBegun taken failed old between whole before
-      → WroteText taken failed between new text (Err fault) → WroteText taken failed old new whole (Err fault)
-  MapBegun-stop old between new whole before text rest fault is begun stopped =
-      WroteText-then taken failed old between new whole begun.done before (Err fault) begun.parts begun.wrote
-      (WroteText-stop taken failed between new before text rest fault is stopped)
-
-  pub MapBegun-done : (old new : W) (whole rest : List ℕ) → rest ≡ [] → MapBegun taken failed old new whole rest → Appends (taken old) (taken new) whole × (failed new ≡ failed old)
-  MapBegun-done old new whole rest none begun =
-      (subst (Appends (taken old) (taken new)) (sym (begun.parts ∙ ap (λ more. begun.done ++ more) none ∙ append-nil begun.done)) begun.wrote.0, begun.wrote.1)
 
 -- ---- the hunks of a unit
 
@@ -141,17 +69,41 @@ length-unit_origins unit =
 
 -- ---- the units
 
--- the next of the units, with its place
-pub units-more : (units : List FileUnit) (index : ℕ) (place : UnitPlace) (unit : ObjectUnit) → index < length units
-    → place ≡ get_or (map (λ u. u.0) units) index place → unit ≡ get_or (units_of units) index unit → drop index units ≡ (place, unit) ∷ drop (index + 1) units
-units-more units index place unit within place_is unit_is =
+-- a unit, with its place
+pub unit-is : (units : List FileUnit) (index : ℕ) (place : UnitPlace) (unit : ObjectUnit) → index < length units
+    → place ≡ get_or (map (λ u. u.0) units) index place → unit ≡ get_or (units_of units) index unit → get_or units index (place, unit) ≡ (place, unit)
+unit-is units index place unit within place_is unit_is =
     let first : FileUnit → UnitPlace = λ u. u.0 in
     let second : FileUnit → ObjectUnit = λ u. u.1 in
     let next : FileUnit = get_or units index (place, unit) in
     let place_at : place ≡ next.0 = place_is ∙ get_or-map first units index (place, unit) place within in
     let unit_at : unit ≡ next.1 = unit_is ∙ get_or-map second units index (place, unit) unit within in
-    let both : next ≡ (place, unit) = ap₂ (λ (p : UnitPlace) (u : ObjectUnit). (p, u)) (sym place_at) (sym unit_at) in
-    drop_more units index (place, unit) within ∙ ap (λ (u : FileUnit). u ∷ drop (index + 1) units) both
+    ap₂ (λ (p : UnitPlace) (u : ObjectUnit). (p, u)) (sym place_at) (sym unit_at)
+
+-- the next of the units
+pub units-more : (units : List FileUnit) (index : ℕ) (place : UnitPlace) (unit : ObjectUnit) → index < length units
+    → place ≡ get_or (map (λ u. u.0) units) index place → unit ≡ get_or (units_of units) index unit → drop index units ≡ (place, unit) ∷ drop (index + 1) units
+units-more units index place unit within place_is unit_is =
+    drop_more units index (place, unit) within ∙ ap (λ (u : FileUnit). u ∷ drop (index + 1) units) (unit-is units index place unit within place_is unit_is)
+
+-- a place where there is none
+abbrev pub no_place : UnitPlace
+no_place = record { file = 0; number = 0 }
+
+-- the next unit, with its place
+pub next_unit : (units : List FileUnit) (places : List UnitPlace) (items : List ObjectUnit) (index : ℕ) (unit : ObjectUnit)
+    → places ≡ map (λ u. u.0) units → items ≡ units_of units → index < length items → unit ≡ get_or items index unit
+    → drop index units ≡ (get_or places index no_place, unit) ∷ drop (index + 1) units
+next_unit units places items index unit places_are items_are within unit_is =
+    let first : FileUnit → UnitPlace = λ u. u.0 in
+    let second : FileUnit → ObjectUnit = λ u. u.1 in
+    let inside : index < length units = omega (arith, within, ap length items_are, length-map units second) in
+    let place = get_or places index no_place in
+    let place_is : place ≡ get_or (map first units) index place =
+    ap (λ (ps : List UnitPlace). get_or ps index no_place) places_are
+    ∙ get_or-map first units index (no_place, unit) no_place inside
+    ∙ sym (get_or-map first units index (no_place, unit) place inside) in
+    units-more units index place unit inside place_is (unit_is ∙ ap (λ (us : List ObjectUnit). get_or us index unit) items_are)
 
 -- the text of the units from this one on, the first hunk of which has this number
 abbrev pub units_rest : (names : List (List ℕ)) (first index : ℕ) (file : List FileHunk) (units : List FileUnit) → List ℕ

@@ -23,17 +23,17 @@ use Rattle.hunk_tool.specs.Inputs.{AreObjects}
 use Rattle.hunk_link.proofs.RanksLemmas.{All-hunks_of}
 use Rattle.hunk_tool.proofs.RanksLemmas.{All-all_items, All-broken}
 
-abbrev IsShort : List ℕ → Type 0
+abbrev pub IsShort : List ℕ → Type 0
 IsShort name = length name ≤ 2 ^ 30
 
-abbrev IsShortDefinition : List ℕ × Definition → Type 0
+abbrev pub IsShortDefinition : List ℕ × Definition → Type 0
 IsShortDefinition definition = IsShort definition.0
 
-record HasShortNames (hunk : ObjectHunk) : Type 0 where
-  references : All IsShort hunk.references
-  definitions : All IsShortDefinition hunk.definitions
+pub record HasShortNames (hunk : ObjectHunk) : Type 0 where
+  pub references : All IsShort hunk.references
+  pub definitions : All IsShortDefinition hunk.definitions
 
-abbrev AllShort : ObjectUnit → Type 0
+abbrev pub AllShort : ObjectUnit → Type 0
 AllShort unit = All HasShortNames unit.hunks
 
 -- ---- of object files
@@ -52,8 +52,8 @@ short-hunk h fits =
           (All-weaker NamedFits (λ d. IsShort (name_of d.0)) (λ d. short-name d.0) h.tables.definitions (All-from_recursion NamedFits h.tables.definitions tables.definitions));
     }
 
-short-object : (units : List ObjectUnit) (bytes : List ℕ) → IsObjectOf units bytes → All AllShort units
-short-object units bytes is =
+pub short_names-object : (units : List ObjectUnit) (bytes : List ℕ) → IsObjectOf units bytes → All AllShort units
+short_names-object units bytes is =
     let tree = is.is_object.tree in let parts = object_value tree in let fits = ended-object tree is.is_object.is_file.fits in
     subst (All AllShort) is.is_object.value
     (All-map AllShort object_unit parts
@@ -64,7 +64,7 @@ short-object units bytes is =
 short-objects : (files : List (List ℕ)) (units : List ObjectUnit) → AreObjects files units → All AllShort units
 short-objects [] units none = subst (All AllShort) (sym none) (All-nil AllShort)
 short-objects (bytes ∷ files) units are =
-    subst (All AllShort) (sym are.4) (All-append AllShort are.0 are.1 (short-object are.0 bytes are.2) (short-objects files are.1 are.3))
+    subst (All AllShort) (sym are.4) (All-append AllShort are.0 are.1 (short_names-object are.0 bytes are.2) (short-objects files are.1 are.3))
 
 -- ---- of a refusal
 

@@ -17,6 +17,7 @@ use Rattle.hunk_text.proofs.ListingSizeUnitsLemmas.{printable-object}
 use Rattle.hunk_tool.specs.Inputs.{AreObjects}
 use Rattle.hunk_tool.specs.ObjectFiles.{AreUnitsFrom, FileUnit, IsShortHunk, IsShortUnit, placed, places_of, units_of}
 use Rattle.hunk_tool.specs.declared.object_files.UnitPlace.{UnitPlace}
+use Rattle.hunk_tool.proofs.NameLengthLemmas.{HasShortNames, short_names-object}
 
 -- ---- one more file
 
@@ -75,22 +76,24 @@ length-definition_text-le (Absolute number) = omega (arith, length-eight_digits 
 length-definition_line-le : (definition : List ℕ × Definition) → HasShortName definition → length (definition_line definition) ≤ most_line
 length-definition_line-le definition short = simp length-append (omega (arith, length-escaped_all-le definition.0, length-definition_text-le definition.1))
 
-short-hunk : (hunk : ObjectHunk) → IsPrintable hunk → hunk_weight hunk ≤ 2 ^ 30 → IsShortHunk hunk
-short-hunk hunk is few = record {
+short-hunk : (hunk : ObjectHunk) → IsPrintable hunk → HasShortNames hunk → hunk_weight hunk ≤ 2 ^ 30 → IsShortHunk hunk
+short-hunk hunk is names few = record {
   name = omega (arith, few);
+  references = names.references;
   definitions = omega (arith, few, length-lines-le HasShortName definition_line hunk.definitions length-definition_line-le is.definitions);
 }
 
-short-unit : (unit : ObjectUnit) → All IsPrintable unit.hunks → unit_weight unit ≤ 2 ^ 30 → IsShortUnit unit
-short-unit unit all few = record {
+short-unit : (unit : ObjectUnit) → All IsPrintable unit.hunks → All HasShortNames unit.hunks → unit_weight unit ≤ 2 ^ 30 → IsShortUnit unit
+short-unit unit all names few = record {
   name = omega (arith, few);
-  hunks = λ k d within. short-hunk (get_or unit.hunks k d) (all k d within) (omega (arith, few, get_or-le-sum_by hunk_weight unit.hunks k d within));
+  hunks = λ k d within. short-hunk (get_or unit.hunks k d) (all k d within) (names k d within) (omega (arith, few, get_or-le-sum_by hunk_weight unit.hunks k d within));
 }
 
 short-object : (units : List ObjectUnit) (bytes : List ℕ) → IsObjectOf units bytes → All IsShortUnit units
 short-object units bytes is =
     let prints = printable-object units bytes is in
-    λ k d within. short-unit (get_or units k d) (prints.each k d within) (omega (arith, prints.few, get_or-le-sum_by unit_weight units k d within))
+    let names = short_names-object units bytes is in
+    λ k d within. short-unit (get_or units k d) (prints.each k d within) (names k d within) (omega (arith, prints.few, get_or-le-sum_by unit_weight units k d within))
 
 pub short-objects : (files : List (List ℕ)) (units : List ObjectUnit) → AreObjects files units → All IsShortUnit units
 short-objects [] units none = subst (All IsShortUnit) (sym none) (All-nil IsShortUnit)

@@ -7,8 +7,8 @@ use Rattle.hunk_link.specs.Ranks.{RankedHunk, hunks_from, hunks_of, unit_hunks}
 use Rattle.hunk_link.specs.SymbolTable.{Table, table_of}
 use Rattle.hunk_link.proofs.RanksLemmas.{hunks_behind}
 use Rattle.hunk_tool.specs.Laws.{Form, HunksAreOfOrigins, linked_form, origin_form}
-use Rattle.hunk_tool.specs.Map.{origins, origins_from, unit_origins}
 use Rattle.hunk_tool.specs.ObjectFiles.{FileUnit, units_of}
+use Rattle.hunk_tool.specs.Origins.{origins, origins_from, unit_origins}
 
 abbrev form_of : ObjectHunk → Form
 form_of hunk = (hunk.kind, hunk.memory, hunk.size)

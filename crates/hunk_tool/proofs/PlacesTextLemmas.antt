@@ -1,15 +1,10 @@
--- The lines of hunks beside their addresses, and writing one text after another without a count.
-use Rattle.std.proofs.Common.{◌≡◌, ℕ, ◌+◌, ◌<◌, ◌≤◌, List, [], ◌∷◌, ◌++◌, length, drop, drop-cons, get_or, add-one, zero-add, Option, Bool, true, false, Result, Ok, Err, IfErr, is_err, ap, ap₂, sym, ◌∙◌, arith}
+-- The lines of hunks beside their addresses.
+use Rattle.std.proofs.Common.{◌≡◌, ℕ, ◌+◌, ◌<◌, ◌≤◌, List, [], ◌∷◌, ◌++◌, length, drop, drop-cons, get_or, add-one, zero-add, ap, ap₂, sym, ◌∙◌, arith}
 use Rattle.std.proofs.lemmas.List.{drop_all, get_or-map, length-map}
 use Rattle.std.proofs.lemmas.List.FromFn.{get_or-enumerate_from, length-enumerate_from}
-use Rattle.std.specs.Io.KnownBytes.{Appends}
 use Rattle.std.specs.List.{enumerate_from, flat_map}
-use Rattle.hunk_words.specs.Streams.{IsDevice, WroteAll}
-use Rattle.hunk_words.specs.declared.fault.WriteFault.{WriteFault}
-use Rattle.hunk_words.specs.declared.fault.WriteFault.TheVariants.{Device, OutOfMemory}
 use Rattle.hunk_loadfile.specs.LoadHunk.{FileHunk}
 use Rattle.hunk_loader.specs.Sizes.{sizes_of}
-use Rattle.hunk_tool.specs.Map.{WroteText}
 use Rattle.hunk_tool.specs.PlacesText.{hunk_line, numbers_line}
 
 -- the lines of the hunks from this number on
@@ -39,18 +34,3 @@ lines-none bases hunks number all =
 -- as many sizes as hunks
 pub numbers_line-counts : (hunks : List FileHunk) (bases rest : List ℕ) → numbers_line (length (sizes_of hunks)) (length bases) ++ rest ≡ numbers_line (length hunks) (length bases) ++ rest
 numbers_line-counts hunks bases rest = ap (λ count. numbers_line count (length bases) ++ rest) (length-map hunks size)
-
--- ---- writing one text after another
-
-module _ {W : Type 0} (taken : W → Option (List ℕ)) (failed : W → Bool) where
-  pub WroteAll-ok : (old new : W) (text : List ℕ) (r : Result (Unit {0}) WriteFault) → is_err r ≡ false → WroteAll taken failed old new text r → Appends (taken old) (taken new) text × (failed new ≡ failed old)
-  WroteAll-ok old new text (Ok done) is wrote = wrote
-  WroteAll-ok old new text (Err stopped) is wrote = let no : true ≡ false = is in absurd cc
-
-  fault-text : {E : Type 0} (old new : W) (text : List ℕ) (stopped : WriteFault) (fault : E) → IsDevice stopped → WroteAll taken failed old new text (Err stopped) → WroteText taken failed old new text (Err fault)
-  fault-text old new text (Device written) fault device stopped = (written, stopped)
-  fault-text old new text (OutOfMemory written) fault device stopped = absurd device
-
-  pub WroteAll-err : {E : Type 0} (old new : W) (text : List ℕ) (fault : E) (r : Result (Unit {0}) WriteFault) → is_err r ≡ true → IfErr r IsDevice → WroteAll taken failed old new text r → WroteText taken failed old new text (Err fault)
-  WroteAll-err old new text fault (Ok done) is device wrote = let no : false ≡ true = is in absurd cc
-  WroteAll-err old new text fault (Err stopped) is device wrote = fault-text old new text stopped fault device wrote

@@ -29,5 +29,11 @@ pub mod LinkOptions
 pub mod Link
 pub mod Image
 pub mod ObjectFiles
+pub mod Origins
+pub mod WrittenText
 pub mod Map
+pub mod TextPart
+pub mod DefinedNames
+pub mod Undefined
+pub mod LinkExplanation
 pub mod Headline

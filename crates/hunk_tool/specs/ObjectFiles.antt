@@ -34,9 +34,10 @@ AreFileUnits units files = AreUnitsFrom 0 files units
 
 -- ---- how long their names are, as all those of object files
 
--- the name of the hunk, and the lines of its definitions
+-- the name of the hunk, the names that it refers to, and the lines of its definitions
 pub record IsShortHunk (hunk : ObjectHunk) : Type 0 where
   pub name : length hunk.name ≤ 2 ^ 30
+  pub references : All (λ name. length name ≤ 2 ^ 30) hunk.references
   pub definitions : length (flat_map definition_line hunk.definitions) ≤ 2 ^ 60
 
 -- the name of the unit, and its hunks

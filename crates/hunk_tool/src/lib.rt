@@ -14,6 +14,7 @@
 //! - `link`: links object files and writes the load file.
 //! - `link_options`: how object files are linked, and how their load file is written.
 //! - `object_files`: the units of object files, with their places.
+//! - `origins`: where the hunks of a link are from.
 //! - `map`: the map of a link: where each hunk is from.
 //! - `image`: writes the memory that object files define.
 //! - `load`: loads a file and writes its image.
@@ -29,9 +30,13 @@
 //! - `explain`: reads a file once more, to tell where and why it is refused.
 //! - `explanation`: what is told of its first offence; `explanation_text`: the lines of that.
 //! - `follower`: follows the longwords of a file up to it; `path`: in which unit, hunk and block.
+//! - `link_explanation`: what is told of units that do not link; `link_explanation_text`: the lines of
+//!   that.
+//! - `defined_names`: the names that hunks define; `undefined`: those that none defines.
 //! - `part_digits`: the digits of an address, as they come.
 //! - `places_text`: the lines that tell what hunks need, beside their addresses.
 //! - `phrase`: texts with at most one number.
+//! - `text_part`: parts of texts: bytes, numbers and names.
 #![tactic(auto)]
 
 pub mod bases;
@@ -39,6 +44,7 @@ pub mod bases_file;
 pub mod check;
 pub mod counters;
 mod counting;
+mod defined_names;
 pub mod explain;
 pub mod explanation;
 mod explanation_text;
@@ -54,11 +60,14 @@ mod image_text;
 mod inputs;
 pub mod laws;
 pub mod link;
+pub mod link_explanation;
+mod link_explanation_text;
 mod link_line;
 pub mod link_options;
 pub mod load;
 pub mod map;
 pub mod object_files;
+mod origins;
 mod part_digits;
 mod path;
 pub mod phrase;
@@ -68,7 +77,9 @@ mod rows;
 pub mod show;
 pub mod survey;
 pub mod symbols;
+mod text_part;
 pub mod tool_fault;
+mod undefined;
 
 pub use bases::{BasesFault, parse_bases};
 pub use bases_file::{BasesFileFault, read_bases};
@@ -84,10 +95,12 @@ pub use hunk_loader::PlaceFault;
 pub use image::{image_run, image_run_with};
 pub use image_form::ImageForm;
 pub use link::{link_inputs, link_run, link_to_vec};
+pub use link_explanation::{LinkExplanation, explain_link};
+pub use link_explanation_text::write_link_explanation;
 pub use link_options::LinkOptions;
 pub use load::{load_run, load_run_with};
 pub use map::{link_files, write_map};
-pub use object_files::ObjectFiles;
+pub use object_files::{ObjectFiles, read_object_files};
 pub use phrase::Phrase;
 pub use places_text::write_places;
 pub use show::show_run;

@@ -8,35 +8,20 @@ ghost use Rattle.hunk_text.specs.Listing.{hunk_front};
 ghost use Rattle.hunk_tool.specs.FaultLine.{IsOfInputs};
 ghost use Rattle.hunk_tool.specs.Inputs.{HaveRead, inputs_of};
 ghost use Rattle.hunk_tool.specs.Link.{IsUnlinked};
-ghost use Rattle.hunk_tool.specs.Map.{LinkFiles, WroteText, map_from, map_line, map_lines, map_text, origins, unit_origins};
-ghost use Rattle.hunk_tool.specs.ObjectFiles.{IsShortHunk, IsShortUnit};
+ghost use Rattle.hunk_tool.specs.Map.{LinkFiles, map_from, map_line, map_lines, map_text};
+ghost use Rattle.hunk_tool.specs.WrittenText.{WroteText};
+ghost use Rattle.hunk_tool.specs.ObjectFiles.{IsShortUnit};
+ghost use Rattle.hunk_tool.specs.Origins.{origins, unit_origins};
 
-use crate::object_files::{ObjectFiles, UnitPlace, read_files};
+use crate::object_files::{ObjectFiles, UnitPlace, read_object_files};
+use crate::origins::Origin;
 use crate::tool_fault::ToolFault;
 use hunk_link::link;
 use hunk_loadfile::{LoadFile, LoadHunk};
-use hunk_objects::{ProgramUnit, UnitHunk};
+use hunk_objects::ProgramUnit;
 use hunk_text::{Digits, write_around_name, write_definitions, write_hunk_front};
 use hunk_words::{DeviceFault, HunkKind, Memory, Sink, Source, WriteFault};
-use std::alloc::{Allocator, Global};
-use std::marker::Model;
-
-/// A hunk of a unit, and where it is.
-#[derive(Drop)]
-struct Origin<'a, A: Allocator + Copy = Global> {
-    place: UnitPlace,
-    unit: &'a ProgramUnit<A>,
-    number: usize,
-    hunk: &'a UnitHunk<A>,
-}
-
-impl<'a, A: Allocator + Copy> Model for Origin<'a, A> {
-    ghost use Rattle.hunk_tool.specs.Map.{Origin as HunkOrigin};
-
-    ghost Value = { HunkOrigin };
-
-    ghost view = { λ o. record { unit = (o.place, o.unit.now); number = o.number; hunk = o.hunk.now } };
-}
+use std::alloc::Allocator;
 
 /// Reads and links as [`link_inputs`](crate::link_inputs) does, and keeps the units that it read, for
 /// [`write_map`]. The load file has a copy of what they contain.
@@ -55,7 +40,7 @@ pub fn link_files<A: Allocator + Copy, R: Source>(
     ensures unlinked { IfErr result (IsUnlinked strip (inputs_of R.left R.failed R.ended inputs.old inputs.new)) }
     ensures writable { IfErr result (IsOfInputs (length inputs.old)) }
 {
-    let files = read_files(alloc, inputs)?;
+    let files = read_object_files(alloc, inputs)?;
     let file = link(alloc, files.units(), strip)?;
     Ok((files, file))
 }
@@ -126,8 +111,6 @@ fn write_hunk<A: Allocator + Copy, W: Sink>(
     names: &[String],
     origin: &Origin<'_, A>,
 ) -> Result<u64, WriteFault>
-    requires unit { length origin.now.unit.1.name ≤ 2 ^ 30 }
-    requires hunk { IsShortHunk origin.now.hunk }
     ensures wrote { Wrote W.taken W.failed writer.old writer.new (map_lines (map string_bytes names.now) (number, (hunk.now, origin.now))) 0 result }
     ensures device { IfErr result IsDevice }
 {
@@ -143,8 +126,6 @@ fn write_line<A: Allocator + Copy, W: Sink>(
     names: &[String],
     origin: &Origin<'_, A>,
 ) -> Result<u64, WriteFault>
-    requires unit { length origin.now.unit.1.name ≤ 2 ^ 30 }
-    requires hunk { length origin.now.hunk.name ≤ 2 ^ 30 }
     ensures wrote { Wrote W.taken W.failed writer.old writer.new (map_line (map string_bytes names.now) number hunk.now origin.now) 0 result }
     ensures short { IfOk result (λ written. written < 2 ^ 63 + 2 ^ 35) }
     ensures device { IfErr result IsDevice }
@@ -179,7 +160,7 @@ fn write_front<W: Sink>(
 }
 
 /// The name of the file with this number, empty if there is none.
-fn file_name(names: &[String], file: usize) -> &[u8]
+pub(crate) fn file_name(names: &[String], file: usize) -> &[u8]
     ensures value { result.now ≡ slice_index_or (map string_bytes names.now) file [] }
     ensures short { length result.now < 2 ^ 63 }
 {

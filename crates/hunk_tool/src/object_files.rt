@@ -18,8 +18,8 @@ pub(crate) struct UnitPlace {
     pub(crate) number: usize,
 }
 
-/// The units of object files, in order, each with its place. It is made only by
-/// [`link_files`](crate::link_files).
+/// The units of object files, in order, each with its place. It is made only by [`read_object_files`]
+/// and [`link_files`](crate::link_files).
 #[derive(Drop)]
 pub struct ObjectFiles<A: Allocator + Copy = Global> {
     places: Vec<UnitPlace, A>,
@@ -40,7 +40,7 @@ impl<A: Allocator + Copy> Model for ObjectFiles<A> {
 
 impl<A: Allocator + Copy> ObjectFiles<A> {
     /// The units, in order.
-    pub(crate) fn units(&self) -> &[ProgramUnit<A>]
+    pub fn units(&self) -> &[ProgramUnit<A>]
         ensures value { result.now ≡ units_of self.now }
         ensures short { All IsShortUnit result.now }
     {
@@ -66,7 +66,7 @@ impl<A: Allocator + Copy> ObjectFiles<A> {
 ///   [`read_object`] returns it.
 /// - [`ToolFault::InputDevice`] if a read failed.
 /// - [`ToolFault::OutOfMemory`] if an allocation failed.
-pub(crate) fn read_files<A: Allocator + Copy, R: Source>(
+pub fn read_object_files<A: Allocator + Copy, R: Source>(
     alloc: A,
     inputs: &mut [R],
 ) -> Result<ObjectFiles<A>, ToolFault<A>>

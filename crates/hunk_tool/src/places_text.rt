@@ -3,7 +3,7 @@
 ghost use Rattle.std.specs.Prelude.{◌≡◌, IfErr};
 ghost use Rattle.hunk_words.specs.Streams.{IsDevice, WroteAll};
 ghost use Rattle.hunk_loader.specs.Sizes.{sizes_of};
-ghost use Rattle.hunk_tool.specs.Map.{WroteText};
+ghost use Rattle.hunk_tool.specs.WrittenText.{WroteText};
 ghost use Rattle.hunk_tool.specs.Phrase.{phrase_text};
 ghost use Rattle.hunk_tool.specs.PlacesText.{address_text, hunk_line, numbers_line, places_text};
 

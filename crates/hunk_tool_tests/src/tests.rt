@@ -10,6 +10,7 @@
 //! - `faults`: the lines and statuses of errors.
 //! - `files`: the bytes of files, and what loading them writes.
 //! - `kept`: errors that are returned again.
+//! - `link_explanations`: what is told of units that do not link.
 //! - `maps`: the maps of linked files.
 //! - `memory`: allocations that fail.
 //! - `records`: images as S-records.
@@ -31,6 +32,7 @@ mod explanations;
 mod faults;
 mod files;
 mod kept;
+mod link_explanations;
 mod maps;
 mod memory;
 mod records;

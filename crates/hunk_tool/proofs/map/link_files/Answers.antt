@@ -34,8 +34,8 @@ pub returns-in_err-files-clause-writable : goal.returns-in_err-files-clause-writ
 returns-in_err-files-clause-writable g c =
     let p = err_from_is_err_and c.from_residual.result c.from_residual.ensures.1 in
     rw (p.1, p.2)
-    (IsOfInputs-read (inputs_of g.R.Source.left g.R.Source.failed g.R.Source.ended c.args.inputs.now c.read_files.new.inputs) (length c.args.inputs.now) _
-    (omega (arith, length-inputs_of g.R.Source.left g.R.Source.failed g.R.Source.ended c.args.inputs.now c.read_files.new.inputs)) c.in_err-files.ensures.stopped)
+    (IsOfInputs-read (inputs_of g.R.Source.left g.R.Source.failed g.R.Source.ended c.args.inputs.now c.read_object_files.new.inputs) (length c.args.inputs.now) _
+    (omega (arith, length-inputs_of g.R.Source.left g.R.Source.failed g.R.Source.ended c.args.inputs.now c.read_object_files.new.inputs)) c.in_err-files.ensures.stopped)
 
 pub returns-in_err-file-clause-unlinked : goal.returns-in_err-file-clause-unlinked
 returns-in_err-file-clause-unlinked g c =

@@ -6,7 +6,8 @@ use Rattle.std.proofs.lemmas.Result.{err_from_is_err_and}
 use Rattle.hunk_words.specs.Streams.{Wrote}
 use Rattle.hunk_words.proofs.StreamsWritingLemmas.{Wrote-stop, Wrote-then}
 use Rattle.hunk_text.specs.Listing.{definition_line}
-use Rattle.hunk_tool.specs.Map.{Origin, map_line, map_lines}
+use Rattle.hunk_tool.specs.Map.{map_line, map_lines}
+use Rattle.hunk_tool.specs.Origins.{IsShortOrigin, Origin}
 use Rattle.hunk_tool.proofs.map.write_hunk.Goals as goal
 
 pub returns-in_err-written-clause-wrote : goal.returns-in_err-written-clause-wrote
@@ -22,7 +23,7 @@ returns-in_err-written-clause-wrote g c =
 pub write_definitions-requires : goal.write_definitions-requires
 write_definitions-requires g c =
     let same = c.definitions.ensures ∙ ap (λ (o : Origin). o.hunk.definitions) c.origin.view_is in
-    omega (arith, ap (λ definitions. length (flat_map definition_line definitions)) same, c.requires.hunk.definitions, c.in_ok-written.ensures.short)
+    omega (arith, ap (λ definitions. length (flat_map definition_line definitions)) same, (subst IsShortOrigin c.origin.view_is c.origin.invariant).hunk.definitions, c.in_ok-written.ensures.short)
 
 pub returns-clause-wrote : goal.returns-clause-wrote
 returns-clause-wrote g c =

@@ -8,7 +8,8 @@ use Rattle.hunk_loadfile.specs.LoadHunk.{FileHunk}
 use Rattle.hunk_words.specs.Streams.{Wrote}
 use Rattle.hunk_words.proofs.StreamsWritingLemmas.{Wrote-inside, Wrote-stop, Wrote-then}
 use Rattle.hunk_text.specs.Listing.{hunk_front}
-use Rattle.hunk_tool.specs.Map.{Origin, map_line}
+use Rattle.hunk_tool.specs.Map.{map_line}
+use Rattle.hunk_tool.specs.Origins.{IsShortOrigin, Origin}
 use Rattle.hunk_tool.proofs.MapLemmas.{Wrote-short, last-fits, line-is, line_last, line_middle, middle-fits}
 use Rattle.hunk_tool.proofs.map.write_line.Goals as goal
 
@@ -35,7 +36,7 @@ write_around_name-requires g c =
     omega (
       arith,
       c.in_ok-written.ensures.short,
-      middle-fits c.file_name-file.result.now c.as_bytes.result.now c.bytes.result.now c.as_bytes-2.result.now c.file_name-file.ensures.short (rw c.as_bytes.ensures c.decimal-unit.ensures.short) (omega (arith, ap length name, c.requires.unit)) (rw c.as_bytes-2.ensures c.decimal-place.ensures.short),
+      middle-fits c.file_name-file.result.now c.as_bytes.result.now c.bytes.result.now c.as_bytes-2.result.now c.file_name-file.ensures.short (rw c.as_bytes.ensures c.decimal-unit.ensures.short) (omega (arith, ap length name, (subst IsShortOrigin c.origin.view_is c.origin.invariant).unit)) (rw c.as_bytes-2.ensures c.decimal-place.ensures.short),
     )
 
 pub returns-in_err-written-2-clause-wrote : goal.returns-in_err-written-2-clause-wrote
@@ -64,8 +65,8 @@ write_around_name-requires-2 g c =
       arith,
       c.in_ok-written.ensures.short,
       c.in_ok-written-2.ensures.wrote.0,
-      middle-fits c.file_name-file.result.now c.as_bytes.result.now c.bytes.result.now c.as_bytes-2.result.now c.file_name-file.ensures.short (rw c.as_bytes.ensures c.decimal-unit.ensures.short) (omega (arith, ap length name, c.requires.unit)) (rw c.as_bytes-2.ensures c.decimal-place.ensures.short),
-      last-fits c.bytes-2.result.now (omega (arith, ap length own, c.requires.hunk)),
+      middle-fits c.file_name-file.result.now c.as_bytes.result.now c.bytes.result.now c.as_bytes-2.result.now c.file_name-file.ensures.short (rw c.as_bytes.ensures c.decimal-unit.ensures.short) (omega (arith, ap length name, (subst IsShortOrigin c.origin.view_is c.origin.invariant).unit)) (rw c.as_bytes-2.ensures c.decimal-place.ensures.short),
+      last-fits c.bytes-2.result.now (omega (arith, ap length own, (subst IsShortOrigin c.origin.view_is c.origin.invariant).hunk.name)),
     )
 
 pub returns-clause-wrote : goal.returns-clause-wrote
@@ -99,7 +100,7 @@ returns-clause-short g c =
       arith,
       c.in_ok-written.ensures.short,
       c.in_ok-written-2.ensures.wrote.0,
-      middle-fits c.file_name-file.result.now c.as_bytes.result.now c.bytes.result.now c.as_bytes-2.result.now c.file_name-file.ensures.short (rw c.as_bytes.ensures c.decimal-unit.ensures.short) (omega (arith, ap length name, c.requires.unit)) (rw c.as_bytes-2.ensures c.decimal-place.ensures.short),
-      last-fits c.bytes-2.result.now (omega (arith, ap length own, c.requires.hunk)),
+      middle-fits c.file_name-file.result.now c.as_bytes.result.now c.bytes.result.now c.as_bytes-2.result.now c.file_name-file.ensures.short (rw c.as_bytes.ensures c.decimal-unit.ensures.short) (omega (arith, ap length name, (subst IsShortOrigin c.origin.view_is c.origin.invariant).unit)) (rw c.as_bytes-2.ensures c.decimal-place.ensures.short),
+      last-fits c.bytes-2.result.now (omega (arith, ap length own, (subst IsShortOrigin c.origin.view_is c.origin.invariant).hunk.name)),
     ))
     c.write_around_name-2.ensures.wrote

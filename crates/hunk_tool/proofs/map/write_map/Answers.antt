@@ -1,41 +1,22 @@
 -- One more unit.
-use Rattle.std.proofs.Common.{◌≡◌, ◌∙◌, ◌+◌, ◌<◌, ◌≤◌, ℕ, List, ◌∷◌, Ok, Err, ap, drop, get_or, length, map, refl, sym, subst, arith}
+use Rattle.std.proofs.Common.{◌≡◌, ◌+◌, ◌≤◌, List, Ok, Err, ap, drop, get_or, length, map, refl, subst, arith}
 use Rattle.std.specs.String.{string_bytes}
-use Rattle.std.proofs.lemmas.List.{get_or-map, length-drop, length-map}
+use Rattle.std.proofs.lemmas.List.{length-drop}
 use Rattle.std.proofs.lemmas.Result.{err_from_is_err_and}
 use Rattle.hunk_loadfile.specs.LoadHunk.{FileHunk}
-use Rattle.hunk_objects.specs.ProgramUnit.{ObjectUnit}
-use Rattle.hunk_tool.specs.Map.{WroteText, map_from, map_text, unit_origins}
-use Rattle.hunk_tool.specs.ObjectFiles.{FileUnit, units_of}
-use Rattle.hunk_tool.specs.declared.object_files.UnitPlace.{UnitPlace}
-use Rattle.hunk_tool.proofs.MapLemmas.{MapBegun-more, MapBegun-nothing, MapBegun-stop, length-origins-more, rest-is, units-more, units_rest, units_rest-more}
+use Rattle.hunk_tool.specs.Map.{map_from, map_text}
+use Rattle.hunk_tool.specs.WrittenText.{WroteText}
+use Rattle.hunk_tool.specs.Origins.{unit_origins}
+use Rattle.hunk_tool.proofs.MapLemmas.{length-origins-more, rest-is, no_place, next_unit, units_rest, units_rest-more}
+use Rattle.hunk_tool.proofs.WrittenTextLemmas.{TextBegun-more, TextBegun-nothing, TextBegun-stop}
 use Rattle.hunk_tool.proofs.map.write_map.Goals as goal
-
--- a place where there is none
-abbrev no_place : UnitPlace
-no_place = record { file = 0; number = 0 }
-
--- the next unit, with its place
-next : (units : List FileUnit) (places : List UnitPlace) (items : List ObjectUnit) (index : ℕ) (unit : ObjectUnit)
-    → places ≡ map (λ u. u.0) units → items ≡ units_of units → index < length items → unit ≡ get_or items index unit
-    → drop index units ≡ (get_or places index no_place, unit) ∷ drop (index + 1) units
-next units places items index unit places_are items_are within unit_is =
-    let first : FileUnit → UnitPlace = λ u. u.0 in
-    let second : FileUnit → ObjectUnit = λ u. u.1 in
-    let inside : index < length units = omega (arith, within, ap length items_are, length-map units second) in
-    let place = get_or places index no_place in
-    let place_is : place ≡ get_or (map first units) index place =
-    ap (λ (ps : List UnitPlace). get_or ps index no_place) places_are
-    ∙ get_or-map first units index (no_place, unit) no_place inside
-    ∙ sym (get_or-map first units index (no_place, unit) place inside) in
-    units-more units index place unit inside place_is (unit_is ∙ ap (λ (us : List ObjectUnit). get_or us index unit) items_are)
 
 pub loop-index-init : goal.loop-index-init
 loop-index-init g c =
     let names = map string_bytes c.args.names.now in
     record {
       counted = omega (arith, c.requires);
-      begun = MapBegun-nothing g.W.Sink.taken g.W.Sink.failed c.args.writer.now (map_text names c.args.file.now c.args.files.now) (units_rest names 0 0 c.args.file.now c.args.files.now) refl;
+      begun = TextBegun-nothing g.W.Sink.taken g.W.Sink.failed c.args.writer.now (map_text names c.args.file.now c.args.files.now) (units_rest names 0 0 c.args.file.now c.args.files.now) refl;
     }
 
 pub write_unit-requires-clause-room : goal.write_unit-requires-clause-room
@@ -44,7 +25,7 @@ write_unit-requires-clause-room g c =
     let file = c.args.file.now in
     let loop = c.loop-index in
     let unit = c.unit-item.result in
-    let left = next units c.places-places.result.now c.units-unit-items.result.now loop.index unit c.places-places.ensures c.units-unit-items.ensures.value c.loop-index-test.true c.unit-item.is in
+    let left = next_unit units c.places-places.result.now c.units-unit-items.result.now loop.index unit c.places-places.ensures c.units-unit-items.ensures.value c.loop-index-test.true c.unit-item.is in
     omega (
       arith,
       ap length (rest-is c.hunks-hunks.result.now file loop.first c.hunks-hunks.ensures.value),
@@ -64,13 +45,13 @@ returns-in_err-write_unit g c =
     let place = get_or c.places-places.result.now loop.index no_place in
     let count = length unit.hunks in
     let hunks = drop loop.first file in
-    let left = next units c.places-places.result.now c.units-unit-items.result.now loop.index unit c.places-places.ensures c.units-unit-items.ensures.value c.loop-index-test.true c.unit-item.is in
+    let left = next_unit units c.places-places.result.now c.units-unit-items.result.now loop.index unit c.places-places.ensures c.units-unit-items.ensures.value c.loop-index-test.true c.unit-item.is in
     let room : count ≤ length hunks = omega (arith, length-drop loop.first file, length-origins-more units loop.index (place, unit) left, loop.invariant.counted) in
     let stopped =
     subst (λ (hs : List FileHunk). WroteText {E = Unit {0}} g.W.Sink.taken g.W.Sink.failed loop.writer c.write_unit.new.writer (map_from names loop.first hs (unit_origins (place, unit))) (Err tt))
     (rest-is c.hunks-hunks.result.now file loop.first c.hunks-hunks.ensures.value) c.in_err-write_unit.ensures in
     rw p.1
-    (MapBegun-stop g.W.Sink.taken g.W.Sink.failed c.args.writer.now loop.writer c.write_unit.new.writer (map_text names file units) (units_rest names loop.first loop.index file units)
+    (TextBegun-stop g.W.Sink.taken g.W.Sink.failed c.args.writer.now loop.writer c.write_unit.new.writer (map_text names file units) (units_rest names loop.first loop.index file units)
     (map_from names loop.first hunks (unit_origins (place, unit))) (units_rest names (loop.first + count) (loop.index + 1) file units) p.0
     (units_rest-more names loop.first loop.index count file hunks units (place, unit) left refl refl room) loop.invariant.begun stopped)
 
@@ -85,7 +66,7 @@ loop-index-preserved g c =
     let count = length c.hunks.result.now in
     let count_is : count ≡ length unit.hunks = ap length c.hunks.ensures.value in
     let hunks = drop loop.first file in
-    let left = next units c.places-places.result.now c.units-unit-items.result.now loop.index unit c.places-places.ensures c.units-unit-items.ensures.value c.loop-index-test.true c.unit-item.is in
+    let left = next_unit units c.places-places.result.now c.units-unit-items.result.now loop.index unit c.places-places.ensures c.units-unit-items.ensures.value c.loop-index-test.true c.unit-item.is in
     let more = length-origins-more units loop.index (place, unit) left in
     let room : count ≤ length hunks = omega (arith, length-drop loop.first file, more, count_is, loop.invariant.counted) in
     let wrote =
@@ -94,7 +75,7 @@ loop-index-preserved g c =
     record {
       counted = omega (arith, more, count_is, loop.invariant.counted);
       begun =
-          MapBegun-more g.W.Sink.taken g.W.Sink.failed c.args.writer.now loop.writer c.write_unit.new.writer (map_text names file units) (units_rest names loop.first loop.index file units)
+          TextBegun-more g.W.Sink.taken g.W.Sink.failed c.args.writer.now loop.writer c.write_unit.new.writer (map_text names file units) (units_rest names loop.first loop.index file units)
           (map_from names loop.first hunks (unit_origins (place, unit))) (units_rest names (loop.first + count) (loop.index + 1) file units)
           (units_rest-more names loop.first loop.index count file hunks units (place, unit) left refl count_is room) loop.invariant.begun wrote;
     }

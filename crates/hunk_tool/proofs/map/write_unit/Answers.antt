@@ -3,25 +3,27 @@ use Rattle.std.proofs.Common.{◌∙◌, ◌+◌, ◌<◌, List, ap, get_or, len
 use Rattle.std.specs.String.{string_bytes}
 use Rattle.std.proofs.lemmas.List.Elements.{All-get_or}
 use Rattle.hunk_objects.specs.UnitHunk.{ObjectHunk}
-use Rattle.hunk_tool.specs.Map.{map_from, map_lines, unit_origins}
+use Rattle.hunk_tool.specs.Map.{map_from, map_lines}
 use Rattle.hunk_tool.specs.ObjectFiles.{IsShortHunk}
-use Rattle.hunk_tool.proofs.MapLemmas.{MapBegun-done, MapBegun-more, MapBegun-nothing, MapBegun-stop, WroteText-err, WroteText-ok, unit_rest, unit_rest-all, unit_rest-more, unit_rest-none}
+use Rattle.hunk_tool.specs.Origins.{unit_origins}
+use Rattle.hunk_tool.proofs.MapLemmas.{unit_rest, unit_rest-all, unit_rest-more, unit_rest-none}
+use Rattle.hunk_tool.proofs.WrittenTextLemmas.{TextBegun-done, TextBegun-more, TextBegun-nothing, TextBegun-stop, WroteText-err, WroteText-ok}
 use Rattle.hunk_tool.proofs.map.write_unit.Goals as goal
 
 pub loop-number-init : goal.loop-number-init
 loop-number-init g c =
     let names = map string_bytes c.args.names.now in
-    MapBegun-nothing g.W.Sink.taken g.W.Sink.failed c.args.writer.now (map_from names c.args.first c.args.hunks.now (unit_origins (c.args.place, c.args.unit.now)))
+    TextBegun-nothing g.W.Sink.taken g.W.Sink.failed c.args.writer.now (map_from names c.args.first c.args.hunks.now (unit_origins (c.args.place, c.args.unit.now)))
     (unit_rest names c.args.first 0 c.args.hunks.now (c.args.place, c.args.unit.now)) (unit_rest-all names c.args.first c.args.hunks.now (c.args.place, c.args.unit.now))
 
-pub write_hunk-requires-clause-hunk : goal.write_hunk-requires-clause-hunk
-write_hunk-requires-clause-hunk g c =
+pub invariant_of-origin : goal.invariant_of-origin
+invariant_of-origin g c =
     let own = c.hunk-item.result in
     let number = c.loop-number.number in
     let hunks = c.args.unit.now.hunks in
     let at = c.hunk-item.is ∙ ap (λ (hs : List ObjectHunk). get_or hs number own) c.hunks-hunk-items.ensures.value in
     let within : number < length hunks = omega (arith, c.loop-number-test.true, ap length c.hunks-hunk-items.ensures.value) in
-    subst IsShortHunk (sym at) (All-get_or IsShortHunk hunks number own within c.requires.short.hunks)
+    record { unit = c.requires.short.name; hunk = subst IsShortHunk (sym at) (All-get_or IsShortHunk hunks number own within c.requires.short.hunks) }
 
 pub returns-then-is_err : goal.returns-then-is_err
 returns-then-is_err g c =
@@ -34,7 +36,7 @@ returns-then-is_err g c =
     let at = c.hunk-item.is ∙ ap (λ (hs : List ObjectHunk). get_or hs number own) c.hunks-hunk-items.ensures.value in
     let inside : number < length c.args.unit.now.hunks = omega (arith, c.loop-number-test.true, ap length c.hunks-hunk-items.ensures.value) in
     let text = map_lines names (first + number, (hunk, record { unit = (c.args.place, c.args.unit.now); number = number; hunk = own })) in
-    MapBegun-stop g.W.Sink.taken g.W.Sink.failed {E = Unit {0}} c.args.writer.now c.loop-number.writer c.write_hunk.new.writer (map_from names first hunks (unit_origins (c.args.place, c.args.unit.now)))
+    TextBegun-stop g.W.Sink.taken g.W.Sink.failed {E = Unit {0}} c.args.writer.now c.loop-number.writer c.write_hunk.new.writer (map_from names first hunks (unit_origins (c.args.place, c.args.unit.now)))
     (unit_rest names first number hunks (c.args.place, c.args.unit.now)) text (unit_rest names first (number + 1) hunks (c.args.place, c.args.unit.now)) tt
     (unit_rest-more names first number hunks (c.args.place, c.args.unit.now) hunk own (omega (arith, inside, c.requires.room)) inside c.index-hunks-number.is at)
     c.loop-number.invariant
@@ -51,7 +53,7 @@ loop-number-preserved g c =
     let at = c.hunk-item.is ∙ ap (λ (hs : List ObjectHunk). get_or hs number own) c.hunks-hunk-items.ensures.value in
     let inside : number < length c.args.unit.now.hunks = omega (arith, c.loop-number-test.true, ap length c.hunks-hunk-items.ensures.value) in
     let text = map_lines names (first + number, (hunk, record { unit = (c.args.place, c.args.unit.now); number = number; hunk = own })) in
-    MapBegun-more g.W.Sink.taken g.W.Sink.failed c.args.writer.now c.loop-number.writer c.write_hunk.new.writer (map_from names first hunks (unit_origins (c.args.place, c.args.unit.now)))
+    TextBegun-more g.W.Sink.taken g.W.Sink.failed c.args.writer.now c.loop-number.writer c.write_hunk.new.writer (map_from names first hunks (unit_origins (c.args.place, c.args.unit.now)))
     (unit_rest names first number hunks (c.args.place, c.args.unit.now)) text (unit_rest names first (number + 1) hunks (c.args.place, c.args.unit.now))
     (unit_rest-more names first number hunks (c.args.place, c.args.unit.now) hunk own (omega (arith, inside, c.requires.room)) inside c.index-hunks-number.is at)
     c.loop-number.invariant
@@ -63,5 +65,5 @@ returns g c =
     let first = c.args.first in
     let number = c.loop-number.number in
     let hunks = c.args.hunks.now in
-    MapBegun-done g.W.Sink.taken g.W.Sink.failed c.args.writer.now c.loop-number.writer (map_from names first hunks (unit_origins (c.args.place, c.args.unit.now))) (unit_rest names first number hunks (c.args.place, c.args.unit.now))
+    TextBegun-done g.W.Sink.taken g.W.Sink.failed c.args.writer.now c.loop-number.writer (map_from names first hunks (unit_origins (c.args.place, c.args.unit.now))) (unit_rest names first number hunks (c.args.place, c.args.unit.now))
     (unit_rest-none names first number hunks (c.args.place, c.args.unit.now) (omega (arith, c.loop-number-test.false, ap length c.hunks-hunk-items.ensures.value))) c.loop-number.invariant

@@ -2,7 +2,7 @@ use Rattle.std.proofs.Common.{◌≡◌, drop, length, take}
 use Rattle.std.specs.List.{zip}
 use Rattle.hunk_tool.specs.Inputs.{HaveRead, inputs_of}
 use Rattle.hunk_tool.specs.ObjectFiles.{AreFileUnits}
-use Rattle.hunk_tool.proofs.object_files.read_files.Given as goal
+use Rattle.hunk_tool.proofs.object_files.read_object_files.Given as goal
 
 abbrev pub invariant-loop-file : goal.invariant-loop-file
 invariant-loop-file g l = record {

@@ -9,7 +9,7 @@ use Rattle.hunk_tool.specs.ObjectFiles.{AreFileUnits, AreUnitsFrom, FileUnit, Is
 use Rattle.hunk_tool.specs.declared.object_files.UnitPlace.{UnitPlace}
 use Rattle.hunk_tool.proofs.InputsLemmas.{HaveRead-next, HaveRead-weaker, IsInputFault-first, rest_more}
 use Rattle.hunk_tool.proofs.ObjectFilesLemmas.{AreObjects-units, AreUnitsFrom-more, length-places_of, short-objects, zip-more}
-use Rattle.hunk_tool.proofs.object_files.read_files.Goals as goal
+use Rattle.hunk_tool.proofs.object_files.read_object_files.Goals as goal
 
 pub returns-in-Err-clause-stopped : goal.returns-in-Err-clause-stopped
 returns-in-Err-clause-stopped g c =

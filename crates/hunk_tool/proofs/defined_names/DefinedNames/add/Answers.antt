@@ -1,0 +1,16 @@
+use Rattle.std.proofs.Common.{◌∙◌, ◌||◌, ap}
+use Rattle.std.specs.List.{list_any}
+use Rattle.hunk_tool.specs.DefinedNames.{is_name}
+use Rattle.hunk_tool.proofs.DefinedNamesLemmas.{list_any-insert, names_seen}
+use Rattle.hunk_tool.proofs.defined_names.DefinedNames.add.Goals as goal
+use Rattle.hunk_tool.proofs.defined_names.DefinedNames.add.Goals.{in-Ok, in-Err}
+
+pub returns : goal.returns
+returns g c =
+    elim c.match-insert.branch [
+      | in-Ok w ↦ rw w.result-is (λ other.
+          ap (λ keys. list_any (is_name other) (names_seen keys)) w.in-Ok.ensures.keys
+          ∙ list_any-insert other c.self.inside.names.keys c.args.name
+          ∙ ap (λ names. list_any (is_name other) names || is_name other c.args.name.now) c.self.view_is)
+      | in-Err w ↦ rw w.result-is tt
+    ]

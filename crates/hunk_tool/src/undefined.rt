@@ -1,0 +1,139 @@
+//! The names that hunks refer to and no hunk defines.
+
+ghost use Rattle.std.specs.Prelude.{◌≡◌, ◌++◌, ◌≤◌, ◌^◌, [], List, length, option_map, slice_get, IfOk, IfSome, OnOk};
+ghost use Rattle.indexmap.specs.IndexMap.{insert_entry};
+ghost use Rattle.hunk_tool.specs.DefinedNames.{AreDefinedBy, is_name};
+ghost use Rattle.hunk_tool.specs.Origins.{Origin as HunkOrigin};
+ghost use Rattle.hunk_tool.specs.Undefined.{Reference, look_up, next_use, references_of, undefined, undefined_uses, uses_of};
+
+use crate::defined_names::DefinedNames;
+use crate::origins::Origin;
+use indexmap::IndexMap;
+use std::alloc::{AllocError, Allocator, Global};
+use std::hash::{BuildHasherDefault, FoldHasher};
+use std::marker::Model;
+
+/// Where a name is first referred to, and the number of references to it.
+#[derive(Drop)]
+pub(crate) struct Use<'a, A: Allocator + Copy = Global> {
+    pub(crate) origin: Origin<'a, A>,
+    pub(crate) count: u64,
+}
+
+impl<'a, A: Allocator + Copy> Model for Use<'a, A> {
+    ghost use Rattle.hunk_tool.specs.Undefined.{Use as NameUse};
+
+    ghost Value = { NameUse };
+
+    ghost view = { λ u. record { origin = u.origin; count = u.count } };
+}
+
+/// The names of some references, in the order of the first reference to each. The names stay in their
+/// hunks.
+#[derive(Drop)]
+pub(crate) struct Uses<'a, A: Allocator + Copy = Global> {
+    entries: IndexMap<&'a [u8], Use<'a, A>, BuildHasherDefault<FoldHasher>, A>,
+}
+
+impl<'a, A: Allocator + Copy> Model for Uses<'a, A> {
+    ghost use Rattle.std.specs.Prelude.{map};
+    ghost use Rattle.hunk_tool.specs.Undefined.{AreShort, Uses as NameUses};
+
+    ghost Value = { NameUses };
+
+    ghost view = { λ u. map (λ e. (e.0.now, e.1)) u.entries.entries };
+
+    ghost invariant = { λ u. AreShort (map (λ e. (e.0.now, e.1)) u.entries.entries) };
+}
+
+impl<'a, A: Allocator + Copy> Uses<'a, A> {
+    /// Of no names.
+    pub(crate) fn none(alloc: A) -> Self
+        ensures { result ≡ [] }
+    {
+        Uses {
+            entries: IndexMap::with_hasher(alloc, BuildHasherDefault::new()),
+        }
+    }
+
+    /// Of the names that these hunks refer to and none of them defines.
+    ///
+    /// # Errors
+    ///
+    /// [`AllocError`] only if an allocation failed.
+    pub(crate) fn undefined(alloc: A, hunks: &[Origin<'a, A>]) -> Result<Self, AllocError>
+        ensures { IfOk result (λ uses. uses ≡ undefined_uses hunks.now) }
+    {
+        let defined = DefinedNames::of_hunks(alloc, hunks)?;
+        let mut uses = Uses::none(alloc);
+        for origin in hunks {
+            uses.add_hunk(&defined, origin)?;
+        }
+        Ok(uses)
+    }
+
+    /// How many names there are.
+    pub(crate) fn len(&self) -> usize
+        ensures { result ≡ length self.now }
+    {
+        self.entries.len()
+    }
+
+    /// The name with this index, and its use.
+    pub(crate) fn get(&self, index: usize) -> Option<(&'a [u8], &Use<'a, A>)>
+        ensures value { option_map (λ used. (used.0.now, used.1.now)) result ≡ slice_get self.now index }
+        ensures short { IfSome result (λ used. length used.0.now ≤ 2 ^ 30) }
+    {
+        let (name, used) = self.entries.get_index(index)?;
+        Some((*name, used))
+    }
+
+    /// Adds the references of a hunk to names that are not among the defined ones.
+    fn add_hunk(
+        &mut self,
+        defined: &DefinedNames<'a, A>,
+        origin: &Origin<'a, A>,
+    ) -> Result<(), AllocError>
+        ensures { (before : List Reference) (hunks : List HunkOrigin) → self.old ≡ uses_of before → AreDefinedBy hunks defined.now
+            → OnOk result (self.new ≡ uses_of (before ++ undefined hunks (references_of origin.now))) }
+    {
+        for name in origin.hunk.references() {
+            if !defined.has(name.bytes()) {
+                self.add(name.bytes(), origin)?;
+            }
+        }
+        Ok(())
+    }
+
+    /// Adds a reference to a name.
+    fn add(&mut self, name: &'a [u8], origin: &Origin<'a, A>) -> Result<(), AllocError>
+        requires { length name.now ≤ 2 ^ 30 }
+        ensures { OnOk result (self.new ≡ insert_entry is_name self.old name.now (next_use (look_up self.old name.now) origin.now)) }
+    {
+        let used = self.next_use(name, origin)?;
+        match self.entries.insert(name, used) {
+            Ok(_) => Ok(()),
+            Err(_) => Err(AllocError),
+        }
+    }
+
+    /// The use of a name with one more reference, of this hunk.
+    fn next_use(&self, name: &[u8], origin: &Origin<'a, A>) -> Result<Use<'a, A>, AllocError>
+        ensures { IfOk result (λ used. used ≡ next_use (look_up self.now name.now) origin.now) }
+    {
+        match self.entries.get(&name) {
+            Some(used) => match used.count.checked_add(1) {
+                Some(count) => Ok(Use {
+                    origin: used.origin.copied(),
+                    count,
+                }),
+                // No memory holds so many references.
+                None => Err(AllocError),
+            },
+            None => Ok(Use {
+                origin: origin.copied(),
+                count: 1,
+            }),
+        }
+    }
+}

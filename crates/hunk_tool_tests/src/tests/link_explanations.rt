@@ -1,0 +1,415 @@
+//! What is told of units that do not link.
+
+use super::asserts::{equals_at, holds};
+use super::memory::MOST_GROWTHS;
+use hunk_link::{LinkRefusal, link};
+use hunk_test_support::{Refusing, bytes_of};
+use hunk_tool::{ObjectFiles, ToolFault, explain_link, read_object_files, write_link_explanation};
+use hunk_words::{DeviceFault, Pieces, Room};
+use std::alloc::{AllocError, Allocator, Global};
+use std::process::Abort;
+use std::test::Fail;
+
+// Unit `one`, of code named `text` that refers to `go` and `run` and defines `main`; and unit `two`,
+// of chip memory without a name and of data named `d` that refers to `go`.
+const ONE: [u32; 39] = [
+    0x3E7,
+    1,
+    0x6F6E_6500,
+    0x3E8,
+    1,
+    0x7465_7874,
+    0x3E9,
+    2,
+    0,
+    0,
+    0x3EF,
+    0x8100_0001,
+    0x676F_0000,
+    1,
+    0,
+    0x8100_0001,
+    0x7275_6E00,
+    1,
+    4,
+    0x0100_0001,
+    0x6D61_696E,
+    0,
+    0,
+    0x3F2,
+    0x3E7,
+    1,
+    0x7477_6F00,
+    0x4000_03EB,
+    1,
+    0x3F2,
+    0x3EA,
+    1,
+    0,
+    0x3EF,
+    0x8100_0001,
+    0x676F_0000,
+    1,
+    0,
+    0,
+];
+
+// The end of a hunk.
+const END: [u8; 4] = [0, 0, 0x03, 0xF2];
+
+// A unit without a name, of data named `q"` that refers to `run` and `main`, and defines `go`.
+const OTHER: [u32; 22] = [
+    0x3E7,
+    0,
+    0x3E8,
+    1,
+    0x7122_0000,
+    0x3EA,
+    2,
+    0,
+    0,
+    0x3EF,
+    0x8100_0001,
+    0x7275_6E00,
+    1,
+    0,
+    0x8100_0001,
+    0x6D61_696E,
+    1,
+    4,
+    0x0100_0001,
+    0x676F_0000,
+    8,
+    0,
+];
+
+// Unit `dup`, of code that defines `run`, `go` and `main`.
+const AGAIN: [u32; 16] = [
+    0x3E7,
+    1,
+    0x6475_7000,
+    0x3E9,
+    0,
+    0x3EF,
+    0x0100_0001,
+    0x7275_6E00,
+    0,
+    0x0100_0001,
+    0x676F_0000,
+    0,
+    0x0200_0001,
+    0x6D61_696E,
+    7,
+    0,
+];
+
+// Unit `far`, of memory, and of data that adds the base of a hunk with the number 5.
+const FAR: [u32; 14] = [
+    0x3E7,
+    1,
+    0x6661_7200,
+    0x3EB,
+    1,
+    0x3F2,
+    0x3EA,
+    1,
+    0,
+    0x3EC,
+    1,
+    5,
+    0,
+    0,
+];
+
+// A unit without hunks. It needs no end, and so ends with its name, which is longer than it need be.
+const NONE: [u32; 3] = [0x3E7, 2, 0x6E6F_6E65];
+
+// The longwords of a file, the bytes after them, and its name; those of a second file; and what is told
+// of their link.
+type Row = (
+    &'static [u32],
+    &'static [u8],
+    &'static str,
+    &'static [u32],
+    &'static [u8],
+    &'static str,
+    &'static str,
+);
+
+static ROWS: [Row; 5] = [
+    (
+        &ONE,
+        &END,
+        "one.o",
+        &NONE,
+        &[0; 4],
+        "none.o",
+        "  unit 0 hunk 0: one.o unit 0 \"one\" hunk 0 \"text\"\n  \
+         \"go\", references: 2, first in one.o unit 0 \"one\" hunk 0 \"text\"\n  \
+         \"run\", references: 1, first in one.o unit 0 \"one\" hunk 0 \"text\"\n",
+    ),
+    (
+        &OTHER,
+        &END,
+        "\"t w\"/o",
+        &NONE,
+        &[0; 4],
+        "none.o",
+        "  unit 0 hunk 0: \"t w\"/o unit 0 \"\" hunk 0 \"q\\x22\"\n  \
+         \"run\", references: 1, first in \"t w\"/o unit 0 \"\" hunk 0 \"q\\x22\"\n  \
+         \"main\", references: 1, first in \"t w\"/o unit 0 \"\" hunk 0 \"q\\x22\"\n",
+    ),
+    (
+        &ONE,
+        &END,
+        "one.o",
+        &OTHER,
+        &END,
+        "other.o",
+        "  unit 0 hunk 0: one.o unit 0 \"one\" hunk 0 \"text\"\n  \
+         \"run\", references: 2, first in one.o unit 0 \"one\" hunk 0 \"text\"\n",
+    ),
+    (
+        &ONE,
+        &END,
+        "one.o",
+        &AGAIN,
+        &END,
+        "again.o",
+        "  unit 2 hunk 0: again.o unit 0 \"dup\" hunk 0 \"\"\n  \
+         first defined in one.o unit 0 \"one\" hunk 0 \"text\"\n",
+    ),
+    (
+        &ONE,
+        &END,
+        "one.o",
+        &FAR,
+        &END,
+        "far.o",
+        "  unit 2 hunk 1: far.o unit 0 \"far\" hunk 1 \"\"\n",
+    ),
+];
+
+// More bytes than what is told in a row has.
+const ROOM: usize = 512;
+
+// The names of the files of a row.
+fn names_of(alloc: Global, row: &Row) -> Result<[String; 2], AllocError> {
+    let (_, _, first, _, _, second, _) = row;
+    Ok([
+        String::from_str(alloc, first)?,
+        String::from_str(alloc, second)?,
+    ])
+}
+
+// Readers of the files of a row.
+fn inputs_of(alloc: Global, row: &Row) -> Result<[Pieces; 2], AllocError> {
+    let (words, rest, _, other_words, other_rest, _, _) = row;
+    Ok([
+        Pieces::new(bytes_of(alloc, words, rest)?, 64, None),
+        Pieces::new(bytes_of(alloc, other_words, other_rest)?, 3, None),
+    ])
+}
+
+// The files of a row.
+fn files_of(rt: &impl Abort, alloc: Global, row: &Row) -> Result<ObjectFiles, Fail> {
+    match read_object_files(alloc, &mut inputs_of(alloc, row)?) {
+        Ok(files) => Ok(files),
+        Err(fault) => panic!(rt; "{fault:?}"),
+    }
+}
+
+// Why the units of these files do not link.
+fn refusal_of(rt: &impl Abort, alloc: Global, files: &ObjectFiles) -> LinkRefusal {
+    match link(alloc, files.units(), false) {
+        Ok(_) => panic!(rt; "linked"),
+        Err(refusal) => refusal,
+    }
+}
+
+// Whether this is told of the files of a row, to a writer with this room that takes at most `most`
+// bytes per write.
+fn is_told(
+    rt: &impl Abort,
+    alloc: Global,
+    row: &Row,
+    room: usize,
+    most: usize,
+    wanted: Result<(), DeviceFault>,
+) -> Result<(), Fail> {
+    assert!(rt; 1 <= most);
+    let files = files_of(rt, alloc, row)?;
+    let refusal = refusal_of(rt, alloc, &files);
+    let explanation = explain_link(alloc, &files, &refusal)?;
+    let mut writer = Room::new(alloc, most, room, false)?;
+    let got = write_link_explanation(&explanation, &names_of(alloc, row)?, &mut writer);
+    let text = row.6;
+    let length = room.min(text.len());
+    equals_at(rt, &(text, room, most), got, wanted);
+    equals_at(
+        rt,
+        &(text, room, most),
+        writer.bytes(),
+        &text.as_bytes()[..length],
+    );
+    Ok(())
+}
+
+#[test]
+fn tells_the_files_of_units_that_do_not_link(rt: HostRuntime) -> Result<(), Fail> {
+    for row in &ROWS {
+        for most in [ROOM, 1, 7] {
+            is_told(&rt, rt.alloc(), row, ROOM, most, Ok(()))?;
+        }
+    }
+    Ok(())
+}
+
+#[test]
+fn stops_at_each_byte_of_what_is_told(rt: HostRuntime) -> Result<(), Fail> {
+    for row in [&ROWS[0], &ROWS[3]] {
+        for room in 0..row.6.len() {
+            is_told(&rt, rt.alloc(), row, room, ROOM, Err(DeviceFault))?;
+        }
+    }
+    Ok(())
+}
+
+// Whether it is told of these files why they do not link. If not, memory ran out.
+fn explains<A: Allocator + Copy>(rt: &impl Abort, alloc: A, inputs: &mut [Pieces]) -> bool {
+    let files = match read_object_files(alloc, inputs) {
+        Ok(files) => files,
+        Err(ToolFault::OutOfMemory { written: 0 }) => return false,
+        Err(_) => panic!(rt; "not read"),
+    };
+    match link(alloc, files.units(), false) {
+        Ok(_) => panic!(rt; "linked"),
+        Err(LinkRefusal::OutOfMemory) => false,
+        Err(refusal) => explain_link(alloc, &files, &refusal).is_ok(),
+    }
+}
+
+// Whether that is told of the files of a row with this allocation refused.
+fn is_explained(rt: &impl Abort, alloc: Global, row: &Row, refused: u64) -> Result<bool, Fail> {
+    let heap = Refusing::new(alloc, refused);
+    let mut inputs = inputs_of(alloc, row)?;
+    let got = explains(rt, &heap, &mut inputs);
+    let all_given = heap.asked() <= refused;
+    equals_at(rt, &(row.6, refused), got, all_given);
+    Ok(got)
+}
+
+// Whether it is told once no allocation is refused.
+fn is_explained_at_last(rt: &impl Abort, alloc: Global, row: &Row) -> Result<bool, Fail> {
+    for refused in 0..4 * MOST_GROWTHS {
+        if is_explained(rt, alloc, row, refused)? {
+            return Ok(true);
+        }
+    }
+    Ok(false)
+}
+
+#[test]
+fn explains_links_with_each_growth_refused(rt: HostRuntime) -> Result<(), Fail> {
+    for row in &ROWS {
+        let at_last = is_explained_at_last(&rt, rt.alloc(), row)?;
+        holds(&rt, &row.6, at_last);
+    }
+    Ok(())
+}
+
+// The digits of an index below 1000 in a name of four bytes.
+fn name_of(index: u32) -> [u8; 4] {
+    let digit = |power: u32| b'0' + (index / power % 10) as u8;
+    [b'n', digit(100), digit(10), digit(1)]
+}
+
+// A unit of one hunk that refers to so many names, `n000` first.
+fn refers_to(alloc: Global, count: u32) -> Result<Vec<u32>, AllocError> {
+    let mut words = Vec::new(alloc);
+    words.extend_from_slice(&[0x3E7, 0, 0x3E9, count])?;
+    for _ in 0..count {
+        words.push(0)?;
+    }
+    words.push(0x3EF)?;
+    for index in 0..count {
+        let name = u32::from_be_bytes(name_of(index));
+        words.extend_from_slice(&[0x8100_0001, name, 1, index.wrapping_mul(4)])?;
+    }
+    words.extend_from_slice(&[0, 0x3F2])?;
+    Ok(words)
+}
+
+// What is told of the first `count` of those names, and then this.
+fn text_of(alloc: Global, count: u32, rest: &str) -> Result<Vec<u8>, AllocError> {
+    let mut text = Vec::new(alloc);
+    text.extend_from_slice(b"  unit 0 hunk 0: many.o unit 0 \"\" hunk 0 \"\"\n")?;
+    for index in 0..count {
+        text.extend_from_slice(b"  \"")?;
+        text.extend_from_slice(&name_of(index))?;
+        text.extend_from_slice(b"\", references: 1, first in many.o unit 0 \"\" hunk 0 \"\"\n")?;
+    }
+    text.extend_from_slice(rest.as_bytes())?;
+    Ok(text)
+}
+
+// A number of undefined names, how many of them are told, and what is told of the others.
+static MANY: [(u32, u32, &str); 4] = [
+    (99, 99, ""),
+    (100, 100, ""),
+    (101, 100, "  and 1 more\n"),
+    (112, 100, "  and 12 more\n"),
+];
+
+#[test]
+fn tells_at_most_a_hundred_names(rt: HostRuntime) -> Result<(), Fail> {
+    let alloc = rt.alloc();
+    for (count, told, rest) in &MANY {
+        let bytes = bytes_of(alloc, &refers_to(alloc, *count)?, &[])?;
+        let mut inputs = [Pieces::new(bytes, 64, None)];
+        let files = match read_object_files(alloc, &mut inputs) {
+            Ok(files) => files,
+            Err(fault) => panic!(rt; "{fault:?}"),
+        };
+        let refusal = refusal_of(&rt, alloc, &files);
+        let explanation = explain_link(alloc, &files, &refusal)?;
+        let names = [String::from_str(alloc, "many.o")?];
+        let mut writer = Room::new(alloc, 64, 16384, false)?;
+        let got = write_link_explanation(&explanation, &names, &mut writer);
+        let text = text_of(alloc, *told, rest)?;
+        equals_at(&rt, count, got, Ok(()));
+        equals_at(&rt, count, writer.bytes(), text.as_slice());
+    }
+    Ok(())
+}
+
+// Refusals that are about no hunk, or about one that the files do not have.
+const ABOUT_NONE: [LinkRefusal; 6] = [
+    LinkRefusal::NoHunks,
+    LinkRefusal::TooManyHunks,
+    LinkRefusal::TooLarge,
+    LinkRefusal::OutOfMemory,
+    LinkRefusal::NoSuchHunk {
+        unit: 3,
+        hunk: 0,
+        target: 1,
+    },
+    LinkRefusal::NoSuchHunk {
+        unit: 1,
+        hunk: 2,
+        target: 1,
+    },
+];
+
+#[test]
+fn tells_nothing_of_hunks_that_are_not_there(rt: HostRuntime) -> Result<(), Fail> {
+    let files = files_of(&rt, rt.alloc(), &ROWS[0])?;
+    for refusal in &ABOUT_NONE {
+        let explanation = explain_link(rt.alloc(), &files, refusal)?;
+        let mut writer = Room::new(rt.alloc(), 64, ROOM, false)?;
+        let got = write_link_explanation(&explanation, &[], &mut writer);
+        equals_at(&rt, refusal, got, Ok(()));
+        equals_at(&rt, refusal, writer.bytes(), b"");
+    }
+    Ok(())
+}
