@@ -21,11 +21,12 @@ _amihunk() {
     local options
     case "$command" in
         '') options='--help --version' ;;
-        link) options='--out --map --strip --short --trim --help' ;;
-        load) options='--at --at-file --srec --symbols --help' ;;
-        image) options='--at --at-file --srec --help' ;;
-        show) options='--json --help' ;;
-        check | survey) options='--help' ;;
+        link) options='--out --map --strip --short --trim --explain --help' ;;
+        load) options='--at --at-file --srec --symbols --explain --help' ;;
+        image) options='--at --at-file --srec --explain --help' ;;
+        show) options='--json --explain --help' ;;
+        check) options='--explain --help' ;;
+        survey) options='--help' ;;
         *) return ;;
     esac
     case "$command $word" in

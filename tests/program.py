@@ -12,6 +12,7 @@ import traceback
 
 sys.dont_write_bytecode = True
 import command_line  # (the tests of a module register themselves)
+import explanations
 import json_documents
 import maps
 import runs

@@ -16,12 +16,12 @@ use Rattle.hunk_commands.specs.Request.{given_text}
 use Rattle.hunk_commands.specs.declared.request.Request.{Request}
 use Rattle.hunk_commands.specs.declared.request.Request.TheVariants.{Link, Load, Image, Check, Show, Survey, Version, Help, Refused, OutOfMemory}
 use Rattle.amihunk.specs.Syntax.{command_line}
-use Rattle.amihunk.specs.CommandLine.{Answers, AsksCheck, AsksImage, AsksLink, AsksLoad, AsksShow, AsksSurvey, AsksVersion, IsAskedBy, IsCalled, IsCalledOn, IsConflict, IsImage, IsLink, IsLoad, IsNoFlag, IsNoFlagIn, IsRefusedBy, IsRetold, IsShow, IsVersionWord, Met, Says, asks_srec, asks_symbols, brief_link_line, brief_words, file_line, form_words, image_line, link_line, load_line, map_words, option_words, show_line, survey_line, text_in, values_of, version_line}
+use Rattle.amihunk.specs.CommandLine.{Answers, AsksCheck, AsksImage, AsksLink, AsksLoad, AsksShow, AsksSurvey, AsksVersion, IsAskedBy, IsCalledOn, IsCheck, IsConflict, IsImage, IsLink, IsLoad, IsNoFlag, IsNoFlagIn, IsRefusedBy, IsRetold, IsShow, IsVersionWord, Met, Says, asks_srec, asks_symbols, brief_link_line, brief_words, file_line, form_words, image_line, link_line, load_line, map_words, option_words, show_line, survey_line, text_in, values_of, version_line}
 use Rattle.hunk_tool.specs.declared.image_form.ImageForm.{ImageForm}
 use Rattle.hunk_commands.specs.declared.load.LoadText.{LoadText}
 use Rattle.std.specs.Str.{bytes_eq}
-use Rattle.amihunk.proofs.CommandLineValueLemmas.{IsCalled-same, IsCalledOn-same, IsImage-one, IsLink-same, IsLoad-one, IsShow-same, names_apart, no_conflict-image, no_conflict-load, no_conflict-other}
-use Rattle.amihunk.proofs.CommandLineFileLemmas.{calls-check, fault_of-file_line, is_called-file_line}
+use Rattle.amihunk.proofs.CommandLineValueLemmas.{IsCalledOn-same, IsCheck-same, IsImage-one, IsLink-same, IsLoad-one, IsShow-same, names_apart, no_conflict-image, no_conflict-load, no_conflict-other}
+use Rattle.amihunk.proofs.CommandLineCheckLemmas.{fault_of-check_line, is_check-check_line}
 use Rattle.amihunk.proofs.CommandLineImageLemmas.{fault_of-image_line, is_image-image_line}
 use Rattle.amihunk.proofs.CommandLineLinkLemmas.{IsLinkFront, fault_of-link_words, front-brief, front-link, is_link-link_words}
 use Rattle.amihunk.proofs.CommandLineLoadLemmas.{fault_of-load_line, is_load-load_line}
@@ -37,11 +37,11 @@ IsNoAnswer _ = ⊤
 -- what one of the kinds of error asks for is what the arguments ask for
 pub asked_by_kind : (words : List Text) (request : Request) (k : ErrorKind) → (k ≡ error.OutOfMemory) ⊎ IsAmong k (fault_of command_line words)
     → Answers k request → IsAskedBy words request
-asked_by_kind words (Link out map options files) k has answers = absurd answers
-asked_by_kind words (Load list form file) k has answers = absurd answers
-asked_by_kind words (Image list form files) k has answers = absurd answers
-asked_by_kind words (Check file) k has answers = absurd answers
-asked_by_kind words (Show json file) k has answers = absurd answers
+asked_by_kind words (Link out map options explain files) k has answers = absurd answers
+asked_by_kind words (Load list form explain file) k has answers = absurd answers
+asked_by_kind words (Image list form explain files) k has answers = absurd answers
+asked_by_kind words (Check explain file) k has answers = absurd answers
+asked_by_kind words (Show json explain file) k has answers = absurd answers
 asked_by_kind words (Survey files) k has answers = absurd answers
 asked_by_kind words Version k (inl none) answers = cc
 asked_by_kind words Version k (inr among) answers = subst (λ (x : ErrorKind). IsAmong x (fault_of command_line words)) answers among
@@ -54,11 +54,11 @@ asked_by_kind words OutOfMemory k has answers = tt
 -- the request that matches what was found is what arguments ask for with which nothing is wrong
 asked_by_met : (words : List Text) (met : Met) (request : Request) → fault_of command_line words ≡ []
     → met ≡ subcommand_of command_line words → Says met request → IsAskedBy words request
-asked_by_met words met (Link out map options files) quiet is link = (quiet, subst (λ m. IsLink m out.now (given_text map) options (texts files.items)) is link)
-asked_by_met words met (Load addresses text file) quiet is load = (quiet, subst (λ m. IsLoad m (values_of (origin_of addresses)) (asks_srec text) (asks_symbols text) file.now) is load)
-asked_by_met words met (Image addresses form files) quiet is image = (quiet, subst (λ m. IsImage m (values_of (origin_of addresses)) form (texts files.items)) is image)
-asked_by_met words met (Check file) quiet is check = (quiet, subst (λ m. IsCalled m (codes "check") file.now) is check)
-asked_by_met words met (Show json file) quiet is show = (quiet, subst (λ m. IsShow m json file.now) is show)
+asked_by_met words met (Link out map options explain files) quiet is link = (quiet, subst (λ m. IsLink m out.now (given_text map) options explain (texts files.items)) is link)
+asked_by_met words met (Load addresses text explain file) quiet is load = (quiet, subst (λ m. IsLoad m (values_of (origin_of addresses)) (asks_srec text) (asks_symbols text) explain file.now) is load)
+asked_by_met words met (Image addresses form explain files) quiet is image = (quiet, subst (λ m. IsImage m (values_of (origin_of addresses)) form explain (texts files.items)) is image)
+asked_by_met words met (Check explain file) quiet is check = (quiet, subst (λ m. IsCheck m explain file.now) is check)
+asked_by_met words met (Show json explain file) quiet is show = (quiet, subst (λ m. IsShow m json explain file.now) is show)
 asked_by_met words met (Survey files) quiet is survey = (quiet, subst (λ m. IsCalledOn m (codes "survey") (texts files.items)) is survey)
 asked_by_met words met Version quiet is nothing = absurd nothing
 asked_by_met words met (Help text) quiet is nothing = absurd nothing
@@ -73,11 +73,11 @@ asked_by_result words met (Err e) request quiet is says same = subst (IsAskedBy 
 
 -- arguments with which nothing is wrong ask neither for help nor for the version
 asks_no_help : (words : List Text) (request : Request) → fault_of command_line words ≡ [] → IsAskedBy words request → IsNoAnswer request
-asks_no_help words (Link out map options files) quiet asked = tt
-asks_no_help words (Load list form file) quiet asked = tt
-asks_no_help words (Image list form files) quiet asked = tt
-asks_no_help words (Check file) quiet asked = tt
-asks_no_help words (Show json file) quiet asked = tt
+asks_no_help words (Link out map options explain files) quiet asked = tt
+asks_no_help words (Load list form explain file) quiet asked = tt
+asks_no_help words (Image list form explain files) quiet asked = tt
+asks_no_help words (Check explain file) quiet asked = tt
+asks_no_help words (Show json explain file) quiet asked = tt
 asks_no_help words (Survey files) quiet asked = tt
 asks_no_help words Version quiet asked = subst (λ kinds. IsAmong error.DisplayVersion kinds) quiet asked
 asks_no_help words (Help text) quiet asked = subst (λ kinds. IsAmong error.DisplayHelp kinds) quiet asked
@@ -98,13 +98,13 @@ not_refused words name rows quiet called no_load_is no_image_is refused =
     no_conflict-other (subcommand_of command_line words) name rows called no_load_is no_image_is (refused_for_conflict words quiet refused)
 
 -- what arguments that are `link` with this OUT, this MAP if one is given, these options, and these files ask for
-asks_link : (words : List Text) (out : Text) (map : Option Text) (options : LinkOptions) (files : List Text) → fault_of command_line words ≡ [] → IsLink (subcommand_of command_line words) out map options files
+asks_link : (words : List Text) (out : Text) (map : Option Text) (options : LinkOptions) (files : List Text) → fault_of command_line words ≡ [] → IsLink (subcommand_of command_line words) out map options false files
     → (request : Request) → IsAskedBy words request → AsksLink out map options files request
-asks_link words out map options files quiet is (Link o m s fs) asked = IsLink-same _ o.now out (given_text m) map s options (texts fs.items) files asked.1 is
-asks_link words out map options files quiet is (Load l form f) asked = absurd (names_apart _ (codes "load") (codes "link") _ _ asked.1.of_file.called is.of_files.called refl)
-asks_link words out map options files quiet is (Image l form fs) asked = absurd (names_apart _ (codes "image") (codes "link") _ _ asked.1.of_files.called is.of_files.called refl)
-asks_link words out map options files quiet is (Check f) asked = absurd (names_apart _ (codes "check") (codes "link") _ _ asked.1.called is.of_files.called refl)
-asks_link words out map options files quiet is (Show j f) asked = absurd (names_apart _ (codes "show") (codes "link") _ _ asked.1.of_file.called is.of_files.called refl)
+asks_link words out map options files quiet is (Link o m s e fs) asked = IsLink-same _ o.now out (given_text m) map s options e false (texts fs.items) files asked.1 is
+asks_link words out map options files quiet is (Load l form e f) asked = absurd (names_apart _ (codes "load") (codes "link") _ _ asked.1.of_file.called is.of_files.called refl)
+asks_link words out map options files quiet is (Image l form e fs) asked = absurd (names_apart _ (codes "image") (codes "link") _ _ asked.1.of_files.called is.of_files.called refl)
+asks_link words out map options files quiet is (Check e f) asked = absurd (names_apart _ (codes "check") (codes "link") _ _ asked.1.of_file.called is.of_files.called refl)
+asks_link words out map options files quiet is (Show j e f) asked = absurd (names_apart _ (codes "show") (codes "link") _ _ asked.1.of_file.called is.of_files.called refl)
 asks_link words out map options files quiet is (Survey fs) asked = absurd (names_apart _ (codes "survey") (codes "link") _ _ asked.1.called is.of_files.called refl)
 asks_link words out map options files quiet is Version asked = asks_no_help words Version quiet asked
 asks_link words out map options files quiet is (Help text) asked = asks_no_help words (Help text) quiet asked
@@ -112,55 +112,55 @@ asks_link words out map options files quiet is (Refused text) asked = absurd (no
 asks_link words out map options files quiet is OutOfMemory asked = tt
 
 -- what arguments that are `load` with these addresses, for this text of this FILE, ask for
-asks_load : (words : List Text) (origin : Origin) (wanted : LoadText) (file : Text) → fault_of command_line words ≡ [] → IsLoad (subcommand_of command_line words) (values_of origin) (asks_srec wanted) (asks_symbols wanted) file
+asks_load : (words : List Text) (origin : Origin) (wanted : LoadText) (file : Text) → fault_of command_line words ≡ [] → IsLoad (subcommand_of command_line words) (values_of origin) (asks_srec wanted) (asks_symbols wanted) false file
     → (request : Request) → IsAskedBy words request → AsksLoad origin wanted file request
-asks_load words origin wanted file quiet is (Link o m s fs) asked = absurd (names_apart _ (codes "link") (codes "load") _ _ asked.1.of_files.called is.of_file.called refl)
-asks_load words origin wanted file quiet is (Load l told f) asked = IsLoad-one _ (origin_of l) origin told wanted f.now file asked.1 is
-asks_load words origin wanted file quiet is (Image l form fs) asked = absurd (names_apart _ (codes "image") (codes "load") _ _ asked.1.of_files.called is.of_file.called refl)
-asks_load words origin wanted file quiet is (Check f) asked = absurd (names_apart _ (codes "check") (codes "load") _ _ asked.1.called is.of_file.called refl)
-asks_load words origin wanted file quiet is (Show j f) asked = absurd (names_apart _ (codes "show") (codes "load") _ _ asked.1.of_file.called is.of_file.called refl)
+asks_load words origin wanted file quiet is (Link o m s e fs) asked = absurd (names_apart _ (codes "link") (codes "load") _ _ asked.1.of_files.called is.of_file.called refl)
+asks_load words origin wanted file quiet is (Load l told e f) asked = IsLoad-one _ (origin_of l) origin told wanted e false f.now file asked.1 is
+asks_load words origin wanted file quiet is (Image l form e fs) asked = absurd (names_apart _ (codes "image") (codes "load") _ _ asked.1.of_files.called is.of_file.called refl)
+asks_load words origin wanted file quiet is (Check e f) asked = absurd (names_apart _ (codes "check") (codes "load") _ _ asked.1.of_file.called is.of_file.called refl)
+asks_load words origin wanted file quiet is (Show j e f) asked = absurd (names_apart _ (codes "show") (codes "load") _ _ asked.1.of_file.called is.of_file.called refl)
 asks_load words origin wanted file quiet is (Survey fs) asked = absurd (names_apart _ (codes "survey") (codes "load") _ _ asked.1.called is.of_file.called refl)
 asks_load words origin wanted file quiet is Version asked = asks_no_help words Version quiet asked
 asks_load words origin wanted file quiet is (Help text) asked = asks_no_help words (Help text) quiet asked
-asks_load words origin wanted file quiet is (Refused text) asked = absurd (no_conflict-load _ origin wanted file is (refused_for_conflict words quiet asked))
+asks_load words origin wanted file quiet is (Refused text) asked = absurd (no_conflict-load _ origin wanted false file is (refused_for_conflict words quiet asked))
 asks_load words origin wanted file quiet is OutOfMemory asked = tt
 
 -- what arguments that are `image` with these addresses, this form and these files ask for
-asks_image : (words : List Text) (origin : Origin) (wanted : ImageForm) (files : List Text) → fault_of command_line words ≡ [] → IsImage (subcommand_of command_line words) (values_of origin) wanted files
+asks_image : (words : List Text) (origin : Origin) (wanted : ImageForm) (files : List Text) → fault_of command_line words ≡ [] → IsImage (subcommand_of command_line words) (values_of origin) wanted false files
     → (request : Request) → IsAskedBy words request → AsksImage origin wanted files request
-asks_image words origin wanted files quiet is (Link o m s fs) asked = absurd (names_apart _ (codes "link") (codes "image") _ _ asked.1.of_files.called is.of_files.called refl)
-asks_image words origin wanted files quiet is (Load l form f) asked = absurd (names_apart _ (codes "load") (codes "image") _ _ asked.1.of_file.called is.of_files.called refl)
-asks_image words origin wanted files quiet is (Image l form fs) asked = IsImage-one _ (origin_of l) origin form wanted (texts fs.items) files asked.1 is
-asks_image words origin wanted files quiet is (Check f) asked = absurd (names_apart _ (codes "check") (codes "image") _ _ asked.1.called is.of_files.called refl)
-asks_image words origin wanted files quiet is (Show j f) asked = absurd (names_apart _ (codes "show") (codes "image") _ _ asked.1.of_file.called is.of_files.called refl)
+asks_image words origin wanted files quiet is (Link o m s e fs) asked = absurd (names_apart _ (codes "link") (codes "image") _ _ asked.1.of_files.called is.of_files.called refl)
+asks_image words origin wanted files quiet is (Load l form e f) asked = absurd (names_apart _ (codes "load") (codes "image") _ _ asked.1.of_file.called is.of_files.called refl)
+asks_image words origin wanted files quiet is (Image l form e fs) asked = IsImage-one _ (origin_of l) origin form wanted e false (texts fs.items) files asked.1 is
+asks_image words origin wanted files quiet is (Check e f) asked = absurd (names_apart _ (codes "check") (codes "image") _ _ asked.1.of_file.called is.of_files.called refl)
+asks_image words origin wanted files quiet is (Show j e f) asked = absurd (names_apart _ (codes "show") (codes "image") _ _ asked.1.of_file.called is.of_files.called refl)
 asks_image words origin wanted files quiet is (Survey fs) asked = absurd (names_apart _ (codes "survey") (codes "image") _ _ asked.1.called is.of_files.called refl)
 asks_image words origin wanted files quiet is Version asked = asks_no_help words Version quiet asked
 asks_image words origin wanted files quiet is (Help text) asked = asks_no_help words (Help text) quiet asked
-asks_image words origin wanted files quiet is (Refused text) asked = absurd (no_conflict-image _ origin wanted files is (refused_for_conflict words quiet asked))
+asks_image words origin wanted files quiet is (Refused text) asked = absurd (no_conflict-image _ origin wanted false files is (refused_for_conflict words quiet asked))
 asks_image words origin wanted files quiet is OutOfMemory asked = tt
 
 -- what arguments that are `check` with this FILE ask for
-asks_check : (words : List Text) (file : Text) → fault_of command_line words ≡ [] → IsCalled (subcommand_of command_line words) (codes "check") file
+asks_check : (words : List Text) (file : Text) → fault_of command_line words ≡ [] → IsCheck (subcommand_of command_line words) false file
     → (request : Request) → IsAskedBy words request → AsksCheck file request
-asks_check words file quiet is (Link o m s fs) asked = absurd (names_apart _ (codes "link") (codes "check") _ _ asked.1.of_files.called is.called refl)
-asks_check words file quiet is (Load l form f) asked = absurd (names_apart _ (codes "load") (codes "check") _ _ asked.1.of_file.called is.called refl)
-asks_check words file quiet is (Image l form fs) asked = absurd (names_apart _ (codes "image") (codes "check") _ _ asked.1.of_files.called is.called refl)
-asks_check words file quiet is (Check f) asked = IsCalled-same _ (codes "check") (codes "check") f.now file asked.1 is
-asks_check words file quiet is (Show j f) asked = absurd (names_apart _ (codes "show") (codes "check") _ _ asked.1.of_file.called is.called refl)
-asks_check words file quiet is (Survey fs) asked = absurd (names_apart _ (codes "survey") (codes "check") _ _ asked.1.called is.called refl)
+asks_check words file quiet is (Link o m s e fs) asked = absurd (names_apart _ (codes "link") (codes "check") _ _ asked.1.of_files.called is.of_file.called refl)
+asks_check words file quiet is (Load l form e f) asked = absurd (names_apart _ (codes "load") (codes "check") _ _ asked.1.of_file.called is.of_file.called refl)
+asks_check words file quiet is (Image l form e fs) asked = absurd (names_apart _ (codes "image") (codes "check") _ _ asked.1.of_files.called is.of_file.called refl)
+asks_check words file quiet is (Check e f) asked = IsCheck-same _ e false f.now file asked.1 is
+asks_check words file quiet is (Show j e f) asked = absurd (names_apart _ (codes "show") (codes "check") _ _ asked.1.of_file.called is.of_file.called refl)
+asks_check words file quiet is (Survey fs) asked = absurd (names_apart _ (codes "survey") (codes "check") _ _ asked.1.called is.of_file.called refl)
 asks_check words file quiet is Version asked = asks_no_help words Version quiet asked
 asks_check words file quiet is (Help text) asked = asks_no_help words (Help text) quiet asked
-asks_check words file quiet is (Refused text) asked = absurd (not_refused words (codes "check") is.rows quiet is.called refl refl asked)
+asks_check words file quiet is (Refused text) asked = absurd (not_refused words (codes "check") is.of_file.rows quiet is.of_file.called refl refl asked)
 asks_check words file quiet is OutOfMemory asked = tt
 
 -- what arguments that are `show`, with `--json` or without, and this FILE ask for
-asks_show : (words : List Text) (json : Bool) (file : Text) → fault_of command_line words ≡ [] → IsShow (subcommand_of command_line words) json file
+asks_show : (words : List Text) (json : Bool) (file : Text) → fault_of command_line words ≡ [] → IsShow (subcommand_of command_line words) json false file
     → (request : Request) → IsAskedBy words request → AsksShow json file request
-asks_show words json file quiet is (Link o m s fs) asked = absurd (names_apart _ (codes "link") (codes "show") _ _ asked.1.of_files.called is.of_file.called refl)
-asks_show words json file quiet is (Load l form f) asked = absurd (names_apart _ (codes "load") (codes "show") _ _ asked.1.of_file.called is.of_file.called refl)
-asks_show words json file quiet is (Image l form fs) asked = absurd (names_apart _ (codes "image") (codes "show") _ _ asked.1.of_files.called is.of_file.called refl)
-asks_show words json file quiet is (Check f) asked = absurd (names_apart _ (codes "check") (codes "show") _ _ asked.1.called is.of_file.called refl)
-asks_show words json file quiet is (Show j f) asked = IsShow-same _ j json f.now file asked.1 is
+asks_show words json file quiet is (Link o m s e fs) asked = absurd (names_apart _ (codes "link") (codes "show") _ _ asked.1.of_files.called is.of_file.called refl)
+asks_show words json file quiet is (Load l form e f) asked = absurd (names_apart _ (codes "load") (codes "show") _ _ asked.1.of_file.called is.of_file.called refl)
+asks_show words json file quiet is (Image l form e fs) asked = absurd (names_apart _ (codes "image") (codes "show") _ _ asked.1.of_files.called is.of_file.called refl)
+asks_show words json file quiet is (Check e f) asked = absurd (names_apart _ (codes "check") (codes "show") _ _ asked.1.of_file.called is.of_file.called refl)
+asks_show words json file quiet is (Show j e f) asked = IsShow-same _ j json e false f.now file asked.1 is
 asks_show words json file quiet is (Survey fs) asked = absurd (names_apart _ (codes "survey") (codes "show") _ _ asked.1.called is.of_file.called refl)
 asks_show words json file quiet is Version asked = asks_no_help words Version quiet asked
 asks_show words json file quiet is (Help text) asked = asks_no_help words (Help text) quiet asked
@@ -170,11 +170,11 @@ asks_show words json file quiet is OutOfMemory asked = tt
 -- what arguments that are `survey` with these files ask for
 asks_survey : (words : List Text) (files : List Text) → fault_of command_line words ≡ [] → IsCalledOn (subcommand_of command_line words) (codes "survey") files
     → (request : Request) → IsAskedBy words request → AsksSurvey files request
-asks_survey words files quiet is (Link o m s fs) asked = absurd (names_apart _ (codes "link") (codes "survey") _ _ asked.1.of_files.called is.called refl)
-asks_survey words files quiet is (Load l form f) asked = absurd (names_apart _ (codes "load") (codes "survey") _ _ asked.1.of_file.called is.called refl)
-asks_survey words files quiet is (Image l form fs) asked = absurd (names_apart _ (codes "image") (codes "survey") _ _ asked.1.of_files.called is.called refl)
-asks_survey words files quiet is (Check f) asked = absurd (names_apart _ (codes "check") (codes "survey") _ _ asked.1.called is.called refl)
-asks_survey words files quiet is (Show j f) asked = absurd (names_apart _ (codes "show") (codes "survey") _ _ asked.1.of_file.called is.called refl)
+asks_survey words files quiet is (Link o m s e fs) asked = absurd (names_apart _ (codes "link") (codes "survey") _ _ asked.1.of_files.called is.called refl)
+asks_survey words files quiet is (Load l form e f) asked = absurd (names_apart _ (codes "load") (codes "survey") _ _ asked.1.of_file.called is.called refl)
+asks_survey words files quiet is (Image l form e fs) asked = absurd (names_apart _ (codes "image") (codes "survey") _ _ asked.1.of_files.called is.called refl)
+asks_survey words files quiet is (Check e f) asked = absurd (names_apart _ (codes "check") (codes "survey") _ _ asked.1.of_file.called is.called refl)
+asks_survey words files quiet is (Show j e f) asked = absurd (names_apart _ (codes "show") (codes "survey") _ _ asked.1.of_file.called is.called refl)
 asks_survey words files quiet is (Survey fs) asked = IsCalledOn-same _ (codes "survey") (codes "survey") (texts fs.items) files asked.1 is
 asks_survey words files quiet is Version asked = asks_no_help words Version quiet asked
 asks_survey words files quiet is (Help text) asked = asks_no_help words (Help text) quiet asked
@@ -225,8 +225,8 @@ asks_image_where words request fits asked program origin form files is_line plai
 pub asks_check_where : (words : List Text) (request : Request) → IsAskedBy words request → (program file : Text)
     → words ≡ file_line program (codes "check") file → IsNoFlag file → AsksCheck file request
 asks_check_where words request asked program file is_line plain =
-    asks_check (file_line program (codes "check") file) file (fault_of-file_line program (codes "check") file calls-check plain)
-    (is_called-file_line program (codes "check") file calls-check plain) request (subst (λ w. IsAskedBy w request) is_line asked)
+    asks_check (file_line program (codes "check") file) file (fault_of-check_line program file plain)
+    (is_check-check_line program file plain) request (subst (λ w. IsAskedBy w request) is_line asked)
 
 pub asks_show_where : (words : List Text) (request : Request) → IsAskedBy words request → (program : Text) (json : Bool) (file : Text)
     → words ≡ show_line program json file → IsNoFlag file → AsksShow json file request
@@ -247,11 +247,11 @@ asks_survey_where words request fits asked program files is_line some plain =
 
 -- what arguments ask for whose only fault is that they ask for the version
 asks_version : (words : List Text) → fault_of command_line words ≡ error.DisplayVersion ∷ [] → (request : Request) → IsAskedBy words request → AsksVersion request
-asks_version words only (Link out map options files) asked = let none : [] ≡ error.DisplayVersion ∷ [] = sym asked.0 ∙ only in cc
-asks_version words only (Load list form file) asked = let none : [] ≡ error.DisplayVersion ∷ [] = sym asked.0 ∙ only in cc
-asks_version words only (Image list form files) asked = let none : [] ≡ error.DisplayVersion ∷ [] = sym asked.0 ∙ only in cc
-asks_version words only (Check file) asked = let none : [] ≡ error.DisplayVersion ∷ [] = sym asked.0 ∙ only in cc
-asks_version words only (Show json file) asked = let none : [] ≡ error.DisplayVersion ∷ [] = sym asked.0 ∙ only in cc
+asks_version words only (Link out map options explain files) asked = let none : [] ≡ error.DisplayVersion ∷ [] = sym asked.0 ∙ only in cc
+asks_version words only (Load list form explain file) asked = let none : [] ≡ error.DisplayVersion ∷ [] = sym asked.0 ∙ only in cc
+asks_version words only (Image list form explain files) asked = let none : [] ≡ error.DisplayVersion ∷ [] = sym asked.0 ∙ only in cc
+asks_version words only (Check explain file) asked = let none : [] ≡ error.DisplayVersion ∷ [] = sym asked.0 ∙ only in cc
+asks_version words only (Show json explain file) asked = let none : [] ≡ error.DisplayVersion ∷ [] = sym asked.0 ∙ only in cc
 asks_version words only (Survey files) asked = let none : [] ≡ error.DisplayVersion ∷ [] = sym asked.0 ∙ only in cc
 asks_version words only Version asked = tt
 asks_version words only (Help text) asked = elim (subst (λ kinds. IsAmong error.DisplayHelp kinds) only asked) [
@@ -279,20 +279,20 @@ asks_version_where words request asked program word is_line is_word =
 
 pub asked_by_retold : (words : List Text) (request other : Request) → IsAskedBy words request → IsRetold request other → IsAskedBy words other
 asked_by_retold words (Refused text) (Refused more) asked retold = asked
-asked_by_retold words (Refused text) (Link out map options files) asked retold = cc
-asked_by_retold words (Refused text) (Load addresses form file) asked retold = cc
-asked_by_retold words (Refused text) (Image addresses form files) asked retold = cc
-asked_by_retold words (Refused text) (Check file) asked retold = cc
-asked_by_retold words (Refused text) (Show json file) asked retold = cc
+asked_by_retold words (Refused text) (Link out map options explain files) asked retold = cc
+asked_by_retold words (Refused text) (Load addresses form explain file) asked retold = cc
+asked_by_retold words (Refused text) (Image addresses form explain files) asked retold = cc
+asked_by_retold words (Refused text) (Check explain file) asked retold = cc
+asked_by_retold words (Refused text) (Show json explain file) asked retold = cc
 asked_by_retold words (Refused text) (Survey files) asked retold = cc
 asked_by_retold words (Refused text) Version asked retold = cc
 asked_by_retold words (Refused text) (Help more) asked retold = cc
 asked_by_retold words (Refused text) OutOfMemory asked retold = cc
-asked_by_retold words (Link out map options files) other asked retold = subst (IsAskedBy words) retold asked
-asked_by_retold words (Load addresses text file) other asked retold = subst (IsAskedBy words) retold asked
-asked_by_retold words (Image addresses form files) other asked retold = subst (IsAskedBy words) retold asked
-asked_by_retold words (Check file) other asked retold = subst (IsAskedBy words) retold asked
-asked_by_retold words (Show json file) other asked retold = subst (IsAskedBy words) retold asked
+asked_by_retold words (Link out map options explain files) other asked retold = subst (IsAskedBy words) retold asked
+asked_by_retold words (Load addresses text explain file) other asked retold = subst (IsAskedBy words) retold asked
+asked_by_retold words (Image addresses form explain files) other asked retold = subst (IsAskedBy words) retold asked
+asked_by_retold words (Check explain file) other asked retold = subst (IsAskedBy words) retold asked
+asked_by_retold words (Show json explain file) other asked retold = subst (IsAskedBy words) retold asked
 asked_by_retold words (Survey files) other asked retold = subst (IsAskedBy words) retold asked
 asked_by_retold words Version other asked retold = subst (IsAskedBy words) retold asked
 asked_by_retold words (Help text) other asked retold = subst (IsAskedBy words) retold asked

@@ -1,18 +1,14 @@
--- The walk over FILE, a subcommand whose words end with it, and the plain form of one that has no
--- other argument.
+-- The walk over FILE, and a subcommand whose words end with it.
 use Rattle.std.proofs.Common.{◌≡◌, ◌∙◌, ap, refl, false, List, [], ◌∷◌, ◌++◌, codes, Some}
 use Rattle.std.proofs.lemmas.Bool.{ne_eqb}
-use Rattle.clap.specs.Words.{Row, Rule, Shape, Text, fault_of, first_of, subcommand_of}
+use Rattle.clap.specs.Words.{Row, Rule, Shape, Text}
 use Rattle.clap.specs.Walk.{Held, Walk, arg_by_index, finished, is_pending, nothing_held, rows_after, settled, walk, walk_from, walked}
 use Rattle.clap.specs.Simple.{filled, with_index}
 use Rattle.clap.specs.Faults.{level_fault, settle_fault, turn_fault}
-use Rattle.clap.proofs.OnLiterals.{clap_on_literals}
-use Rattle.amihunk.proofs.CommandLineLemmas.{built_file}
-use Rattle.amihunk.proofs.CommandLineFlagsLemmas.{IsFront, front-nothing}
-use Rattle.amihunk.proofs.CommandLineSubcommandLemmas.{Calls, fault_of-line, subcommand_of-line}
+use Rattle.amihunk.proofs.CommandLineFlagsLemmas.{IsFront}
 use Rattle.amihunk.proofs.CommandLineWalkLemmas.{end_fault, level_fault-nil, walk_fault-cons, walk_fault-nil}
-use Rattle.amihunk.specs.Syntax.{command_line, file_rule}
-use Rattle.amihunk.specs.CommandLine.{IsCalled, IsNoFlag, file_line}
+use Rattle.amihunk.specs.Syntax.{file_rule}
+use Rattle.amihunk.specs.CommandLine.{IsNoFlag}
 
 -- the argument as `clap` builds it
 abbrev pub built_one : Rule
@@ -56,31 +52,3 @@ module _ (s : Shape) (words : List Text) (held : Held) (front : IsFront s nothin
       (front.quiet (file ∷ []) (walk_fault-cons s [] (walk_from held) (after_file (settled s.rules held) file) file [] (turn_fault-file s held file awaits plain)
       (walked-file s held file awaits plain) (walk_fault-nil s [] (after_file (settled s.rules held) file))))
       (awaits.late file)
-
--- ---- a subcommand whose only argument is FILE
-
-awaits-only : (name : Text) → AwaitsFile (built_file name) nothing_held
-unfolding clap_on_literals
-awaits-only name = record { by_index = refl; other = refl; quiet = refl; late = λ file. refl }
-
-only_file : (name file : Text) → first_of (codes "file") (file_rows (built_file name) nothing_held file) ≡ Some file
-unfolding clap_on_literals
-only_file name file = refl
-
-pub calls-check : Calls (codes "check") (built_file (codes "check"))
-unfolding clap_on_literals
-calls-check = record { met = refl; quiet = refl; found = refl; name_is = refl }
-
-module _ (program name file : Text) (calls : Calls name (built_file name)) (plain : IsNoFlag file) where
-  pub fault_of-file_line : fault_of command_line (file_line program name file) ≡ []
-  fault_of-file_line =
-      fault_of-line program name (built_file name) (file ∷ []) calls
-      (level_fault-file (built_file name) [] nothing_held (front-nothing (built_file name) nothing_held) (awaits-only name) file plain)
-
-  pub is_called-file_line : IsCalled (subcommand_of command_line (file_line program name file)) name file
-  is_called-file_line = record {
-    rows = file_rows (built_file name) nothing_held file;
-    called = subcommand_of-line program name (built_file name) (file ∷ []) calls
-        ∙ ap (λ rows. Some (name, rows)) (rows_after-file (built_file name) [] nothing_held (front-nothing (built_file name) nothing_held) (awaits-only name) file plain);
-    file_is = only_file name file;
-  }

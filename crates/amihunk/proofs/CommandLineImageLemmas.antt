@@ -72,6 +72,13 @@ form-image (in_list list) file rest SRecords = record { given_is = refl; value_i
 form-image (in_file name) file rest Report = record { given_is = refl; value_is = refl }
 form-image (in_file name) file rest SRecords = record { given_is = refl; value_is = refl }
 
+explain-image : (origin : Origin) (file : Text) (rest : List Text) (form : ImageForm) → IsFlag (image_rows form origin file rest) (codes "explain") false
+unfolding clap_on_literals
+explain-image (in_list list) file rest Report = record { given_is = refl; value_is = refl }
+explain-image (in_list list) file rest SRecords = record { given_is = refl; value_is = refl }
+explain-image (in_file name) file rest Report = record { given_is = refl; value_is = refl }
+explain-image (in_file name) file rest SRecords = record { given_is = refl; value_is = refl }
+
 -- ---- the whole line
 
 calls-image : Calls (codes "image") built_image
@@ -98,7 +105,7 @@ module _ (program : Text) (form : ImageForm) (origin : Origin) (plain_value : Is
   -- `image --at LIST [--srec] FILE...` is the subcommand `image`, with LIST, the form and FILE..., and so with
   -- `--at-file`
   pub is_image-image_line : (files : List Text) → 0 < length files → All IsNoFlag files
-      → IsImage (subcommand_of command_line (image_line program origin form files)) (values_of origin) form files
+      → IsImage (subcommand_of command_line (image_line program origin form files)) (values_of origin) form false files
   is_image-image_line [] some plain = absurd (omega arith)
   is_image-image_line (file ∷ rest) some plain = record {
     of_files = record {
@@ -110,4 +117,5 @@ module _ (program : Text) (form : ImageForm) (origin : Origin) (plain_value : Is
     };
     values_are = values-image origin file rest form;
     form_is = form-image origin file rest form;
+    explain_is = explain-image origin file rest form;
   }

@@ -10,8 +10,8 @@ use Rattle.clap.specs.Faults.{check_fault, defaults_fault, entered_fault, level_
 use Rattle.clap.specs.Kinds.{check_kinds}
 use Rattle.amihunk.proofs.CommandLineUseLemmas.{AllDefaulting, Filled, HasDefault, IsDefaulted, IsFilling, filled-defaults, flag_read, has_row-defaults, is_flag, or_else-nil, value_given, values_given}
 use Rattle.amihunk.proofs.CommandLineRowLemmas.{AllFilling, filled-settled, filled-walk}
-use Rattle.amihunk.specs.Syntax.{bare_shape, command_line, file_shape, flag_rule, image_shape, letter_s, link_shape, load_shape, option_rule, show_shape, survey_shape}
-use Rattle.amihunk.specs.CommandLine.{AddressValues, IsCalled, IsFlag, IsWhole, is_srec}
+use Rattle.amihunk.specs.Syntax.{bare_shape, check_shape, command_line, flag_rule, image_shape, letter_s, link_shape, load_shape, option_rule, show_shape, survey_shape}
+use Rattle.amihunk.specs.CommandLine.{AddressValues, IsFlag, IsWhole, is_srec}
 use Rattle.hunk_tool.specs.declared.image_form.ImageForm.{ImageForm}
 use Rattle.hunk_tool.specs.declared.image_form.ImageForm.TheVariants.{Report, SRecords}
 use Rattle.amihunk.specs.declared.syntax.Edition.TheVariants.{Present}
@@ -60,8 +60,8 @@ built_image = built_below (image_shape Present)
 abbrev pub built_show : Shape
 built_show = built_below (show_shape Present)
 
-abbrev pub built_file : Text → Shape
-built_file name = built_below (file_shape name)
+abbrev pub built_check : Shape
+built_check = built_below (check_shape Present)
 
 abbrev pub built_survey : Shape
 built_survey = built_below survey_shape
@@ -101,13 +101,16 @@ link_filling = (
     option_filling (codes "map") refl,
     (
       flag_filling (Some letter_s) (codes "strip"),
-      (flag_filling None (codes "short"), (flag_filling None (codes "trim"), (inr (inl (inr refl, (omega arith, refl))), (inl refl, tt)))),
+      (
+        flag_filling None (codes "short"),
+        (flag_filling None (codes "trim"), (flag_filling None (codes "explain"), (inr (inl (inr refl, (omega arith, refl))), (inl refl, tt)))),
+      ),
     ),
   ),
 )
 
 link_defaults : AllDefaulting built_link.rules
-link_defaults = (inl refl, (inl refl, (inr (refl, refl), (inr (refl, refl), (inr (refl, refl), (inl refl, (inl refl, tt)))))))
+link_defaults = (inl refl, (inl refl, (inr (refl, refl), (inr (refl, refl), (inr (refl, refl), (inr (refl, refl), (inl refl, (inl refl, tt))))))))
 
 -- a flag has a row, by its default
 flag_default : (letter : Option ℕ) (name : Text) → HasDefault name (filled (record (flag_rule name) { short = letter }))
@@ -121,6 +124,9 @@ short_defaulted = inr (inr (inr (inl (flag_default None (codes "short")))))
 
 trim_defaulted : IsDefaulted (codes "trim") built_link.rules
 trim_defaulted = inr (inr (inr (inr (inl (flag_default None (codes "trim"))))))
+
+link_explain : IsDefaulted (codes "explain") built_link.rules
+link_explain = inr (inr (inr (inr (inr (inl (flag_default None (codes "explain")))))))
 
 sound_link : IsSound built_link
 sound_link words e =
@@ -136,13 +142,15 @@ sound_link words e =
     let strip = read (codes "strip") refl strip_defaulted in
     let short = read (codes "short") refl short_defaulted in
     let trim = read (codes "trim") refl trim_defaulted in
-    link out.0 (first_of (codes "map") rows) (record { strip = strip.0; short = short.0; trim = trim.0 }) files.0 (record {
+    let explain = read (codes "explain") refl link_explain in
+    link out.0 (first_of (codes "map") rows) (record { strip = strip.0; short = short.0; trim = trim.0 }) explain.0 files.0 (record {
       of_files = record { rows = rows; called = refl; files_are = files.2; some = files.1 };
       out_is = out.1;
       map_is = refl;
       strip_is = strip.1;
       short_is = short.1;
       trim_is = trim.1;
+      explain_is = explain.1;
     })
 
 -- `load`
@@ -152,18 +160,24 @@ load_filling = (
   option_filling (codes "at") refl,
   (
     option_filling (codes "at-file") refl,
-    (flag_filling None (codes "srec"), (flag_filling None (codes "symbols"), (inr (inl (inl refl, (omega arith, refl))), (inl refl, tt)))),
+    (
+      flag_filling None (codes "srec"),
+      (flag_filling None (codes "symbols"), (flag_filling None (codes "explain"), (inr (inl (inl refl, (omega arith, refl))), (inl refl, tt)))),
+    ),
   ),
 )
 
 load_defaults : AllDefaulting built_load.rules
-load_defaults = (inl refl, (inl refl, (inr (refl, refl), (inr (refl, refl), (inl refl, (inl refl, tt))))))
+load_defaults = (inl refl, (inl refl, (inr (refl, refl), (inr (refl, refl), (inr (refl, refl), (inl refl, (inl refl, tt)))))))
 
 load_srec : IsDefaulted (codes "srec") built_load.rules
 load_srec = inr (inr (inl (flag_default None (codes "srec"))))
 
 load_symbols : IsDefaulted (codes "symbols") built_load.rules
 load_symbols = inr (inr (inr (inl (flag_default None (codes "symbols")))))
+
+load_explain : IsDefaulted (codes "explain") built_load.rules
+load_explain = inr (inr (inr (inr (inl (flag_default None (codes "explain"))))))
 
 -- the values of the two options, if they are given
 values_in : List Row → AddressValues
@@ -178,11 +192,13 @@ sound_load words e =
     let settled_rows = (settled built_load.rules (walk built_load.rules [] nothing_held words).held).rows in
     let srec = flag_read (codes "srec") rows refl right.filled (has_row-defaults (codes "srec") built_load.rules settled_rows load_srec) in
     let symbols = flag_read (codes "symbols") rows refl right.filled (has_row-defaults (codes "symbols") built_load.rules settled_rows load_symbols) in
-    load (values_in rows) srec.0 symbols.0 file.0 (record {
+    let explain = flag_read (codes "explain") rows refl right.filled (has_row-defaults (codes "explain") built_load.rules settled_rows load_explain) in
+    load (values_in rows) srec.0 symbols.0 explain.0 file.0 (record {
       of_file = record { rows = rows; called = refl; file_is = file.1 };
       values_are = (refl, refl);
       srec_is = srec.1;
       symbols_is = symbols.1;
+      explain_is = explain.1;
     })
 
 -- `image`
@@ -200,15 +216,18 @@ image_filling = (
   option_filling (codes "at") refl,
   (
     option_filling (codes "at-file") refl,
-    (flag_filling None (codes "srec"), (inr (inl (inr refl, (omega arith, refl))), (inl refl, tt))),
+    (flag_filling None (codes "srec"), (flag_filling None (codes "explain"), (inr (inl (inr refl, (omega arith, refl))), (inl refl, tt)))),
   ),
 )
 
 image_defaults : AllDefaulting built_image.rules
-image_defaults = (inl refl, (inl refl, (inr (refl, refl), (inl refl, (inl refl, tt)))))
+image_defaults = (inl refl, (inl refl, (inr (refl, refl), (inr (refl, refl), (inl refl, (inl refl, tt))))))
 
 image_srec : IsDefaulted (codes "srec") built_image.rules
 image_srec = inr (inr (inl (flag_default None (codes "srec"))))
+
+image_explain : IsDefaulted (codes "explain") built_image.rules
+image_explain = inr (inr (inr (inl (flag_default None (codes "explain")))))
 
 sound_image : IsSound built_image
 unfolding values_in
@@ -216,44 +235,49 @@ sound_image words e =
     let rows = rows_after built_image.rules [] words in
     let right = right_where_faultless built_image words image_filling image_defaults e in
     let files = values_given (codes "file") rows right.filled (one_given (is_given (codes "file") rows) right.checked) in
-    let form = form_read rows right.filled (has_row-defaults (codes "srec") built_image.rules (settled built_image.rules (walk built_image.rules [] nothing_held words).held).rows image_srec) in
-    image (values_in rows) form.0 files.0 (record {
+    let settled_rows = (settled built_image.rules (walk built_image.rules [] nothing_held words).held).rows in
+    let form = form_read rows right.filled (has_row-defaults (codes "srec") built_image.rules settled_rows image_srec) in
+    let explain = flag_read (codes "explain") rows refl right.filled (has_row-defaults (codes "explain") built_image.rules settled_rows image_explain) in
+    image (values_in rows) form.0 explain.0 files.0 (record {
       of_files = record { rows = rows; called = refl; files_are = files.2; some = files.1 };
       values_are = (refl, refl);
       form_is = form.1;
+      explain_is = explain.1;
     })
 
--- a subcommand whose only argument is FILE
+-- `check`
 
-file_filling : (name : Text) → AllFilling false (built_file name).rules
-file_filling name = (inr (inl (inl refl, (omega arith, refl))), (inl refl, tt))
+check_filling : AllFilling false built_check.rules
+check_filling = (flag_filling None (codes "explain"), (inr (inl (inl refl, (omega arith, refl))), (inl refl, tt)))
 
-file_defaults : (name : Text) → AllDefaulting (built_file name).rules
-file_defaults name = (inl refl, (inl refl, tt))
+check_defaults : AllDefaulting built_check.rules
+check_defaults = (inr (refl, refl), (inl refl, (inl refl, tt)))
 
-called_file : (name : Text) (words : List Text) → level_fault (built_file name) [] nothing_held words false [] ≡ []
-    → (file : Text) × IsCalled (Some (rows_at (built_file name) words)) name file
-called_file name words e =
-    let rows = rows_after (built_file name).rules [] words in
-    let right = right_where_faultless (built_file name) words (file_filling name) (file_defaults name) e in
-    let file = value_given (codes "file") rows right.filled (one_given (is_given (codes "file") rows) right.checked) in
-    (file.0, record { rows = rows; called = refl; file_is = file.1 })
+check_explain : IsDefaulted (codes "explain") built_check.rules
+check_explain = inl (flag_default None (codes "explain"))
 
-sound_check : IsSound (built_file (codes "check"))
+sound_check : IsSound built_check
 sound_check words e =
-    let called = called_file (codes "check") words e in
-    check called.0 called.1
+    let rows = rows_after built_check.rules [] words in
+    let right = right_where_faultless built_check words check_filling check_defaults e in
+    let file = value_given (codes "file") rows right.filled (one_given (is_given (codes "file") rows) right.checked) in
+    let settled_rows = (settled built_check.rules (walk built_check.rules [] nothing_held words).held).rows in
+    let explain = flag_read (codes "explain") rows refl right.filled (has_row-defaults (codes "explain") built_check.rules settled_rows check_explain) in
+    check explain.0 file.0 (record { of_file = record { rows = rows; called = refl; file_is = file.1 }; explain_is = explain.1 })
 
 -- `show`
 
 show_filling : AllFilling false built_show.rules
-show_filling = (flag_filling None (codes "json"), (inr (inl (inl refl, (omega arith, refl))), (inl refl, tt)))
+show_filling = (flag_filling None (codes "json"), (flag_filling None (codes "explain"), (inr (inl (inl refl, (omega arith, refl))), (inl refl, tt))))
 
 show_defaults : AllDefaulting built_show.rules
-show_defaults = (inr (refl, refl), (inl refl, (inl refl, tt)))
+show_defaults = (inr (refl, refl), (inr (refl, refl), (inl refl, (inl refl, tt))))
 
 show_json : IsDefaulted (codes "json") built_show.rules
 show_json = inl (flag_default None (codes "json"))
+
+show_explain : IsDefaulted (codes "explain") built_show.rules
+show_explain = inr (inl (flag_default None (codes "explain")))
 
 sound_show : IsSound built_show
 sound_show words e =
@@ -262,7 +286,8 @@ sound_show words e =
     let file = value_given (codes "file") rows right.filled (one_given (is_given (codes "file") rows) right.checked) in
     let settled_rows = (settled built_show.rules (walk built_show.rules [] nothing_held words).held).rows in
     let json = flag_read (codes "json") rows refl right.filled (has_row-defaults (codes "json") built_show.rules settled_rows show_json) in
-    show json.0 file.0 (record { of_file = record { rows = rows; called = refl; file_is = file.1 }; json_is = json.1 })
+    let explain = flag_read (codes "explain") rows refl right.filled (has_row-defaults (codes "explain") built_show.rules settled_rows show_explain) in
+    show json.0 explain.0 file.0 (record { of_file = record { rows = rows; called = refl; file_is = file.1 }; json_is = json.1; explain_is = explain.1 })
 
 -- `survey`
 

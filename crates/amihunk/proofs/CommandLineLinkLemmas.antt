@@ -113,22 +113,23 @@ link_rows options out map file rest = files_rows built_link (link_held options o
 abbrev IsRead : List Row → Text → Bool → Type 0
 IsRead rows name given = (is_given name rows ≡ given) × (one_of name rows ≡ Some (bool_text given))
 
+-- the flags of the options were read, and none that asks for explanations
 abbrev AreRead : List Row → LinkOptions → Type 0
 AreRead rows options =
-    IsRead rows (codes "strip") options.strip × IsRead rows (codes "short") options.short × IsRead rows (codes "trim") options.trim
+    IsRead rows (codes "strip") options.strip × IsRead rows (codes "short") options.short × IsRead rows (codes "trim") options.trim × IsRead rows (codes "explain") false
 
 flags-link : (out file : Text) (rest : List Text) (map : Option Text) (options : LinkOptions) → AreRead (link_rows options out map file rest) options
 unfolding clap_on_literals
 flags-link out file rest None = each_choice (λ options. AreRead (link_rows options out None file rest) options)
-    ((refl, refl), (refl, refl), (refl, refl)) ((refl, refl), (refl, refl), (refl, refl))
-    ((refl, refl), (refl, refl), (refl, refl)) ((refl, refl), (refl, refl), (refl, refl))
-    ((refl, refl), (refl, refl), (refl, refl)) ((refl, refl), (refl, refl), (refl, refl))
-    ((refl, refl), (refl, refl), (refl, refl)) ((refl, refl), (refl, refl), (refl, refl))
+    ((refl, refl), (refl, refl), (refl, refl), (refl, refl)) ((refl, refl), (refl, refl), (refl, refl), (refl, refl))
+    ((refl, refl), (refl, refl), (refl, refl), (refl, refl)) ((refl, refl), (refl, refl), (refl, refl), (refl, refl))
+    ((refl, refl), (refl, refl), (refl, refl), (refl, refl)) ((refl, refl), (refl, refl), (refl, refl), (refl, refl))
+    ((refl, refl), (refl, refl), (refl, refl), (refl, refl)) ((refl, refl), (refl, refl), (refl, refl), (refl, refl))
 flags-link out file rest (Some map) = each_choice (λ options. AreRead (link_rows options out (Some map) file rest) options)
-    ((refl, refl), (refl, refl), (refl, refl)) ((refl, refl), (refl, refl), (refl, refl))
-    ((refl, refl), (refl, refl), (refl, refl)) ((refl, refl), (refl, refl), (refl, refl))
-    ((refl, refl), (refl, refl), (refl, refl)) ((refl, refl), (refl, refl), (refl, refl))
-    ((refl, refl), (refl, refl), (refl, refl)) ((refl, refl), (refl, refl), (refl, refl))
+    ((refl, refl), (refl, refl), (refl, refl), (refl, refl)) ((refl, refl), (refl, refl), (refl, refl), (refl, refl))
+    ((refl, refl), (refl, refl), (refl, refl), (refl, refl)) ((refl, refl), (refl, refl), (refl, refl), (refl, refl))
+    ((refl, refl), (refl, refl), (refl, refl), (refl, refl)) ((refl, refl), (refl, refl), (refl, refl), (refl, refl))
+    ((refl, refl), (refl, refl), (refl, refl), (refl, refl)) ((refl, refl), (refl, refl), (refl, refl), (refl, refl))
 
 -- OUT, MAP and the files in these rows
 abbrev HasPaths : List Row → Text → Option Text → List Text → Type 0
@@ -181,7 +182,7 @@ module _ (program : Text) (options : LinkOptions) (out : Text) (map : Option Tex
 
   -- these words and FILE... are the subcommand `link`, with OUT, MAP, the options and FILE...
   pub is_link-link_words : (files : List Text) → 0 < length files → All IsNoFlag files
-      → IsLink (subcommand_of command_line (program ∷ codes "link" ∷ (words ++ files))) out map options files
+      → IsLink (subcommand_of command_line (program ∷ codes "link" ∷ (words ++ files))) out map options false files
   is_link-link_words [] some plain = absurd (omega arith)
   is_link-link_words (file ∷ rest) some plain =
       let paths = paths-link out file rest map options in
@@ -199,4 +200,5 @@ module _ (program : Text) (options : LinkOptions) (out : Text) (map : Option Tex
         strip_is = record { given_is = flags.0.0; value_is = flags.0.1 };
         short_is = record { given_is = flags.1.0; value_is = flags.1.1 };
         trim_is = record { given_is = flags.2.0; value_is = flags.2.1 };
+        explain_is = record { given_is = flags.3.0; value_is = flags.3.1 };
       }

@@ -88,6 +88,15 @@ symbols-load (in_file name) file (Image Report) = record { given_is = refl; valu
 symbols-load (in_file name) file (Image SRecords) = record { given_is = refl; value_is = refl }
 symbols-load (in_file name) file Symbols = record { given_is = refl; value_is = refl }
 
+explain-load : (origin : Origin) (file : Text) (text : LoadText) → IsFlag (load_rows text origin file) (codes "explain") false
+unfolding clap_on_literals
+explain-load (in_list list) file (Image Report) = record { given_is = refl; value_is = refl }
+explain-load (in_list list) file (Image SRecords) = record { given_is = refl; value_is = refl }
+explain-load (in_list list) file Symbols = record { given_is = refl; value_is = refl }
+explain-load (in_file name) file (Image Report) = record { given_is = refl; value_is = refl }
+explain-load (in_file name) file (Image SRecords) = record { given_is = refl; value_is = refl }
+explain-load (in_file name) file Symbols = record { given_is = refl; value_is = refl }
+
 -- ---- the whole line
 
 calls-load : Calls (codes "load") built_load
@@ -111,7 +120,7 @@ module _ (program : Text) (text : LoadText) (origin : Origin) (file : Text) (pla
 
   -- `load --at LIST [--srec | --symbols] FILE` is the subcommand `load`, with LIST, the flag for the text and FILE, and so
   -- with `--at-file`
-  pub is_load-load_line : IsLoad (subcommand_of command_line (load_line program origin text file)) (values_of origin) (asks_srec text) (asks_symbols text) file
+  pub is_load-load_line : IsLoad (subcommand_of command_line (load_line program origin text file)) (values_of origin) (asks_srec text) (asks_symbols text) false file
   is_load-load_line = record {
     of_file = record {
       rows = load_rows text origin file;
@@ -122,4 +131,5 @@ module _ (program : Text) (text : LoadText) (origin : Origin) (file : Text) (pla
     values_are = values-load origin file text;
     srec_is = srec-load origin file text;
     symbols_is = symbols-load origin file text;
+    explain_is = explain-load origin file text;
   }

@@ -38,6 +38,11 @@ unfolding clap_on_literals
 json-show file true = record { given_is = refl; value_is = refl }
 json-show file false = record { given_is = refl; value_is = refl }
 
+explain-show : (file : Text) (json : Bool) → IsFlag (show_rows json file) (codes "explain") false
+unfolding clap_on_literals
+explain-show file true = record { given_is = refl; value_is = refl }
+explain-show file false = record { given_is = refl; value_is = refl }
+
 -- ---- the whole line
 
 calls-show : Calls (codes "show") built_show
@@ -54,7 +59,7 @@ module _ (program : Text) (json : Bool) (file : Text) (plain : IsNoFlag file) wh
       (level_fault-file built_show (json_words json) (show_held json) front-show (awaits-show json) file plain)
 
   -- `show [--json] FILE` is the subcommand `show`, with the flag and FILE
-  pub is_show-show_line : IsShow (subcommand_of command_line (show_line program json file)) json file
+  pub is_show-show_line : IsShow (subcommand_of command_line (show_line program json file)) json false file
   is_show-show_line = record {
     of_file = record {
       rows = show_rows json file;
@@ -63,4 +68,5 @@ module _ (program : Text) (json : Bool) (file : Text) (plain : IsNoFlag file) wh
       file_is = path-show file json;
     };
     json_is = json-show file json;
+    explain_is = explain-show file json;
   }

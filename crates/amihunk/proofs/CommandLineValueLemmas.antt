@@ -9,7 +9,7 @@ use Rattle.clap.specs.Values.{bool_text}
 use Rattle.clap.specs.Words.{Row, Text, all_of, first_of, one_of, one_text, rows_of}
 use Rattle.clap.specs.declared.parser.matches.Found.{Found}
 use Rattle.clap.proofs.WalkLemmas.{one_text-rows}
-use Rattle.amihunk.specs.CommandLine.{AddressValues, Answers, AreUnclear, AreValues, IsCalled, IsCalledOn, IsConflict, IsFlag, IsImage, IsLink, IsLoad, IsShow, IsWhole, Met, Says, asks_srec, asks_symbols, conflict_kind, is_srec, values_of}
+use Rattle.amihunk.specs.CommandLine.{AddressValues, Answers, AreUnclear, AreValues, IsCalled, IsCalledOn, IsCheck, IsConflict, IsFlag, IsImage, IsLink, IsLoad, IsShow, IsWhole, Met, Says, asks_srec, asks_symbols, conflict_kind, is_srec, values_of}
 use Rattle.amihunk.specs.CommandLine.IsConflict.{two_texts, no_load, no_image}
 use Rattle.amihunk.specs.declared.command_line.Conflict.{Conflict}
 use Rattle.amihunk.specs.declared.command_line.Conflict.TheVariants.{Texts, TwoAddresses, NoAddresses}
@@ -61,9 +61,9 @@ options_same a b strip short trim =
     ∙ ap (λ x. record { strip = b.strip; short = x; trim = a.trim }) short
     ∙ ap (λ x. record { strip = b.strip; short = b.short; trim = x }) trim
 
-pub IsLink-same : (met : Met) (a b : Text) (m n : Option Text) (s t : LinkOptions) (xs ys : List Text) → IsLink met a m s xs → IsLink met b n t ys
-    → (a ≡ b) × (m ≡ n) × (s ≡ t) × (xs ≡ ys)
-IsLink-same met a b m n s t xs ys h k =
+pub IsLink-same : (met : Met) (a b : Text) (m n : Option Text) (s t : LinkOptions) (e f : Bool) (xs ys : List Text) → IsLink met a m s e xs → IsLink met b n t f ys
+    → (a ≡ b) × (m ≡ n) × (s ≡ t) × (e ≡ f) × (xs ≡ ys)
+IsLink-same met a b m n s t e f xs ys h k =
     let same = rows_same met (codes "link") (codes "link") h.of_files.rows k.of_files.rows h.of_files.called k.of_files.called in
     let outs : Some a ≡ Some b = sym h.out_is ∙ (ap (first_of (codes "out")) same ∙ k.out_is) in
     let maps : m ≡ n = sym h.map_is ∙ (ap (first_of (codes "map")) same ∙ k.map_is) in
@@ -71,12 +71,21 @@ IsLink-same met a b m n s t xs ys h k =
     (IsFlag-same (codes "strip") h.of_files.rows k.of_files.rows s.strip t.strip same h.strip_is k.strip_is)
     (IsFlag-same (codes "short") h.of_files.rows k.of_files.rows s.short t.short same h.short_is k.short_is)
     (IsFlag-same (codes "trim") h.of_files.rows k.of_files.rows s.trim t.trim same h.trim_is k.trim_is) in
-    (cc, maps, options, IsCalledOn-same met (codes "link") (codes "link") xs ys h.of_files k.of_files)
+    let explain = IsFlag-same (codes "explain") h.of_files.rows k.of_files.rows e f same h.explain_is k.explain_is in
+    (cc, maps, options, explain, IsCalledOn-same met (codes "link") (codes "link") xs ys h.of_files k.of_files)
 
-pub IsShow-same : (met : Met) (i j : Bool) (x y : Text) → IsShow met i x → IsShow met j y → (i ≡ j) × (x ≡ y)
-IsShow-same met i j x y h k =
+pub IsCheck-same : (met : Met) (e f : Bool) (x y : Text) → IsCheck met e x → IsCheck met f y → (e ≡ f) × (x ≡ y)
+IsCheck-same met e f x y h k =
+    let same = rows_same met (codes "check") (codes "check") h.of_file.rows k.of_file.rows h.of_file.called k.of_file.called in (
+      IsFlag-same (codes "explain") h.of_file.rows k.of_file.rows e f same h.explain_is k.explain_is,
+      IsCalled-same met (codes "check") (codes "check") x y h.of_file k.of_file,
+    )
+
+pub IsShow-same : (met : Met) (i j e f : Bool) (x y : Text) → IsShow met i e x → IsShow met j f y → (i ≡ j) × (e ≡ f) × (x ≡ y)
+IsShow-same met i j e f x y h k =
     let same = rows_same met (codes "show") (codes "show") h.of_file.rows k.of_file.rows h.of_file.called k.of_file.called in (
       IsFlag-same (codes "json") h.of_file.rows k.of_file.rows i j same h.json_is k.json_is,
+      IsFlag-same (codes "explain") h.of_file.rows k.of_file.rows e f same h.explain_is k.explain_is,
       IsCalled-same met (codes "show") (codes "show") x y h.of_file k.of_file,
     )
 
@@ -108,33 +117,37 @@ origins_same (in_list a) (in_file c) same = let lists : Some a ≡ None = ap (λ
 origins_same (in_file a) (in_list c) same = let lists : None ≡ Some c = ap (λ v. v.list) same in cc
 origins_same (in_file a) (in_file c) same = let files : Some a ≡ Some c = ap (λ v. v.file) same in cc
 
-IsLoad-same : (met : Met) (a c : AddressValues) (one other more less : Bool) (b d : Text) → IsLoad met a one more b → IsLoad met c other less d → (a ≡ c) × (one ≡ other) × (more ≡ less) × (b ≡ d)
-IsLoad-same met a c one other more less b d h k =
+IsLoad-same : (met : Met) (a c : AddressValues) (one other more less e f : Bool) (b d : Text) → IsLoad met a one more e b → IsLoad met c other less f d
+    → (a ≡ c) × (one ≡ other) × (more ≡ less) × (e ≡ f) × (b ≡ d)
+IsLoad-same met a c one other more less e f b d h k =
     let same = rows_same met (codes "load") (codes "load") h.of_file.rows k.of_file.rows h.of_file.called k.of_file.called in (
       AreValues-same h.of_file.rows k.of_file.rows a c same h.values_are k.values_are,
       IsFlag-same (codes "srec") h.of_file.rows k.of_file.rows one other same h.srec_is k.srec_is,
       IsFlag-same (codes "symbols") h.of_file.rows k.of_file.rows more less same h.symbols_is k.symbols_is,
+      IsFlag-same (codes "explain") h.of_file.rows k.of_file.rows e f same h.explain_is k.explain_is,
       IsCalled-same met (codes "load") (codes "load") b d h.of_file k.of_file,
     )
 
 -- `load` for one text
-pub IsLoad-one : (met : Met) (a c : Origin) (one other : LoadText) (b d : Text) → IsLoad met (values_of a) (asks_srec one) (asks_symbols one) b
-    → IsLoad met (values_of c) (asks_srec other) (asks_symbols other) d → (a ≡ c) × (one ≡ other) × (b ≡ d)
-IsLoad-one met a c one other b d h k =
-    let same = IsLoad-same met (values_of a) (values_of c) (asks_srec one) (asks_srec other) (asks_symbols one) (asks_symbols other) b d h k in
-    (origins_same a c same.0, texts_same one other same.1 same.2, same.3)
+pub IsLoad-one : (met : Met) (a c : Origin) (one other : LoadText) (e f : Bool) (b d : Text) → IsLoad met (values_of a) (asks_srec one) (asks_symbols one) e b
+    → IsLoad met (values_of c) (asks_srec other) (asks_symbols other) f d → (a ≡ c) × (one ≡ other) × (e ≡ f) × (b ≡ d)
+IsLoad-one met a c one other e f b d h k =
+    let same = IsLoad-same met (values_of a) (values_of c) (asks_srec one) (asks_srec other) (asks_symbols one) (asks_symbols other) e f b d h k in
+    (origins_same a c same.0, texts_same one other same.1 same.2, same.3, same.4)
 
-IsImage-same : (met : Met) (a c : AddressValues) (one other : ImageForm) (xs ys : List Text) → IsImage met a one xs → IsImage met c other ys → (a ≡ c) × (one ≡ other) × (xs ≡ ys)
-IsImage-same met a c one other xs ys h k =
+IsImage-same : (met : Met) (a c : AddressValues) (one other : ImageForm) (e f : Bool) (xs ys : List Text) → IsImage met a one e xs → IsImage met c other f ys
+    → (a ≡ c) × (one ≡ other) × (e ≡ f) × (xs ≡ ys)
+IsImage-same met a c one other e f xs ys h k =
     let same = rows_same met (codes "image") (codes "image") h.of_files.rows k.of_files.rows h.of_files.called k.of_files.called in
     let forms = IsFlag-same (codes "srec") h.of_files.rows k.of_files.rows (is_srec one) (is_srec other) same h.form_is k.form_is in
-    (AreValues-same h.of_files.rows k.of_files.rows a c same h.values_are k.values_are, forms_same one other forms, IsCalledOn-same met (codes "image") (codes "image") xs ys h.of_files k.of_files)
+    let explain = IsFlag-same (codes "explain") h.of_files.rows k.of_files.rows e f same h.explain_is k.explain_is in
+    (AreValues-same h.of_files.rows k.of_files.rows a c same h.values_are k.values_are, forms_same one other forms, explain, IsCalledOn-same met (codes "image") (codes "image") xs ys h.of_files k.of_files)
 
-pub IsImage-one : (met : Met) (a c : Origin) (one other : ImageForm) (xs ys : List Text) → IsImage met (values_of a) one xs → IsImage met (values_of c) other ys
-    → (a ≡ c) × (one ≡ other) × (xs ≡ ys)
-IsImage-one met a c one other xs ys h k =
-    let same = IsImage-same met (values_of a) (values_of c) one other xs ys h k in
-    (origins_same a c same.0, same.1, same.2)
+pub IsImage-one : (met : Met) (a c : Origin) (one other : ImageForm) (e f : Bool) (xs ys : List Text) → IsImage met (values_of a) one e xs → IsImage met (values_of c) other f ys
+    → (a ≡ c) × (one ≡ other) × (e ≡ f) × (xs ≡ ys)
+IsImage-one met a c one other e f xs ys h k =
+    let same = IsImage-same met (values_of a) (values_of c) one other e f xs ys h k in
+    (origins_same a c same.0, same.1, same.2, same.3)
 
 -- ---- where there is no conflict
 
@@ -148,30 +161,30 @@ clear : (origin : Origin) (values : AddressValues) → values_of origin ≡ valu
 clear (in_list list) values same unclear = let lists : true ≡ false = ap (λ v. is_some v.list) same ∙ (unclear ∙ sym (ap (λ v. is_some v.file) same)) in cc
 clear (in_file name) values same unclear = let lists : false ≡ true = ap (λ v. is_some v.list) same ∙ (unclear ∙ sym (ap (λ v. is_some v.file) same)) in cc
 
-pub no_conflict-load : (met : Met) (origin : Origin) (text : LoadText) (file : Text) → IsLoad met (values_of origin) (asks_srec text) (asks_symbols text) file → IsConflict met → ⊥
-no_conflict-load met origin text file is (two_texts values f both) =
-    let same = IsLoad-same met (values_of origin) values (asks_srec text) true (asks_symbols text) true file f is both in
+pub no_conflict-load : (met : Met) (origin : Origin) (text : LoadText) (explain : Bool) (file : Text) → IsLoad met (values_of origin) (asks_srec text) (asks_symbols text) explain file → IsConflict met → ⊥
+no_conflict-load met origin text explain file is (two_texts values e f both) =
+    let same = IsLoad-same met (values_of origin) values (asks_srec text) true (asks_symbols text) true explain e file f is both in
     not_both text same.1 same.2
-no_conflict-load met origin text file is (no_load values srec symbols f other unclear) =
-    clear origin values (IsLoad-same met (values_of origin) values (asks_srec text) srec (asks_symbols text) symbols file f is other).0 unclear
-no_conflict-load met origin text file is (no_image values form fs other unclear) =
+no_conflict-load met origin text explain file is (no_load values srec symbols e f other unclear) =
+    clear origin values (IsLoad-same met (values_of origin) values (asks_srec text) srec (asks_symbols text) symbols explain e file f is other).0 unclear
+no_conflict-load met origin text explain file is (no_image values form e fs other unclear) =
     names_apart met (codes "image") (codes "load") other.of_files.rows is.of_file.rows other.of_files.called is.of_file.called refl
 
-pub no_conflict-image : (met : Met) (origin : Origin) (form : ImageForm) (files : List Text) → IsImage met (values_of origin) form files → IsConflict met → ⊥
-no_conflict-image met origin form files is (two_texts values f both) =
+pub no_conflict-image : (met : Met) (origin : Origin) (form : ImageForm) (explain : Bool) (files : List Text) → IsImage met (values_of origin) form explain files → IsConflict met → ⊥
+no_conflict-image met origin form explain files is (two_texts values e f both) =
     names_apart met (codes "load") (codes "image") both.of_file.rows is.of_files.rows both.of_file.called is.of_files.called refl
-no_conflict-image met origin form files is (no_load values srec symbols f other unclear) =
+no_conflict-image met origin form explain files is (no_load values srec symbols e f other unclear) =
     names_apart met (codes "load") (codes "image") other.of_file.rows is.of_files.rows other.of_file.called is.of_files.called refl
-no_conflict-image met origin form files is (no_image values asked fs other unclear) =
-    clear origin values (IsImage-same met (values_of origin) values form asked files fs is other).0 unclear
+no_conflict-image met origin form explain files is (no_image values asked e fs other unclear) =
+    clear origin values (IsImage-same met (values_of origin) values form asked explain e files fs is other).0 unclear
 
 -- there is none in other subcommands
 pub no_conflict-other : (met : Met) (name : Text) (rows : List Row) → met ≡ Some (name, rows) → bytes_eq (codes "load") name ≡ false → bytes_eq (codes "image") name ≡ false → IsConflict met → ⊥
-no_conflict-other met name rows called no_load_is no_image_is (two_texts values f both) =
+no_conflict-other met name rows called no_load_is no_image_is (two_texts values e f both) =
     names_apart met (codes "load") name both.of_file.rows rows both.of_file.called called no_load_is
-no_conflict-other met name rows called no_load_is no_image_is (no_load values srec symbols f other unclear) =
+no_conflict-other met name rows called no_load_is no_image_is (no_load values srec symbols e f other unclear) =
     names_apart met (codes "load") name other.of_file.rows rows other.of_file.called called no_load_is
-no_conflict-other met name rows called no_load_is no_image_is (no_image values form fs other unclear) =
+no_conflict-other met name rows called no_load_is no_image_is (no_image values form e fs other unclear) =
     names_apart met (codes "image") name other.of_files.rows rows other.of_files.called called no_image_is
 
 -- ---- what was found is whole, and these are the values in its rows
@@ -209,12 +222,12 @@ says_flag found rows name s given same is reads =
     let flags : s ≡ given = flag_same rows name s given value reads in
     record { given_is = ap (is_given name) (sym same) ∙ is.given_is ∙ flags; value_is = value ∙ ap (λ b. Some (bool_text b)) flags }
 
-pub says_link : (met : Met) (rows : List Row) → IsWhole met → met ≡ Some (codes "link", rows) → (out : Text) (map : Option Text) (options : LinkOptions) (files : List Text)
+pub says_link : (met : Met) (rows : List Row) → IsWhole met → met ≡ Some (codes "link", rows) → (out : Text) (map : Option Text) (options : LinkOptions) (explain : Bool) (files : List Text)
     → first_of (codes "out") rows ≡ Some out → first_of (codes "map") rows ≡ map
-    → Reads rows (codes "strip") options.strip → Reads rows (codes "short") options.short → Reads rows (codes "trim") options.trim
-    → all_of (codes "file") rows ≡ Some files → IsLink met out map options files
+    → Reads rows (codes "strip") options.strip → Reads rows (codes "short") options.short → Reads rows (codes "trim") options.trim → Reads rows (codes "explain") explain
+    → all_of (codes "file") rows ≡ Some files → IsLink met out map options explain files
 unfolding called_on
-says_link met rows (link o m s fs is) called out map options files out_is map_is strip short trim files_are =
+says_link met rows (link o m s e fs is) called out map options explain files out_is map_is strip short trim more files_are =
     let same = rows_same met (codes "link") (codes "link") is.of_files.rows rows is.of_files.called called in
     record {
       of_files = called_on met (codes "link") rows files fs called files_are is.of_files;
@@ -223,33 +236,56 @@ says_link met rows (link o m s fs is) called out map options files out_is map_is
       strip_is = says_flag is.of_files.rows rows (codes "strip") s.strip options.strip same is.strip_is strip;
       short_is = says_flag is.of_files.rows rows (codes "short") s.short options.short same is.short_is short;
       trim_is = says_flag is.of_files.rows rows (codes "trim") s.trim options.trim same is.trim_is trim;
+      explain_is = says_flag is.of_files.rows rows (codes "explain") e explain same is.explain_is more;
     }
-says_link met rows (load l x y f is) called out map options files out_is map_is strip short trim files_are =
+says_link met rows (load l x y e f is) called out map options explain files out_is map_is strip short trim more files_are =
     absurd (names_apart met (codes "load") (codes "link") is.of_file.rows rows is.of_file.called called refl)
-says_link met rows (image l form fs is) called out map options files out_is map_is strip short trim files_are =
+says_link met rows (image l form e fs is) called out map options explain files out_is map_is strip short trim more files_are =
     absurd (names_apart met (codes "image") (codes "link") is.of_files.rows rows is.of_files.called called refl)
-says_link met rows (check f is) called out map options files out_is map_is strip short trim files_are =
-    absurd (names_apart met (codes "check") (codes "link") is.rows rows is.called called refl)
-says_link met rows (show j f is) called out map options files out_is map_is strip short trim files_are =
+says_link met rows (check e f is) called out map options explain files out_is map_is strip short trim more files_are =
+    absurd (names_apart met (codes "check") (codes "link") is.of_file.rows rows is.of_file.called called refl)
+says_link met rows (show j e f is) called out map options explain files out_is map_is strip short trim more files_are =
     absurd (names_apart met (codes "show") (codes "link") is.of_file.rows rows is.of_file.called called refl)
-says_link met rows (survey fs is) called out map options files out_is map_is strip short trim files_are =
+says_link met rows (survey fs is) called out map options explain files out_is map_is strip short trim more files_are =
     absurd (names_apart met (codes "survey") (codes "link") is.rows rows is.called called refl)
 
-pub says_show : (met : Met) (rows : List Row) → IsWhole met → met ≡ Some (codes "show", rows) → (json : Bool) (file : Text)
-    → Reads rows (codes "json") json → first_of (codes "file") rows ≡ Some file → IsShow met json file
-says_show met rows (show j f is) called json file reads file_is = record {
-  of_file = record { rows = rows; called = called; file_is = file_is };
-  json_is = says_flag is.of_file.rows rows (codes "json") j json (rows_same met (codes "show") (codes "show") is.of_file.rows rows is.of_file.called called) is.json_is reads;
-}
-says_show met rows (link o m s fs is) called json file reads file_is =
+pub says_check : (met : Met) (rows : List Row) → IsWhole met → met ≡ Some (codes "check", rows) → (explain : Bool) (file : Text)
+    → Reads rows (codes "explain") explain → first_of (codes "file") rows ≡ Some file → IsCheck met explain file
+says_check met rows (check e f is) called explain file more file_is =
+    let same = rows_same met (codes "check") (codes "check") is.of_file.rows rows is.of_file.called called in
+    record {
+      of_file = record { rows = rows; called = called; file_is = file_is };
+      explain_is = says_flag is.of_file.rows rows (codes "explain") e explain same is.explain_is more;
+    }
+says_check met rows (link o m s e fs is) called explain file more file_is =
+    absurd (names_apart met (codes "link") (codes "check") is.of_files.rows rows is.of_files.called called refl)
+says_check met rows (load l x y e f is) called explain file more file_is =
+    absurd (names_apart met (codes "load") (codes "check") is.of_file.rows rows is.of_file.called called refl)
+says_check met rows (image l form e fs is) called explain file more file_is =
+    absurd (names_apart met (codes "image") (codes "check") is.of_files.rows rows is.of_files.called called refl)
+says_check met rows (show j e f is) called explain file more file_is =
+    absurd (names_apart met (codes "show") (codes "check") is.of_file.rows rows is.of_file.called called refl)
+says_check met rows (survey fs is) called explain file more file_is =
+    absurd (names_apart met (codes "survey") (codes "check") is.rows rows is.called called refl)
+
+pub says_show : (met : Met) (rows : List Row) → IsWhole met → met ≡ Some (codes "show", rows) → (json explain : Bool) (file : Text)
+    → Reads rows (codes "json") json → Reads rows (codes "explain") explain → first_of (codes "file") rows ≡ Some file → IsShow met json explain file
+says_show met rows (show j e f is) called json explain file reads more file_is =
+    let same = rows_same met (codes "show") (codes "show") is.of_file.rows rows is.of_file.called called in
+    record {
+      of_file = record { rows = rows; called = called; file_is = file_is };
+      json_is = says_flag is.of_file.rows rows (codes "json") j json same is.json_is reads;
+      explain_is = says_flag is.of_file.rows rows (codes "explain") e explain same is.explain_is more;
+    }
+says_show met rows (link o m s e fs is) called json explain file reads more file_is =
     absurd (names_apart met (codes "link") (codes "show") is.of_files.rows rows is.of_files.called called refl)
-says_show met rows (load l x y f is) called json file reads file_is =
+says_show met rows (load l x y e f is) called json explain file reads more file_is =
     absurd (names_apart met (codes "load") (codes "show") is.of_file.rows rows is.of_file.called called refl)
-says_show met rows (image l form fs is) called json file reads file_is =
+says_show met rows (image l form e fs is) called json explain file reads more file_is =
     absurd (names_apart met (codes "image") (codes "show") is.of_files.rows rows is.of_files.called called refl)
-says_show met rows (check f is) called json file reads file_is =
-    absurd (names_apart met (codes "check") (codes "show") is.rows rows is.called called refl)
-says_show met rows (survey fs is) called json file reads file_is =
+says_show met rows (check e f is) called json explain file reads more file_is =
+    absurd (names_apart met (codes "check") (codes "show") is.of_file.rows rows is.of_file.called called refl)
+says_show met rows (survey fs is) called json explain file reads more file_is =
     absurd (names_apart met (codes "survey") (codes "show") is.rows rows is.called called refl)
 
 -- this is the name of one of the program's subcommands
@@ -258,11 +294,11 @@ IsKnown name = (name ≡ Some (codes "link")) ⊎ ((name ≡ Some (codes "load")
     ⊎ ((name ≡ Some (codes "check")) ⊎ ((name ≡ Some (codes "show")) ⊎ (name ≡ Some (codes "survey"))))))
 
 pub known : (met : Met) → IsWhole met → IsKnown (option_map (λ p. p.0) met)
-known met (link o m s fs is) = inl (ap (option_map (λ p. p.0)) is.of_files.called)
-known met (load v x y f is) = inr (inl (ap (option_map (λ p. p.0)) is.of_file.called))
-known met (image v f fs is) = inr (inr (inl (ap (option_map (λ p. p.0)) is.of_files.called)))
-known met (check f is) = inr (inr (inr (inl (ap (option_map (λ p. p.0)) is.called))))
-known met (show j f is) = inr (inr (inr (inr (inl (ap (option_map (λ p. p.0)) is.of_file.called)))))
+known met (link o m s e fs is) = inl (ap (option_map (λ p. p.0)) is.of_files.called)
+known met (load v x y e f is) = inr (inl (ap (option_map (λ p. p.0)) is.of_file.called))
+known met (image v f e fs is) = inr (inr (inl (ap (option_map (λ p. p.0)) is.of_files.called)))
+known met (check e f is) = inr (inr (inr (inl (ap (option_map (λ p. p.0)) is.of_file.called))))
+known met (show j e f is) = inr (inr (inr (inr (inl (ap (option_map (λ p. p.0)) is.of_file.called)))))
 known met (survey fs is) = inr (inr (inr (inr (inr (ap (option_map (λ p. p.0)) is.called)))))
 
 -- FILE and the flags of `load`
@@ -273,9 +309,11 @@ pub record FoundLoad (rows : List Row) : Type 0 where
   pub srec_is : IsFlag rows (codes "srec") srec
   pub symbols : Bool
   pub symbols_is : IsFlag rows (codes "symbols") symbols
+  pub explain : Bool
+  pub explain_is : IsFlag rows (codes "explain") explain
 
 pub found_load : (met : Met) (rows : List Row) → IsWhole met → met ≡ Some (codes "load", rows) → FoundLoad rows
-found_load met rows (load v x y f is) called =
+found_load met rows (load v x y e f is) called =
     let same = rows_same met (codes "load") (codes "load") is.of_file.rows rows is.of_file.called called in
     record {
       file = f;
@@ -284,94 +322,111 @@ found_load met rows (load v x y f is) called =
       srec_is = subst (λ found. IsFlag found (codes "srec") x) same is.srec_is;
       symbols = y;
       symbols_is = subst (λ found. IsFlag found (codes "symbols") y) same is.symbols_is;
+      explain = e;
+      explain_is = subst (λ found. IsFlag found (codes "explain") e) same is.explain_is;
     }
-found_load met rows (link o m s fs is) called = absurd (names_apart met (codes "link") (codes "load") is.of_files.rows rows is.of_files.called called refl)
-found_load met rows (image v f fs is) called = absurd (names_apart met (codes "image") (codes "load") is.of_files.rows rows is.of_files.called called refl)
-found_load met rows (check f is) called = absurd (names_apart met (codes "check") (codes "load") is.rows rows is.called called refl)
-found_load met rows (show j f is) called = absurd (names_apart met (codes "show") (codes "load") is.of_file.rows rows is.of_file.called called refl)
+found_load met rows (link o m s e fs is) called = absurd (names_apart met (codes "link") (codes "load") is.of_files.rows rows is.of_files.called called refl)
+found_load met rows (image v f e fs is) called = absurd (names_apart met (codes "image") (codes "load") is.of_files.rows rows is.of_files.called called refl)
+found_load met rows (check e f is) called = absurd (names_apart met (codes "check") (codes "load") is.of_file.rows rows is.of_file.called called refl)
+found_load met rows (show j e f is) called = absurd (names_apart met (codes "show") (codes "load") is.of_file.rows rows is.of_file.called called refl)
 found_load met rows (survey fs is) called = absurd (names_apart met (codes "survey") (codes "load") is.rows rows is.called called refl)
 
 -- the form and the files of `image`
 pub record FoundImage (met : Met) (rows : List Row) : Type 0 where
   pub form : ImageForm
   pub form_is : IsFlag rows (codes "srec") (is_srec form)
+  pub explain : Bool
+  pub explain_is : IsFlag rows (codes "explain") explain
   pub files : List Text
   pub files_are : all_of (codes "file") rows ≡ Some files
   pub of_files : IsCalledOn met (codes "image") files
 
 pub found_image : (met : Met) (rows : List Row) → IsWhole met → met ≡ Some (codes "image", rows) → FoundImage met rows
-found_image met rows (image v f fs is) called =
+found_image met rows (image v f e fs is) called =
     let same = rows_same met (codes "image") (codes "image") is.of_files.rows rows is.of_files.called called in
     record {
       form = f;
       form_is = subst (λ found. IsFlag found (codes "srec") (is_srec f)) same is.form_is;
+      explain = e;
+      explain_is = subst (λ found. IsFlag found (codes "explain") e) same is.explain_is;
       files = fs;
       files_are = ap (all_of (codes "file")) (sym same) ∙ is.of_files.files_are;
       of_files = is.of_files;
     }
-found_image met rows (link o m s fs is) called = absurd (names_apart met (codes "link") (codes "image") is.of_files.rows rows is.of_files.called called refl)
-found_image met rows (load v x y f is) called = absurd (names_apart met (codes "load") (codes "image") is.of_file.rows rows is.of_file.called called refl)
-found_image met rows (check f is) called = absurd (names_apart met (codes "check") (codes "image") is.rows rows is.called called refl)
-found_image met rows (show j f is) called = absurd (names_apart met (codes "show") (codes "image") is.of_file.rows rows is.of_file.called called refl)
+found_image met rows (link o m s e fs is) called = absurd (names_apart met (codes "link") (codes "image") is.of_files.rows rows is.of_files.called called refl)
+found_image met rows (load v x y e f is) called = absurd (names_apart met (codes "load") (codes "image") is.of_file.rows rows is.of_file.called called refl)
+found_image met rows (check e f is) called = absurd (names_apart met (codes "check") (codes "image") is.of_file.rows rows is.of_file.called called refl)
+found_image met rows (show j e f is) called = absurd (names_apart met (codes "show") (codes "image") is.of_file.rows rows is.of_file.called called refl)
 found_image met rows (survey fs is) called = absurd (names_apart met (codes "survey") (codes "image") is.rows rows is.called called refl)
 
 -- what was read of `load` and of `image`
 
 module _ (met : Met) (rows : List Row) (whole : IsWhole met) (called : met ≡ Some (codes "load", rows)) (values : AddressValues) (values_are : AreValues rows values) where
-  pub says_load : (srec symbols : Bool) (file : Text) → Reads rows (codes "srec") srec → Reads rows (codes "symbols") symbols
-      → first_of (codes "file") rows ≡ Some file → IsLoad met values srec symbols file
-  says_load srec symbols file srec_reads symbols_reads file_is =
+  pub says_load : (srec symbols explain : Bool) (file : Text) → Reads rows (codes "srec") srec → Reads rows (codes "symbols") symbols → Reads rows (codes "explain") explain
+      → first_of (codes "file") rows ≡ Some file → IsLoad met values srec symbols explain file
+  says_load srec symbols explain file srec_reads symbols_reads explain_reads file_is =
       let found = found_load met rows whole called in
       record {
         of_file = record { rows = rows; called = called; file_is = file_is };
         values_are = values_are;
         srec_is = says_flag rows rows (codes "srec") found.srec srec refl found.srec_is srec_reads;
         symbols_is = says_flag rows rows (codes "symbols") found.symbols symbols refl found.symbols_is symbols_reads;
+        explain_is = says_flag rows rows (codes "explain") found.explain explain refl found.explain_is explain_reads;
       }
 
   pub says_two_texts : Reads rows (codes "srec") true → Reads rows (codes "symbols") true → IsConflict met
   says_two_texts srec_reads symbols_reads =
       let found = found_load met rows whole called in
-      two_texts values found.file (says_load true true found.file srec_reads symbols_reads found.file_is)
+      two_texts values found.explain found.file (record {
+        of_file = record { rows = rows; called = called; file_is = found.file_is };
+        values_are = values_are;
+        srec_is = says_flag rows rows (codes "srec") found.srec true refl found.srec_is srec_reads;
+        symbols_is = says_flag rows rows (codes "symbols") found.symbols true refl found.symbols_is symbols_reads;
+        explain_is = found.explain_is;
+      })
 
   pub says_no_load : AreUnclear values → IsConflict met
   says_no_load unclear =
       let found = found_load met rows whole called in
-      no_load values found.srec found.symbols found.file (record {
+      no_load values found.srec found.symbols found.explain found.file (record {
         of_file = record { rows = rows; called = called; file_is = found.file_is };
         values_are = values_are;
         srec_is = found.srec_is;
         symbols_is = found.symbols_is;
+        explain_is = found.explain_is;
       }) unclear
 
 module _ (met : Met) (rows : List Row) (whole : IsWhole met) (called : met ≡ Some (codes "image", rows)) (values : AddressValues) (values_are : AreValues rows values) where
-  pub says_image : (form : ImageForm) (files : List Text) → Reads rows (codes "srec") (is_srec form) → all_of (codes "file") rows ≡ Some files → IsImage met values form files
+  pub says_image : (form : ImageForm) (explain : Bool) (files : List Text) → Reads rows (codes "srec") (is_srec form) → Reads rows (codes "explain") explain
+      → all_of (codes "file") rows ≡ Some files → IsImage met values form explain files
   unfolding called_on
-  says_image form files srec_reads files_are =
+  says_image form explain files srec_reads explain_reads files_are =
       let found = found_image met rows whole called in
       record {
         of_files = called_on met (codes "image") rows files found.files called files_are found.of_files;
         values_are = values_are;
         form_is = says_flag rows rows (codes "srec") (is_srec found.form) (is_srec form) refl found.form_is srec_reads;
+        explain_is = says_flag rows rows (codes "explain") found.explain explain refl found.explain_is explain_reads;
       }
 
   pub says_no_image : AreUnclear values → IsConflict met
   unfolding called_on
   says_no_image unclear =
       let found = found_image met rows whole called in
-      no_image values found.form found.files (record {
+      no_image values found.form found.explain found.files (record {
         of_files = called_on met (codes "image") rows found.files found.files called found.files_are found.of_files;
         values_are = values_are;
         form_is = found.form_is;
+        explain_is = found.explain_is;
       }) unclear
 
 -- the request that rejects a conflict
 pub says_refused : (met : Met) → IsConflict met → (c : Conflict) (request : Request) → Answers (conflict_kind c) request → Says met request
-says_refused met conflict c (Link out map options files) answers = absurd answers
-says_refused met conflict c (Load addresses text file) answers = absurd answers
-says_refused met conflict c (Image addresses form files) answers = absurd answers
-says_refused met conflict c (Check file) answers = absurd answers
-says_refused met conflict c (Show json file) answers = absurd answers
+says_refused met conflict c (Link out map options explain files) answers = absurd answers
+says_refused met conflict c (Load addresses text explain file) answers = absurd answers
+says_refused met conflict c (Image addresses form explain files) answers = absurd answers
+says_refused met conflict c (Check explain file) answers = absurd answers
+says_refused met conflict c (Show json explain file) answers = absurd answers
 says_refused met conflict c (Survey files) answers = absurd answers
 says_refused met conflict Texts Version answers = cc
 says_refused met conflict TwoAddresses Version answers = cc
@@ -385,13 +440,13 @@ says_refused met conflict c OutOfMemory answers = tt
 pub says_survey : (met : Met) (rows : List Row) → IsWhole met → met ≡ Some (codes "survey", rows) → (files : List Text)
     → all_of (codes "file") rows ≡ Some files → IsCalledOn met (codes "survey") files
 says_survey met rows (survey fs is) called files files_are = called_on met (codes "survey") rows files fs called files_are is
-says_survey met rows (link o m s fs is) called files files_are =
+says_survey met rows (link o m s e fs is) called files files_are =
     absurd (names_apart met (codes "link") (codes "survey") is.of_files.rows rows is.of_files.called called refl)
-says_survey met rows (load l x y f is) called files files_are =
+says_survey met rows (load l x y e f is) called files files_are =
     absurd (names_apart met (codes "load") (codes "survey") is.of_file.rows rows is.of_file.called called refl)
-says_survey met rows (image l form fs is) called files files_are =
+says_survey met rows (image l form e fs is) called files files_are =
     absurd (names_apart met (codes "image") (codes "survey") is.of_files.rows rows is.of_files.called called refl)
-says_survey met rows (check f is) called files files_are =
-    absurd (names_apart met (codes "check") (codes "survey") is.rows rows is.called called refl)
-says_survey met rows (show j f is) called files files_are =
+says_survey met rows (check e f is) called files files_are =
+    absurd (names_apart met (codes "check") (codes "survey") is.of_file.rows rows is.of_file.called called refl)
+says_survey met rows (show j e f is) called files files_are =
     absurd (names_apart met (codes "show") (codes "survey") is.of_file.rows rows is.of_file.called called refl)

@@ -2,6 +2,7 @@ pub mod CommandLineAnswerLemmas
 pub mod CommandLineLemmas
 pub mod CommandLineWalkLemmas
 pub mod CommandLineFileLemmas
+pub mod CommandLineCheckLemmas
 pub mod ProgramLemmas
 pub mod CommandLineRowLemmas
 pub mod CommandLineLoadLemmas

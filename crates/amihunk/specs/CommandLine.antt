@@ -44,13 +44,14 @@ pub record IsFlag (rows : List Row) (name : Text) (given : Bool) : Type 0 where
   pub value_is : one_of name rows ≡ Some (bool_text given)
 
 -- the subcommand is `link`, with this OUT, this MAP if one is given, these flags and these files
-pub record IsLink (met : Met) (out : Text) (map : Option Text) (options : LinkOptions) (files : List Text) : Type 0 where
+pub record IsLink (met : Met) (out : Text) (map : Option Text) (options : LinkOptions) (explain : Bool) (files : List Text) : Type 0 where
   pub of_files : IsCalledOn met (codes "link") files
   pub out_is : first_of (codes "out") of_files.rows ≡ Some out
   pub map_is : first_of (codes "map") of_files.rows ≡ map
   pub strip_is : IsFlag of_files.rows (codes "strip") options.strip
   pub short_is : IsFlag of_files.rows (codes "short") options.short
   pub trim_is : IsFlag of_files.rows (codes "trim") options.trim
+  pub explain_is : IsFlag of_files.rows (codes "explain") explain
 
 -- whether `--srec` asks for this form
 abbrev pub is_srec : ImageForm → Bool
@@ -89,28 +90,36 @@ abbrev pub AreValues : List Row → AddressValues → Type 0
 AreValues rows values = (first_of (codes "at") rows ≡ values.list) × (first_of (codes "at-file") rows ≡ values.file)
 
 -- the subcommand is `load`, with these addresses, these flags and this FILE
-pub record IsLoad (met : Met) (values : AddressValues) (srec symbols : Bool) (file : Text) : Type 0 where
+pub record IsLoad (met : Met) (values : AddressValues) (srec symbols explain : Bool) (file : Text) : Type 0 where
   pub of_file : IsCalled met (codes "load") file
   pub values_are : AreValues of_file.rows values
   pub srec_is : IsFlag of_file.rows (codes "srec") srec
   pub symbols_is : IsFlag of_file.rows (codes "symbols") symbols
+  pub explain_is : IsFlag of_file.rows (codes "explain") explain
 
--- the subcommand is `image`, with these addresses, this form and these files
-pub record IsImage (met : Met) (values : AddressValues) (form : ImageForm) (files : List Text) : Type 0 where
+-- the subcommand is `image`, with these addresses, this form, this flag and these files
+pub record IsImage (met : Met) (values : AddressValues) (form : ImageForm) (explain : Bool) (files : List Text) : Type 0 where
   pub of_files : IsCalledOn met (codes "image") files
   pub values_are : AreValues of_files.rows values
   pub form_is : IsFlag of_files.rows (codes "srec") (is_srec form)
+  pub explain_is : IsFlag of_files.rows (codes "explain") explain
 
--- the subcommand is `show`, with this flag and this FILE
-pub record IsShow (met : Met) (json : Bool) (file : Text) : Type 0 where
+-- the subcommand is `check`, with this flag and this FILE
+pub record IsCheck (met : Met) (explain : Bool) (file : Text) : Type 0 where
+  pub of_file : IsCalled met (codes "check") file
+  pub explain_is : IsFlag of_file.rows (codes "explain") explain
+
+-- the subcommand is `show`, with these flags and this FILE
+pub record IsShow (met : Met) (json explain : Bool) (file : Text) : Type 0 where
   pub of_file : IsCalled met (codes "show") file
   pub json_is : IsFlag of_file.rows (codes "json") json
+  pub explain_is : IsFlag of_file.rows (codes "explain") explain
 
 -- the subcommand has arguments that exclude each other, or no addresses
 pub data IsConflict (met : Met) : Type 0 where
-  two_texts : (values : AddressValues) (file : Text) → IsLoad met values true true file → IsConflict met
-  no_load : (values : AddressValues) (srec symbols : Bool) (file : Text) → IsLoad met values srec symbols file → AreUnclear values → IsConflict met
-  no_image : (values : AddressValues) (form : ImageForm) (files : List Text) → IsImage met values form files → AreUnclear values → IsConflict met
+  two_texts : (values : AddressValues) (explain : Bool) (file : Text) → IsLoad met values true true explain file → IsConflict met
+  no_load : (values : AddressValues) (srec symbols explain : Bool) (file : Text) → IsLoad met values srec symbols explain file → AreUnclear values → IsConflict met
+  no_image : (values : AddressValues) (form : ImageForm) (explain : Bool) (files : List Text) → IsImage met values form explain files → AreUnclear values → IsConflict met
 
 -- the kind of error with which `clap` rejects such arguments
 abbrev pub conflict_kind : Conflict → ErrorKind
@@ -120,20 +129,20 @@ conflict_kind NoAddresses = error.MissingRequiredArgument
 
 -- the subcommand is one of the program's, with its required values
 pub data IsWhole (met : Met) : Type 0 where
-  link : (out : Text) (map : Option Text) (options : LinkOptions) (files : List Text) → IsLink met out map options files → IsWhole met
-  load : (values : AddressValues) (srec symbols : Bool) (file : Text) → IsLoad met values srec symbols file → IsWhole met
-  image : (values : AddressValues) (form : ImageForm) (files : List Text) → IsImage met values form files → IsWhole met
-  check : (file : Text) → IsCalled met (codes "check") file → IsWhole met
-  show : (json : Bool) (file : Text) → IsShow met json file → IsWhole met
+  link : (out : Text) (map : Option Text) (options : LinkOptions) (explain : Bool) (files : List Text) → IsLink met out map options explain files → IsWhole met
+  load : (values : AddressValues) (srec symbols explain : Bool) (file : Text) → IsLoad met values srec symbols explain file → IsWhole met
+  image : (values : AddressValues) (form : ImageForm) (explain : Bool) (files : List Text) → IsImage met values form explain files → IsWhole met
+  check : (explain : Bool) (file : Text) → IsCheck met explain file → IsWhole met
+  show : (json explain : Bool) (file : Text) → IsShow met json explain file → IsWhole met
   survey : (files : List Text) → IsCalledOn met (codes "survey") files → IsWhole met
 
 -- the request matches what was found, or rejects a conflict; nothing is said if memory runs out
 abbrev pub Says : Met → Request → Type 0
-Says met (Link out map options files) = IsLink met out.now (given_text map) options (texts files.items)
-Says met (Load addresses text file) = IsLoad met (values_of (origin_of addresses)) (asks_srec text) (asks_symbols text) file.now
-Says met (Image addresses form files) = IsImage met (values_of (origin_of addresses)) form (texts files.items)
-Says met (Check file) = IsCalled met (codes "check") file.now
-Says met (Show json file) = IsShow met json file.now
+Says met (Link out map options explain files) = IsLink met out.now (given_text map) options explain (texts files.items)
+Says met (Load addresses text explain file) = IsLoad met (values_of (origin_of addresses)) (asks_srec text) (asks_symbols text) explain file.now
+Says met (Image addresses form explain files) = IsImage met (values_of (origin_of addresses)) form explain (texts files.items)
+Says met (Check explain file) = IsCheck met explain file.now
+Says met (Show json explain file) = IsShow met json explain file.now
 Says met (Survey files) = IsCalledOn met (codes "survey") (texts files.items)
 Says met (Refused text) = IsConflict met
 Says met OutOfMemory = ⊤
@@ -141,11 +150,11 @@ Says met _ = ⊥
 
 -- the request for arguments that `clap` rejects with this kind of error
 abbrev pub Answers : ErrorKind → Request → Type 0
-Answers k (Link out map options files) = ⊥
-Answers k (Load addresses text file) = ⊥
-Answers k (Image addresses form files) = ⊥
-Answers k (Check file) = ⊥
-Answers k (Show json file) = ⊥
+Answers k (Link out map options explain files) = ⊥
+Answers k (Load addresses text explain file) = ⊥
+Answers k (Image addresses form explain files) = ⊥
+Answers k (Check explain file) = ⊥
+Answers k (Show json explain file) = ⊥
 Answers k (Survey files) = ⊥
 Answers k Version = k ≡ error.DisplayVersion
 Answers k (Help text) = k ≡ error.DisplayHelp
@@ -163,16 +172,16 @@ pub record IsRefusedBy (kinds : Kinds) : Type 0 where
 -- version if they ask for it, a rejection if something is wrong or there is a conflict; nothing is said if
 -- memory runs out
 abbrev pub IsAskedBy : List Text → Request → Type 0
-IsAskedBy words (Link out map options files) = (fault_of command_line words ≡ [])
-    × IsLink (subcommand_of command_line words) out.now (given_text map) options (texts files.items)
-IsAskedBy words (Load addresses text file) = (fault_of command_line words ≡ [])
-    × IsLoad (subcommand_of command_line words) (values_of (origin_of addresses)) (asks_srec text) (asks_symbols text) file.now
-IsAskedBy words (Image addresses form files) = (fault_of command_line words ≡ [])
-    × IsImage (subcommand_of command_line words) (values_of (origin_of addresses)) form (texts files.items)
-IsAskedBy words (Check file) = (fault_of command_line words ≡ [])
-    × IsCalled (subcommand_of command_line words) (codes "check") file.now
-IsAskedBy words (Show json file) = (fault_of command_line words ≡ [])
-    × IsShow (subcommand_of command_line words) json file.now
+IsAskedBy words (Link out map options explain files) = (fault_of command_line words ≡ [])
+    × IsLink (subcommand_of command_line words) out.now (given_text map) options explain (texts files.items)
+IsAskedBy words (Load addresses text explain file) = (fault_of command_line words ≡ [])
+    × IsLoad (subcommand_of command_line words) (values_of (origin_of addresses)) (asks_srec text) (asks_symbols text) explain file.now
+IsAskedBy words (Image addresses form explain files) = (fault_of command_line words ≡ [])
+    × IsImage (subcommand_of command_line words) (values_of (origin_of addresses)) form explain (texts files.items)
+IsAskedBy words (Check explain file) = (fault_of command_line words ≡ [])
+    × IsCheck (subcommand_of command_line words) explain file.now
+IsAskedBy words (Show json explain file) = (fault_of command_line words ≡ [])
+    × IsShow (subcommand_of command_line words) json explain file.now
 IsAskedBy words (Survey files) = (fault_of command_line words ≡ [])
     × IsCalledOn (subcommand_of command_line words) (codes "survey") (texts files.items)
 IsAskedBy words Version = IsAmong error.DisplayVersion (fault_of command_line words)
@@ -192,7 +201,7 @@ abbrev pub IsRetold : Request → Request → Type 0
 IsRetold (Refused text) (Refused other) = ⊤
 IsRetold request other = request ≡ other
 
--- ---- the plain forms
+-- ---- the plain forms, which do not ask for explanations
 
 -- the argument does not begin with a hyphen (45)
 abbrev pub IsNoFlag : Text → Type 0
@@ -286,34 +295,36 @@ show_line program json file = program ∷ codes "show" ∷ (json_words json ++ f
 abbrev pub survey_line : Text → List Text → List Text
 survey_line program files = program ∷ codes "survey" ∷ files
 
--- the request is `link` with this OUT, this MAP if one is given, these options, and these files in this
--- order; or memory ran out
+-- the request is `link` without `--explain`, with this OUT, this MAP if one is given, these options, and
+-- these files in this order; or memory ran out
 abbrev pub AsksLink : Text → Option Text → LinkOptions → List Text → Request → Type 0
-AsksLink out map options files (Link o m s fs) = (o.now ≡ out) × (given_text m ≡ map) × (s ≡ options) × (texts fs.items ≡ files)
+AsksLink out map options files (Link o m s e fs) = (o.now ≡ out) × (given_text m ≡ map) × (s ≡ options) × (e ≡ false) × (texts fs.items ≡ files)
 AsksLink out map options files OutOfMemory = ⊤
 AsksLink out map options files _ = ⊥
 
--- the request is `load` with these addresses, for this text of this FILE, or memory ran out
+-- the request is `load` without `--explain`, with these addresses, for this text of this FILE, or memory
+-- ran out
 abbrev pub AsksLoad : Origin → LoadText → Text → Request → Type 0
-AsksLoad origin text file (Load addresses asked f) = (origin_of addresses ≡ origin) × (asked ≡ text) × (f.now ≡ file)
+AsksLoad origin text file (Load addresses asked e f) = (origin_of addresses ≡ origin) × (asked ≡ text) × (e ≡ false) × (f.now ≡ file)
 AsksLoad origin text file OutOfMemory = ⊤
 AsksLoad origin text file _ = ⊥
 
--- the request is `image` with these addresses, this form and these files in this order, or memory ran out
+-- the request is `image` without `--explain`, with these addresses, this form and these files in this
+-- order, or memory ran out
 abbrev pub AsksImage : Origin → ImageForm → List Text → Request → Type 0
-AsksImage origin form files (Image addresses asked fs) = (origin_of addresses ≡ origin) × (asked ≡ form) × (texts fs.items ≡ files)
+AsksImage origin form files (Image addresses asked e fs) = (origin_of addresses ≡ origin) × (asked ≡ form) × (e ≡ false) × (texts fs.items ≡ files)
 AsksImage origin form files OutOfMemory = ⊤
 AsksImage origin form files _ = ⊥
 
--- the request is `check` with this FILE, or memory ran out
+-- the request is `check` without `--explain`, with this FILE, or memory ran out
 abbrev pub AsksCheck : Text → Request → Type 0
-AsksCheck file (Check f) = f.now ≡ file
+AsksCheck file (Check e f) = (e ≡ false) × (f.now ≡ file)
 AsksCheck file OutOfMemory = ⊤
 AsksCheck file _ = ⊥
 
--- the request is `show`, with `--json` or without, with this FILE, or memory ran out
+-- the request is `show` without `--explain`, with `--json` or without, with this FILE, or memory ran out
 abbrev pub AsksShow : Bool → Text → Request → Type 0
-AsksShow json file (Show j f) = (j ≡ json) × (f.now ≡ file)
+AsksShow json file (Show j e f) = (j ≡ json) × (e ≡ false) × (f.now ≡ file)
 AsksShow json file OutOfMemory = ⊤
 AsksShow json file _ = ⊥
 

@@ -46,31 +46,39 @@ abbrev pub with_new_rule : Edition → App → Rule → App
 with_new_rule Present app rule = with_rule app rule
 with_new_rule Former app rule = app
 
--- `link --out OUT [--map MAP] [--strip] [--short] [--trim] FILE...`, where `-o` is `--out`, and `-s` is
--- `--strip`
+-- `--explain`
+abbrev pub explain_rule : Rule
+explain_rule = flag_rule (codes "explain")
+
+-- `link --out OUT [--map MAP] [--strip] [--short] [--trim] [--explain] FILE...`, where `-o` is `--out`, and
+-- `-s` is `--strip`
 abbrev pub link_shape : Edition → Shape
-link_shape edition = (with_rule (with_rule (with_rule (with_rule
+link_shape edition = (with_rule (with_new_rule edition (with_rule (with_rule (with_rule
     (with_new_rule edition (with_rule (new_app (codes "link")) out_rule) (option_rule (codes "map")))
-    (with_letter letter_s (flag_rule (codes "strip")))) (flag_rule (codes "short"))) (flag_rule (codes "trim"))) files_rule).top
+    (with_letter letter_s (flag_rule (codes "strip")))) (flag_rule (codes "short"))) (flag_rule (codes "trim"))) explain_rule) files_rule).top
 
 -- the options by which addresses are given
 abbrev pub given_addresses : Edition → App → App
 given_addresses Present app = with_rule (with_rule app (option_rule (codes "at"))) (option_rule (codes "at-file"))
 given_addresses Former app = with_rule app (required_rule (option_rule (codes "at")))
 
--- `load [--at LIST] [--at-file FILE] [--srec] [--symbols] FILE`, or `load --at LIST ..`
+-- `load [--at LIST] [--at-file FILE] [--srec] [--symbols] [--explain] FILE`, or `load --at LIST ..`
 abbrev pub load_shape : Edition → Shape
-load_shape edition = (with_rule (with_rule (with_rule
-    (given_addresses edition (new_app (codes "load"))) (flag_rule (codes "srec"))) (flag_rule (codes "symbols"))) file_rule).top
+load_shape edition = (with_rule (with_new_rule edition (with_rule (with_rule
+    (given_addresses edition (new_app (codes "load"))) (flag_rule (codes "srec"))) (flag_rule (codes "symbols"))) explain_rule) file_rule).top
 
--- `image [--at LIST] [--at-file FILE] [--srec] FILE...`, or `image --at LIST ..`
+-- `image [--at LIST] [--at-file FILE] [--srec] [--explain] FILE...`, or `image --at LIST ..`
 abbrev pub image_shape : Edition → Shape
-image_shape edition = (with_rule (with_rule
-    (given_addresses edition (new_app (codes "image"))) (flag_rule (codes "srec"))) files_rule).top
+image_shape edition = (with_rule (with_new_rule edition (with_rule
+    (given_addresses edition (new_app (codes "image"))) (flag_rule (codes "srec"))) explain_rule) files_rule).top
 
--- `show [--json] FILE`
+-- `check [--explain] FILE`
+abbrev pub check_shape : Edition → Shape
+check_shape edition = (with_rule (with_new_rule edition (new_app (codes "check")) explain_rule) file_rule).top
+
+-- `show [--json] [--explain] FILE`
 abbrev pub show_shape : Edition → Shape
-show_shape edition = (with_rule (with_new_rule edition (new_app (codes "show")) (flag_rule (codes "json"))) file_rule).top
+show_shape edition = (with_rule (with_new_rule edition (with_new_rule edition (new_app (codes "show")) (flag_rule (codes "json"))) explain_rule) file_rule).top
 
 -- the program, which has a version, requires a subcommand, and has none called `help`
 abbrev pub bare_shape : Shape
@@ -80,10 +88,6 @@ bare_shape = record (new_app (codes "amihunk")).top {
   disable_help_subcommand = true;
 }
 
--- a subcommand of this name, whose only argument is FILE
-abbrev pub file_shape : Text → Shape
-file_shape name = (with_rule (new_app name) file_rule).top
-
 -- `survey FILE...`
 abbrev pub survey_shape : Shape
 survey_shape = (with_rule (new_app (codes "survey")) files_rule).top
@@ -92,7 +96,7 @@ survey_shape = (with_rule (new_app (codes "survey")) files_rule).top
 abbrev pub line_of : Edition → App
 line_of edition = with_subcommand (with_subcommand (with_subcommand (with_subcommand (with_subcommand (with_subcommand
     (record { top = bare_shape; subs = [] }) (link_shape edition)) (load_shape edition)) (image_shape edition))
-    (file_shape (codes "check"))) (show_shape edition)) survey_shape
+    (check_shape edition)) (show_shape edition)) survey_shape
 
 -- the command line that the program accepts; of `--at` and `--at-file` it wants one, which no rule of
 -- `clap` says

@@ -21,7 +21,7 @@ use std::alloc::{AllocError, Global};
 use std::convert::AsStr;
 
 /// The options that the former edition of the command line does not have.
-const NEW_OPTIONS: [&str; 3] = ["--at-file", "--map", "--json"];
+const NEW_OPTIONS: [&str; 4] = ["--at-file", "--map", "--json", "--explain"];
 
 /// Reads the arguments of a command line, the first of which is the program's name.
 pub fn read_words<'a, S: AsStr>(alloc: Global, words: &'a [S]) -> Request<'a>
@@ -137,15 +137,18 @@ fn request_of<'a>(alloc: Global, matches: &ArgMatches<'a>) -> Result<Request<'a>
                 short: values.get_flag("short"),
                 trim: values.get_flag("trim"),
             },
+            explain: values.get_flag("explain"),
             files: files_of(alloc, values)?,
         }),
         Some(("load", values)) => load_request(alloc, values),
         Some(("image", values)) => image_request(alloc, values),
         Some(("check", values)) => Ok(Request::Check {
+            explain: values.get_flag("explain"),
             file: value_of(values, "file"),
         }),
         Some(("show", values)) => Ok(Request::Show {
             json: values.get_flag("json"),
+            explain: values.get_flag("explain"),
             file: value_of(values, "file"),
         }),
         Some(("survey", values)) => Ok(Request::Survey {
@@ -167,10 +170,12 @@ fn load_request<'a>(alloc: Global, values: &ArgMatches<'a>) -> Result<Request<'a
         Ok(addresses) => addresses,
         Err(conflict) => return refuse_load(alloc, conflict),
     };
+    let explain = values.get_flag("explain");
     match text_of(values.get_flag("srec"), values.get_flag("symbols")) {
         Some(text) => Ok(Request::Load {
             addresses,
             text,
+            explain,
             file: value_of(values, "file"),
         }),
         None => refuse_load(alloc, Conflict::Texts),
@@ -197,6 +202,7 @@ fn image_request<'a>(alloc: Global, values: &ArgMatches<'a>) -> Result<Request<'
         Ok(addresses) => Ok(Request::Image {
             addresses,
             form: form_of(values.get_flag("srec")),
+            explain: values.get_flag("explain"),
             files: files_of(alloc, values)?,
         }),
         Err(conflict) => {

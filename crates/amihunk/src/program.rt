@@ -1,5 +1,5 @@
 //! The program: the arguments of the command line, what they ask for, and the exit status.
-ghost use Rattle.std.specs.Prelude.{◌≡◌, ◌<◌, ◌≤◌, ℕ, Bool, List, Option, codes, length, map};
+ghost use Rattle.std.specs.Prelude.{◌≡◌, ◌<◌, ◌≤◌, ℕ, Bool, List, Option, codes, false, length, map};
 ghost use Rattle.std.specs.List.{All};
 ghost use Rattle.hunk_tool.specs.declared.image_form.ImageForm.{ImageForm};
 ghost use Rattle.hunk_tool.specs.declared.link_options.LinkOptions.{LinkOptions};
@@ -33,7 +33,7 @@ pub fn start<R: Env + Files + Print + AllocGlobal, W: Sink>(rt: &R, errors: &mut
 }
 
 /// Does what the words of a command line ask for, and gives the exit status. The line of what is
-/// refused is appended to `errors`, or a write to it failed.
+/// refused is appended to `errors`, and what explains it if it is asked for, or a write to it failed.
 pub fn run<R: Files + Print + AllocGlobal, W: Sink, S: AsStr>(
     rt: &R,
     errors: &mut W,
@@ -42,22 +42,22 @@ pub fn run<R: Files + Print + AllocGlobal, W: Sink, S: AsStr>(
     ensures line { EndsLine W.taken W.failed errors.old errors.new (map S.text words.now) result }
     ensures link { (program : List ℕ) (options : LinkOptions) (out : List ℕ) (map_file : Option (List ℕ)) (files : List (List ℕ))
         → map S.text words.now ≡ link_line program options out map_file files
-        → IsNoFlag out → IsNoFlagIn map_file → 0 < length files → All IsNoFlag files → EndsLink W.taken W.failed errors.old errors.new out map_file options files result }
+        → IsNoFlag out → IsNoFlagIn map_file → 0 < length files → All IsNoFlag files → EndsLink W.taken W.failed errors.old errors.new out map_file options false files result }
     ensures brief { (program : List ℕ) (options : LinkOptions) (out : List ℕ) (map_file : Option (List ℕ)) (files : List (List ℕ))
         → map S.text words.now ≡ brief_link_line program options out map_file files
-        → IsNoFlag out → IsNoFlagIn map_file → 0 < length files → All IsNoFlag files → EndsLink W.taken W.failed errors.old errors.new out map_file options files result }
+        → IsNoFlag out → IsNoFlagIn map_file → 0 < length files → All IsNoFlag files → EndsLink W.taken W.failed errors.old errors.new out map_file options false files result }
     ensures load { (program : List ℕ) (origin : Origin) (text : LoadText) (file : List ℕ)
         → map S.text words.now ≡ load_line program origin text file
-        → IsNoFlag (text_in origin) → IsNoFlag file → EndsLoad W.taken W.failed errors.old errors.new origin text file result }
+        → IsNoFlag (text_in origin) → IsNoFlag file → EndsLoad W.taken W.failed errors.old errors.new origin text false file result }
     ensures image { (program : List ℕ) (origin : Origin) (form : ImageForm) (files : List (List ℕ))
         → map S.text words.now ≡ image_line program origin form files
-        → IsNoFlag (text_in origin) → 0 < length files → All IsNoFlag files → EndsImage W.taken W.failed errors.old errors.new origin form files result }
+        → IsNoFlag (text_in origin) → 0 < length files → All IsNoFlag files → EndsImage W.taken W.failed errors.old errors.new origin form false files result }
     ensures check { (program file : List ℕ)
         → map S.text words.now ≡ file_line program (codes "check") file
-        → IsNoFlag file → EndsText W.taken W.failed errors.old errors.new Text.Line file result }
+        → IsNoFlag file → EndsText W.taken W.failed errors.old errors.new Text.Line false file result }
     ensures show { (program : List ℕ) (json : Bool) (file : List ℕ)
         → map S.text words.now ≡ show_line program json file
-        → IsNoFlag file → EndsText W.taken W.failed errors.old errors.new (shown json) file result }
+        → IsNoFlag file → EndsText W.taken W.failed errors.old errors.new (shown json) false file result }
     ensures survey { (program : List ℕ) (files : List (List ℕ))
         → map S.text words.now ≡ survey_line program files
         → 0 < length files → All IsNoFlag files → EndsSurvey W.taken W.failed errors.old errors.new files result }

@@ -2,7 +2,7 @@
 ghost use Rattle.std.specs.Prelude.{◌≡◌, IfOk, codes, false};
 ghost use Rattle.clap.specs.Words.{app_of, rule_of, shape_of};
 ghost use Rattle.clap.specs.declared.builder.command.Command.TheViews.{out-Command};
-ghost use Rattle.amihunk.specs.Syntax.{file_rule, file_shape, files_rule, flag_rule, given_addresses, image_shape, line_of};
+ghost use Rattle.amihunk.specs.Syntax.{check_shape, explain_rule, file_rule, files_rule, flag_rule, given_addresses, image_shape, line_of};
 ghost use Rattle.amihunk.specs.Syntax.{link_shape, load_shape, option_rule, out_rule, show_shape, survey_shape, with_new_rule};
 
 use clap::{Arg, ArgAction, Command};
@@ -14,7 +14,8 @@ use std::alloc::{AllocError, Global};
 pub enum Edition {
     /// The one that the program accepts.
     Present,
-    /// The one before there were `--at-file`, `--map` and `--json`, in which `--at` is required.
+    /// The one before there were `--at-file`, `--map`, `--json` and `--explain`, in which `--at` is
+    /// required.
     Former,
 }
 
@@ -30,13 +31,13 @@ pub fn command<'a>(alloc: Global, edition: Edition) -> Result<Command<'a>, Alloc
         .subcommand(link_command(alloc, edition)?)?
         .subcommand(load_command(alloc, edition)?)?
         .subcommand(image_command(alloc, edition)?)?
-        .subcommand(check_command(alloc)?)?
+        .subcommand(check_command(alloc, edition)?)?
         .subcommand(show_command(alloc, edition)?)?
         .subcommand(survey_command(alloc)?)
 }
 
-/// The subcommand `link --out OUT [--map MAP] [--strip] [--short] [--trim] FILE...`, where `-o` is
-/// `--out`, and `-s` is `--strip`.
+/// The subcommand `link --out OUT [--map MAP] [--strip] [--short] [--trim] [--explain] FILE...`, where
+/// `-o` is `--out`, and `-s` is `--strip`.
 fn link_command<'a>(alloc: Global, edition: Edition) -> Result<Command<'a>, AllocError>
     ensures shape { IfOk result (λ c. shape_of c ≡ link_shape edition) }
     ensures local { IfOk result (λ c. (out-Command c).has_globals ≡ false) }
@@ -45,7 +46,7 @@ fn link_command<'a>(alloc: Global, edition: Edition) -> Result<Command<'a>, Allo
         .about("Links object files, and writes the load file")
         .after_help(help::LINK)
         .arg(out_argument(alloc))?;
-    with_new(link, edition, map_argument(alloc))?
+    let flagged = with_new(link, edition, map_argument(alloc))?
         .arg(flag(alloc, "strip", "Leaves out symbols and debug blocks").short('s'))?
         .arg(flag(
             alloc,
@@ -56,8 +57,11 @@ fn link_command<'a>(alloc: Global, edition: Edition) -> Result<Command<'a>, Allo
             alloc,
             "trim",
             "Leaves out zero longwords at the end of each hunk",
-        ))?
-        .arg(files_argument(alloc, "Object files, in the order of linking"))
+        ))?;
+    with_new(flagged, edition, explain_flag(alloc))?.arg(files_argument(
+        alloc,
+        "Object files, in the order of linking",
+    ))
 }
 
 /// A subcommand with an argument that the former edition does not have.
@@ -106,6 +110,15 @@ fn flag<'a>(alloc: Global, name: &'a str, help: &'a str) -> Arg<'a>
         .help(help)
 }
 
+/// The flag `--explain`.
+fn explain_flag<'a>(alloc: Global) -> Arg<'a>
+    ensures rule { rule_of result ≡ explain_rule }
+    ensures local { result.global ≡ false }
+{
+    let help = "Tells more of a refusal, in further lines";
+    flag(alloc, "explain", help)
+}
+
 /// The flag `--srec`.
 fn srec_flag<'a>(alloc: Global) -> Arg<'a>
     ensures rule { rule_of result ≡ flag_rule (codes "srec") }
@@ -115,9 +128,9 @@ fn srec_flag<'a>(alloc: Global) -> Arg<'a>
     flag(alloc, "srec", help)
 }
 
-/// The subcommand `load --at LIST [--srec] [--symbols] FILE`, or with `--at-file FILE` in place of
-/// `--at LIST`. No rule of `clap` keeps the two flags apart, and none the two options: the command line
-/// is judged after the parse.
+/// The subcommand `load --at LIST [--srec] [--symbols] [--explain] FILE`, or with `--at-file FILE` in
+/// place of `--at LIST`. No rule of `clap` keeps the two texts apart, and none the two options: the
+/// command line is judged after the parse.
 pub fn load_command<'a>(alloc: Global, edition: Edition) -> Result<Command<'a>, AllocError>
     ensures shape { IfOk result (λ c. shape_of c ≡ load_shape edition) }
     ensures local { IfOk result (λ c. (out-Command c).has_globals ≡ false) }
@@ -125,17 +138,18 @@ pub fn load_command<'a>(alloc: Global, edition: Edition) -> Result<Command<'a>, 
     let load = Command::new(alloc, "load")
         .about("Loads a file at addresses, and prints the bytes of its hunks")
         .after_help(help::LOAD);
-    with_addresses(alloc, load, edition, help::LOAD_USAGE)?
+    let flagged = with_addresses(alloc, load, edition, help::LOAD_USAGE)?
         .arg(srec_flag(alloc))?
         .arg(flag(
             alloc,
             "symbols",
             "Prints the address of each symbol in place of the report",
-        ))?
-        .arg(file_argument(alloc, "A load file"))
+        ))?;
+    with_new(flagged, edition, explain_flag(alloc))?.arg(file_argument(alloc, "A load file"))
 }
 
-/// The subcommand `image --at LIST [--srec] FILE...`, or with `--at-file FILE` in place of `--at LIST`.
+/// The subcommand `image --at LIST [--srec] [--explain] FILE...`, or with `--at-file FILE` in place of
+/// `--at LIST`.
 pub fn image_command<'a>(alloc: Global, edition: Edition) -> Result<Command<'a>, AllocError>
     ensures shape { IfOk result (λ c. shape_of c ≡ image_shape edition) }
     ensures local { IfOk result (λ c. (out-Command c).has_globals ≡ false) }
@@ -143,9 +157,11 @@ pub fn image_command<'a>(alloc: Global, edition: Edition) -> Result<Command<'a>,
     let image = Command::new(alloc, "image")
         .about("Links object files at addresses, and prints the bytes of their hunks")
         .after_help(help::IMAGE);
-    with_addresses(alloc, image, edition, help::IMAGE_USAGE)?
-        .arg(srec_flag(alloc))?
-        .arg(files_argument(alloc, "Object files, in the order of linking"))
+    let flagged = with_addresses(alloc, image, edition, help::IMAGE_USAGE)?.arg(srec_flag(alloc))?;
+    with_new(flagged, edition, explain_flag(alloc))?.arg(files_argument(
+        alloc,
+        "Object files, in the order of linking",
+    ))
 }
 
 /// A subcommand that is given addresses.
@@ -167,18 +183,21 @@ fn with_addresses<'a>(
     }
 }
 
-/// The subcommand `check FILE`.
-fn check_command<'a>(alloc: Global) -> Result<Command<'a>, AllocError>
-    ensures shape { IfOk result (λ c. shape_of c ≡ file_shape (codes "check")) }
+/// The subcommand `check [--explain] FILE`.
+fn check_command<'a>(alloc: Global, edition: Edition) -> Result<Command<'a>, AllocError>
+    ensures shape { IfOk result (λ c. shape_of c ≡ check_shape edition) }
     ensures local { IfOk result (λ c. (out-Command c).has_globals ≡ false) }
 {
-    Command::new(alloc, "check")
+    let check = Command::new(alloc, "check")
         .about("Checks a file, and prints which kind it is and how many units and hunks it has")
-        .after_help(help::CHECK)
-        .arg(file_argument(alloc, "An object file or a load file"))
+        .after_help(help::CHECK);
+    with_new(check, edition, explain_flag(alloc))?.arg(file_argument(
+        alloc,
+        "An object file or a load file",
+    ))
 }
 
-/// The subcommand `show [--json] FILE`.
+/// The subcommand `show [--json] [--explain] FILE`.
 fn show_command<'a>(alloc: Global, edition: Edition) -> Result<Command<'a>, AllocError>
     ensures shape { IfOk result (λ c. shape_of c ≡ show_shape edition) }
     ensures local { IfOk result (λ c. (out-Command c).has_globals ≡ false) }
@@ -186,7 +205,8 @@ fn show_command<'a>(alloc: Global, edition: Edition) -> Result<Command<'a>, Allo
     let show = Command::new(alloc, "show")
         .about("Prints a listing of the units and hunks of a file, and of what is in them")
         .after_help(help::SHOW);
-    with_new(show, edition, json_flag(alloc))?.arg(file_argument(
+    let flagged = with_new(show, edition, json_flag(alloc))?;
+    with_new(flagged, edition, explain_flag(alloc))?.arg(file_argument(
         alloc,
         "An object file or a load file",
     ))

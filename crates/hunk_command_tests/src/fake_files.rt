@@ -1,6 +1,6 @@
 //! A file system in memory for the tests, which counts the files that are open.
 
-use crate::samples::{CALLEE, CALLER, LOOP, PROGRAM, ZEROS};
+use crate::samples::{CALLEE, CALLER, LOOP, MISTYPED, PROGRAM, TRAILING, UNENDED, ZEROS};
 use std::alloc::{Allocator, Global};
 use std::cell::{Cell, RefCell};
 use std::fmt::Display;
@@ -33,6 +33,8 @@ pub struct Log {
     pub opened: Cell<usize>,
     /// How many reads there were.
     pub reads: Cell<usize>,
+    /// How many reads there are before one that fails.
+    pub good_reads: Cell<usize>,
     /// How many files were created.
     pub created: Cell<usize>,
     /// Whether the standard output takes what is printed.
@@ -49,6 +51,7 @@ impl Log {
             most_open: Cell::new(0),
             opened: Cell::new(0),
             reads: Cell::new(0),
+            good_reads: Cell::new(usize::MAX),
             created: Cell::new(0),
             prints: Cell::new(false),
             written: RefCell::new(Vec::new(alloc)),
@@ -89,8 +92,9 @@ impl<'a> FakeFiles<'a> {
     }
 
     fn read(&self, name: &str) -> io::Result<Handle<'a>> {
-        match find(name) {
-            Some((kind, bytes)) if self.log.opened.get() < self.openings => {
+        let opened = self.log.opened.get();
+        match find(name, opened) {
+            Some((kind, bytes)) if opened < self.openings => {
                 add_one(&self.log.opened);
                 Ok(self.handle(kind, bytes))
             }
@@ -99,7 +103,7 @@ impl<'a> FakeFiles<'a> {
     }
 
     fn create(&self, name: &str) -> io::Result<Handle<'a>> {
-        let kind = match find(name) {
+        let kind = match find(name, 0) {
             Some((kind, _)) => kind,
             None => Kind::Regular,
         };
@@ -111,8 +115,8 @@ impl<'a> FakeFiles<'a> {
     }
 }
 
-/// The file with this name: what it is, and its bytes.
-fn find(name: &str) -> Option<(Kind, &'static [u8])> {
+/// The file with this name, once so many files have been opened: what it is, and its bytes.
+fn find(name: &str, opened: usize) -> Option<(Kind, &'static [u8])> {
     match name {
         "caller" => Some((Kind::Regular, &CALLER)),
         "callee" => Some((Kind::Regular, &CALLEE)),
@@ -120,11 +124,30 @@ fn find(name: &str) -> Option<(Kind, &'static [u8])> {
         "zeros" => Some((Kind::Regular, &ZEROS)),
         "program" => Some((Kind::Regular, &PROGRAM)),
         "addresses" => Some((Kind::Regular, b"10000, 20000\r\n")),
+        "mistyped" => Some((Kind::Regular, &MISTYPED)),
+        "unended" => Some((Kind::Regular, &UNENDED)),
+        "trailing" => Some((Kind::Regular, &TRAILING)),
+        "mistyped-pipe" => Some((Kind::Pipe, &MISTYPED)),
+        "addresses-pipe" => Some((Kind::Pipe, b"10000\n")),
+        // These change once a file has been opened.
+        "changed" if opened == 0 => Some((Kind::Regular, &MISTYPED)),
+        "changed" => Some((Kind::Regular, &UNENDED)),
+        "mended" if opened == 0 => Some((Kind::Regular, &MISTYPED)),
+        "mended" => Some((Kind::Regular, &CALLEE)),
         "bad-addresses" => Some((Kind::Regular, b",10000 ,\r\n\r\n0x20,30000\n")),
         "pipe" => Some((Kind::Pipe, &LOOP)),
         "directory" => Some((Kind::Directory, &[])),
         "full" => Some((Kind::Full, &[])),
         _ => None,
+    }
+}
+
+/// What the system tells of a file.
+fn metadata_of(kind: Kind) -> io::Result<Metadata> {
+    match kind {
+        Kind::Pipe | Kind::Full => unsupported(),
+        Kind::Directory => Ok(Metadata::of_dir()),
+        Kind::Regular => Ok(Metadata::of_file(0)),
     }
 }
 
@@ -149,8 +172,11 @@ impl<'a> Files for FakeFiles<'a> {
         unsupported()
     }
 
-    fn metadata(&self, _path: &str) -> io::Result<Metadata> {
-        unsupported()
+    fn metadata(&self, path: &str) -> io::Result<Metadata> {
+        match find(path, self.log.opened.get()) {
+            Some((kind, _)) => metadata_of(kind),
+            None => Err(io::Error::from(ErrorKind::NotFound)),
+        }
     }
 
     fn symlink_metadata(&self, _path: &str) -> io::Result<Metadata> {
@@ -220,9 +246,13 @@ impl Drop for Handle<'_> {
 
 impl Read for Handle<'_> {
     fn read(&mut self, buf: &mut [u8]) -> io::Result<usize> {
+        let reads = self.log.reads.get();
         add_one(&self.log.reads);
         if self.kind == Kind::Directory {
             return Err(io::Error::from(ErrorKind::IsADirectory));
+        }
+        if reads >= self.log.good_reads.get() {
+            return Err(io::Error::from(ErrorKind::Other));
         }
         self.rest.read(buf)
     }
@@ -250,11 +280,7 @@ impl Seek for Handle<'_> {
 
 impl OpenFile for Handle<'_> {
     fn metadata(&self) -> io::Result<Metadata> {
-        match self.kind {
-            Kind::Pipe | Kind::Full => unsupported(),
-            Kind::Directory => Ok(Metadata::of_dir()),
-            Kind::Regular => Ok(Metadata::of_file(0)),
-        }
+        metadata_of(self.kind)
     }
 
     fn set_len(&self, _size: u64) -> io::Result<()> {

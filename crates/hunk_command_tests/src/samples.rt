@@ -60,6 +60,22 @@ pub static ZEROS: [u8; 52] = [
     0, 0, 0, 0, 3, 0xEC, 0, 0, 0, 1, 0, 0, 0, 0, 0, 0, 0, 4, 0, 0, 0, 0, 0, 0, 3, 0xF2,
 ];
 
+/// An object file whose longword 5, after the content of a hunk, is no block type.
+pub static MISTYPED: [u8; 24] = [
+    0, 0, 3, 0xE7, 0, 0, 0, 0, 0, 0, 3, 0xE9, 0, 0, 0, 1, 0x4E, 0x75, 0x4E, 0x71, 0, 0, 3, 0xFF,
+];
+
+/// An object file that ends after two bytes of longword 5.
+pub static UNENDED: [u8; 22] = [
+    0, 0, 3, 0xE7, 0, 0, 0, 0, 0, 0, 3, 0xE9, 0, 0, 0, 1, 0x4E, 0x75, 0x4E, 0x71, 0, 0,
+];
+
+/// A load file of one hunk, and longword 10 after it.
+pub static TRAILING: [u8; 44] = [
+    0, 0, 3, 0xF3, 0, 0, 0, 0, 0, 0, 0, 1, 0, 0, 0, 0, 0, 0, 0, 0, 0, 0, 0, 1, 0, 0, 3, 0xE9, 0, 0,
+    0, 1, 0x4E, 0x75, 0x4E, 0x71, 0, 0, 3, 0xF2, 0, 0, 0x12, 0x34,
+];
+
 /// A plain load file, with symbols and debug blocks.
 pub const PLAIN: LinkOptions = LinkOptions {
     strip: false,

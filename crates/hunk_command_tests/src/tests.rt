@@ -2,6 +2,7 @@
 //!
 //! - `addresses`: addresses in a list, and in a file.
 //! - `asserts`: assertions as functions.
+//! - `explanations`: what is told of a failure after its line.
 //! - `failures`: the line of each failure, and its status.
 //! - `images`: the report of object files.
 //! - `inputs`: files that are open at once.
@@ -15,6 +16,7 @@
 
 mod addresses;
 mod asserts;
+mod explanations;
 mod failures;
 mod images;
 mod inputs;

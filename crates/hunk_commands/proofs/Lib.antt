@@ -1,6 +1,8 @@
 pub mod AddressesLemmas
 pub mod DevicesLemmas
+pub mod ExplainLemmas
 pub mod FailureLemmas
+pub mod FaultLemmas
 pub mod ImageLemmas
 pub mod InputsLemmas
 pub mod LinkLemmas

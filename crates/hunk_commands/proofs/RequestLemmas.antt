@@ -1,10 +1,11 @@
 -- The status after a request that was not done, and where memory ran out.
-use Rattle.std.proofs.Common.{◌≡◌, ◌∙◌, [], ap, Bool, List, Option, subst, ℕ}
+use Rattle.std.proofs.Common.{◌≡◌, ◌∙◌, [], ap, Bool, inl, List, Option, refl, subst, ℕ}
 use Rattle.hunk_tool.specs.declared.tool_fault.ToolFault.TheVariants as tool_fault
 use Rattle.hunk_commands.specs.Failure.{failure_line, status_of, TellsLine}
 use Rattle.hunk_commands.specs.Request.{IsFailed}
 use Rattle.hunk_commands.specs.declared.failure.Failure.{Failure}
 use Rattle.hunk_commands.specs.declared.failure.Failure.TheVariants.{Tool}
+use Rattle.hunk_commands.proofs.ExplainLemmas.{IsAfter, tells_after, tells_line_alone}
 
 -- the failure that memory ran out was told
 pub out_of_memory_told : {W : Type 0} (taken : W → Option (List ℕ)) (failed : W → Bool) (old new : W) (names : List (List ℕ)) (failure : Failure) (status : ℕ)
@@ -13,19 +14,29 @@ pub out_of_memory_told : {W : Type 0} (taken : W → Option (List ℕ)) (failed 
 out_of_memory_told taken failed old new names failure status is ends told =
     (ends ∙ ap status_of is, subst (λ f. TellsLine taken failed old new (failure_line names f)) is told)
 
--- a request for some files was not begun, since memory ran out
-pub not_begun : {W : Type 0} (taken : W → Option (List ℕ)) (failed : W → Bool) (old new : W) (Why : Failure → Type 0) (files : List (List ℕ)) (status : ℕ)
-    → Why (Tool (tool_fault.OutOfMemory 0)) → (status ≡ 4) × TellsLine taken failed old new (failure_line [] (Tool (tool_fault.OutOfMemory 0)))
-    → IsFailed taken failed old new Why files status
-not_begun taken failed old new Why files status why told =
-    record { failure = Tool (tool_fault.OutOfMemory 0); why = why; status_is = told.0; line = told.1 }
+module _ {W : Type 0} (taken : W → Option (List ℕ)) (failed : W → Bool) (Why : Failure → Type 0) (AreMore : Failure → List ℕ → Type 0) (files : List (List ℕ)) (status : ℕ) where
+  -- a request for some files was not done, and no more than the line of its failure was told
+  pub fails_with_line : (old new : W) (failure : Failure) → Why failure → status ≡ status_of failure → TellsLine taken failed old new (failure_line files failure)
+      → IsFailed taken failed old new Why AreMore files status
+  fails_with_line old new failure why status_is told = record {
+    failure = failure;
+    why = why;
+    status_is = status_is;
+    more = [];
+    is_more = inl refl;
+    line = tells_line_alone taken failed old new (failure_line files failure) told;
+  }
 
--- a request for some files was not done, and its failure was told with their names
-pub is_failed : {W : Type 0} (taken : W → Option (List ℕ)) (failed : W → Bool) (old new : W) (Why : Failure → Type 0) (files names : List (List ℕ)) (failure : Failure) (status : ℕ)
-    → names ≡ files → Why failure → status ≡ status_of failure → TellsLine taken failed old new (failure_line names failure) → IsFailed taken failed old new Why files status
-is_failed taken failed old new Why files names failure status same why status_is told = record {
-  failure = failure;
-  why = why;
-  status_is = status_is;
-  line = subst (λ x. TellsLine taken failed old new (failure_line x failure)) same told;
-}
+  -- it was not begun, since memory ran out
+  pub not_begun : (old new : W) → Why (Tool (tool_fault.OutOfMemory 0)) → (status ≡ 4) × TellsLine taken failed old new (failure_line [] (Tool (tool_fault.OutOfMemory 0)))
+      → IsFailed taken failed old new Why AreMore files status
+  not_begun old new why told = fails_with_line old new (Tool (tool_fault.OutOfMemory 0)) why told.0 told.1
+
+  -- it was not done, and its failure was told with the names of the files, and then explained
+  pub is_failed : (old between new : W) (names : List (List ℕ)) (failure : Failure) → names ≡ files → Why failure → status ≡ status_of failure
+      → TellsLine taken failed old between (failure_line names failure) → IsAfter taken failed between new (AreMore failure)
+      → IsFailed taken failed old new Why AreMore files status
+  is_failed old between new names failure same why status_is told after =
+      let both = tells_after taken failed old between new (failure_line files failure) (AreMore failure)
+      (subst (λ x. TellsLine taken failed old between (failure_line x failure)) same told) after in
+      record { failure = failure; why = why; status_is = status_is; more = both.0; is_more = both.1; line = both.2 }

@@ -1,5 +1,6 @@
 pub mod Request
 pub mod Failure
+pub mod Explain
 pub mod Devices
 pub mod Inputs
 pub mod Addresses

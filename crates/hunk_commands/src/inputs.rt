@@ -1,12 +1,12 @@
 //! The files that a request reads, all of which are opened before the first is read.
-ghost use Rattle.std.specs.Prelude.{◌≡◌, IfOk, IfErr, length, vec_len};
-ghost use Rattle.hunk_commands.specs.Inputs.{file_names};
-ghost use Rattle.hunk_commands.specs.Inputs.{IsOpenFailure};
+ghost use Rattle.std.specs.Prelude.{◌≡◌, IfOk, IfErr, length, map, vec_len};
+ghost use Rattle.std.specs.String.{string_bytes};
+ghost use Rattle.hunk_commands.specs.Inputs.{IsOpenFailure, file_names};
 
 use crate::devices::open;
 use crate::failure::Failure;
 use hunk_words::Watched;
-use std::alloc::Global;
+use std::alloc::{AllocError, Global};
 use std::fs::OpenFile;
 use std::io::Read;
 use std::rt::Files;
@@ -85,4 +85,15 @@ pub fn open_inputs<'r, 'a, R: Files>(
 /// Whether `file` is a regular file, as far as the system tells.
 fn is_regular<F: OpenFile>(file: &F) -> bool {
     file.metadata().is_ok_and(|metadata| metadata.is_file())
+}
+
+/// Copies of the names of files.
+pub(crate) fn names_of(alloc: Global, files: &[&str]) -> Result<Vec<String>, AllocError>
+    ensures { IfOk result (λ names. map string_bytes names.items ≡ file_names files.now) }
+{
+    let mut names = Vec::with_capacity(alloc, files.len())?;
+    for file in files {
+        names.push(String::from_str(alloc, file)?)?;
+    }
+    Ok(names)
 }

@@ -4,6 +4,7 @@
 //! - `request`: what a command line asks for, and doing it.
 //! - `failure`: why a command failed, the line that reports it, and the exit status.
 //! - `addresses`: where the addresses of the hunks come from.
+//! - `explain`: what is told of a failure after its line.
 //! - `devices`: the file that a command reads, and the output that it writes.
 //! - `inputs`: the files that a command reads, if there are several.
 //! - `load`: the command `load`.
@@ -16,6 +17,7 @@
 
 pub mod addresses;
 mod devices;
+pub mod explain;
 mod failure;
 pub mod image;
 mod inputs;

@@ -83,7 +83,7 @@ pub fn link_with_map<'a, R: Files + AllocGlobal>(
 
 /// The load file of the object files named `files`. With `strip`, symbols and debug blocks are left
 /// out.
-fn linked<'a, R: Files + AllocGlobal>(
+pub(crate) fn linked<'a, R: Files + AllocGlobal>(
     rt: &R,
     strip: bool,
     files: &[&'a str],

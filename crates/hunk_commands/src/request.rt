@@ -1,5 +1,5 @@
 //! What a command line asks for, and doing it.
-ghost use Rattle.std.specs.Prelude.{◌≡◌, IfErr, IfOk, OnOk, length, map, string_bytes};
+ghost use Rattle.std.specs.Prelude.{◌≡◌, IfErr, OnOk, length, map, string_bytes};
 ghost use Rattle.hunk_commands.specs.Addresses.{origin_of};
 ghost use Rattle.hunk_commands.specs.Failure.{IsOfFiles};
 ghost use Rattle.hunk_commands.specs.Inputs.{file_names};
@@ -7,8 +7,10 @@ ghost use Rattle.hunk_commands.specs.Link.{IsDone, IsUndone};
 ghost use Rattle.hunk_commands.specs.Request.{Ends, EndsImage, EndsLink, EndsLoad, EndsSurvey, EndsText, given_text, shown};
 
 use crate::addresses::Addresses;
+use crate::explain::{Command, explain_failure};
 use crate::failure::{COMMAND_LINE, DONE, Failure, report_failure};
 use crate::image::image;
+use crate::inputs::names_of;
 use crate::link::{link, link_with_map};
 use crate::load::{LoadText, load};
 use crate::survey::survey;
@@ -16,14 +18,13 @@ use crate::text::{Text, print_text};
 use crate::version::print_version;
 use hunk_tool::{ImageForm, LinkOptions};
 use hunk_words::{Sink, write_all};
-use std::alloc::{AllocError, Global};
 use std::rt::Files;
 
 /// What the arguments of a command line ask for.
 #[derive(Debug, Drop)]
 pub enum Request<'a> {
-    /// `link --out OUT [--map MAP] [--strip] [--short] [--trim] FILE...`: the load file of the object
-    /// files FILE..., written to OUT, and the map of it, written to MAP.
+    /// `link --out OUT [--map MAP] [--strip] [--short] [--trim] [--explain] FILE...`: the load file of
+    /// the object files FILE..., written to OUT, and the map of it, written to MAP.
     Link {
         /// The argument OUT.
         out: &'a str,
@@ -31,39 +32,49 @@ pub enum Request<'a> {
         map: Option<&'a str>,
         /// Which of `--strip`, `--short` and `--trim` are given.
         options: LinkOptions,
+        /// Whether `--explain` is given.
+        explain: bool,
         /// The arguments FILE..., in the order given, of which there is at least one.
         files: Vec<&'a str>,
     },
-    /// `load --at LIST [--srec | --symbols] FILE`, or with `--at-file`: the image or the symbols of
-    /// FILE, loaded at the addresses.
+    /// `load --at LIST [--srec | --symbols] [--explain] FILE`, or with `--at-file`: the image or the
+    /// symbols of FILE, loaded at the addresses.
     Load {
         /// Where the addresses come from: LIST, not yet parsed, or a file, not yet opened.
         addresses: Addresses<'a>,
         /// The symbols if `--symbols` is given, the image as S-records if `--srec` is given, and
         /// otherwise the report.
         text: LoadText,
+        /// Whether `--explain` is given.
+        explain: bool,
         /// The argument FILE.
         file: &'a str,
     },
-    /// `image --at LIST [--srec] FILE...`, or with `--at-file`: the memory that the object files
-    /// FILE... define at the addresses.
+    /// `image --at LIST [--srec] [--explain] FILE...`, or with `--at-file`: the memory that the object
+    /// files FILE... define at the addresses.
     Image {
         /// Where the addresses come from: LIST, not yet parsed, or a file, not yet opened.
         addresses: Addresses<'a>,
         /// S-records if `--srec` is given, and otherwise the report.
         form: ImageForm,
+        /// Whether `--explain` is given.
+        explain: bool,
         /// The arguments FILE..., in the order given, of which there is at least one.
         files: Vec<&'a str>,
     },
-    /// `check FILE`: one line about FILE.
+    /// `check [--explain] FILE`: one line about FILE.
     Check {
+        /// Whether `--explain` is given.
+        explain: bool,
         /// The argument FILE.
         file: &'a str,
     },
-    /// `show [--json] FILE`: a listing of FILE, or a JSON document.
+    /// `show [--json] [--explain] FILE`: a listing of FILE, or a JSON document.
     Show {
         /// Whether `--json` is given.
         json: bool,
+        /// Whether `--explain` is given.
+        explain: bool,
         /// The argument FILE.
         file: &'a str,
     },
@@ -83,7 +94,8 @@ pub enum Request<'a> {
 }
 
 /// Does what was asked for, and returns the exit status: 0 where it was done, and else that of the failure, whose line
-/// is appended to `errors`, or a write to it failed.
+/// is appended to `errors`, or a write to it failed. If `explain` is set, further lines may follow, which
+/// [`explain_failure`] tells.
 pub fn answer<R: Files + Print + AllocGlobal, W: Sink>(
     rt: &R,
     errors: &mut W,
@@ -96,20 +108,27 @@ pub fn answer<R: Files + Print + AllocGlobal, W: Sink>(
             out,
             map,
             options,
+            explain,
             files,
-        } => answer_link(rt, errors, out, map, options, files.as_slice()),
+        } => answer_link(rt, errors, out, map, options, explain, files.as_slice()),
         Request::Load {
             addresses,
             text,
+            explain,
             file,
-        } => answer_load(rt, errors, addresses, text, file),
+        } => answer_load(rt, errors, addresses, text, explain, file),
         Request::Image {
             addresses,
             form,
+            explain,
             files,
-        } => answer_image(rt, errors, addresses, form, files.as_slice()),
-        Request::Check { file } => answer_text(rt, errors, Text::Line, file),
-        Request::Show { json, file } => answer_text(rt, errors, shown(json), file),
+        } => answer_image(rt, errors, addresses, form, explain, files.as_slice()),
+        Request::Check { explain, file } => answer_text(rt, errors, Text::Line, explain, file),
+        Request::Show {
+            json,
+            explain,
+            file,
+        } => answer_text(rt, errors, shown(json), explain, file),
         Request::Survey { files } => answer_survey(rt, errors, files.as_slice()),
         Request::Version => match print_version(rt) {
             Ok(()) => DONE,
@@ -133,16 +152,23 @@ fn answer_load<R: Files + Print + AllocGlobal, W: Sink>(
     errors: &mut W,
     addresses: Addresses<'_>,
     text: LoadText,
+    explain: bool,
     file: &str,
 ) -> u8
-    ensures { EndsLoad W.taken W.failed errors.old errors.new (origin_of addresses.entry) text file.now result }
+    ensures { EndsLoad W.taken W.failed errors.old errors.new (origin_of addresses.entry) text explain file.now result }
 {
     let Ok(name) = String::from_str(rt.alloc(), file) else {
         return report_failure(errors, &[], &Failure::out_of_memory());
     };
     match load(rt, addresses, text, file) {
         Ok(()) => DONE,
-        Err(failure) => report_failure(errors, &[name], &failure),
+        Err(failure) => {
+            let status = report_failure(errors, &[name], &failure);
+            if explain {
+                explain_failure(rt, errors, Command::Load(addresses), &[file], &failure);
+            }
+            status
+        }
     }
 }
 
@@ -153,16 +179,23 @@ fn answer_link<R: Files + AllocGlobal, W: Sink>(
     out: &str,
     map_file: Option<&str>,
     options: LinkOptions,
+    explain: bool,
     files: &[&str],
 ) -> u8
-    ensures { EndsLink W.taken W.failed errors.old errors.new out.now (given_text map_file.entry) options (file_names files.now) result }
+    ensures { EndsLink W.taken W.failed errors.old errors.new out.now (given_text map_file.entry) options explain (file_names files.now) result }
 {
     let Ok(names) = names_of(rt.alloc(), files) else {
         return report_failure(errors, &[], &Failure::out_of_memory());
     };
     match link_as_asked(rt, out, map_file, options, files, names.as_slice()) {
         Ok(()) => DONE,
-        Err(failure) => report_failure(errors, names.as_slice(), &failure),
+        Err(failure) => {
+            let status = report_failure(errors, names.as_slice(), &failure);
+            if explain {
+                explain_failure(rt, errors, Command::Link, files, &failure);
+            }
+            status
+        }
     }
 }
 
@@ -192,16 +225,23 @@ fn answer_image<R: Files + Print + AllocGlobal, W: Sink>(
     errors: &mut W,
     addresses: Addresses<'_>,
     form: ImageForm,
+    explain: bool,
     files: &[&str],
 ) -> u8
-    ensures { EndsImage W.taken W.failed errors.old errors.new (origin_of addresses.entry) form (file_names files.now) result }
+    ensures { EndsImage W.taken W.failed errors.old errors.new (origin_of addresses.entry) form explain (file_names files.now) result }
 {
     let Ok(names) = names_of(rt.alloc(), files) else {
         return report_failure(errors, &[], &Failure::out_of_memory());
     };
     match image(rt, addresses, form, files) {
         Ok(()) => DONE,
-        Err(failure) => report_failure(errors, names.as_slice(), &failure),
+        Err(failure) => {
+            let status = report_failure(errors, names.as_slice(), &failure);
+            if explain {
+                explain_failure(rt, errors, Command::Image(addresses), files, &failure);
+            }
+            status
+        }
     }
 }
 
@@ -219,17 +259,6 @@ fn answer_survey<R: Files + Print + AllocGlobal, W: Sink>(
     }
 }
 
-/// Copies of the names of files.
-fn names_of(alloc: Global, files: &[&str]) -> Result<Vec<String>, AllocError>
-    ensures { IfOk result (λ names. map string_bytes names.items ≡ file_names files.now) }
-{
-    let mut names = Vec::with_capacity(alloc, files.len())?;
-    for file in files {
-        names.push(String::from_str(alloc, file)?)?;
-    }
-    Ok(names)
-}
-
 /// What `show` prints of a file.
 fn shown(json: bool) -> Text
     ensures { result ≡ shown json }
@@ -242,15 +271,22 @@ fn answer_text<R: Files + Print + AllocGlobal, W: Sink>(
     rt: &R,
     errors: &mut W,
     text: Text,
+    explain: bool,
     file: &str,
 ) -> u8
-    ensures { EndsText W.taken W.failed errors.old errors.new text file.now result }
+    ensures { EndsText W.taken W.failed errors.old errors.new text explain file.now result }
 {
     let Ok(name) = String::from_str(rt.alloc(), file) else {
         return report_failure(errors, &[], &Failure::out_of_memory());
     };
     match print_text(rt, text, file) {
         Ok(()) => DONE,
-        Err(failure) => report_failure(errors, &[name], &failure),
+        Err(failure) => {
+            let status = report_failure(errors, &[name], &failure);
+            if explain {
+                explain_failure(rt, errors, Command::Text, &[file], &failure);
+            }
+            status
+        }
     }
 }

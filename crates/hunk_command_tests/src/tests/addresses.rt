@@ -35,6 +35,7 @@ fn load_of<'a>(addresses: Addresses<'a>, file: &'a str) -> Request<'a> {
     Request::Load {
         addresses,
         text: LoadText::Image(ImageForm::Report),
+        explain: false,
         file,
     }
 }
@@ -48,6 +49,7 @@ fn image_of<'a>(
     Ok(Request::Image {
         addresses,
         form: ImageForm::Report,
+        explain: false,
         files: files.to_vec(alloc)?,
     })
 }

@@ -28,6 +28,7 @@ fn link_ends<'a>(
         out,
         map: None,
         options: PLAIN,
+        explain: false,
         files: files.to_vec(alloc)?,
     };
     let mut errors = Watched::new(Vec::new(alloc));
@@ -67,6 +68,7 @@ fn tells_why_there_is_no_image(rt: HostRuntime) -> Result<(), Fail> {
         let request = Request::Image {
             addresses: Addresses::List(list),
             form: ImageForm::Report,
+            explain: false,
             files: ["no-such-file"].to_vec(rt.alloc())?,
         };
         let mut errors = Watched::new(Vec::new(rt.alloc()));

@@ -15,8 +15,10 @@ returns-in_ok-files_of-in-Ok c =
     let values_are : AreValues (rows_of found) values =
     subst (AreValues (rows_of found)) c.in-Ok.ensures.ok (sym c.optional_value.ensures, sym c.optional_value-2.ensures) in
     let form = c.form_of in
-    says_image met (rows_of found) c.requires refl values values_are form.result (texts c.in_ok-files_of-in-Ok.field-0.items)
+    let explain = c.get_flag-in-Ok in
+    says_image met (rows_of found) c.requires refl values values_are form.result explain.result (texts c.in_ok-files_of-in-Ok.field-0.items)
     (reads found (codes "srec") (is_srec form.result) (λ is. form.ensures ∙ c.get_flag.ensures.value is) (λ is. form.ensures ∙ c.get_flag.ensures.other is))
+    (reads found (codes "explain") explain.result explain.ensures.value explain.ensures.other)
     c.in_ok-files_of-in-Ok.ensures
 
 -- the addresses are given twice, or not at all

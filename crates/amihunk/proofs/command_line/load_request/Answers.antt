@@ -24,9 +24,11 @@ returns-in-Some c =
     let values_are : AreValues (rows_of found) values =
     subst (AreValues (rows_of found)) c.in-Ok.ensures.ok (sym c.optional_value.ensures, sym c.optional_value-2.ensures) in
     let text = c.in-Some.text in
-    says_load met (rows_of found) c.requires refl values values_are (asks_srec text) (asks_symbols text) c.value_of.result.now
+    let explain = c.get_flag-explain in
+    says_load met (rows_of found) c.requires refl values values_are (asks_srec text) (asks_symbols text) explain.result c.value_of.result.now
     (reads found (codes "srec") (asks_srec text) (λ is. c.in-Some.ensures.0 ∙ c.get_flag.ensures.value is) (λ is. c.in-Some.ensures.0 ∙ c.get_flag.ensures.other is))
     (reads found (codes "symbols") (asks_symbols text) (λ is. c.in-Some.ensures.1 ∙ c.get_flag-2.ensures.value is) (λ is. c.in-Some.ensures.1 ∙ c.get_flag-2.ensures.other is))
+    (reads found (codes "explain") explain.result explain.ensures.value explain.ensures.other)
     c.value_of.ensures
 
 -- both flags were given

@@ -4,7 +4,7 @@ use Rattle.clap.specs.Walk.{texts}
 use Rattle.clap.specs.Words.{found_of, rows_of, subcommand_rows_of}
 use Rattle.hunk_commands.specs.Request.{given_text}
 use Rattle.amihunk.specs.CommandLine.{IsWhole}
-use Rattle.amihunk.proofs.CommandLineValueLemmas.{IsKnown, known, reads, says_link, says_show, says_survey}
+use Rattle.amihunk.proofs.CommandLineValueLemmas.{IsKnown, known, reads, says_check, says_link, says_show, says_survey}
 use Rattle.amihunk.proofs.command_line.request_of.Goals as goal
 
 pub load_request-requires : goal.load_request-requires
@@ -25,20 +25,33 @@ returns-in_ok-files_of-in-Some-link-default c =
     let strip = c.get_flag in
     let short = c.get_flag-in-Some-link-default in
     let trim = c.get_flag-in-Some-link-default-2 in
+    let explain = c.get_flag-in-Some-link-default-3 in
     says_link (subcommand_rows_of c.args.matches.now) (rows_of found) c.requires called c.value_of.result.now (given_text c.optional_value.result)
-    (record { strip = strip.result; short = short.result; trim = trim.result }) (texts files.field-0.items) c.value_of.ensures (sym c.optional_value.ensures)
+    (record { strip = strip.result; short = short.result; trim = trim.result }) explain.result (texts files.field-0.items) c.value_of.ensures (sym c.optional_value.ensures)
     (reads found (codes "strip") strip.result strip.ensures.value strip.ensures.other)
     (reads found (codes "short") short.result short.ensures.value short.ensures.other)
     (reads found (codes "trim") trim.result trim.ensures.value trim.ensures.other)
+    (reads found (codes "explain") explain.result explain.ensures.value explain.ensures.other)
     files.ensures
+
+pub returns-in-Some-check-default : goal.returns-in-Some-check-default
+returns-in-Some-check-default c =
+    let found = found_of c.in-Some-check-default.values.now in
+    let called : subcommand_rows_of c.args.matches.now ≡ Some (codes "check", rows_of found) = search rules in
+    let explain = c.get_flag-in-Some-check-default in
+    says_check (subcommand_rows_of c.args.matches.now) (rows_of found) c.requires called explain.result c.value_of-in-Some-check-default.result.now
+    (reads found (codes "explain") explain.result explain.ensures.value explain.ensures.other)
+    c.value_of-in-Some-check-default.ensures
 
 pub returns-in-Some-show-default : goal.returns-in-Some-show-default
 returns-in-Some-show-default c =
     let found = found_of c.in-Some-show-default.values.now in
     let called : subcommand_rows_of c.args.matches.now ≡ Some (codes "show", rows_of found) = search rules in
     let json = c.get_flag-in-Some-show-default in
-    says_show (subcommand_rows_of c.args.matches.now) (rows_of found) c.requires called json.result c.value_of-in-Some-show-default.result.now
+    let explain = c.get_flag-in-Some-show-default-2 in
+    says_show (subcommand_rows_of c.args.matches.now) (rows_of found) c.requires called json.result explain.result c.value_of-in-Some-show-default.result.now
     (reads found (codes "json") json.result json.ensures.value json.ensures.other)
+    (reads found (codes "explain") explain.result explain.ensures.value explain.ensures.other)
     c.value_of-in-Some-show-default.ensures
 
 pub returns-in_ok-files_of-in-Some-survey-default : goal.returns-in_ok-files_of-in-Some-survey-default

@@ -23,9 +23,10 @@ returns-clause-shape c =
     let mapped = c.in_ok-with_new.ensures.shape ∙ ap₂ (with_new_rule c.args.edition) out c.map_argument.ensures.rule in
     let strip = c.in_ok-arg.ensures.shape strip_local ∙ ap₂ with_rule mapped strip_rule in
     let short = c.in_ok-arg-2.ensures.shape c.flag-2.ensures.local ∙ ap₂ with_rule strip c.flag-2.ensures.rule in
-    let trim = c.in_ok-arg-3.ensures.shape c.flag-3.ensures.local ∙ ap₂ with_rule short c.flag-3.ensures.rule in
+    let trim = c.in_ok-flagged.ensures.shape c.flag-3.ensures.local ∙ ap₂ with_rule short c.flag-3.ensures.rule in
+    let explain = c.in_ok-with_new-2.ensures.shape ∙ ap₂ (with_new_rule c.args.edition) trim c.explain_flag.ensures.rule in
     IfOk-weaker c.arg-5.result _ _
-    (λ r added. ap (λ (a : App). a.top) (added.shape c.files_argument.ensures.local ∙ ap₂ with_rule trim c.files_argument.ensures.rule))
+    (λ r added. ap (λ (a : App). a.top) (added.shape c.files_argument.ensures.local ∙ ap₂ with_rule explain c.files_argument.ensures.rule))
     c.arg-5.ensures
 
 -- whether one of the arguments is global
@@ -42,7 +43,8 @@ returns-clause-local c =
     let strip_local = ap is_global c.short.ensures ∙ c.flag.ensures.local in
     let strip = c.in_ok-arg.ensures.globals ∙ ap₂ ◌||◌ mapped strip_local in
     let short = c.in_ok-arg-2.ensures.globals ∙ ap₂ ◌||◌ strip c.flag-2.ensures.local in
-    let trim = c.in_ok-arg-3.ensures.globals ∙ ap₂ ◌||◌ short c.flag-3.ensures.local in
+    let trim = c.in_ok-flagged.ensures.globals ∙ ap₂ ◌||◌ short c.flag-3.ensures.local in
+    let explain = c.in_ok-with_new-2.ensures.local trim in
     IfOk-weaker c.arg-5.result _ _
-    (λ r added. added.globals ∙ ap₂ ◌||◌ trim c.files_argument.ensures.local)
+    (λ r added. added.globals ∙ ap₂ ◌||◌ explain c.files_argument.ensures.local)
     c.arg-5.ensures

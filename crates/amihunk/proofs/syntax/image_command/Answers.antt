@@ -1,0 +1,36 @@
+use Rattle.std.proofs.Common.{◌≡◌, ◌∙◌, ◌||◌, Bool, ap, ap₂, codes, false}
+use Rattle.std.proofs.lemmas.Result.{IfOk-weaker}
+use Rattle.clap.specs.Words.{App, app_of, new_app, with_rule}
+use Rattle.clap.specs.Simple.{app_of_fields}
+use Rattle.clap.specs.declared.builder.command.Command.{Command}
+use Rattle.clap.specs.declared.builder.command.Command.TheOpen.{Command-F}
+use Rattle.clap.specs.declared.builder.command.Command.TheViews.{out-Command}
+use Rattle.amihunk.specs.Syntax.{given_addresses, with_new_rule}
+use Rattle.amihunk.proofs.syntax.image_command.Goals as goal
+
+pub returns-clause-shape : goal.returns-clause-shape
+returns-clause-shape c =
+    let named : app_of c.after_help-image.result ≡ new_app (codes "image") =
+    ap app_of_fields c.after_help-image.ensures ∙ (ap app_of_fields c.about.ensures ∙ c.new.ensures.app) in
+    let addresses = c.in_ok-with_addresses.ensures.shape ∙ ap (given_addresses c.args.edition) named in
+    let srec = c.in_ok-flagged.ensures.shape c.srec_flag.ensures.local ∙ ap₂ with_rule addresses c.srec_flag.ensures.rule in
+    let explain = c.in_ok-with_new.ensures.shape ∙ ap₂ (with_new_rule c.args.edition) srec c.explain_flag.ensures.rule in
+    IfOk-weaker c.arg-2.result _ _
+    (λ r added. ap (λ (a : App). a.top) (added.shape c.files_argument.ensures.local ∙ ap₂ with_rule explain c.files_argument.ensures.rule))
+    c.arg-2.ensures
+
+-- whether one of the arguments is global
+any_global : Command-F Command → Bool
+any_global c = c.has_globals
+
+pub returns-clause-local : goal.returns-clause-local
+unfolding any_global
+returns-clause-local c =
+    let named : (out-Command c.after_help-image.result).has_globals ≡ false =
+    ap any_global c.after_help-image.ensures ∙ (ap any_global c.about.ensures ∙ c.new.ensures.local) in
+    let addresses = c.in_ok-with_addresses.ensures.local named in
+    let srec = c.in_ok-flagged.ensures.globals ∙ ap₂ ◌||◌ addresses c.srec_flag.ensures.local in
+    let explain = c.in_ok-with_new.ensures.local srec in
+    IfOk-weaker c.arg-2.result _ _
+    (λ r added. added.globals ∙ ap₂ ◌||◌ explain c.files_argument.ensures.local)
+    c.arg-2.ensures

@@ -1,0 +1,392 @@
+//! What is told of a failure after its line.
+
+use super::asserts::{equals, equals_at, holds};
+use crate::fake_files::{FakeFiles, Log};
+use crate::samples::{Broken, CALLEE, MISTYPED, PLAIN, TRAILING, UNENDED};
+use hunk_commands::explain::{Command, explanation_of};
+use hunk_commands::{Addresses, LoadText, Request, answer};
+use hunk_tool::ImageForm;
+use hunk_words::{Fault, ReadFault, Reason, Room, Sink, Watched};
+use std::alloc::{AllocError, Global};
+use std::process::Abort;
+use std::test::Fail;
+
+// What is asked for, but for `--explain`.
+#[derive(Clone, Copy, Debug, PartialEq, Eq)]
+enum Asked {
+    Link(&'static [&'static str]),
+    Image(Addresses<'static>, &'static [&'static str]),
+    Load(Addresses<'static>, &'static str),
+    Check(&'static str),
+    Show(&'static str),
+}
+
+// What is asked for, the line of its failure, and what is told after it.
+type Row = (Asked, &'static str, &'static str);
+
+static REFUSED: [Row; 10] = [
+    (
+        Asked::Check("mistyped"),
+        "amihunk: mistyped: longword 5: unknown block type 1023\n",
+        "  at byte 20 (00000014)\n  found 000003ff\n  path: unit 0, hunk 0, after HUNK_CODE\n  \
+         due: the type of a block\n",
+    ),
+    (
+        Asked::Show("unended"),
+        "amihunk: unended: longword 5: file ends inside a longword\n",
+        "  at byte 20 (00000014)\n  \
+         found the end of the file, after 2 of the 4 bytes of a longword\n  \
+         path: unit 0, hunk 0, after HUNK_CODE\n  due: the type of a block\n",
+    ),
+    (
+        Asked::Check("trailing"),
+        "amihunk: trailing: longword 10: data after the last hunk\n",
+        "  at byte 40 (00000028)\n  found 00001234\n  path: hunk 0, after HUNK_END\n  \
+         due: the end of the file\n",
+    ),
+    (
+        Asked::Show("trailing"),
+        "amihunk: trailing: longword 10: data after the last hunk\n",
+        "  at byte 40 (00000028)\n  found 00001234\n  path: hunk 0, after HUNK_END\n  \
+         due: the end of the file\n",
+    ),
+    (
+        Asked::Load(Addresses::List("10000"), "caller"),
+        "amihunk: caller: longword 0: wrong first longword\n",
+        "  at byte 0 (00000000)\n  found 000003e7\n  path: start of the file\n  \
+         due: HUNK_HEADER, which begins a load file\n",
+    ),
+    (
+        Asked::Load(Addresses::File("addresses-pipe"), "trailing"),
+        "amihunk: trailing: longword 10: data after the last hunk\n",
+        "  at byte 40 (00000028)\n  found 00001234\n  path: hunk 0, after HUNK_END\n  \
+         due: the end of the file\n",
+    ),
+    (
+        Asked::Link(&["callee", "mistyped", "trailing"]),
+        "amihunk: mistyped: longword 5: unknown block type 1023\n",
+        "  at byte 20 (00000014)\n  found 000003ff\n  path: unit 0, hunk 0, after HUNK_CODE\n  \
+         due: the type of a block\n",
+    ),
+    (
+        Asked::Link(&["program"]),
+        "amihunk: program: longword 0: wrong first longword\n",
+        "  at byte 0 (00000000)\n  found 000003f3\n  path: start of the file\n  \
+         due: HUNK_UNIT, which begins an object file\n",
+    ),
+    (
+        Asked::Image(Addresses::List("0"), &["caller", "unended"]),
+        "amihunk: unended: longword 5: file ends inside a longword\n",
+        "  at byte 20 (00000014)\n  \
+         found the end of the file, after 2 of the 4 bytes of a longword\n  \
+         path: unit 0, hunk 0, after HUNK_CODE\n  due: the type of a block\n",
+    ),
+    // Only the file that is refused is read again.
+    (
+        Asked::Image(Addresses::List("0"), &["pipe", "mistyped"]),
+        "amihunk: mistyped: longword 5: unknown block type 1023\n",
+        "  at byte 20 (00000014)\n  found 000003ff\n  path: unit 0, hunk 0, after HUNK_CODE\n  \
+         due: the type of a block\n",
+    ),
+];
+
+static UNPLACED: [Row; 5] = [
+    (
+        Asked::Load(Addresses::List("10000"), "program"),
+        "amihunk: places: wrong number of addresses\n",
+        "  hunks: 2, addresses: 1\n  hunk 0: 8 bytes at 00010000\n  hunk 1: 8 bytes, no address\n",
+    ),
+    (
+        Asked::Load(Addresses::List("10000,10004"), "program"),
+        "amihunk: places: hunks 0 and 1 overlap\n",
+        "  hunks: 2, addresses: 2\n  hunk 0: 8 bytes at 00010000\n  hunk 1: 8 bytes at 00010004\n",
+    ),
+    (
+        Asked::Load(Addresses::List("10000,fffffffc"), "program"),
+        "amihunk: places: hunk 1 passes the end of memory\n",
+        "  hunks: 2, addresses: 2\n  hunk 0: 8 bytes at 00010000\n  hunk 1: 8 bytes at fffffffc\n",
+    ),
+    (
+        Asked::Image(Addresses::File("addresses"), &["loop"]),
+        "amihunk: places: wrong number of addresses\n",
+        "  hunks: 1, addresses: 2\n  hunk 0: 4 bytes at 00010000\n",
+    ),
+    (
+        Asked::Image(Addresses::List("0,4"), &["caller", "callee"]),
+        "amihunk: places: hunks 0 and 1 overlap\n",
+        "  hunks: 2, addresses: 2\n  hunk 0: 8 bytes at 00000000\n  hunk 1: 8 bytes at 00000004\n",
+    ),
+];
+
+static UNLINKED: [Row; 3] = [
+    (
+        Asked::Link(&["loop", "caller", "caller"]),
+        "amihunk: link: unit 1 hunk 0: \"foo\" not defined\n",
+        "  unit 1 hunk 0: caller unit 0 \"\" hunk 0 \"\"\n  \
+         \"foo\", references: 2, first in caller unit 0 \"\" hunk 0 \"\"\n",
+    ),
+    (
+        Asked::Link(&["loop", "callee", "callee"]),
+        "amihunk: link: unit 2 hunk 0: \"foo\" defined again\n",
+        "  unit 2 hunk 0: callee unit 0 \"\" hunk 0 \"\"\n  \
+         first defined in callee unit 0 \"\" hunk 0 \"\"\n",
+    ),
+    (
+        Asked::Image(Addresses::List("0"), &["caller"]),
+        "amihunk: link: unit 0 hunk 0: \"foo\" not defined\n",
+        "  unit 0 hunk 0: caller unit 0 \"\" hunk 0 \"\"\n  \
+         \"foo\", references: 1, first in caller unit 0 \"\" hunk 0 \"\"\n",
+    ),
+];
+
+// Failures of which nothing is told after their lines.
+static UNEXPLAINED: [(Asked, u8, &str); 11] = [
+    (
+        Asked::Link(&["pipe", "caller"]),
+        1,
+        "amihunk: link: unit 1 hunk 0: \"foo\" not defined\n",
+    ),
+    (
+        Asked::Check("changed"),
+        1,
+        "amihunk: changed: longword 5: unknown block type 1023\n",
+    ),
+    (
+        Asked::Link(&["mended"]),
+        1,
+        "amihunk: mended: longword 5: unknown block type 1023\n",
+    ),
+    (
+        Asked::Show("mistyped-pipe"),
+        1,
+        "amihunk: mistyped-pipe: longword 5: unknown block type 1023\n",
+    ),
+    (
+        Asked::Load(Addresses::File("addresses-pipe"), "program"),
+        1,
+        "amihunk: places: wrong number of addresses\n",
+    ),
+    (
+        Asked::Image(Addresses::List("0"), &["pipe", "loop"]),
+        1,
+        "amihunk: places: wrong number of addresses\n",
+    ),
+    (
+        Asked::Load(Addresses::List("0,x"), "program"),
+        2,
+        "amihunk: --at: part 1 is not 1 to 8 hexadecimal digits\n",
+    ),
+    (Asked::Check("x"), 3, "amihunk: x: cannot be opened\n"),
+    (
+        Asked::Show("directory"),
+        3,
+        "amihunk: directory: read failed\n",
+    ),
+    (Asked::Check("caller"), 3, "amihunk: output: write failed\n"),
+    (
+        Asked::Link(&["caller", "x"]),
+        3,
+        "amihunk: x: cannot be opened\n",
+    ),
+];
+
+// The request for it, with `--explain` or without.
+fn request_of(alloc: Global, asked: Asked, explain: bool) -> Result<Request<'static>, AllocError> {
+    Ok(match asked {
+        Asked::Link(files) => Request::Link {
+            out: "out",
+            map: None,
+            options: PLAIN,
+            explain,
+            files: files.to_vec(alloc)?,
+        },
+        Asked::Image(addresses, files) => Request::Image {
+            addresses,
+            form: ImageForm::Report,
+            explain,
+            files: files.to_vec(alloc)?,
+        },
+        Asked::Load(addresses, file) => Request::Load {
+            addresses,
+            text: LoadText::Image(ImageForm::Report),
+            explain,
+            file,
+        },
+        Asked::Check(file) => Request::Check { explain, file },
+        Asked::Show(file) => Request::Show {
+            json: false,
+            explain,
+            file,
+        },
+    })
+}
+
+// The status of the request, over files that can be opened so often, and as many good reads.
+fn status_of<W: Sink>(
+    alloc: Global,
+    errors: &mut W,
+    asked: Asked,
+    explain: bool,
+    openings: usize,
+    good_reads: usize,
+) -> Result<u8, AllocError> {
+    let log = Log::new(alloc);
+    log.good_reads.set(good_reads);
+    let system = FakeFiles {
+        openings,
+        log: &log,
+    };
+    let request = request_of(alloc, asked, explain)?;
+    Ok(answer(&(system, alloc), errors, request))
+}
+
+// The request ends with this status, and exactly this is told.
+fn ends(
+    rt: &impl Abort,
+    alloc: Global,
+    asked: Asked,
+    explain: bool,
+    (openings, good_reads): (usize, usize),
+    status: u8,
+    told: &[u8],
+) -> Result<(), Fail> {
+    let mut errors = Watched::new(Vec::new(alloc));
+    let got = status_of(alloc, &mut errors, asked, explain, openings, good_reads)?;
+    equals_at(rt, &asked, got, status);
+    equals_at(rt, &asked, errors.into_inner().as_slice(), told);
+    Ok(())
+}
+
+// The two texts, one after the other.
+fn both(alloc: Global, line: &str, more: &str) -> Result<Vec<u8>, AllocError> {
+    let mut bytes = Vec::new(alloc);
+    bytes.extend_from_slice(line.as_bytes())?;
+    bytes.extend_from_slice(more.as_bytes())?;
+    Ok(bytes)
+}
+
+const ALL: (usize, usize) = (40, usize::MAX);
+
+#[test]
+fn tells_more_if_it_is_asked_to(rt: HostRuntime) -> Result<(), Fail> {
+    let alloc = rt.alloc();
+    for rows in [REFUSED.as_slice(), UNPLACED.as_slice(), UNLINKED.as_slice()] {
+        for (asked, line, more) in rows {
+            ends(&rt, alloc, *asked, false, ALL, 1, line.as_bytes())?;
+            let told = both(alloc, line, more)?;
+            ends(&rt, alloc, *asked, true, ALL, 1, told.as_slice())?;
+        }
+    }
+    Ok(())
+}
+
+#[test]
+fn tells_nothing_more_of_other_failures(rt: HostRuntime) -> Result<(), Fail> {
+    for (asked, status, line) in &UNEXPLAINED {
+        ends(&rt, rt.alloc(), *asked, true, ALL, *status, line.as_bytes())?;
+    }
+    Ok(())
+}
+
+// Each file is opened twice, and read in two reads at most: the addresses, the file, and both again.
+#[test]
+fn tells_nothing_more_where_a_file_is_not_read_again(rt: HostRuntime) -> Result<(), Fail> {
+    let alloc = rt.alloc();
+    let refused = (
+        Asked::Check("mistyped"),
+        "amihunk: mistyped: longword 5: unknown block type 1023\n",
+    );
+    let unplaced = (
+        Asked::Load(Addresses::File("addresses"), "trailing"),
+        "amihunk: trailing: longword 10: data after the last hunk\n",
+    );
+    ends(&rt, alloc, refused.0, true, (1, 9), 1, refused.1.as_bytes())?;
+    ends(&rt, alloc, refused.0, true, (9, 1), 1, refused.1.as_bytes())?;
+    ends(
+        &rt,
+        alloc,
+        unplaced.0,
+        true,
+        (2, 9),
+        1,
+        unplaced.1.as_bytes(),
+    )
+}
+
+// Of hunks that cannot be placed, the addresses are read again, and then the file.
+#[test]
+fn tells_nothing_more_where_a_read_fails(rt: HostRuntime) -> Result<(), Fail> {
+    let alloc = rt.alloc();
+    let asked = Asked::Load(Addresses::File("addresses"), "zeros");
+    let line = "amihunk: zeros: longword 0: wrong first longword\n";
+    ends(&rt, alloc, asked, true, (40, 3), 1, line.as_bytes())?;
+    let asked = Asked::Image(Addresses::File("addresses"), &["loop"]);
+    let line = "amihunk: places: wrong number of addresses\n";
+    for good_reads in 4..8 {
+        ends(
+            &rt,
+            alloc,
+            asked,
+            true,
+            (40, good_reads),
+            1,
+            line.as_bytes(),
+        )?;
+    }
+    for openings in 2..4 {
+        ends(&rt, alloc, asked, true, (openings, 40), 1, line.as_bytes())?;
+    }
+    Ok(())
+}
+
+// Of a line and more, the first bytes are told, and nothing is written after a write that failed.
+#[test]
+fn tells_the_first_bytes_where_a_write_fails(rt: HostRuntime) -> Result<(), Fail> {
+    let alloc = rt.alloc();
+    for (asked, line, more) in [REFUSED[1], UNPLACED[0]] {
+        let told = both(alloc, line, more)?;
+        for room in 0..told.len() {
+            for zero in [false, true] {
+                let mut errors = Room::new(alloc, 16, room, zero)?;
+                let status = status_of(alloc, &mut errors, asked, true, 40, usize::MAX)?;
+                equals_at(&rt, &room, status, 1);
+                equals_at(&rt, &room, errors.bytes(), &told[..room]);
+            }
+        }
+    }
+    Ok(())
+}
+
+#[test]
+fn an_explanation_is_of_the_first_offence(rt: HostRuntime) {
+    let alloc = rt.alloc();
+    let fault = Fault {
+        place: 5,
+        reason: Reason::UnknownType(1023),
+    };
+    let files: [(&[u8], Command<'_>, bool); 5] = [
+        (&MISTYPED, Command::Link, true),
+        (&MISTYPED, Command::Text, true),
+        (&MISTYPED, Command::Load(Addresses::List("0")), false),
+        (&UNENDED, Command::Link, false),
+        (&CALLEE, Command::Link, false),
+    ];
+    for (file, command, is_given) in &files {
+        let mut reader = Watched::new(*file);
+        let given = explanation_of(alloc, *command, fault, &mut reader);
+        let is_fault = matches!(&given, Ok(Some(explanation)) if explanation.fault() == fault);
+        equals_at(&rt, command, is_fault, *is_given);
+        holds(&rt, command, given.is_ok());
+    }
+    let mut reader = Watched::new(Broken);
+    let unread = explanation_of(alloc, Command::Text, fault, &mut reader);
+    equals(&rt, unread.err(), Some(ReadFault::Device));
+    let mut reader = Watched::new(TRAILING.as_slice());
+    let fault = Fault {
+        place: 10,
+        reason: Reason::TrailingData,
+    };
+    let load = Command::Load(Addresses::List("0"));
+    let given = explanation_of(alloc, load, fault, &mut reader);
+    holds(&rt, &load, matches!(given, Ok(Some(_))));
+}

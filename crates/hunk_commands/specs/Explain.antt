@@ -1,0 +1,140 @@
+-- What is told of a failure after its line, if `--explain` is given.
+use Rattle.std.specs.declared.alloc.Global.{Global}
+use Rattle.std.specs.Prelude.{◌≡◌, ◌⊎◌, ℕ, List, [], length, map, Bool, true, false, Option, Some, None}
+use Rattle.hunk_words.specs.FirstOffence.{FirstOffence}
+use Rattle.hunk_words.specs.Longwords.{longwords, unfinished}
+use Rattle.hunk_words.specs.declared.event.FileKind.{FileKind}
+use Rattle.hunk_words.specs.declared.event.FileKind.TheVariants as file_kind
+use Rattle.hunk_words.specs.declared.fault.Fault.{Fault}
+use Rattle.hunk_loadfile.specs.LoadFile.{IsLoadOf}
+use Rattle.hunk_loadfile.specs.LoadHunk.{FileHunk}
+use Rattle.hunk_link.specs.declared.refusal.LinkRefusal.{LinkRefusal}
+use Rattle.hunk_tool.specs.Explanation.{Explains}
+use Rattle.hunk_tool.specs.ExplanationText.{explanation_text}
+use Rattle.hunk_tool.specs.FileValue.{kind_of_bytes}
+use Rattle.hunk_tool.specs.Inputs.{HaveRead}
+use Rattle.hunk_tool.specs.LinkExplanation.{told_of, told_text}
+use Rattle.hunk_tool.specs.ObjectFiles.{AreFileUnits, FileUnit}
+use Rattle.hunk_tool.specs.PlacesText.{places_text}
+use Rattle.hunk_tool.specs.declared.explanation.Explanation.{Explanation}
+use Rattle.hunk_tool.specs.declared.tool_fault.ToolFault.TheVariants.{Input, Link, Place}
+use Rattle.hunk_commands.specs.Addresses.{AtBases, Origin, origin_of}
+use Rattle.hunk_commands.specs.Failure.{TellsLine}
+use Rattle.hunk_commands.specs.Inputs.{OfInputs}
+use Rattle.hunk_commands.specs.Link.{DoLinkTo}
+use Rattle.hunk_commands.specs.declared.explain.Command.{Command}
+use Rattle.hunk_commands.specs.declared.explain.Command.TheVariants as command
+use Rattle.hunk_commands.specs.declared.failure.Failure.{Failure}
+use Rattle.hunk_commands.specs.declared.failure.Failure.TheVariants.{Tool}
+
+-- ---- a file that is refused
+
+-- as which kind of file some bytes are read
+abbrev pub reads_objects : List ℕ → FileKind
+reads_objects bytes = file_kind.Object
+
+abbrev pub reads_a_load_file : List ℕ → FileKind
+reads_a_load_file bytes = file_kind.Load
+
+-- and by which command
+abbrev pub kind_read : Command → List ℕ → FileKind
+kind_read command.Link = reads_objects
+kind_read (command.Image addresses) = reads_objects
+kind_read (command.Load addresses) = reads_a_load_file
+kind_read command.Text = kind_of_bytes
+
+-- this fault is the first offence of the bytes
+abbrev pub IsOffence : FileKind → Fault → List ℕ → Type 0
+IsOffence kind fault bytes = FirstOffence kind (longwords bytes) (length (unfinished bytes)) fault.place fault.reason
+
+-- what is given of this fault: an explanation of the bytes, of which it is the first offence, or none
+abbrev pub IsGiven : (kind_of : List ℕ → FileKind) → Fault → Option Explanation → List ℕ → Type 0
+IsGiven kind_of fault (Some e) bytes = (e.fault ≡ fault) × Explains (kind_of bytes) e bytes
+IsGiven kind_of fault None bytes = IsOffence (kind_of bytes) fault bytes → ⊥
+
+-- the lines that explain this fault, the first offence of some bytes
+pub record AreOffenceLines (kind_of : List ℕ → FileKind) (fault : Fault) (more : List ℕ) : Type 0 where
+  pub bytes : List ℕ
+  pub explanation : Explanation
+  pub given : IsGiven kind_of fault (Some explanation) bytes
+  pub lines_are : more ≡ explanation_text explanation
+
+-- ---- hunks that cannot be placed
+
+-- some bytes are the load file of these hunks
+abbrev pub IsLoadFile : List FileHunk → Type 0
+IsLoadFile hunks = (bytes : List ℕ) × IsLoadOf hunks bytes
+
+-- the sizes of hunks, in longwords
+abbrev pub sizes_of : List FileHunk → List ℕ
+sizes_of hunks = map (λ hunk. hunk.size) hunks
+
+-- the lines about hunks of which this holds, beside the numbers of these addresses
+abbrev pub ArePlaceLines : Origin → (AreHunks : List FileHunk → Type 0) → (more : List ℕ) → Type 0
+ArePlaceLines origin AreHunks more = AtBases origin (λ bases. (hunks : List FileHunk) × AreHunks hunks × (more ≡ places_text (sizes_of hunks) bases))
+
+-- ---- units that do not link
+
+-- some inputs, one for each file, are object files with these units
+abbrev pub HaveUnits : (files : List (List ℕ)) → List FileUnit → Type 0
+HaveUnits files units = OfInputs files (λ inputs. HaveRead inputs (AreFileUnits units))
+
+-- the lines about a refusal to link the units of some files with these names
+pub record AreRefusalLines (files : List (List ℕ)) (refusal : LinkRefusal Global) (more : List ℕ) : Type 0 where
+  pub units : List FileUnit
+  pub are : HaveUnits files units
+  pub lines_are : more ≡ told_text files (told_of units refusal)
+
+-- ---- the lines for each command
+
+-- there are no further lines
+abbrev pub AreNoLines : (more : List ℕ) → Type 0
+AreNoLines more = ⊥
+
+-- the lines about a failure for these files, if files are read so, and these are the lines about hunks
+-- that cannot be placed
+abbrev pub AreLines : (kind_of : List ℕ → FileKind) (ArePlaces : List ℕ → Type 0) (files : List (List ℕ)) → Failure → (more : List ℕ) → Type 0
+AreLines kind_of ArePlaces files (Tool (Input file fault)) more = AreOffenceLines kind_of fault more
+AreLines kind_of ArePlaces files (Tool (Link refusal)) more = AreRefusalLines files refusal more
+AreLines kind_of ArePlaces files (Tool (Place fault)) more = ArePlaces more
+AreLines kind_of ArePlaces files _ more = ⊥
+
+abbrev pub AreLinkLines : (files : List (List ℕ)) → Failure → (more : List ℕ) → Type 0
+AreLinkLines files = AreLines reads_objects AreNoLines files
+
+abbrev pub AreImageLines : Origin → (files : List (List ℕ)) → Failure → (more : List ℕ) → Type 0
+AreImageLines origin files = AreLines reads_objects (ArePlaceLines origin (DoLinkTo true files)) files
+
+abbrev pub AreLoadLines : Origin → (files : List (List ℕ)) → Failure → (more : List ℕ) → Type 0
+AreLoadLines origin files = AreLines reads_a_load_file (ArePlaceLines origin IsLoadFile) files
+
+abbrev pub AreTextLines : (files : List (List ℕ)) → Failure → (more : List ℕ) → Type 0
+AreTextLines files = AreLines kind_of_bytes AreNoLines files
+
+-- the lines about hunks that cannot be placed, for a command and its files
+abbrev pub ArePlaceLinesOf : Command → (files : List (List ℕ)) → (more : List ℕ) → Type 0
+ArePlaceLinesOf command.Link files = AreNoLines
+ArePlaceLinesOf (command.Image addresses) files = ArePlaceLines (origin_of addresses) (DoLinkTo true files)
+ArePlaceLinesOf (command.Load addresses) files = ArePlaceLines (origin_of addresses) IsLoadFile
+ArePlaceLinesOf command.Text files = AreNoLines
+
+-- the lines about a failure of a command for these files
+abbrev pub AreLinesOf : Command → (files : List (List ℕ)) → Failure → (more : List ℕ) → Type 0
+AreLinesOf command files = AreLines (kind_read command) (ArePlaceLinesOf command files) files
+
+-- the same, if they are asked for
+abbrev pub IfAsked : (explain : Bool) (Holds : Failure → List ℕ → Type 0) → Failure → (more : List ℕ) → Type 0
+IfAsked true Holds failure more = Holds failure more
+IfAsked false Holds failure more = ⊥
+
+-- ---- what is told
+
+-- nothing more, or lines of which this holds
+abbrev pub IsMore : (Holds : List ℕ → Type 0) → (more : List ℕ) → Type 0
+IsMore Holds more = (more ≡ []) ⊎ Holds more
+
+-- it was appended, or a write failed
+pub record TellsMore {W : Type 0} (taken : W → Option (List ℕ)) (failed : W → Bool) (old new : W) (Holds : List ℕ → Type 0) : Type 0 where
+  pub more : List ℕ
+  pub is_more : IsMore Holds more
+  pub told : TellsLine taken failed old new more

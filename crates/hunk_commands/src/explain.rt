@@ -1,0 +1,267 @@
+//! What is told of a failure after its line, if `--explain` is given: the files are read once more for
+//! it.
+ghost use Rattle.std.specs.Prelude.{◌≡◌, true, IfErr, IfOk, IfSome, IsTrue};
+ghost use Rattle.hunk_words.specs.Streams.{HasRead};
+ghost use Rattle.hunk_tool.specs.Explanation.{IsEnd, IsExplained, IsUnexplained};
+ghost use Rattle.hunk_commands.specs.Addresses.{HaveNumbers, origin_of};
+ghost use Rattle.hunk_commands.specs.Explain.{AreLinesOf, AreOffenceLines, ArePlaceLines, ArePlaceLinesOf, AreRefusalLines, HaveUnits, IsGiven, IsLoadFile, TellsMore, kind_read};
+ghost use Rattle.hunk_commands.specs.Inputs.{file_names};
+ghost use Rattle.hunk_commands.specs.Link.{DoLinkTo};
+
+use crate::addresses::{Addresses, addresses_of};
+use crate::devices::open;
+use crate::failure::Failure;
+use crate::inputs::{names_of, open_inputs};
+use crate::link::linked;
+use hunk_link::LinkRefusal;
+use hunk_loadfile::{LoadFile, read_load};
+use hunk_tool::{
+    Explanation, ObjectFiles, ToolFault, explain_file, explain_link, explain_load, explain_object,
+    read_object_files, write_explanation, write_link_explanation, write_places,
+};
+use hunk_words::{Fault, ReadFault, Sink, Source, Watched};
+use std::alloc::Global;
+use std::fs;
+use std::rt::Files;
+
+/// A command whose failures are explained.
+#[derive(Clone, Copy, Debug, PartialEq, Eq)]
+pub enum Command<'a> {
+    /// `link`, which reads object files.
+    Link,
+    /// `image`, which reads object files, and places the hunks of their load file at these addresses.
+    Image(Addresses<'a>),
+    /// `load`, which reads a load file, and places its hunks at these addresses.
+    Load(Addresses<'a>),
+    /// `check` or `show`, which read a file of either kind.
+    Text,
+}
+
+/// Tells more of a failure of this command for the files named `files`: of a file that is refused, the
+/// lines of [`write_explanation`]; of units that do not link, those of [`write_link_explanation`]; and of
+/// hunks that cannot be placed, those of [`write_places`]. Of any other failure it tells nothing.
+///
+/// The files are read once more for it, so nothing is told unless each file that is read is a regular
+/// one: a pipe cannot be read again. Nothing is told either if a file that was refused has another first
+/// offence by now, if a file cannot be read, if memory runs out, or if a write to `errors` has failed
+/// before.
+pub fn explain_failure<R: Files + AllocGlobal, W: Sink>(
+    rt: &R,
+    errors: &mut W,
+    command: Command<'_>,
+    files: &[&str],
+    failure: &Failure<'_>,
+)
+    ensures told { TellsMore W.taken W.failed errors.old errors.new (AreLinesOf command.entry (file_names files.now) failure.now) }
+    ensures silent { IsTrue (W.failed errors.old) → errors.new ≡ errors.old }
+{
+    if errors.failed() {
+        return;
+    }
+    match failure {
+        Failure::Tool(ToolFault::Input { file, fault }) => {
+            if let Some(name) = files.get(*file) {
+                explain_offence(rt, errors, command, name, *fault);
+            }
+        }
+        Failure::Tool(ToolFault::Link(refusal)) => explain_refusal(rt, errors, files, refusal),
+        Failure::Tool(ToolFault::Place(_)) => explain_places(rt, errors, command, files),
+        _ => {}
+    }
+}
+
+/// Tells of the offence `fault` of the file named `name`.
+fn explain_offence<R: Files + AllocGlobal, W: Sink>(
+    rt: &R,
+    errors: &mut W,
+    command: Command<'_>,
+    name: &str,
+    fault: Fault,
+)
+    ensures { TellsMore W.taken W.failed errors.old errors.new (AreOffenceLines (kind_read command.entry) fault) }
+{
+    let Some(mut reader) = open_again(rt, name) else {
+        return;
+    };
+    let Ok(Some(explanation)) = explanation_of(rt.alloc(), command, fault, &mut reader) else {
+        return;
+    };
+    let _ = write_explanation(&explanation, errors);
+}
+
+/// Reads a file as this command does, to its first offence, and returns what is there if that is
+/// `fault`; otherwise `None`.
+///
+/// # Errors
+///
+/// - [`ReadFault::Refused`] with out of memory, only if an allocation failed.
+/// - [`ReadFault::Device`] only if a read failed.
+pub fn explanation_of<R: Source>(
+    alloc: Global,
+    command: Command<'_>,
+    fault: Fault,
+    reader: &mut R,
+) -> Result<Option<Explanation>, ReadFault>
+    ensures given { IfOk result (λ given. HasRead (R.left reader.old) (R.left reader.new) (IsGiven (kind_read command.entry) fault given)) }
+    ensures ended { IfOk result (λ given. IfSome given (λ e. IsEnd e.found → IsTrue (R.ended reader.new))) }
+    ensures stopped { IfErr result (IsUnexplained (R.failed reader.new)) }
+{
+    let Some(explanation) = explain(alloc, command, reader)? else {
+        return Ok(None);
+    };
+    if explanation.fault() == fault {
+        Ok(Some(explanation))
+    } else {
+        Ok(None)
+    }
+}
+
+/// Reads a file as this command does, to its first offence, and returns what is there; `None` if it has
+/// none.
+fn explain<R: Source>(
+    alloc: Global,
+    command: Command<'_>,
+    reader: &mut R,
+) -> Result<Option<Explanation>, ReadFault>
+    ensures explained { IfOk result (λ given. HasRead (R.left reader.old) (R.left reader.new) (λ bytes. IsExplained (kind_read command.entry bytes) given bytes)) }
+    ensures ended { IfOk result (λ given. IfSome given (λ e. IsEnd e.found → IsTrue (R.ended reader.new))) }
+    ensures stopped { IfErr result (IsUnexplained (R.failed reader.new)) }
+{
+    match command {
+        Command::Link | Command::Image(_) => explain_object(alloc, reader),
+        Command::Load(_) => explain_load(alloc, reader),
+        Command::Text => explain_file(alloc, reader),
+    }
+}
+
+/// Tells of a refusal to link the units of the object files named `files`.
+fn explain_refusal<R: Files + AllocGlobal, W: Sink>(
+    rt: &R,
+    errors: &mut W,
+    files: &[&str],
+    refusal: &LinkRefusal,
+)
+    ensures { TellsMore W.taken W.failed errors.old errors.new (AreRefusalLines (file_names files.now) refusal.now) }
+{
+    let Some(units) = units_again(rt, files) else {
+        return;
+    };
+    let Ok(names) = names_of(rt.alloc(), files) else {
+        return;
+    };
+    let Ok(explanation) = explain_link(rt.alloc(), &units, refusal) else {
+        return;
+    };
+    let _ = write_link_explanation(&explanation, names.as_slice(), errors);
+}
+
+/// Tells of hunks that cannot be placed at the addresses of this command, if it has addresses.
+fn explain_places<R: Files + AllocGlobal, W: Sink>(
+    rt: &R,
+    errors: &mut W,
+    command: Command<'_>,
+    files: &[&str],
+)
+    ensures { TellsMore W.taken W.failed errors.old errors.new (ArePlaceLinesOf command.entry (file_names files.now)) }
+{
+    match command {
+        Command::Load(addresses) => {
+            if let [name] = files {
+                explain_loaded_places(rt, errors, addresses, name);
+            }
+        }
+        Command::Image(addresses) => explain_linked_places(rt, errors, addresses, files),
+        Command::Link | Command::Text => {}
+    }
+}
+
+/// Tells of the hunks of the load file named `name`, beside these addresses.
+fn explain_loaded_places<R: Files + AllocGlobal, W: Sink>(
+    rt: &R,
+    errors: &mut W,
+    addresses: Addresses<'_>,
+    name: &str,
+)
+    ensures { TellsMore W.taken W.failed errors.old errors.new (ArePlaceLines (origin_of addresses.entry) IsLoadFile) }
+{
+    let Some(bases) = addresses_again(rt, addresses) else {
+        return;
+    };
+    let Some(mut reader) = open_again(rt, name) else {
+        return;
+    };
+    let Ok(loaded) = read_load(rt.alloc(), &mut reader) else {
+        return;
+    };
+    let _ = write_places(loaded.hunks(), bases.as_slice(), errors);
+}
+
+/// Tells of the hunks of the load file of the object files named `files`, beside these addresses.
+fn explain_linked_places<R: Files + AllocGlobal, W: Sink>(
+    rt: &R,
+    errors: &mut W,
+    addresses: Addresses<'_>,
+    files: &[&str],
+)
+    ensures { TellsMore W.taken W.failed errors.old errors.new (ArePlaceLines (origin_of addresses.entry) (DoLinkTo true (file_names files.now))) }
+{
+    let Some(bases) = addresses_again(rt, addresses) else {
+        return;
+    };
+    let Some(loaded) = linked_again(rt, files) else {
+        return;
+    };
+    let _ = write_places(loaded.hunks(), bases.as_slice(), errors);
+}
+
+/// The addresses, unless they are in a file that cannot be read again.
+fn addresses_again<R: Files + AllocGlobal>(rt: &R, addresses: Addresses<'_>) -> Option<Vec<u32>>
+    ensures { IfSome result (λ bases. HaveNumbers (origin_of addresses.entry) bases.items) }
+{
+    match addresses {
+        Addresses::File(name) if !is_regular(rt, name) => None,
+        addresses => addresses_of(rt, addresses).ok(),
+    }
+}
+
+/// The load file of the object files named `files`, without symbols and debug blocks, unless one of
+/// them cannot be read again.
+fn linked_again<R: Files + AllocGlobal>(rt: &R, files: &[&str]) -> Option<LoadFile>
+    ensures { IfSome result (DoLinkTo true (file_names files.now)) }
+{
+    if files.iter().all(|name| is_regular(rt, name)) {
+        linked(rt, true, files).ok()
+    } else {
+        None
+    }
+}
+
+/// The units of the object files named `files`, unless one of them cannot be read again.
+fn units_again<R: Files + AllocGlobal>(rt: &R, files: &[&str]) -> Option<ObjectFiles>
+    ensures { IfSome result (λ units. HaveUnits (file_names files.now) units) }
+{
+    if !files.iter().all(|name| is_regular(rt, name)) {
+        return None;
+    }
+    let Ok(mut inputs) = open_inputs(rt, rt.alloc(), files) else {
+        return None;
+    };
+    match read_object_files(rt.alloc(), inputs.as_mut_slice()) {
+        Ok(units) => Some(units),
+        Err(_) => None,
+    }
+}
+
+/// Opens the file named `name` once more, unless it cannot be read again.
+fn open_again<R: Files>(rt: &R, name: &str) -> Option<Watched<R::File>> {
+    if !is_regular(rt, name) {
+        return None;
+    }
+    Some(Watched::new(open(rt, name).ok()?))
+}
+
+/// Whether the file named `name` is a regular file. Others may be readable only once, and opening a
+/// pipe waits for whoever writes to it.
+fn is_regular<R: Files>(rt: &R, name: &str) -> bool {
+    fs::metadata(rt, name).is_ok_and(|metadata| metadata.is_file())
+}
