@@ -18,7 +18,8 @@ use Rattle.hunk_words.proofs.FilesReadingLemmas.{front-front}
 use Rattle.hunk_words.proofs.FirstOffenceLemmas.{file-no-offence, first-one}
 use Rattle.hunk_words.proofs.LongwordsLemmas.{length-longwords, length-unfinished, longwords-append}
 use Rattle.hunk_tool.specs.Explanation.{EndsWith, Explains, Follows, IsEnd, IsExplained}
-use Rattle.hunk_tool.specs.FileDecoder.{IsFileOf}
+use Rattle.hunk_tool.specs.FileDecoder.{IsFileOf, inner}
+use Rattle.hunk_tool.specs.declared.file_decoder.File.{File}
 use Rattle.hunk_tool.specs.declared.file_decoder.File.TheVariants as file_is
 use Rattle.hunk_tool.specs.Follower.{FollowsWords, StandsFor, refusal_of}
 use Rattle.hunk_tool.specs.Path.{IsPathOf, blocks_begun}
@@ -129,10 +130,9 @@ EndsWith-read kind bytes given ended false is offends told = let o = offends ref
 
 -- ---- a file of either kind
 
-pub explained-object : (kind : FileKind) (given : Option Explanation) (bytes : List ℕ) → IsFileOf {O = Option Explanation} {L = Option Explanation} (IsExplained Object) (IsExplained Load) kind (file_is.Object given) bytes → IsExplained kind given bytes
-explained-object Object given bytes told = told
-explained-object Load given bytes told = absurd told
-
-pub explained-load : (kind : FileKind) (given : Option Explanation) (bytes : List ℕ) → IsFileOf {O = Option Explanation} {L = Option Explanation} (IsExplained Object) (IsExplained Load) kind (file_is.Load given) bytes → IsExplained kind given bytes
-explained-load Object given bytes told = absurd told
-explained-load Load given bytes told = told
+pub explained-file : (kind : FileKind) (file : File (Option Explanation) (Option Explanation)) (bytes : List ℕ)
+    → IsFileOf {O = Option Explanation} {L = Option Explanation} (IsExplained Object) (IsExplained Load) kind file bytes → IsExplained kind (inner file) bytes
+explained-file Object (file_is.Object given) bytes told = told
+explained-file Object (file_is.Load given) bytes told = absurd told
+explained-file Load (file_is.Object given) bytes told = absurd told
+explained-file Load (file_is.Load given) bytes told = told

@@ -32,6 +32,7 @@ pub mod RanksLemmas
 pub mod ObjectFilesLemmas
 pub mod WrittenTextLemmas
 pub mod MapLemmas
+pub mod OriginTextLemmas
 pub mod OriginsLemmas
 pub mod OriginLemmas
 pub mod PlacesTextLemmas

@@ -1,13 +1,10 @@
 -- The lines that explain a link, one after another.
-use Rattle.std.proofs.Common.{◌≡◌, ◌∙◌, ℕ, zero, suc, ◌+◌, ◌-◌, ◌<◌, ◌≤◌, List, [], ◌∷◌, ◌++◌, Some, None, codes, drop, get_or, length, sym, ap, take, append_assoc, arith}
-use Rattle.std.specs.Prelude.{slice_get, slice_index_or}
-use Rattle.std.specs.Fmt.{decimal}
+use Rattle.std.proofs.Common.{◌≡◌, ◌∙◌, ℕ, zero, suc, ◌+◌, ◌-◌, ◌<◌, ◌≤◌, List, [], ◌∷◌, ◌++◌, Some, None, drop, get_or, length, sym, ap, take, append_assoc, arith}
+use Rattle.std.specs.Prelude.{slice_get}
 use Rattle.std.specs.List.{flat_map}
 use Rattle.std.proofs.lemmas.List.{drop_all, get_or-take, length-take}
 use Rattle.std.proofs.lemmas.Option.{get_or_from_slice_get, slice_get_within}
-use Rattle.hunk_text.specs.QuotedName.{quoted}
-use Rattle.hunk_tool.specs.LinkExplanation.{more_line, most_told, origin_end, use_line}
-use Rattle.hunk_tool.specs.Origins.{Origin}
+use Rattle.hunk_tool.specs.LinkExplanation.{more_line, most_told, use_line}
 use Rattle.hunk_tool.specs.Undefined.{Use, Uses}
 use Rattle.hunk_tool.proofs.TextPartLemmas.{flat_map-next}
 
@@ -42,17 +39,3 @@ module _ (names : List (List ℕ)) (index : ℕ) (uses : Uses) where
   pub uses_rest-last : most_told ≤ index → uses_rest names index uses ≡ more_line (length uses - most_told)
   uses_rest-last told =
       ap (λ left. flat_map (use_line names) left ++ more_line (length uses - most_told)) (drop_all index (take most_told uses) (omega (arith, told, length-take most_told uses)))
-
--- ---- the end of a line that tells where a hunk is from
-
-pieces : (file u unit space name h number own end : List ℕ)
-    → file ++ (u ++ (unit ++ (space ++ (name ++ (h ++ (number ++ (space ++ (own ++ end))))))))
-    ≡ ((((((((file ++ u) ++ unit) ++ space) ++ name) ++ h) ++ number) ++ space) ++ own) ++ end
-pieces file u unit space name h number own end = simp append_assoc
-
-pub origin_end-is : (names : List (List ℕ)) (origin : Origin) (file unit name number own : List ℕ)
-    → file ≡ slice_index_or names origin.unit.0.file [] → unit ≡ decimal origin.unit.0.number → name ≡ quoted origin.unit.1.name → number ≡ decimal origin.number → own ≡ quoted origin.hunk.name
-    → file ++ (codes " unit " ++ (unit ++ (codes " " ++ (name ++ (codes " hunk " ++ (number ++ (codes " " ++ (own ++ codes "\n")))))))) ≡ origin_end names origin
-origin_end-is names origin file unit name number own file_is unit_is name_is number_is own_is =
-    rw (file_is, unit_is, name_is, number_is, own_is)
-    (pieces (slice_index_or names origin.unit.0.file []) (codes " unit ") (decimal origin.unit.0.number) (codes " ") (quoted origin.unit.1.name) (codes " hunk ") (decimal origin.number) (quoted origin.hunk.name) (codes "\n"))

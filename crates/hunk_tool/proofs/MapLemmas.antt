@@ -1,21 +1,17 @@
--- The lines of a map, one hunk after another, and how long each is.
-use Rattle.std.proofs.Common.{◌≡◌, ◌∙◌, ℕ, ◌+◌, ◌^◌, ◌<◌, ◌≤◌, List, [], ◌∷◌, ◌++◌, length, drop, get_or, map, Bool, sum_by, take, ◌-◌, Option, Result, Ok, Err, add-zero, refl, sym, ap, ap₂, append_assoc, arith}
-use Rattle.std.specs.Prelude.{codes, slice_index_or, IfOk}
-use Rattle.std.specs.Fmt.{decimal}
+-- The lines of a map, one hunk after another.
+use Rattle.std.proofs.Common.{◌≡◌, ◌∙◌, ℕ, ◌+◌, ◌<◌, ◌≤◌, List, [], ◌∷◌, ◌++◌, length, drop, get_or, map, sum_by, take, ◌-◌, add-zero, refl, sym, ap, ap₂, append-nil, append_assoc, arith}
+use Rattle.std.specs.Prelude.{codes}
 use Rattle.std.specs.List.{enumerate_from}
 use Rattle.std.proofs.lemmas.List.{drop-drop, drop_all, drop_more, get_or-map, length-append, length-drop, length-map, take_all}
 use Rattle.std.proofs.lemmas.List.Sums.{sum_by-cons}
 use Rattle.std.proofs.lemmas.List.FromFn.{length-enumerate_from}
-use Rattle.hunk_words.specs.Streams.{Wrote}
-use Rattle.hunk_words.specs.declared.fault.WriteFault.{WriteFault}
 use Rattle.hunk_objects.specs.ProgramUnit.{ObjectUnit, hunk_count}
 use Rattle.hunk_objects.specs.UnitHunk.{ObjectHunk}
 use Rattle.hunk_loadfile.specs.LoadHunk.{FileHunk}
 use Rattle.hunk_text.specs.Listing.{hunk_front}
-use Rattle.hunk_text.specs.QuotedName.{quoted}
-use Rattle.hunk_text.proofs.ListingSizeLemmas.{length-escaped_all-le}
 use Rattle.hunk_tool.specs.Map.{map_from, map_line, map_lines}
 use Rattle.hunk_tool.specs.ObjectFiles.{FileUnit, units_of}
+use Rattle.hunk_tool.specs.OriginText.{origin_end, origin_text}
 use Rattle.hunk_tool.specs.Origins.{Origin, origins, origins_from, unit_origins}
 use Rattle.hunk_tool.specs.declared.object_files.UnitPlace.{UnitPlace}
 
@@ -148,35 +144,12 @@ rest-is hunks file first is = take_all (length hunks - first) (drop first hunks)
 
 -- ---- the first line of a hunk
 
--- the file, the unit and the number of the hunk
-abbrev pub line_middle : (file unit name number : List ℕ) → List ℕ
-line_middle file unit name number = ((codes " " ++ (file ++ (codes " unit " ++ (unit ++ codes " ")))) ++ quoted name) ++ (codes " hunk " ++ (number ++ codes " "))
+-- what comes after the kind, the memory and the size of the hunk
+abbrev pub line_rest : (names : List (List ℕ)) → Origin → List ℕ
+line_rest names origin = (codes " " ++ []) ++ origin_end names origin
 
--- the name of the hunk
-abbrev pub line_last : (name : List ℕ) → List ℕ
-line_last name = quoted name ++ codes "\n"
+pieces : (front space origin end : List ℕ) → ((front ++ space) ++ origin) ++ end ≡ front ++ ((space ++ []) ++ (origin ++ end))
+pieces front space origin end = simp (append_assoc, append-nil)
 
-pieces : (front space file u unit name h number own end : List ℕ)
-    → ((front ++ space) ++ ((((((((file ++ u) ++ unit) ++ space) ++ name) ++ h) ++ number) ++ space) ++ own)) ++ end
-    ≡ front ++ ((((space ++ (file ++ (u ++ (unit ++ space)))) ++ name) ++ (h ++ (number ++ space))) ++ (own ++ end))
-pieces front space file u unit name h number own end = simp append_assoc
-
-pub line-is : (names : List (List ℕ)) (number : ℕ) (hunk : FileHunk) (origin : Origin) (file unit name place own : List ℕ)
-    → file ≡ slice_index_or names origin.unit.0.file [] → unit ≡ decimal origin.unit.0.number → name ≡ origin.unit.1.name → place ≡ decimal origin.number → own ≡ origin.hunk.name
-    → map_line names number hunk origin ≡ hunk_front number hunk.kind hunk.memory hunk.size ++ (line_middle file unit name place ++ line_last own)
-line-is names number hunk origin file unit name place own file_is unit_is name_is place_is own_is =
-    rw (file_is, unit_is, name_is, place_is, own_is)
-    (pieces (hunk_front number hunk.kind hunk.memory hunk.size) (codes " ") (slice_index_or names origin.unit.0.file []) (codes " unit ") (decimal origin.unit.0.number) (quoted origin.unit.1.name)
-    (codes " hunk ") (decimal origin.number) (quoted origin.hunk.name) (codes "\n"))
-
-pub middle-fits : (file unit name number : List ℕ) → length file < 2 ^ 63 → length unit ≤ 20 → length name ≤ 2 ^ 30 → length number ≤ 20 → length (line_middle file unit name number) < 2 ^ 63 + 2 ^ 33
-middle-fits file unit name number file_fits unit_fits name_fits number_fits = simp length-append (omega (arith, length-escaped_all-le name))
-
-pub last-fits : (name : List ℕ) → length name ≤ 2 ^ 30 → length (line_last name) < 2 ^ 33
-last-fits name fits = simp length-append (omega (arith, length-escaped_all-le name))
-
--- after a text that is short, so much is written
-pub Wrote-short : {W : Type 0} (taken : W → Option (List ℕ)) (failed : W → Bool) (old new : W) (text : List ℕ) (start most : ℕ) (r : Result ℕ WriteFault) → start + length text < most
-    → Wrote taken failed old new text start r → IfOk r (λ written. written < most)
-Wrote-short taken failed old new text start most (Ok written) fits wrote = omega (arith, wrote.0)
-Wrote-short taken failed old new text start most (Err fault) fits wrote = tt
+pub map_line-is : (names : List (List ℕ)) (number : ℕ) (hunk : FileHunk) (origin : Origin) → map_line names number hunk origin ≡ hunk_front number hunk.kind hunk.memory hunk.size ++ line_rest names origin
+map_line-is names number hunk origin = pieces (hunk_front number hunk.kind hunk.memory hunk.size) (codes " ") (origin_text names origin) (codes "\n")

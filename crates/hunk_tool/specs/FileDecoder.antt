@@ -23,6 +23,11 @@ IsFileOf object load kind_is.Object (Object value) bytes = object value bytes
 IsFileOf object load kind_is.Load (Load value) bytes = load value bytes
 IsFileOf object load kind file bytes = ⊥
 
+-- what was made, where it is the same for both kinds
+abbrev pub inner : {T : Type 0} → File T T → T
+inner (Object value) = value
+inner (Load value) = value
+
 -- the decoder of this kind stands for the bytes
 abbrev pub KindStandsFor : {O L : Type 0} (object_kind : FileKind) (object : O → List ℕ → Type 0) (load_kind : FileKind) (load : L → List ℕ → Type 0)
     → FileKind → Decoders O L → List ℕ → Type 0

@@ -30,6 +30,7 @@ pub mod Link
 pub mod Image
 pub mod ObjectFiles
 pub mod Origins
+pub mod OriginText
 pub mod WrittenText
 pub mod Map
 pub mod TextPart

@@ -7,7 +7,8 @@ use Rattle.hunk_link.specs.declared.refusal.LinkRefusal.TheVariants as link
 use Rattle.hunk_text.specs.QuotedName.{quoted}
 use Rattle.hunk_tool.specs.DefinedNames.{first_definition}
 use Rattle.hunk_tool.specs.ObjectFiles.{FileUnit}
-use Rattle.hunk_tool.specs.Origins.{Origin, origin_at, origin_text, origins}
+use Rattle.hunk_tool.specs.OriginText.{origin_end}
+use Rattle.hunk_tool.specs.Origins.{Origin, origin_at, origins}
 use Rattle.hunk_tool.specs.Phrase.{joined_texts}
 use Rattle.hunk_tool.specs.Undefined.{Use, Uses, undefined_uses}
 
@@ -36,10 +37,6 @@ told_of units (link.UndefinedName unit hunk name) =
 told_of units refusal = record { place = None; first = None; undefined = [] }
 
 -- ---- the lines, if the files have these names
-
--- the end of a line that tells where a hunk is from
-abbrev pub origin_end : (names : List (List ℕ)) → Origin → List ℕ
-origin_end names origin = origin_text names origin ++ codes "\n"
 
 abbrev pub place_line : (names : List (List ℕ)) → Option Place → List ℕ
 place_line names None = []

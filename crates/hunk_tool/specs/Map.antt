@@ -7,7 +7,8 @@ use Rattle.hunk_text.specs.Listing.{definition_line, hunk_front}
 use Rattle.hunk_text.specs.Printing.{line}
 use Rattle.hunk_tool.specs.Link.{DoLink}
 use Rattle.hunk_tool.specs.ObjectFiles.{AreFileUnits, FileUnit, units_of}
-use Rattle.hunk_tool.specs.Origins.{Origin, origin_text, origins}
+use Rattle.hunk_tool.specs.OriginText.{origin_text}
+use Rattle.hunk_tool.specs.Origins.{Origin, origins}
 
 -- ---- the text
 

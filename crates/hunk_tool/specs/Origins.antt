@@ -1,10 +1,8 @@
 -- Where the hunks of a link are from: their units, each with its place, and their numbers there.
-use Rattle.std.specs.Prelude.{◌^◌, ◌≤◌, ℕ, List, [], ◌++◌, Option, codes, length, map, option_map, slice_get, slice_index_or}
-use Rattle.std.specs.Fmt.{decimal}
+use Rattle.std.specs.Prelude.{◌^◌, ◌≤◌, ℕ, List, Option, length, map, option_map, slice_get}
 use Rattle.std.specs.List.{enumerate_from, flat_map}
 use Rattle.std.specs.Option.{option_and_then}
 use Rattle.hunk_objects.specs.UnitHunk.{ObjectHunk}
-use Rattle.hunk_text.specs.QuotedName.{quoted}
 use Rattle.hunk_tool.specs.ObjectFiles.{FileUnit, IsShortHunk}
 
 -- a hunk, its number in its unit, and the unit with its place
@@ -40,10 +38,3 @@ origin_at units unit hunk = option_and_then (hunk_at hunk) (slice_get units unit
 pub record IsShortOrigin (origin : Origin) : Type 0 where
   pub unit : length origin.unit.1.name ≤ 2 ^ 30
   pub hunk : IsShortHunk origin.hunk
-
--- the file, the unit and the hunk, if the files have these names
-abbrev pub origin_text : (names : List (List ℕ)) → Origin → List ℕ
-origin_text names origin =
-    slice_index_or names origin.unit.0.file []
-    ++ codes " unit " ++ decimal origin.unit.0.number ++ codes " " ++ quoted origin.unit.1.name
-    ++ codes " hunk " ++ decimal origin.number ++ codes " " ++ quoted origin.hunk.name

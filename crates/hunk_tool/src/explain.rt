@@ -10,7 +10,7 @@ ghost use Rattle.hunk_tool.specs.Follower.{StandsFor};
 
 use crate::counters::{LoadCounter, ObjectCounter};
 use crate::explanation::Explanation;
-use crate::file_decoder::{File, FileDecoder};
+use crate::file_decoder::FileDecoder;
 use crate::follower::Follower;
 use hunk_words::{Feed, ReadFault, Refusal, Source, Taker, read_all};
 use std::alloc::Allocator;
@@ -75,8 +75,7 @@ pub fn explain_file<A: Allocator + Copy, R: Source>(
     let mut decoder = FileDecoder::new(object, load);
     read_through(reader, &mut decoder)?;
     match decoder.finish() {
-        Ok(File::Object(given)) => Ok(given),
-        Ok(File::Load(given)) => Ok(given),
+        Ok(file) => Ok(file.into_inner()),
         // A follower has no other error.
         Err(_) => Err(ReadFault::Refused(Refusal::OutOfMemory)),
     }

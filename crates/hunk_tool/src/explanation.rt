@@ -21,11 +21,14 @@ pub enum Found {
 #[derive(Clone, Copy, Debug)]
 pub struct Explanation {
     fault: Fault,
-    /// The offset of the offence, in bytes.
-    offset: u32,
-    found: Found,
-    due: Due,
-    path: Path,
+    /// The offset of the offence in its file, in bytes.
+    pub(crate) offset: u32,
+    /// What is in its place.
+    pub(crate) found: Found,
+    /// What was due there. Where two 16-bit words were due, it is the first of them.
+    pub(crate) due: Due,
+    /// The blocks that began before it.
+    pub(crate) path: Path,
 }
 
 impl Explanation {
@@ -51,33 +54,5 @@ impl Explanation {
         ensures { result ≡ self.now.fault }
     {
         self.fault
-    }
-
-    /// The offset of the offence in its file, in bytes.
-    pub(crate) fn offset(&self) -> u32
-        ensures { result ≡ self.now.offset }
-    {
-        self.offset
-    }
-
-    /// What is in its place.
-    pub(crate) fn found(&self) -> Found
-        ensures { result ≡ self.now.found }
-    {
-        self.found
-    }
-
-    /// What was due there. Where two 16-bit words were due, it is the first of them.
-    pub(crate) fn due(&self) -> Due
-        ensures { result ≡ self.now.due }
-    {
-        self.due
-    }
-
-    /// The blocks that began before it.
-    pub(crate) fn path(&self) -> Path
-        ensures { result ≡ self.now.path }
-    {
-        self.path
     }
 }

@@ -23,14 +23,18 @@ pub fn write_explanation<W: Sink>(
     ensures wrote { WroteAll W.taken W.failed writer.old writer.new (explanation_text explanation.now) result }
     ensures device { IfErr result IsDevice }
 {
-    let offset = explanation.offset();
-    let path = explanation.path();
-    let due = explanation.due();
+    let Explanation {
+        offset,
+        found,
+        due,
+        path,
+        ..
+    } = *explanation;
     Phrase::write_all(
         &[
             Phrase::decimal("  at byte ", u64::from(offset), " ("),
             Phrase::hexadecimal("", offset, ")\n  found "),
-            found_phrase(explanation.found()),
+            found_phrase(found),
             Phrase::plain("\n  path: "),
             unit_phrase(path),
             hunk_phrase(path),
@@ -63,7 +67,7 @@ fn found_phrase(found: Found) -> Phrase
 fn unit_phrase(path: Path) -> Phrase
     ensures { phrase_text result ≡ unit_text path }
 {
-    match path.units() {
+    match path.units {
         0 => Phrase::plain(""),
         units => Phrase::decimal("unit ", units - 1, ", "),
     }
@@ -73,10 +77,10 @@ fn unit_phrase(path: Path) -> Phrase
 fn hunk_phrase(path: Path) -> Phrase
     ensures { phrase_text result ≡ hunk_text path }
 {
-    match path.block() {
+    match path.block {
         None | Some(BlockType::Unit | BlockType::Header) => Phrase::plain(""),
-        Some(BlockType::End) => Phrase::decimal("hunk ", path.hunks().saturating_sub(1), ", "),
-        Some(_) => Phrase::decimal("hunk ", path.hunks(), ", "),
+        Some(BlockType::End) => Phrase::decimal("hunk ", path.hunks.saturating_sub(1), ", "),
+        Some(_) => Phrase::decimal("hunk ", path.hunks, ", "),
     }
 }
 
@@ -85,7 +89,7 @@ fn side_text(path: Path, due: Due) -> &'static str
     ensures text { result.now ≡ side_text path due }
     ensures short { length result.now ≤ 64 }
 {
-    if path.block().is_none() {
+    if path.block.is_none() {
         ""
     } else if is_type(due) || due == Due::PastEnd {
         "after "
@@ -99,7 +103,7 @@ fn block_name(path: Path) -> &'static str
     ensures text { result.now ≡ block_name path }
     ensures short { length result.now ≤ 64 }
 {
-    match path.block() {
+    match path.block {
         None => "start of the file",
         Some(BlockType::Unit) => "HUNK_UNIT",
         Some(BlockType::Name) => "HUNK_NAME",

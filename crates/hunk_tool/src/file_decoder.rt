@@ -6,7 +6,7 @@ ghost use Rattle.hunk_words.specs.Streams.{HasRead};
 ghost use Rattle.hunk_words.specs.declared.event.FileKind.{FileKind};
 ghost use Rattle.hunk_words.specs.declared.event.FileKind.TheVariants.{Object, Load};
 ghost use Rattle.hunk_words.specs.declared.fault.Refusal.{Refusal};
-ghost use Rattle.hunk_tool.specs.FileDecoder.{IsFileOf, IsReadFault, KindStandsFor, RefusesFed, StandsFor};
+ghost use Rattle.hunk_tool.specs.FileDecoder.{inner, IsFileOf, IsReadFault, KindStandsFor, RefusesFed, StandsFor};
 ghost use Rattle.hunk_tool.specs.FileValue.{kind_of_bytes};
 
 use crate::first_bytes::{FirstBytes, LONGWORD};
@@ -57,6 +57,17 @@ pub enum File<O, L> {
     Object(O),
     /// Of a load file.
     Load(L),
+}
+
+impl<T> File<T, T> {
+    /// What was made, where it is the same for both kinds.
+    pub(crate) fn into_inner(self) -> T
+        ensures { result ≡ inner self }
+    {
+        match self {
+            File::Object(value) | File::Load(value) => value,
+        }
+    }
 }
 
 // The kind of file that begins with these bytes.

@@ -14,7 +14,7 @@
 //! - `link`: links object files and writes the load file.
 //! - `link_options`: how object files are linked, and how their load file is written.
 //! - `object_files`: the units of object files, with their places.
-//! - `origins`: where the hunks of a link are from.
+//! - `origins`: where the hunks of a link are from; `origin_text`: the text of that.
 //! - `map`: the map of a link: where each hunk is from.
 //! - `image`: writes the memory that object files define.
 //! - `load`: loads a file and writes its image.
@@ -37,6 +37,7 @@
 //! - `places_text`: the lines that tell what hunks need, beside their addresses.
 //! - `phrase`: texts with at most one number.
 //! - `text_part`: parts of texts: bytes, numbers and names.
+//! - `written_text`: texts that are written one part after another.
 #![tactic(auto)]
 
 pub mod bases;
@@ -67,6 +68,7 @@ pub mod link_options;
 pub mod load;
 pub mod map;
 pub mod object_files;
+mod origin_text;
 mod origins;
 mod part_digits;
 mod path;
@@ -80,6 +82,7 @@ pub mod symbols;
 mod text_part;
 pub mod tool_fault;
 mod undefined;
+mod written_text;
 
 pub use bases::{BasesFault, parse_bases};
 pub use bases_file::{BasesFileFault, read_bases};

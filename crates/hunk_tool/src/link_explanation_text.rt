@@ -1,13 +1,12 @@
 //! The lines that explain why units do not link.
 
-ghost use Rattle.std.specs.Prelude.{◌≤◌, ◌^◌, ◌++◌, length, map};
+ghost use Rattle.std.specs.Prelude.{◌≤◌, ◌^◌, length, map};
 ghost use Rattle.std.specs.String.{string_bytes};
-ghost use Rattle.hunk_tool.specs.LinkExplanation.{first_line, more_line, origin_end, place_line, told_text, use_line, uses_text};
+ghost use Rattle.hunk_tool.specs.LinkExplanation.{first_line, more_line, place_line, told_text, use_line, uses_text};
 ghost use Rattle.hunk_tool.specs.WrittenText.{WroteText};
-ghost use Rattle.hunk_tool.specs.TextPart.{parts_text};
 
 use crate::link_explanation::{LinkExplanation, Place};
-use crate::map::file_name;
+use crate::origin_text::write_origin;
 use crate::origins::Origin;
 use crate::text_part::TextPart;
 use crate::undefined::{Use, Uses};
@@ -136,33 +135,6 @@ fn write_more<W: Sink>(writer: &mut W, count: usize) -> Result<(), DeviceFault>
             TextPart::Plain(b"  and "),
             TextPart::decimal(count as u64),
             TextPart::Plain(b" more\n"),
-        ],
-        writer,
-    )
-}
-
-/// Writes a line that ends with where a hunk is from.
-fn write_origin<'x, A: Allocator + Copy, W: Sink>(
-    writer: &mut W,
-    before: &[TextPart<'_>],
-    names: &'x [String],
-    origin: &'x Origin<'x, A>,
-) -> Result<(), DeviceFault>
-    ensures { WroteText W.taken W.failed writer.old writer.new (parts_text before.now ++ origin_end (map string_bytes names.now) origin.now) result }
-{
-    TextPart::write_all(before, writer)?;
-    TextPart::write_all(
-        &[
-            TextPart::Plain(file_name(names, origin.place.file)),
-            TextPart::Plain(b" unit "),
-            TextPart::decimal(origin.place.number as u64),
-            TextPart::Plain(b" "),
-            TextPart::name(origin.unit.name().bytes()),
-            TextPart::Plain(b" hunk "),
-            TextPart::decimal(origin.number as u64),
-            TextPart::Plain(b" "),
-            TextPart::name(origin.hunk.name().bytes()),
-            TextPart::Plain(b"\n"),
         ],
         writer,
     )

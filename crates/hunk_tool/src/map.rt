@@ -1,8 +1,7 @@
 //! The map of a link: where each hunk of the load file is from, and what it defines.
 
-ghost use Rattle.std.specs.Prelude.{◌≡◌, ◌+◌, ◌≤◌, ◌<◌, ◌^◌, [], length, map, slice_index_or, IfOk, IfErr};
+ghost use Rattle.std.specs.Prelude.{◌≡◌, ◌+◌, ◌≤◌, ◌<◌, ◌^◌, length, map, IfOk, IfErr};
 ghost use Rattle.std.specs.String.{string_bytes};
-ghost use Rattle.hunk_words.specs.Streams.{IsDevice, Wrote};
 ghost use Rattle.hunk_loadfile.specs.WrittenForm.{IsShortEnough};
 ghost use Rattle.hunk_text.specs.Listing.{hunk_front};
 ghost use Rattle.hunk_tool.specs.FaultLine.{IsOfInputs};
@@ -14,13 +13,16 @@ ghost use Rattle.hunk_tool.specs.ObjectFiles.{IsShortUnit};
 ghost use Rattle.hunk_tool.specs.Origins.{origins, unit_origins};
 
 use crate::object_files::{ObjectFiles, UnitPlace, read_object_files};
+use crate::origin_text::write_origin;
 use crate::origins::Origin;
+use crate::text_part::TextPart;
 use crate::tool_fault::ToolFault;
+use crate::written_text::uncounted;
 use hunk_link::link;
 use hunk_loadfile::{LoadFile, LoadHunk};
 use hunk_objects::ProgramUnit;
-use hunk_text::{Digits, write_around_name, write_definitions, write_hunk_front};
-use hunk_words::{DeviceFault, HunkKind, Memory, Sink, Source, WriteFault};
+use hunk_text::{write_definitions, write_hunk_front};
+use hunk_words::{DeviceFault, HunkKind, Memory, Sink, Source};
 use std::alloc::Allocator;
 
 /// Reads and links as [`link_inputs`](crate::link_inputs) does, and keeps the units that it read, for
@@ -96,9 +98,7 @@ fn write_unit<A: Allocator + Copy, W: Sink>(
             hunk,
         };
         let rank = (first + number) as u64;
-        if write_hunk(writer, rank, &hunks[number], names, &origin).is_err() {
-            return Err(DeviceFault);
-        }
+        write_hunk(writer, rank, &hunks[number], names, &origin)?;
     }
     Ok(())
 }
@@ -110,12 +110,11 @@ fn write_hunk<A: Allocator + Copy, W: Sink>(
     hunk: &LoadHunk<A>,
     names: &[String],
     origin: &Origin<'_, A>,
-) -> Result<u64, WriteFault>
-    ensures wrote { Wrote W.taken W.failed writer.old writer.new (map_lines (map string_bytes names.now) (number, (hunk.now, origin.now))) 0 result }
-    ensures device { IfErr result IsDevice }
+) -> Result<(), DeviceFault>
+    ensures { WroteText W.taken W.failed writer.old writer.new (map_lines (map string_bytes names.now) (number, (hunk.now, origin.now))) result }
 {
-    let written = write_line(writer, number, hunk, names, origin)?;
-    write_definitions(writer, written, origin.hunk.definitions())
+    write_line(writer, number, hunk, names, origin)?;
+    uncounted(write_definitions(writer, 0, origin.hunk.definitions()))
 }
 
 /// Writes the first line of a hunk of the load file.
@@ -125,23 +124,11 @@ fn write_line<A: Allocator + Copy, W: Sink>(
     hunk: &LoadHunk<A>,
     names: &[String],
     origin: &Origin<'_, A>,
-) -> Result<u64, WriteFault>
-    ensures wrote { Wrote W.taken W.failed writer.old writer.new (map_line (map string_bytes names.now) number hunk.now origin.now) 0 result }
-    ensures short { IfOk result (λ written. written < 2 ^ 63 + 2 ^ 35) }
-    ensures device { IfErr result IsDevice }
+) -> Result<(), DeviceFault>
+    ensures { WroteText W.taken W.failed writer.old writer.new (map_line (map string_bytes names.now) number hunk.now origin.now) result }
 {
-    let file = file_name(names, origin.place.file);
-    let unit = Digits::decimal(origin.place.number as u64);
-    let place = Digits::decimal(origin.number as u64);
-    let written = write_front(writer, number, hunk.kind, hunk.memory, hunk.size)?;
-    let written = write_around_name(
-        writer,
-        written,
-        &[b" ", file, b" unit ", unit.as_bytes(), b" "],
-        origin.unit.name().bytes(),
-        &[b" hunk ", place.as_bytes(), b" "],
-    )?;
-    write_around_name(writer, written, &[], origin.hunk.name().bytes(), &[b"\n"])
+    write_front(writer, number, hunk.kind, hunk.memory, hunk.size)?;
+    write_origin(writer, &[TextPart::Plain(b" ")], names, origin)
 }
 
 /// Writes how that line begins, for a hunk of this kind, memory and size.
@@ -151,21 +138,8 @@ fn write_front<W: Sink>(
     kind: HunkKind,
     memory: Memory,
     size: u32,
-) -> Result<u64, WriteFault>
-    ensures wrote { Wrote W.taken W.failed writer.old writer.new (hunk_front number kind memory size) 0 result }
-    ensures short { IfOk result (λ written. written < 2 ^ 34) }
-    ensures device { IfErr result IsDevice }
+) -> Result<(), DeviceFault>
+    ensures { WroteText W.taken W.failed writer.old writer.new (hunk_front number kind memory size) result }
 {
-    write_hunk_front(writer, 0, number, kind, memory, size)
-}
-
-/// The name of the file with this number, empty if there is none.
-pub(crate) fn file_name(names: &[String], file: usize) -> &[u8]
-    ensures value { result.now ≡ slice_index_or (map string_bytes names.now) file [] }
-    ensures short { length result.now < 2 ^ 63 }
-{
-    match names.get(file) {
-        Some(name) => name.as_bytes(),
-        None => b"",
-    }
+    uncounted(write_hunk_front(writer, 0, number, kind, memory, size))
 }

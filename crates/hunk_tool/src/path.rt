@@ -11,11 +11,11 @@ use hunk_words::{BlockType, Due};
 #[derive(Clone, Copy, Debug)]
 pub(crate) struct Path {
     /// The number of units that have begun.
-    units: u64,
+    pub(crate) units: u64,
     /// The number of hunks that have ended since the last of them began, or since the file did.
-    hunks: u64,
+    pub(crate) hunks: u64,
     /// The last block that has begun.
-    block: Option<BlockType>,
+    pub(crate) block: Option<BlockType>,
 }
 
 /// Whether the type of a block is due.
@@ -71,26 +71,5 @@ impl Path {
             hunks,
             block: Some(block),
         }
-    }
-
-    /// The number of units that have begun.
-    pub(crate) fn units(&self) -> u64
-        ensures { result ≡ self.now.units }
-    {
-        self.units
-    }
-
-    /// The number of hunks that have ended since.
-    pub(crate) fn hunks(&self) -> u64
-        ensures { result ≡ self.now.hunks }
-    {
-        self.hunks
-    }
-
-    /// The last block that has begun, if one has.
-    pub(crate) fn block(&self) -> Option<BlockType>
-        ensures { result ≡ self.now.block }
-    {
-        self.block
     }
 }

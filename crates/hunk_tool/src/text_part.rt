@@ -5,8 +5,9 @@ ghost use Rattle.std.specs.Fmt.{decimal};
 ghost use Rattle.hunk_text.specs.QuotedName.{quoted};
 ghost use Rattle.hunk_tool.specs.WrittenText.{WroteText};
 
+use crate::written_text::uncounted;
 use hunk_text::{Digits, write_around_name};
-use hunk_words::{DeviceFault, Sink, WriteFault, write_all};
+use hunk_words::{DeviceFault, Sink, write_all};
 
 /// A part of a text.
 #[derive(Drop)]
@@ -28,7 +29,6 @@ pub(crate) struct ShortName<'a> {
 
 impl<'a> TextPart<'a> {
     ghost use Rattle.hunk_tool.specs.TextPart.{part_text, parts_text};
-    ghost use Rattle.std.specs.Result.{is_err};
 
     /// A number in decimal digits.
     pub(crate) fn decimal(number: u64) -> TextPart<'a>
@@ -68,21 +68,11 @@ impl<'a> TextPart<'a> {
         ensures { WroteText W.taken W.failed writer.old writer.new (part_text self.now) result }
     {
         match self {
-            TextPart::Plain(text) => Self::uncounted(write_all(writer, 0, text)),
-            TextPart::Number(digits) => { Self::uncounted(write_all(writer, 0, digits.as_bytes())) }
+            TextPart::Plain(text) => uncounted(write_all(writer, 0, text)),
+            TextPart::Number(digits) => { uncounted(write_all(writer, 0, digits.as_bytes())) }
             TextPart::Name(name) => {
-                Self::uncounted(write_around_name(writer, 0, &[], name.bytes, &[]))
+                uncounted(write_around_name(writer, 0, &[], name.bytes, &[]))
             }
-        }
-    }
-
-    /// Whether a text was written.
-    fn uncounted(written: Result<u64, WriteFault>) -> Result<(), DeviceFault>
-        ensures { is_err result ≡ is_err written }
-    {
-        match written {
-            Ok(_) => Ok(()),
-            Err(_) => Err(DeviceFault),
         }
     }
 }

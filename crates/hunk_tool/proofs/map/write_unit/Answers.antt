@@ -2,12 +2,13 @@
 use Rattle.std.proofs.Common.{◌∙◌, ◌+◌, ◌<◌, List, ap, get_or, length, map, sym, subst, arith}
 use Rattle.std.specs.String.{string_bytes}
 use Rattle.std.proofs.lemmas.List.Elements.{All-get_or}
+use Rattle.std.proofs.lemmas.Result.{err_from_is_err_and}
 use Rattle.hunk_objects.specs.UnitHunk.{ObjectHunk}
 use Rattle.hunk_tool.specs.Map.{map_from, map_lines}
 use Rattle.hunk_tool.specs.ObjectFiles.{IsShortHunk}
 use Rattle.hunk_tool.specs.Origins.{unit_origins}
 use Rattle.hunk_tool.proofs.MapLemmas.{unit_rest, unit_rest-all, unit_rest-more, unit_rest-none}
-use Rattle.hunk_tool.proofs.WrittenTextLemmas.{TextBegun-done, TextBegun-more, TextBegun-nothing, TextBegun-stop, WroteText-err, WroteText-ok}
+use Rattle.hunk_tool.proofs.WrittenTextLemmas.{TextBegun-done, TextBegun-more, TextBegun-nothing, TextBegun-stop}
 use Rattle.hunk_tool.proofs.map.write_unit.Goals as goal
 
 pub loop-number-init : goal.loop-number-init
@@ -25,8 +26,9 @@ invariant_of-origin g c =
     let within : number < length hunks = omega (arith, c.loop-number-test.true, ap length c.hunks-hunk-items.ensures.value) in
     record { unit = c.requires.short.name; hunk = subst IsShortHunk (sym at) (All-get_or IsShortHunk hunks number own within c.requires.short.hunks) }
 
-pub returns-then-is_err : goal.returns-then-is_err
-returns-then-is_err g c =
+pub returns-in_err-write_hunk : goal.returns-in_err-write_hunk
+returns-in_err-write_hunk g c =
+    let p = err_from_is_err_and c.from_residual.result c.from_residual.ensures.1 in
     let names = map string_bytes c.args.names.now in
     let first = c.args.first in
     let number = c.loop-number.number in
@@ -36,11 +38,11 @@ returns-then-is_err g c =
     let at = c.hunk-item.is ∙ ap (λ (hs : List ObjectHunk). get_or hs number own) c.hunks-hunk-items.ensures.value in
     let inside : number < length c.args.unit.now.hunks = omega (arith, c.loop-number-test.true, ap length c.hunks-hunk-items.ensures.value) in
     let text = map_lines names (first + number, (hunk, record { unit = (c.args.place, c.args.unit.now); number = number; hunk = own })) in
-    TextBegun-stop g.W.Sink.taken g.W.Sink.failed {E = Unit {0}} c.args.writer.now c.loop-number.writer c.write_hunk.new.writer (map_from names first hunks (unit_origins (c.args.place, c.args.unit.now)))
-    (unit_rest names first number hunks (c.args.place, c.args.unit.now)) text (unit_rest names first (number + 1) hunks (c.args.place, c.args.unit.now)) tt
+    rw p.1
+    (TextBegun-stop g.W.Sink.taken g.W.Sink.failed c.args.writer.now c.loop-number.writer c.write_hunk.new.writer (map_from names first hunks (unit_origins (c.args.place, c.args.unit.now)))
+    (unit_rest names first number hunks (c.args.place, c.args.unit.now)) text (unit_rest names first (number + 1) hunks (c.args.place, c.args.unit.now)) p.0
     (unit_rest-more names first number hunks (c.args.place, c.args.unit.now) hunk own (omega (arith, inside, c.requires.room)) inside c.index-hunks-number.is at)
-    c.loop-number.invariant
-    (WroteText-err g.W.Sink.taken g.W.Sink.failed {E = Unit {0}} c.loop-number.writer c.write_hunk.new.writer text tt c.write_hunk.result (sym c.is_err.ensures.value ∙ c.if-is_err.true) c.write_hunk.ensures.device c.write_hunk.ensures.wrote)
+    c.loop-number.invariant c.in_err-write_hunk.ensures)
 
 pub loop-number-preserved : goal.loop-number-preserved
 loop-number-preserved g c =
@@ -56,8 +58,7 @@ loop-number-preserved g c =
     TextBegun-more g.W.Sink.taken g.W.Sink.failed c.args.writer.now c.loop-number.writer c.write_hunk.new.writer (map_from names first hunks (unit_origins (c.args.place, c.args.unit.now)))
     (unit_rest names first number hunks (c.args.place, c.args.unit.now)) text (unit_rest names first (number + 1) hunks (c.args.place, c.args.unit.now))
     (unit_rest-more names first number hunks (c.args.place, c.args.unit.now) hunk own (omega (arith, inside, c.requires.room)) inside c.index-hunks-number.is at)
-    c.loop-number.invariant
-    (WroteText-ok g.W.Sink.taken g.W.Sink.failed c.loop-number.writer c.write_hunk.new.writer text c.write_hunk.result (sym c.is_err.ensures.value ∙ c.if-is_err.false) c.write_hunk.ensures.wrote)
+    c.loop-number.invariant c.in_ok-write_hunk.ensures
 
 pub returns : goal.returns
 returns g c =

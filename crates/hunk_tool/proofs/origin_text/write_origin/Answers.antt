@@ -4,13 +4,13 @@ use Rattle.std.specs.Prelude.{slice_index_or}
 use Rattle.std.specs.Fmt.{decimal}
 use Rattle.std.specs.String.{string_bytes}
 use Rattle.hunk_text.specs.QuotedName.{quoted}
-use Rattle.hunk_tool.specs.LinkExplanation.{origin_end}
+use Rattle.hunk_tool.specs.OriginText.{origin_end}
 use Rattle.hunk_tool.specs.WrittenText.{WroteText}
 use Rattle.hunk_tool.specs.Origins.{Origin}
 use Rattle.hunk_tool.specs.TextPart.{parts_text}
-use Rattle.hunk_tool.proofs.LinkExplanationLemmas.{origin_end-is}
+use Rattle.hunk_tool.proofs.OriginTextLemmas.{origin_end-is}
 use Rattle.hunk_tool.proofs.WrittenTextLemmas.{WroteText-then}
-use Rattle.hunk_tool.proofs.link_explanation_text.write_origin.Goals as goal
+use Rattle.hunk_tool.proofs.origin_text.write_origin.Goals as goal
 
 pub returns : goal.returns
 returns g c =
