@@ -40,7 +40,7 @@ EndsWith-found (Some e) ended ends = ends
 
 -- ---- hunks beside addresses
 
-pub place_lines : (origin : Origin) (AreHunks : List FileHunk → Type 0) (loaded hunks : List FileHunk) (bases : List ℕ) → hunks ≡ loaded → AreHunks loaded → HaveNumbers origin bases
+place_lines : (origin : Origin) (AreHunks : List FileHunk → Type 0) (loaded hunks : List FileHunk) (bases : List ℕ) → hunks ≡ loaded → AreHunks loaded → HaveNumbers origin bases
     → ArePlaceLines origin AreHunks (places_text (sizes_of hunks) bases)
 place_lines origin AreHunks loaded hunks bases same are numbers_are = record {
   bases = bases;
@@ -62,6 +62,13 @@ module _ {W : Type 0} (taken : W → Option (List ℕ)) (failed : W → Bool) wh
   pub tells_text : {E : Type 0} (old new : W) (text : List ℕ) (r : Result (Unit {0}) E) → WroteText taken failed old new text r → TellsLine taken failed old new text
   tells_text old new text (Ok done) wrote = inl wrote
   tells_text old new text (Err fault) wrote = inr wrote
+
+  -- the lines about hunks beside their addresses
+  pub tells_places : {E : Type 0} (old new : W) (origin : Origin) (AreHunks : List FileHunk → Type 0) (loaded hunks : List FileHunk) (bases : List ℕ) (r : Result (Unit {0}) E)
+      → hunks ≡ loaded → AreHunks loaded → HaveNumbers origin bases → WroteText taken failed old new (places_text (sizes_of hunks) bases) r → TellsMore taken failed old new (ArePlaceLines origin AreHunks)
+  tells_places old new origin AreHunks loaded hunks bases r same are numbers_are wrote =
+      let lines = places_text (sizes_of hunks) bases in
+      tells_lines old new (ArePlaceLines origin AreHunks) lines (place_lines origin AreHunks loaded hunks bases same are numbers_are) (tells_text old new lines r wrote)
 
   -- a line, and nothing after it
   pub tells_line_alone : (old new : W) (line : List ℕ) → TellsLine taken failed old new line → TellsLine taken failed old new (line ++ [])
@@ -101,13 +108,10 @@ module _ {W : Type 0} (taken : W → Option (List ℕ)) (failed : W → Bool) wh
       ([], inl refl, subst (λ w. TellsLine taken failed old w (line ++ [])) (sym (after.1 stopped.1.1)) (tells_line_alone old between line (inr stopped)))
 
   -- what was told if it was asked for
-  pub after_asked : (explain : Bool) (Holds : Failure → List ℕ → Type 0) (failure : Failure) (between told new : W) → explain ≡ true → new ≡ told
-      → IsAfter between told (Holds failure) → IsAfter between new (IfAsked explain Holds failure)
-  after_asked explain Holds failure between told new asked same after =
-      subst (λ w. IsAfter between w (IfAsked explain Holds failure)) (sym same) (subst (λ b. IsAfter between told (IfAsked b Holds failure)) (sym asked) after)
+  pub after_asked : (explain : Bool) (Holds : Failure → List ℕ → Type 0) (failure : Failure) (between new : W) → explain ≡ true → IsAfter between new (Holds failure) → IsAfter between new (IfAsked explain Holds failure)
+  after_asked explain Holds failure between new asked after = subst (λ b. IsAfter between new (IfAsked b Holds failure)) (sym asked) after
 
-  -- and if not
-  pub after_unasked : (explain : Bool) (Holds : Failure → List ℕ → Type 0) (failure : Failure) (between new : W) → new ≡ between → IsAfter between new (IfAsked explain Holds failure)
+  -- nothing was told
+  pub after_nothing : (between : W) (Holds : List ℕ → Type 0) → IsAfter between between Holds
   unfolding tells_nothing
-  after_unasked explain Holds failure between new same =
-      subst (λ w. IsAfter between w (IfAsked explain Holds failure)) (sym same) (tells_nothing between (IfAsked explain Holds failure), λ failing. refl)
+  after_nothing between Holds = (tells_nothing between Holds, λ failing. refl)

@@ -18,7 +18,7 @@ use Rattle.hunk_tool.specs.declared.tool_fault.ToolFault.TheVariants.{OutOfMemor
 use Rattle.hunk_tool.proofs.InputsLemmas.{HaveRead-weaker}
 use Rattle.hunk_tool.proofs.LinkLemmas.{linked_bytes-are_load}
 use Rattle.hunk_commands.specs.Devices.{IsCutShort}
-use Rattle.hunk_commands.specs.Link.{DoLinkFiles, DoLinkTo, HasMap, IsLinkedWithMap, IsMade, IsMapped, IsUndone, IsUnmapped, IsUnwritten, IsWrittenOut}
+use Rattle.hunk_commands.specs.Link.{DoLinkFiles, DoLinkTo, HasMap, IsLinkedWithMap, IsMade, IsMapped, IsUndone, IsUnwritten, IsWrittenOut}
 use Rattle.hunk_commands.specs.declared.failure.Failure.{Failure}
 use Rattle.hunk_commands.proofs.InputsLemmas.{OfInputs-weaker}
 use Rattle.hunk_commands.specs.declared.failure.Failure.TheVariants.{BadNumber, Opening, Printing, Reading, SameFile, Tool, Writing}
@@ -95,13 +95,3 @@ IsUndone-memory options files out (Some map) = inr (inl (inl (inl refl)))
 pub length-trimmed_if : (trim : Bool) (linked file : List FileHunk) → file ≡ trimmed_if trim linked → length linked ≡ length file
 length-trimmed_if true linked file is = sym (ap (λ (hunks : List FileHunk). length hunks) is ∙ length-map linked trimmed_hunk)
 length-trimmed_if false linked file is = sym (ap (λ (hunks : List FileHunk). length hunks) is)
-
--- why a map was not written, told of its file
-pub IsUnmapped-cut_short : (map : List ℕ) (failure : Failure) → IsCutShort failure → (failure ≡ Printing → ⊥) → IsUnmapped map failure
-IsUnmapped-cut_short map (BadNumber addresses index) is not = is
-IsUnmapped-cut_short map (Opening name) is not = absurd is
-IsUnmapped-cut_short map (Reading name) is not = is
-IsUnmapped-cut_short map (Writing name) is not = absurd is
-IsUnmapped-cut_short map (SameFile name) is not = is
-IsUnmapped-cut_short map Printing is not = absurd (not refl)
-IsUnmapped-cut_short map (Tool fault) is not = is

@@ -1,5 +1,5 @@
 -- The status after a request that was not done, and where memory ran out.
-use Rattle.std.proofs.Common.{◌≡◌, ◌∙◌, [], ap, Bool, inl, List, Option, refl, subst, ℕ}
+use Rattle.std.proofs.Common.{◌≡◌, ◌∙◌, [], ap, Bool, inl, List, Option, refl, subst, sym, ℕ}
 use Rattle.hunk_tool.specs.declared.tool_fault.ToolFault.TheVariants as tool_fault
 use Rattle.hunk_commands.specs.Failure.{failure_line, status_of, TellsLine}
 use Rattle.hunk_commands.specs.Request.{IsFailed}
@@ -31,6 +31,17 @@ module _ {W : Type 0} (taken : W → Option (List ℕ)) (failed : W → Bool) (W
   pub not_begun : (old new : W) → Why (Tool (tool_fault.OutOfMemory 0)) → (status ≡ 4) × TellsLine taken failed old new (failure_line [] (Tool (tool_fault.OutOfMemory 0)))
       → IsFailed taken failed old new Why AreMore files status
   not_begun old new why told = fails_with_line old new (Tool (tool_fault.OutOfMemory 0)) why told.0 told.1
+
+  -- what holds of the failure that was told
+  pub IsFailed-why : (old new : W) (failure : Failure) → Why failure → IsFailed taken failed old new (λ told. told ≡ failure) AreMore files status → IsFailed taken failed old new Why AreMore files status
+  IsFailed-why old new failure why told = record {
+    failure = told.failure;
+    why = subst Why (sym told.why) why;
+    status_is = told.status_is;
+    more = told.more;
+    is_more = told.is_more;
+    line = told.line;
+  }
 
   -- it was not done, and its failure was told with the names of the files, and then explained
   pub is_failed : (old between new : W) (names : List (List ℕ)) (failure : Failure) → names ≡ files → Why failure → status ≡ status_of failure

@@ -1,10 +1,11 @@
 //! What a command line asks for, and doing it.
 ghost use Rattle.std.specs.Prelude.{◌≡◌, IfErr, OnOk, length, map, string_bytes};
 ghost use Rattle.hunk_commands.specs.Addresses.{origin_of};
+ghost use Rattle.hunk_commands.specs.Explain.{AreLinesOf, IfAsked};
 ghost use Rattle.hunk_commands.specs.Failure.{IsOfFiles};
 ghost use Rattle.hunk_commands.specs.Inputs.{file_names};
 ghost use Rattle.hunk_commands.specs.Link.{IsDone, IsUndone};
-ghost use Rattle.hunk_commands.specs.Request.{Ends, EndsImage, EndsLink, EndsLoad, EndsSurvey, EndsText, given_text, shown};
+ghost use Rattle.hunk_commands.specs.Request.{Ends, EndsImage, EndsLink, EndsLoad, EndsSurvey, EndsText, EndsVersion, IsFailed, given_text, shown};
 
 use crate::addresses::Addresses;
 use crate::explain::{Command, explain_failure};
@@ -130,10 +131,7 @@ pub fn answer<R: Files + Print + AllocGlobal, W: Sink>(
             file,
         } => answer_text(rt, errors, shown(json), explain, file),
         Request::Survey { files } => answer_survey(rt, errors, files.as_slice()),
-        Request::Version => match print_version(rt) {
-            Ok(()) => DONE,
-            Err(failure) => report_failure(errors, &[], &failure),
-        },
+        Request::Version => answer_version(rt, errors),
         Request::Help(text) => match rt.print(text) {
             Ok(()) => DONE,
             Err(_) => report_failure(errors, &[], &Failure::Printing),
@@ -144,6 +142,28 @@ pub fn answer<R: Files + Print + AllocGlobal, W: Sink>(
         }
         Request::OutOfMemory => report_failure(errors, &[], &Failure::out_of_memory()),
     }
+}
+
+/// Reports a failure of this command for the files named `files`, explains it if `explain` is set, and
+/// returns the exit status. `names` are the same names.
+fn fail<R: Files + AllocGlobal, W: Sink>(
+    rt: &R,
+    errors: &mut W,
+    command: Command<'_>,
+    explain: bool,
+    files: &[&str],
+    names: &[String],
+    failure: &Failure<'_>,
+) -> u8
+    requires named { map string_bytes names.now ≡ file_names files.now }
+    requires of_files { IsOfFiles (length names.now) failure.now }
+    ensures { IsFailed W.taken W.failed errors.old errors.new (λ told. told ≡ failure.now) (IfAsked explain (AreLinesOf command.entry (file_names files.now))) (file_names files.now) result }
+{
+    let status = report_failure(errors, names, failure);
+    if explain {
+        explain_failure(rt, errors, command, files, failure);
+    }
+    status
 }
 
 /// Does `load`, and returns the exit status.
@@ -163,11 +183,8 @@ fn answer_load<R: Files + Print + AllocGlobal, W: Sink>(
     match load(rt, addresses, text, file) {
         Ok(()) => DONE,
         Err(failure) => {
-            let status = report_failure(errors, &[name], &failure);
-            if explain {
-                explain_failure(rt, errors, Command::Load(addresses), &[file], &failure);
-            }
-            status
+            let command = Command::Load(addresses);
+            fail(rt, errors, command, explain, &[file], &[name], &failure)
         }
     }
 }
@@ -190,11 +207,9 @@ fn answer_link<R: Files + AllocGlobal, W: Sink>(
     match link_as_asked(rt, out, map_file, options, files, names.as_slice()) {
         Ok(()) => DONE,
         Err(failure) => {
-            let status = report_failure(errors, names.as_slice(), &failure);
-            if explain {
-                explain_failure(rt, errors, Command::Link, files, &failure);
-            }
-            status
+            let command = Command::Link;
+            let names = names.as_slice();
+            fail(rt, errors, command, explain, files, names, &failure)
         }
     }
 }
@@ -236,11 +251,9 @@ fn answer_image<R: Files + Print + AllocGlobal, W: Sink>(
     match image(rt, addresses, form, files) {
         Ok(()) => DONE,
         Err(failure) => {
-            let status = report_failure(errors, names.as_slice(), &failure);
-            if explain {
-                explain_failure(rt, errors, Command::Image(addresses), files, &failure);
-            }
-            status
+            let command = Command::Image(addresses);
+            let names = names.as_slice();
+            fail(rt, errors, command, explain, files, names, &failure)
         }
     }
 }
@@ -255,6 +268,16 @@ fn answer_survey<R: Files + Print + AllocGlobal, W: Sink>(
 {
     match survey(rt, files) {
         Ok(status) => status,
+        Err(failure) => report_failure(errors, &[], &failure),
+    }
+}
+
+/// Does `--version`, and returns the exit status.
+fn answer_version<R: Print, W: Sink>(rt: &R, errors: &mut W) -> u8
+    ensures { EndsVersion W.taken W.failed errors.old errors.new result }
+{
+    match print_version(rt) {
+        Ok(()) => DONE,
         Err(failure) => report_failure(errors, &[], &failure),
     }
 }
@@ -282,11 +305,8 @@ fn answer_text<R: Files + Print + AllocGlobal, W: Sink>(
     match print_text(rt, text, file) {
         Ok(()) => DONE,
         Err(failure) => {
-            let status = report_failure(errors, &[name], &failure);
-            if explain {
-                explain_failure(rt, errors, Command::Text, &[file], &failure);
-            }
-            status
+            let command = Command::Text;
+            fail(rt, errors, command, explain, &[file], &[name], &failure)
         }
     }
 }

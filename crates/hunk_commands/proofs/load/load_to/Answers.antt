@@ -1,6 +1,5 @@
 use Rattle.std.proofs.Common.{ap}
-use Rattle.std.proofs.lemmas.Result.{err_from_is_err_and}
-use Rattle.std.proofs.lemmas.Result.{IfOk-weaker}
+use Rattle.std.proofs.lemmas.Result.{IfOk-weaker, err_from_is_err_and}
 use Rattle.hunk_commands.specs.Load.{text_of}
 use Rattle.hunk_commands.proofs.DevicesLemmas.{load_printed, load_stopped_at_once, stopped_between}
 use Rattle.hunk_commands.proofs.load.load_to.Goals as goal

@@ -1,8 +1,7 @@
--- There is no memory to read the words; or `image` or `link` was asked for, or the version was not printed.
-use Rattle.std.proofs.Common.{[], inr, subst, sym}
-use Rattle.hunk_commands.specs.Request.{Ends, NoMore}
-use Rattle.hunk_commands.specs.Version.{IsVersionFailure}
-use Rattle.hunk_commands.proofs.RequestLemmas.{fails_with_line, out_of_memory_told}
+-- There is no memory to read the words; or `image` or `link` was asked for.
+use Rattle.std.proofs.Common.{[], subst, sym}
+use Rattle.hunk_commands.specs.Request.{Ends}
+use Rattle.hunk_commands.proofs.RequestLemmas.{out_of_memory_told}
 use Rattle.hunk_commands.proofs.request.answer.Goals as goal
 
 pub returns-in-OutOfMemory : goal.returns-in-OutOfMemory
@@ -19,8 +18,3 @@ pub returns-in-Link : goal.returns-in-Link
 returns-in-Link g c =
     subst (λ request. Ends g.W.Sink.taken g.W.Sink.failed c.args.errors.now c.answer_link.new.errors request c.answer_link.result) (sym c.in-Link.is)
     (rw c.as_slice.ensures.value at c.answer_link.ensures)
-
-pub returns-in-Err : goal.returns-in-Err
-returns-in-Err g c =
-    subst (λ request. Ends g.W.Sink.taken g.W.Sink.failed c.args.errors.now c.report_failure.new.errors request c.report_failure.result) (sym c.in-Version.is)
-    (inr (fails_with_line g.W.Sink.taken g.W.Sink.failed IsVersionFailure NoMore [] c.report_failure.result c.args.errors.now c.report_failure.new.errors c.in-Err.failure c.in-Err.ensures c.report_failure.ensures.status c.report_failure.ensures.line))

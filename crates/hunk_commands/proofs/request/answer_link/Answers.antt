@@ -5,10 +5,8 @@ use Rattle.hunk_commands.specs.Inputs.{file_names}
 use Rattle.hunk_commands.specs.Link.{IsUndone}
 use Rattle.hunk_commands.specs.Request.{given_text}
 use Rattle.hunk_commands.proofs.LinkLemmas.{IsUndone-memory}
-use Rattle.hunk_commands.proofs.ExplainLemmas.{IsAfter, after_asked, after_unasked}
-use Rattle.hunk_commands.proofs.RequestLemmas.{is_failed, not_begun, out_of_memory_told}
+use Rattle.hunk_commands.proofs.RequestLemmas.{IsFailed-why, not_begun, out_of_memory_told}
 use Rattle.hunk_commands.proofs.request.answer_link.Goals as goal
-use Rattle.hunk_commands.proofs.request.answer_link.Goals.{then-explain, else-explain}
 
 pub returns-in_default : goal.returns-in_default
 returns-in_default g c =
@@ -19,16 +17,9 @@ returns-in_default g c =
 
 pub returns : goal.returns
 returns g c =
-    let taken = g.W.Sink.taken in
-    let failed = g.W.Sink.failed in
-    let between = c.report_failure-status.new.errors in
-    let new = c.if-explain.errors in
-    let lines = AreLinkLines (file_names c.args.files.now) in
-    let after : IsAfter taken failed between new (IfAsked c.args.explain lines c.in-Err.failure) =
-    elim c.if-explain.branch [
-      | then-explain w ↦
-          after_asked taken failed c.args.explain lines c.in-Err.failure between w.explain_failure.new.errors new w.if-explain.true w.errors-is (w.explain_failure.ensures.told, w.explain_failure.ensures.silent)
-      | else-explain w ↦ after_unasked taken failed c.args.explain lines c.in-Err.failure between new w.errors-is
-    ] in
-    inr (is_failed taken failed (IsUndone c.args.options (file_names c.args.files.now) c.args.out.now (given_text c.args.map_file)) (IfAsked c.args.explain lines) (file_names c.args.files.now) c.report_failure-status.result c.args.errors.now between new _ c.in-Err.failure
-    (ap (map string_bytes) c.as_slice-in-Err.ensures.value ∙ c.in-Ok.ensures) c.in-Err.ensures.err c.report_failure-status.ensures.status c.report_failure-status.ensures.line after)
+    let files = file_names c.args.files.now in
+    let map = given_text c.args.map_file in
+    inr (IsFailed-why g.W.Sink.taken g.W.Sink.failed (IsUndone c.args.options files c.args.out.now map) (IfAsked c.args.explain (AreLinkLines files)) files c.fail.result c.args.errors.now c.fail.new.errors c.in-Err.failure c.in-Err.ensures.err c.fail.ensures)
+
+pub fail-requires-clause-named : goal.fail-requires-clause-named
+fail-requires-clause-named g c = ap (map string_bytes) c.as_slice-names.ensures.value ∙ c.in-Ok.ensures
