@@ -20,6 +20,7 @@
 //! - `surveys`: what a survey finds of files, and the lines that it writes.
 //! - `symbols`: the symbols of load files, with their addresses.
 //! - `texts`: the texts that are written about files.
+//! - `unlinked`: object files whose units do not link.
 //! - `vectors`: files of both kinds through everything that reads them.
 
 mod asserts;
@@ -42,4 +43,5 @@ mod streaming;
 mod surveys;
 mod symbols;
 mod texts;
+mod unlinked;
 mod vectors;

@@ -23,6 +23,23 @@ fn reports_the_memory_of_object_files(rt: HostRuntime) {
 }
 
 #[test]
+fn writes_the_records_of_object_files(rt: HostRuntime) {
+    let alloc = rt.alloc();
+    let records = "S00A0000616D6968756E6B08\n\
+         S30D000100004EB9000200044E7521\n\
+         S30D000200004E714E714E754E71F0\n\
+         S70500000000FA\n";
+    let mut inputs = [
+        Watched::new(CALLER.as_slice()),
+        Watched::new(CALLEE.as_slice()),
+    ];
+    let bases = [0x1_0000, 0x2_0000];
+    let form = ImageForm::SRecords;
+    let text = image_to(alloc, &mut inputs, &bases, form, Vec::new(alloc));
+    assert!(rt; text.is_ok_and(|bytes| bytes.as_slice() == records.as_bytes()));
+}
+
+#[test]
 fn tells_why_there_is_no_report(rt: HostRuntime) {
     let alloc = rt.alloc();
     let form = ImageForm::Report;

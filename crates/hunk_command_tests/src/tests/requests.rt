@@ -77,3 +77,15 @@ fn tells_why_there_is_no_image(rt: HostRuntime) -> Result<(), Fail> {
     }
     Ok(())
 }
+
+#[test]
+fn tells_that_memory_ran_out(rt: HostRuntime) {
+    let mut errors = Watched::new(Vec::new(rt.alloc()));
+    let status = answer(&rt, &mut errors, Request::OutOfMemory);
+    equals(&rt, status, 4);
+    equals(
+        &rt,
+        errors.into_inner().as_slice(),
+        b"amihunk: out of memory\n".as_slice(),
+    );
+}

@@ -9,7 +9,7 @@ use hunk_test_support::{Refusing, bytes_of};
 use hunk_tool::{
     Explanation, explain_file, explain_load, explain_object, write_explanation, write_places,
 };
-use hunk_words::{DeviceFault, Pieces, ReadFault, Refusal, Room, WriteFault};
+use hunk_words::{DeviceFault, Fault, Pieces, ReadFault, Reason, Refusal, Room, WriteFault};
 use std::alloc::{Allocator, Global};
 use std::process::Abort;
 use std::test::Fail;
@@ -141,6 +141,37 @@ fn tells_where_a_file_offends_and_what_was_due(rt: HostRuntime) -> Result<(), Fa
         for most in [1, 3, 64] {
             is_told(&rt, rt.alloc(), row, most)?;
         }
+    }
+    Ok(())
+}
+
+// As what a file is read, the file, and the place and the reason of its first offence.
+static FAULTS: [(As, &[u32], &[u8], u64, Reason); 4] = [
+    (
+        As::Either,
+        &[0x3E7, 0, 0x3E9, 1, 0x4E714E71, 0x3FF],
+        &[],
+        5,
+        Reason::UnknownType(0x3FF),
+    ),
+    (As::Object, &[], &[], 0, Reason::UnexpectedEnd),
+    (As::Load, &[0x3F3, 0], &[0, 0], 2, Reason::PartialLongword),
+    (As::Load, &[0x3E7, 0], &[], 0, Reason::WrongStart),
+];
+
+#[test]
+fn gives_the_place_and_the_reason_of_an_offence(rt: HostRuntime) -> Result<(), Fail> {
+    for (read_as, words, rest, place, reason) in &FAULTS {
+        let mut reader = Pieces::new(bytes_of(rt.alloc(), words, rest)?, 64, None);
+        let got = match explained(rt.alloc(), *read_as, &mut reader) {
+            Ok(Some(explanation)) => Some(explanation.fault()),
+            _ => None,
+        };
+        let wanted = Fault {
+            place: *place,
+            reason: *reason,
+        };
+        equals_at(&rt, &(place, reason), got, Some(wanted));
     }
     Ok(())
 }

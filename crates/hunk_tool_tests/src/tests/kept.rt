@@ -7,7 +7,7 @@ use hunk_loadfile::LoadDecoder;
 use hunk_test_support::words::{PAST_CONTENT, SCATTERED};
 use hunk_test_support::{BASE, FILE, Refusing, bytes_of};
 use hunk_tool::{LoadCounter, ObjectCounter};
-use hunk_words::{CoreState, Decoder, Fault, Reason, Splitter};
+use hunk_words::{Core, CoreState, Decoder, Fault, Feed, Reason, Refusal, Splitter};
 use std::alloc::Global;
 use std::process::Abort;
 use std::test::Fail;
@@ -151,4 +151,31 @@ fn copies_what_stands_beside_the_taker(rt: HostRuntime) {
     equals(&rt, (one.rest(), other.rest()), (1, 0));
     let (state, same) = twice(None::<CoreState>);
     assert!(rt; state.is_none() && same.is_none());
+}
+
+#[test]
+fn counts_the_longwords_that_a_core_took(rt: HostRuntime) {
+    let mut core = Core::new(ObjectCounter::new(rt.alloc()));
+    for (place, word) in [0x3E7, 0, 0x3EB, 5, 0x3F2].into_iter().enumerate() {
+        equals(&rt, core.place(), place as u64);
+        equals(&rt, core.word(word), Ok(()));
+    }
+    equals(&rt, core.place(), 5);
+}
+
+// Feeds a decoder by its trait alone.
+fn fed<F: Feed>(decoder: &mut F, bytes: &[u8]) -> Result<(), Refusal> {
+    decoder.feed(bytes)
+}
+
+#[test]
+fn is_fed_by_its_trait(rt: HostRuntime) {
+    let mut decoder = Decoder::new(ObjectCounter::new(rt.alloc()));
+    equals(&rt, fed(&mut decoder, &[0, 0, 3]), Ok(()));
+    let refusal = Refusal::Fault(Fault {
+        place: 0,
+        reason: Reason::WrongStart,
+    });
+    equals(&rt, fed(&mut decoder, &[0xF3]), Err(refusal));
+    equals(&rt, fed(&mut decoder, &[]), Err(refusal));
 }

@@ -5,7 +5,7 @@ use super::files::one_hunk;
 use super::reports::EMPTY_BETWEEN;
 use hunk_test_support::load_words::TWO_HUNKS;
 use hunk_test_support::{BASE, CHUNKS, FILE, ROOM, bytes_of};
-use hunk_tool::{ImageForm, ToolFault, load_run_with};
+use hunk_tool::{ImageForm, ToolFault, image_run_with, load_run_with};
 use hunk_words::{Pieces, Room, Sink};
 use std::alloc::Global;
 use std::process::Abort;
@@ -66,6 +66,18 @@ fn writes_the_records_of_files(rt: HostRuntime) -> Result<(), Fail> {
         let bytes = bytes_of(rt.alloc(), words, &[])?;
         loads_to_records(&rt, rt.alloc(), &bytes, bases, text)?;
     }
+    Ok(())
+}
+
+#[test]
+fn writes_the_records_of_object_files(rt: HostRuntime) -> Result<(), Fail> {
+    let words = [0x3E7, 0, 0x3E9, 1, 0x4E75_4E71, 0x3F2];
+    let mut inputs = [Pieces::new(bytes_of(rt.alloc(), &words, &[])?, 5, None)];
+    let mut writer = Room::new(rt.alloc(), 7, ROOM, false)?;
+    let form = ImageForm::SRecords;
+    let got = image_run_with(rt.alloc(), &mut inputs, &[BASE], form, &mut writer);
+    equals(&rt, got, Ok(()));
+    equals(&rt, writer.bytes(), RECORDS.as_bytes());
     Ok(())
 }
 
