@@ -10,11 +10,10 @@ use Rattle.clap.specs.Faults.{check_fault, defaults_fault, entered_fault, level_
 use Rattle.clap.specs.Kinds.{check_kinds}
 use Rattle.amihunk.proofs.CommandLineUseLemmas.{AllDefaulting, Filled, HasDefault, IsDefaulted, IsFilling, filled-defaults, flag_read, has_row-defaults, is_flag, or_else-nil, value_given, values_given}
 use Rattle.amihunk.proofs.CommandLineRowLemmas.{AllFilling, filled-settled, filled-walk}
-use Rattle.amihunk.specs.Syntax.{bare_shape, check_shape, command_line, flag_rule, image_shape, letter_s, link_shape, load_shape, option_rule, show_shape, survey_shape}
+use Rattle.amihunk.specs.Syntax.{bare_shape, check_shape, command_line, flag_rule, image_shape, letter_s, link_shape, load_shape, option_rule, present, show_shape, survey_shape}
 use Rattle.amihunk.specs.CommandLine.{AddressValues, IsFlag, IsWhole, is_srec}
 use Rattle.hunk_tool.specs.declared.image_form.ImageForm.{ImageForm}
 use Rattle.hunk_tool.specs.declared.image_form.ImageForm.TheVariants.{Report, SRecords}
-use Rattle.amihunk.specs.declared.syntax.Edition.TheVariants.{Present}
 use Rattle.amihunk.specs.CommandLine.IsWhole.{link, load, image, check, show, survey}
 
 -- ---- one level
@@ -49,19 +48,19 @@ abbrev pub built_below : Shape → Shape
 built_below s = first_shape (built (with_subcommand (record { top = bare_shape; subs = [] }) s)).subs
 
 abbrev pub built_link : Shape
-built_link = built_below (link_shape Present)
+built_link = built_below (link_shape present)
 
 abbrev pub built_load : Shape
-built_load = built_below (load_shape Present)
+built_load = built_below (load_shape present)
 
 abbrev pub built_image : Shape
-built_image = built_below (image_shape Present)
+built_image = built_below (image_shape present)
 
 abbrev pub built_show : Shape
-built_show = built_below (show_shape Present)
+built_show = built_below (show_shape present)
 
 abbrev pub built_check : Shape
-built_check = built_below (check_shape Present)
+built_check = built_below (check_shape present)
 
 abbrev pub built_survey : Shape
 built_survey = built_below survey_shape

@@ -1,10 +1,9 @@
 -- The command line that the program accepts, as `clap` is told of it.
-use Rattle.std.specs.Prelude.{ℕ, [], true, codes, Some}
+use Rattle.std.specs.Prelude.{ℕ, [], Bool, true, false, codes, Some}
 use Rattle.clap.specs.Lexer.{usize_max}
 use Rattle.clap.specs.Words.{App, Rule, Shape, Text, new_app, new_rule, with_rule, with_subcommand}
 use Rattle.clap.specs.declared.builder.action.ArgAction.TheVariants.{SetTrue}
 use Rattle.amihunk.specs.declared.syntax.Edition.{Edition}
-use Rattle.amihunk.specs.declared.syntax.Edition.TheVariants.{Former, Present}
 
 -- `--NAME VALUE`
 abbrev pub option_rule : Text → Rule
@@ -41,10 +40,14 @@ file_rule = record (new_rule (codes "file")) { value_names = 1; required = true 
 abbrev pub files_rule : Rule
 files_rule = record file_rule { range = Some (record { start_inclusive = 1; end_inclusive = usize_max }) }
 
--- an argument that the former edition does not have
-abbrev pub with_new_rule : Edition → App → Rule → App
-with_new_rule Present app rule = with_rule app rule
-with_new_rule Former app rule = app
+-- the edition that the program accepts, which has all of the newer options
+abbrev pub present : Edition
+present = record { at_file = true; map = true; json = true; explain = true }
+
+-- an argument, if the edition has it
+abbrev pub with_new_rule : Bool → App → Rule → App
+with_new_rule true app rule = with_rule app rule
+with_new_rule false app rule = app
 
 -- `--explain`
 abbrev pub explain_rule : Rule
@@ -53,32 +56,32 @@ explain_rule = flag_rule (codes "explain")
 -- `link --out OUT [--map MAP] [--strip] [--short] [--trim] [--explain] FILE...`, where `-o` is `--out`, and
 -- `-s` is `--strip`
 abbrev pub link_shape : Edition → Shape
-link_shape edition = (with_rule (with_new_rule edition (with_rule (with_rule (with_rule
-    (with_new_rule edition (with_rule (new_app (codes "link")) out_rule) (option_rule (codes "map")))
+link_shape edition = (with_rule (with_new_rule edition.explain (with_rule (with_rule (with_rule
+    (with_new_rule edition.map (with_rule (new_app (codes "link")) out_rule) (option_rule (codes "map")))
     (with_letter letter_s (flag_rule (codes "strip")))) (flag_rule (codes "short"))) (flag_rule (codes "trim"))) explain_rule) files_rule).top
 
--- the options by which addresses are given
-abbrev pub given_addresses : Edition → App → App
-given_addresses Present app = with_rule (with_rule app (option_rule (codes "at"))) (option_rule (codes "at-file"))
-given_addresses Former app = with_rule app (required_rule (option_rule (codes "at")))
+-- the options by which addresses are given: `--at`, which is required if the edition has no `--at-file`
+abbrev pub given_addresses : Bool → App → App
+given_addresses true app = with_rule (with_rule app (option_rule (codes "at"))) (option_rule (codes "at-file"))
+given_addresses false app = with_rule app (required_rule (option_rule (codes "at")))
 
 -- `load [--at LIST] [--at-file FILE] [--srec] [--symbols] [--explain] FILE`, or `load --at LIST ..`
 abbrev pub load_shape : Edition → Shape
-load_shape edition = (with_rule (with_new_rule edition (with_rule (with_rule
-    (given_addresses edition (new_app (codes "load"))) (flag_rule (codes "srec"))) (flag_rule (codes "symbols"))) explain_rule) file_rule).top
+load_shape edition = (with_rule (with_new_rule edition.explain (with_rule (with_rule
+    (given_addresses edition.at_file (new_app (codes "load"))) (flag_rule (codes "srec"))) (flag_rule (codes "symbols"))) explain_rule) file_rule).top
 
 -- `image [--at LIST] [--at-file FILE] [--srec] [--explain] FILE...`, or `image --at LIST ..`
 abbrev pub image_shape : Edition → Shape
-image_shape edition = (with_rule (with_new_rule edition (with_rule
-    (given_addresses edition (new_app (codes "image"))) (flag_rule (codes "srec"))) explain_rule) files_rule).top
+image_shape edition = (with_rule (with_new_rule edition.explain (with_rule
+    (given_addresses edition.at_file (new_app (codes "image"))) (flag_rule (codes "srec"))) explain_rule) files_rule).top
 
 -- `check [--explain] FILE`
 abbrev pub check_shape : Edition → Shape
-check_shape edition = (with_rule (with_new_rule edition (new_app (codes "check")) explain_rule) file_rule).top
+check_shape edition = (with_rule (with_new_rule edition.explain (new_app (codes "check")) explain_rule) file_rule).top
 
 -- `show [--json] [--explain] FILE`
 abbrev pub show_shape : Edition → Shape
-show_shape edition = (with_rule (with_new_rule edition (with_new_rule edition (new_app (codes "show")) (flag_rule (codes "json"))) explain_rule) file_rule).top
+show_shape edition = (with_rule (with_new_rule edition.explain (with_new_rule edition.json (new_app (codes "show")) (flag_rule (codes "json"))) explain_rule) file_rule).top
 
 -- the program, which has a version, requires a subcommand, and has none called `help`
 abbrev pub bare_shape : Shape
@@ -101,4 +104,4 @@ line_of edition = with_subcommand (with_subcommand (with_subcommand (with_subcom
 -- the command line that the program accepts; of `--at` and `--at-file` it wants one, which no rule of
 -- `clap` says
 abbrev pub command_line : App
-command_line = line_of Present
+command_line = line_of present

@@ -12,16 +12,13 @@ ghost use Rattle.hunk_commands.specs.declared.load.LoadText.{LoadText};
 ghost use Rattle.hunk_tool.specs.declared.image_form.ImageForm.{ImageForm};
 ghost use Rattle.hunk_tool.specs.declared.link_options.LinkOptions.{LinkOptions};
 
-use crate::syntax::{Edition, command, image_command, load_command};
+use crate::syntax::{Edition, PRESENT, command, image_command, load_command};
 use clap::error::ErrorKind;
 use clap::{ArgMatches, Command, Error};
 use hunk_commands::{Addresses, LoadText, Request};
 use hunk_tool::{ImageForm, LinkOptions};
 use std::alloc::{AllocError, Global};
 use std::convert::AsStr;
-
-/// The options that the former edition of the command line does not have.
-const NEW_OPTIONS: [&str; 4] = ["--at-file", "--map", "--json", "--explain"];
 
 /// Reads the arguments of a command line, the first of which is the program's name.
 pub fn read_words<'a, S: AsStr>(alloc: Global, words: &'a [S]) -> Request<'a>
@@ -50,50 +47,73 @@ pub fn read_words<'a, S: AsStr>(alloc: Global, words: &'a [S]) -> Request<'a>
     ensures version { (program word : List ℕ)
         → map S.text words.entry.now ≡ version_line program word → IsVersionWord word → AsksVersion result }
 {
-    retold(alloc, words, request_for(alloc, words))
+    let edition = edition_given(words);
+    retold(alloc, words, edition, request_for(alloc, words, edition))
 }
 
-/// What these arguments ask for. A rejection has the text that `clap` gives it.
-fn request_for<'a, S: AsStr>(alloc: Global, words: &'a [S]) -> Request<'a>
+/// The edition that has just those of the newer options that are among these arguments.
+fn edition_given<S: AsStr>(words: &[S]) -> Edition {
+    Edition {
+        at_file: is_given(words, "--at-file"),
+        map: is_given(words, "--map"),
+        json: is_given(words, "--json"),
+        explain: is_given(words, "--explain"),
+    }
+}
+
+/// Whether this option is among these arguments, with a value or without. What comes after `--` is no
+/// option.
+fn is_given<S: AsStr>(words: &[S], option: &str) -> bool {
+    words
+        .iter()
+        .skip(1)
+        .map(|word| word.as_str())
+        .take_while(|word| *word != "--")
+        .filter_map(|word| word.strip_prefix(option))
+        .any(|rest| rest.is_empty() || rest.starts_with('='))
+}
+
+/// What these arguments ask for. What the program itself rejects has the text that it has in this
+/// edition.
+fn request_for<'a, S: AsStr>(alloc: Global, words: &'a [S], edition: Edition) -> Request<'a>
     ensures { IsAskedBy (map S.text words.entry.now) result }
 {
     match matches_of(alloc, words) {
-        Ok(matches) => request_of(alloc, &matches).unwrap_or(Request::OutOfMemory),
+        Ok(matches) => request_of(alloc, &matches, edition).unwrap_or(Request::OutOfMemory),
         Err(error) => answer_to(alloc, &error),
     }
 }
 
-/// The same request; but a rejection of arguments that none of [`NEW_OPTIONS`] is among has the text that
-/// it had before there were these options.
-fn retold<'a, S: AsStr>(alloc: Global, words: &[S], request: Request<'a>) -> Request<'a>
+/// The same request; but a rejection has the text that it has in this edition, so that no option changes
+/// what is told of arguments that it is not among.
+fn retold<'a, S: AsStr>(
+    alloc: Global,
+    words: &[S],
+    edition: Edition,
+    request: Request<'a>,
+) -> Request<'a>
     ensures { IsRetold request.entry result }
 {
     match request {
-        Request::Refused(text) => Request::Refused(former_text(alloc, words).unwrap_or(text)),
+        Request::Refused(text) => {
+            Request::Refused(rejection(alloc, words, edition).unwrap_or(text))
+        }
         request => request,
     }
 }
 
-/// The text with which the former edition of the command line rejects these arguments.
+/// The text with which `clap` rejects these arguments in this edition.
 ///
-/// `None` if it does not reject them, if one of [`NEW_OPTIONS`] is among them, or if memory runs out.
-fn former_text<S: AsStr>(alloc: Global, words: &[S]) -> Option<String> {
-    if words.iter().any(|word| is_new_option(word.as_str())) {
-        return None;
-    }
-    let former = command(alloc, Edition::Former).ok()?;
-    let Err(error) = former.try_get_matches_from(words) else {
+/// `None` if it does not reject them, or if memory runs out.
+fn rejection<S: AsStr>(alloc: Global, words: &[S], edition: Edition) -> Option<String> {
+    let command = command(alloc, edition).ok()?;
+    let Err(error) = command.try_get_matches_from(words) else {
         return None;
     };
     if error.kind() == ErrorKind::OutOfMemory {
         return None;
     }
     error.to_string(alloc).ok()
-}
-
-/// Whether this argument is one of [`NEW_OPTIONS`], with a value or without.
-fn is_new_option(word: &str) -> bool {
-    NEW_OPTIONS.iter().any(|option| word.starts_with(option))
 }
 
 /// Rejects arguments that are not UTF-8, as `clap` does.
@@ -111,7 +131,7 @@ pub fn refuse_bytes<'a>(alloc: Global) -> Request<'a>
 fn error_of(alloc: Global, kind: ErrorKind, text: &str) -> Result<Error, AllocError>
     ensures { IfOk result (λ e. kind_of e ≡ kind) }
 {
-    command(alloc, Edition::Present)?.error(kind, text)
+    command(alloc, PRESENT)?.error(kind, text)
 }
 
 /// What `clap` makes of the arguments.
@@ -120,11 +140,15 @@ fn matches_of<'a, S: AsStr>(alloc: Global, words: &'a [S]) -> Result<ArgMatches<
     ensures rows { IfOk result (λ m. subcommand_rows_of m
         ≡ subcommand_of command_line (map S.text words.entry.now)) }
 {
-    command(alloc, Edition::Present)?.try_get_matches_from(words)
+    command(alloc, PRESENT)?.try_get_matches_from(words)
 }
 
 /// The request of a parse that found a subcommand.
-fn request_of<'a>(alloc: Global, matches: &ArgMatches<'a>) -> Result<Request<'a>, AllocError>
+fn request_of<'a>(
+    alloc: Global,
+    matches: &ArgMatches<'a>,
+    edition: Edition,
+) -> Result<Request<'a>, AllocError>
     requires { IsWhole (subcommand_rows_of matches.now) }
     ensures { IfOk result (Says (subcommand_rows_of matches.now)) }
 {
@@ -140,8 +164,8 @@ fn request_of<'a>(alloc: Global, matches: &ArgMatches<'a>) -> Result<Request<'a>
             explain: values.get_flag("explain"),
             files: files_of(alloc, values)?,
         }),
-        Some(("load", values)) => load_request(alloc, values),
-        Some(("image", values)) => image_request(alloc, values),
+        Some(("load", values)) => load_request(alloc, values, edition),
+        Some(("image", values)) => image_request(alloc, values, edition),
         Some(("check", values)) => Ok(Request::Check {
             explain: values.get_flag("explain"),
             file: value_of(values, "file"),
@@ -159,7 +183,11 @@ fn request_of<'a>(alloc: Global, matches: &ArgMatches<'a>) -> Result<Request<'a>
 }
 
 /// The request of a parse that found the subcommand `load`.
-fn load_request<'a>(alloc: Global, values: &ArgMatches<'a>) -> Result<Request<'a>, AllocError>
+fn load_request<'a>(
+    alloc: Global,
+    values: &ArgMatches<'a>,
+    edition: Edition,
+) -> Result<Request<'a>, AllocError>
     requires { IsWhole (Some (codes "load", rows_of (found_of values.now))) }
     ensures { IfOk result (Says (Some (codes "load", rows_of (found_of values.now)))) }
 {
@@ -168,7 +196,7 @@ fn load_request<'a>(alloc: Global, values: &ArgMatches<'a>) -> Result<Request<'a
         optional_value(values, "at-file"),
     ) {
         Ok(addresses) => addresses,
-        Err(conflict) => return refuse_load(alloc, conflict),
+        Err(conflict) => return refuse_load(alloc, conflict, edition),
     };
     let explain = values.get_flag("explain");
     match text_of(values.get_flag("srec"), values.get_flag("symbols")) {
@@ -178,20 +206,28 @@ fn load_request<'a>(alloc: Global, values: &ArgMatches<'a>) -> Result<Request<'a
             explain,
             file: value_of(values, "file"),
         }),
-        None => refuse_load(alloc, Conflict::Texts),
+        None => refuse_load(alloc, Conflict::Texts, edition),
     }
 }
 
 /// Rejects such arguments of `load`.
-fn refuse_load<'a>(alloc: Global, conflict: Conflict) -> Result<Request<'a>, AllocError>
+fn refuse_load<'a>(
+    alloc: Global,
+    conflict: Conflict,
+    edition: Edition,
+) -> Result<Request<'a>, AllocError>
     ensures { IfOk result (Answers (conflict_kind conflict)) }
 {
-    let load = load_command(alloc, Edition::Present)?;
+    let load = load_command(alloc, edition)?.bin_name("amihunk load")?;
     refuse(alloc, load, conflict)
 }
 
 /// The request of a parse that found the subcommand `image`.
-fn image_request<'a>(alloc: Global, values: &ArgMatches<'a>) -> Result<Request<'a>, AllocError>
+fn image_request<'a>(
+    alloc: Global,
+    values: &ArgMatches<'a>,
+    edition: Edition,
+) -> Result<Request<'a>, AllocError>
     requires { IsWhole (Some (codes "image", rows_of (found_of values.now))) }
     ensures { IfOk result (Says (Some (codes "image", rows_of (found_of values.now)))) }
 {
@@ -206,7 +242,7 @@ fn image_request<'a>(alloc: Global, values: &ArgMatches<'a>) -> Result<Request<'
             files: files_of(alloc, values)?,
         }),
         Err(conflict) => {
-            let image = image_command(alloc, Edition::Present)?;
+            let image = image_command(alloc, edition)?.bin_name("amihunk image")?;
             refuse(alloc, image, conflict)
         }
     }

@@ -9,15 +9,26 @@ use clap::{Arg, ArgAction, Command};
 use hunk_commands::VERSION;
 use std::alloc::{AllocError, Global};
 
-/// An edition of the command line.
+/// An edition of the command line: which of the newer options it has.
 #[derive(Clone, Copy, Debug, PartialEq, Eq)]
-pub enum Edition {
-    /// The one that the program accepts.
-    Present,
-    /// The one before there were `--at-file`, `--map`, `--json` and `--explain`, in which `--at` is
-    /// required.
-    Former,
+pub struct Edition {
+    /// `--at-file`, without which `--at` is required.
+    pub at_file: bool,
+    /// `--map`.
+    pub map: bool,
+    /// `--json`.
+    pub json: bool,
+    /// `--explain`.
+    pub explain: bool,
 }
+
+/// The edition that the program accepts, which has all of them.
+pub const PRESENT: Edition = Edition {
+    at_file: true,
+    map: true,
+    json: true,
+    explain: true,
+};
 
 /// The command line in this edition.
 pub fn command<'a>(alloc: Global, edition: Edition) -> Result<Command<'a>, AllocError>
@@ -46,7 +57,7 @@ fn link_command<'a>(alloc: Global, edition: Edition) -> Result<Command<'a>, Allo
         .about("Links object files, and writes the load file")
         .after_help(help::LINK)
         .arg(out_argument(alloc))?;
-    let flagged = with_new(link, edition, map_argument(alloc))?
+    let flagged = with_new(link, edition.map, map_argument(alloc))?
         .arg(flag(alloc, "strip", "Leaves out symbols and debug blocks").short('s'))?
         .arg(flag(
             alloc,
@@ -58,25 +69,26 @@ fn link_command<'a>(alloc: Global, edition: Edition) -> Result<Command<'a>, Allo
             "trim",
             "Leaves out zero longwords at the end of each hunk",
         ))?;
-    with_new(flagged, edition, explain_flag(alloc))?.arg(files_argument(
+    with_new(flagged, edition.explain, explain_flag(alloc))?.arg(files_argument(
         alloc,
         "Object files, in the order of linking",
     ))
 }
 
-/// A subcommand with an argument that the former edition does not have.
+/// A subcommand with an argument, if its edition has that.
 fn with_new<'a>(
     command: Command<'a>,
-    edition: Edition,
+    has_it: bool,
     argument: Arg<'a>,
 ) -> Result<Command<'a>, AllocError>
     requires { argument.global ≡ false }
-    ensures shape { IfOk result (λ c. app_of c ≡ with_new_rule edition (app_of command.entry) (rule_of argument.entry)) }
+    ensures shape { IfOk result (λ c. app_of c ≡ with_new_rule has_it (app_of command.entry) (rule_of argument.entry)) }
     ensures local { (out-Command command.entry).has_globals ≡ false → IfOk result (λ c. (out-Command c).has_globals ≡ false) }
 {
-    match edition {
-        Edition::Former => Ok(command),
-        Edition::Present => command.arg(argument),
+    if has_it {
+        command.arg(argument)
+    } else {
+        Ok(command)
     }
 }
 
@@ -138,14 +150,17 @@ pub fn load_command<'a>(alloc: Global, edition: Edition) -> Result<Command<'a>, 
     let load = Command::new(alloc, "load")
         .about("Loads a file at addresses, and prints the bytes of its hunks")
         .after_help(help::LOAD);
-    let flagged = with_addresses(alloc, load, edition, help::LOAD_USAGE)?
+    let flagged = with_addresses(alloc, load, edition.at_file, help::LOAD_USAGE)?
         .arg(srec_flag(alloc))?
         .arg(flag(
             alloc,
             "symbols",
             "Prints the address of each symbol in place of the report",
         ))?;
-    with_new(flagged, edition, explain_flag(alloc))?.arg(file_argument(alloc, "A load file"))
+    with_new(flagged, edition.explain, explain_flag(alloc))?.arg(file_argument(
+        alloc,
+        "A load file",
+    ))
 }
 
 /// The subcommand `image --at LIST [--srec] [--explain] FILE...`, or with `--at-file FILE` in place of
@@ -157,29 +172,32 @@ pub fn image_command<'a>(alloc: Global, edition: Edition) -> Result<Command<'a>,
     let image = Command::new(alloc, "image")
         .about("Links object files at addresses, and prints the bytes of their hunks")
         .after_help(help::IMAGE);
-    let flagged = with_addresses(alloc, image, edition, help::IMAGE_USAGE)?.arg(srec_flag(alloc))?;
-    with_new(flagged, edition, explain_flag(alloc))?.arg(files_argument(
+    let flagged = with_addresses(alloc, image, edition.at_file, help::IMAGE_USAGE)?.arg(srec_flag(
+        alloc,
+    ))?;
+    with_new(flagged, edition.explain, explain_flag(alloc))?.arg(files_argument(
         alloc,
         "Object files, in the order of linking",
     ))
 }
 
-/// A subcommand that is given addresses.
+/// A subcommand that is given addresses, in a list or, if its edition has `--at-file`, in a file.
 fn with_addresses<'a>(
     alloc: Global,
     command: Command<'a>,
-    edition: Edition,
+    has_at_file: bool,
     usage: &'a str,
 ) -> Result<Command<'a>, AllocError>
-    ensures shape { IfOk result (λ c. app_of c ≡ given_addresses edition (app_of command.entry)) }
+    ensures shape { IfOk result (λ c. app_of c ≡ given_addresses has_at_file (app_of command.entry)) }
     ensures local { (out-Command command.entry).has_globals ≡ false → IfOk result (λ c. (out-Command c).has_globals ≡ false) }
 {
-    match edition {
-        Edition::Former => command.arg(list_argument(alloc).required(true)),
-        Edition::Present => command
+    if has_at_file {
+        command
             .override_usage(usage)
             .arg(list_argument(alloc))?
-            .arg(addresses_argument(alloc)),
+            .arg(addresses_argument(alloc))
+    } else {
+        command.arg(list_argument(alloc).required(true))
     }
 }
 
@@ -191,7 +209,7 @@ fn check_command<'a>(alloc: Global, edition: Edition) -> Result<Command<'a>, All
     let check = Command::new(alloc, "check")
         .about("Checks a file, and prints which kind it is and how many units and hunks it has")
         .after_help(help::CHECK);
-    with_new(check, edition, explain_flag(alloc))?.arg(file_argument(
+    with_new(check, edition.explain, explain_flag(alloc))?.arg(file_argument(
         alloc,
         "An object file or a load file",
     ))
@@ -205,8 +223,8 @@ fn show_command<'a>(alloc: Global, edition: Edition) -> Result<Command<'a>, Allo
     let show = Command::new(alloc, "show")
         .about("Prints a listing of the units and hunks of a file, and of what is in them")
         .after_help(help::SHOW);
-    let flagged = with_new(show, edition, json_flag(alloc))?;
-    with_new(flagged, edition, explain_flag(alloc))?.arg(file_argument(
+    let flagged = with_new(show, edition.json, json_flag(alloc))?;
+    with_new(flagged, edition.explain, explain_flag(alloc))?.arg(file_argument(
         alloc,
         "An object file or a load file",
     ))

@@ -12,9 +12,9 @@ pub returns-clause-shape : goal.returns-clause-shape
 returns-clause-shape c =
     let named : app_of c.after_help-image.result ≡ new_app (codes "image") =
     ap app_of_fields c.after_help-image.ensures ∙ (ap app_of_fields c.about.ensures ∙ c.new.ensures.app) in
-    let addresses = c.in_ok-with_addresses.ensures.shape ∙ ap (given_addresses c.args.edition) named in
+    let addresses = c.in_ok-with_addresses.ensures.shape ∙ ap (given_addresses c.args.edition.at_file) named in
     let srec = c.in_ok-flagged.ensures.shape c.srec_flag.ensures.local ∙ ap₂ with_rule addresses c.srec_flag.ensures.rule in
-    let explain = c.in_ok-with_new.ensures.shape ∙ ap₂ (with_new_rule c.args.edition) srec c.explain_flag.ensures.rule in
+    let explain = c.in_ok-with_new.ensures.shape ∙ ap₂ (with_new_rule c.args.edition.explain) srec c.explain_flag.ensures.rule in
     IfOk-weaker c.arg-2.result _ _
     (λ r added. ap (λ (a : App). a.top) (added.shape c.files_argument.ensures.local ∙ ap₂ with_rule explain c.files_argument.ensures.rule))
     c.arg-2.ensures

@@ -20,11 +20,11 @@ returns-clause-shape c =
     let out = c.in_ok-link.ensures.shape c.out_argument.ensures.local ∙ ap₂ with_rule named c.out_argument.ensures.rule in
     let strip_rule = ap rule_of c.short.ensures ∙ ap (with_letter letter_s) c.flag.ensures.rule in
     let strip_local = ap is_global c.short.ensures ∙ c.flag.ensures.local in
-    let mapped = c.in_ok-with_new.ensures.shape ∙ ap₂ (with_new_rule c.args.edition) out c.map_argument.ensures.rule in
+    let mapped = c.in_ok-with_new.ensures.shape ∙ ap₂ (with_new_rule c.args.edition.map) out c.map_argument.ensures.rule in
     let strip = c.in_ok-arg.ensures.shape strip_local ∙ ap₂ with_rule mapped strip_rule in
     let short = c.in_ok-arg-2.ensures.shape c.flag-2.ensures.local ∙ ap₂ with_rule strip c.flag-2.ensures.rule in
     let trim = c.in_ok-flagged.ensures.shape c.flag-3.ensures.local ∙ ap₂ with_rule short c.flag-3.ensures.rule in
-    let explain = c.in_ok-with_new-2.ensures.shape ∙ ap₂ (with_new_rule c.args.edition) trim c.explain_flag.ensures.rule in
+    let explain = c.in_ok-with_new-2.ensures.shape ∙ ap₂ (with_new_rule c.args.edition.explain) trim c.explain_flag.ensures.rule in
     IfOk-weaker c.arg-5.result _ _
     (λ r added. ap (λ (a : App). a.top) (added.shape c.files_argument.ensures.local ∙ ap₂ with_rule explain c.files_argument.ensures.rule))
     c.arg-5.ensures

@@ -12,10 +12,10 @@ pub returns-clause-shape : goal.returns-clause-shape
 returns-clause-shape c =
     let named : app_of c.after_help-load.result ≡ new_app (codes "load") =
     ap app_of_fields c.after_help-load.ensures ∙ (ap app_of_fields c.about.ensures ∙ c.new.ensures.app) in
-    let addresses = c.in_ok-with_addresses.ensures.shape ∙ ap (given_addresses c.args.edition) named in
+    let addresses = c.in_ok-with_addresses.ensures.shape ∙ ap (given_addresses c.args.edition.at_file) named in
     let srec = c.in_ok-arg.ensures.shape c.srec_flag.ensures.local ∙ ap₂ with_rule addresses c.srec_flag.ensures.rule in
     let symbols = c.in_ok-flagged.ensures.shape c.flag.ensures.local ∙ ap₂ with_rule srec c.flag.ensures.rule in
-    let explain = c.in_ok-with_new.ensures.shape ∙ ap₂ (with_new_rule c.args.edition) symbols c.explain_flag.ensures.rule in
+    let explain = c.in_ok-with_new.ensures.shape ∙ ap₂ (with_new_rule c.args.edition.explain) symbols c.explain_flag.ensures.rule in
     IfOk-weaker c.arg-3.result _ _
     (λ r added. ap (λ (a : App). a.top) (added.shape c.file_argument.ensures.local ∙ ap₂ with_rule explain c.file_argument.ensures.rule))
     c.arg-3.ensures
