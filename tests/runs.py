@@ -129,7 +129,7 @@ def files_that_are_refused_are_named_with_the_place(program):
     name = "a file\xe9"
     for bytes_, place, reason in rows:
         program.write(name, bytes_)
-        for command in (["load", "--at", "0"], ["check"], ["show"], ["show", "--json"]):
+        for command in (["load", "--at", "0"], ["load", "--srec", "--at", "0"], ["check"], ["show"], ["show", "--json"]):
             program.fails(REFUSED, f"{name.encode().decode('latin-1')}: longword {place}: {reason}", *command, name)
 
 
@@ -143,8 +143,10 @@ def hunks_that_cannot_be_placed_are_refused(program):
         ("fffffffd,0", "hunk 0 passes the end of memory"),
         ("3,0", "hunks 0 and 1 overlap"),
     ):
-        program.fails(REFUSED, f"places: {reason}", "load", "--at", list_, "x")
-        program.fails(REFUSED, f"places: {reason}", "image", "--at", list_, "x.o")
+        program.write("list", list_.encode())
+        for options in (["--at", list_], ["--at", list_, "--srec"], ["--at-file", "list"]):
+            program.fails(REFUSED, f"places: {reason}", "load", *options, "x")
+            program.fails(REFUSED, f"places: {reason}", "image", *options, "x.o")
     program.prints("hunk 0 at fffffffc size 4\nfffffffc 00000000\nhunk 1 at fffffff4 size 8\nfffffff4 0000000000000000\n",
                    "load", "--at", "FFFFFFFC,fffffff4", "x")
 
@@ -187,6 +189,7 @@ def units_that_do_not_link_are_refused_and_out_is_not_touched(program):
         program.write("out", b"was here")
         program.fails(REFUSED, f"link: {reason}", "link", "--out", "out", *files)
         program.fails(REFUSED, f"link: {reason}", "image", "--at", "0", *files)
+        program.fails(REFUSED, f"link: {reason}", "image", "--srec", "--at", "0", *files)
         program.fails(REFUSED, f"link: {reason}", "link", "--out", "new", *files)
         equals(program.read("out"), b"was here")
         assert not os.path.exists(program.at("new"))
@@ -229,10 +232,14 @@ def a_failed_read_is_named(program):
 def a_failed_write_is_told(program):
     program.write("x.o", OBJECT_FILE)
     program.write("x", LOAD_FILE)
+    program.write("list", b"0")
     program.fails(DEVICE, "output: write failed", "link", "--out", "/dev/full", "x.o")
+    program.fails(DEVICE, "output: write failed", "link", "-s", "-o", "/dev/full", "x.o")
     with open("/dev/full", "wb") as full:
         for command in (["check", "x"], ["show", "x"], ["show", "--json", "x"], ["show", "--json", "x.o"], ["load", "--at", "0", "x"],
-                        ["load", "--srec", "--at", "0", "x"], ["image", "--at", "0", "x.o"], ["survey", "x", "x.o"], ["--version"]):
+                        ["load", "--srec", "--at", "0", "x"], ["load", "--at-file", "list", "x"], ["image", "--at", "0", "x.o"],
+                        ["image", "--srec", "--at", "0", "x.o"], ["image", "--at-file", "list", "x.o"], ["survey", "x", "x.o"],
+                        ["--version"], ["-V"], ["--help"]):
             program.fails(DEVICE, "output: write failed", *command, stdout=full)
 
 

@@ -1,6 +1,6 @@
 //! Images as S-records.
 
-use super::asserts::{equals, equals_at};
+use super::asserts::{equals, equals_at, holds};
 use super::files::one_hunk;
 use super::reports::EMPTY_BETWEEN;
 use hunk_test_support::load_words::TWO_HUNKS;
@@ -69,10 +69,12 @@ fn writes_the_records_of_files(rt: HostRuntime) -> Result<(), Fail> {
     Ok(())
 }
 
+// An object file with the hunk of `FILE`.
+static OBJECT: [u32; 6] = [0x3E7, 0, 0x3E9, 1, 0x4E75_4E71, 0x3F2];
+
 #[test]
 fn writes_the_records_of_object_files(rt: HostRuntime) -> Result<(), Fail> {
-    let words = [0x3E7, 0, 0x3E9, 1, 0x4E75_4E71, 0x3F2];
-    let mut inputs = [Pieces::new(bytes_of(rt.alloc(), &words, &[])?, 5, None)];
+    let mut inputs = [Pieces::new(bytes_of(rt.alloc(), &OBJECT, &[])?, 5, None)];
     let mut writer = Room::new(rt.alloc(), 7, ROOM, false)?;
     let form = ImageForm::SRecords;
     let got = image_run_with(rt.alloc(), &mut inputs, &[BASE], form, &mut writer);
@@ -165,7 +167,15 @@ fn writes_the_records_of_long_hunks(rt: HostRuntime) -> Result<(), Fail> {
     Ok(())
 }
 
-// A writer with room for each prefix of the records.
+// A writer with this room took as much of the records, and that is told.
+fn is_cut(rt: &impl Abort, room: usize, got: Result<(), ToolFault>, writer: &Room<Global>) {
+    let written = room as u64;
+    equals_at(rt, &room, got, Err(ToolFault::Output { written }));
+    let taken = RECORDS.as_bytes().get(..room);
+    equals_at(rt, &room, Some(writer.bytes()), taken);
+    holds(rt, &room, Sink::failed(writer));
+}
+
 #[test]
 fn tells_what_a_writer_took_of_the_records(rt: HostRuntime) -> Result<(), Fail> {
     let alloc = rt.alloc();
@@ -177,17 +187,21 @@ fn tells_what_a_writer_took_of_the_records(rt: HostRuntime) -> Result<(), Fail> 
             let mut writer = Room::new(alloc, most, room, zero)?;
             let form = ImageForm::SRecords;
             let got = load_run_with(alloc, &mut reader, &[BASE], form, &mut writer);
-            let written = room as u64;
-            equals_at(
-                &rt,
-                &("room for", room),
-                got,
-                Err(ToolFault::Output { written }),
-            );
-            let taken = RECORDS.as_bytes().get(..room);
-            equals_at(&rt, &("room for", room), Some(writer.bytes()), taken);
-            assert!(rt; Sink::failed(&writer));
+            is_cut(&rt, room, got, &writer);
         }
+    }
+    Ok(())
+}
+
+#[test]
+fn tells_what_a_writer_took_of_the_records_of_object_files(rt: HostRuntime) -> Result<(), Fail> {
+    let alloc = rt.alloc();
+    for room in 0..RECORDS.len() {
+        let mut inputs = [Pieces::new(bytes_of(alloc, &OBJECT, &[])?, 64, None)];
+        let mut writer = Room::new(alloc, 7, room, false)?;
+        let form = ImageForm::SRecords;
+        let got = image_run_with(alloc, &mut inputs, &[BASE], form, &mut writer);
+        is_cut(&rt, room, got, &writer);
     }
     Ok(())
 }
