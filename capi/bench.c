@@ -12,7 +12,7 @@
 #include <string.h>
 #include <time.h>
 
-enum { PIECE = 16384 }; /* the bytes of a read, as many as `amihunk` reads */
+enum { PIECE = 65536 }; /* the bytes of a read, as many as `amihunk` reads */
 
 static const uint32_t base = 0x10000;
 

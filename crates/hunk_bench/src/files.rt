@@ -11,7 +11,7 @@ use std::io::Read;
 use std::{fs, io};
 
 // Bytes per read, as many as `read_all` reads.
-const PIECE: usize = 16384;
+const PIECE: usize = 65536;
 
 /// Reads the file, and prints how many bytes it has.
 pub fn read_file(rt: &HostRuntime, name: &str) -> io::Result<()> {

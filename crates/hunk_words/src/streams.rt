@@ -87,7 +87,7 @@ pub trait Feed {
 const MOST_READS: u32 = 0x4000_0004;
 
 // Bytes per read.
-const PIECE: usize = 16384;
+const PIECE: usize = 65536;
 
 /// Feeds everything that `reader` has to a new `decoder`, until the reader ends, a read fails, or
 /// the decoder returns an error.
