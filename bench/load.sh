@@ -2,7 +2,8 @@
 # Measures loading: its time compared with `cat` and `xxd`, in every order of relocations, and its memory.
 # It makes its own inputs, and prints for each figure what is allowed and what was reached. Times are the
 # best of five runs. It ends with status 1 where a figure is missed. It needs the toolchain, python3 and xxd
-# on the PATH, and 2 GB for temporary files.
+# on the PATH, and 2 GB for temporary files. The input `huge` is `plain` under the GNU C library's setting for
+# huge pages, which changes nothing where the kernel gives none on request.
 set -eu
 . "$(dirname "$0")/common.sh"
 longwords=15728640 # 60 MB
@@ -22,11 +23,11 @@ measure() { # the least microseconds of five rounds, in `least`: HOW INPUT..
     least=()
     for _ in 1 2 3 4 5; do
         for input in "$@"; do
-            if [ "$input" = cat ]; then
-                now="$(took /dev/null cat plain)"
-            else
-                now="$(took /dev/null "$bench" "$how-file" "$input")"
-            fi
+            case "$input" in
+                cat) now="$(took /dev/null cat plain)" ;;
+                huge) now="$(GLIBC_TUNABLES=glibc.malloc.hugetlb=1 took /dev/null "$bench" "$how-file" plain)" ;;
+                *) now="$(took /dev/null "$bench" "$how-file" "$input")" ;;
+            esac
             if [ "$now" -lt "${least[$input]:-$((now + 1))}" ]; then least[$input]="$now"; fi
         done
     done
@@ -35,9 +36,10 @@ measure() { # the least microseconds of five rounds, in `least`: HOW INPUT..
 declare -A least
 echo "60 MB"
 for how in decode load; do
-    measure "$how" cat plain rising targets falling random half
+    measure "$how" cat plain huge rising targets falling random half
     plain="${least[plain]}"
     figure "$how without relocations ($plain us) by cat (${least[cat]} us)" 6 "$(ratio "$plain" "${least[cat]}")" times
+    figure "the same with huge pages (${least[huge]} us) by it" 1.1 "$(ratio "${least[huge]}" "$plain")" times
     for row in "rising 1.5" "targets 1.7" "falling 2" "random 4"; do
         read -r order allowed <<< "$row"
         time="${least[$order]}"
