@@ -14,6 +14,15 @@ pub out_of_memory_told : {W : Type 0} (taken : W → Option (List ℕ)) (failed 
 out_of_memory_told taken failed old new names failure status is ends told =
     (ends ∙ ap status_of is, subst (λ f. TellsLine taken failed old new (failure_line names f)) is told)
 
+-- a request was not done, and its failure was told with the names of the files, and then explained
+pub is_failed : {W : Type 0} (taken : W → Option (List ℕ)) (failed : W → Bool) (AreMore : Failure → List ℕ → Type 0) (files names : List (List ℕ)) (status : ℕ) (old between new : W) (failure : Failure)
+    → names ≡ files → status ≡ status_of failure → TellsLine taken failed old between (failure_line names failure) → IsAfter taken failed between new (AreMore failure)
+    → IsFailed taken failed old new (λ told. told ≡ failure) AreMore files status
+is_failed taken failed AreMore files names status old between new failure same status_is told after =
+    let both = tells_after taken failed old between new (failure_line files failure) (AreMore failure)
+    (subst (λ x. TellsLine taken failed old between (failure_line x failure)) same told) after in
+    record { failure = failure; why = refl; status_is = status_is; more = both.0; is_more = both.1; line = both.2 }
+
 module _ {W : Type 0} (taken : W → Option (List ℕ)) (failed : W → Bool) (Why : Failure → Type 0) (AreMore : Failure → List ℕ → Type 0) (files : List (List ℕ)) (status : ℕ) where
   -- a request for some files was not done, and no more than the line of its failure was told
   pub fails_with_line : (old new : W) (failure : Failure) → Why failure → status ≡ status_of failure → TellsLine taken failed old new (failure_line files failure)
@@ -42,12 +51,3 @@ module _ {W : Type 0} (taken : W → Option (List ℕ)) (failed : W → Bool) (W
     is_more = told.is_more;
     line = told.line;
   }
-
-  -- it was not done, and its failure was told with the names of the files, and then explained
-  pub is_failed : (old between new : W) (names : List (List ℕ)) (failure : Failure) → names ≡ files → Why failure → status ≡ status_of failure
-      → TellsLine taken failed old between (failure_line names failure) → IsAfter taken failed between new (AreMore failure)
-      → IsFailed taken failed old new Why AreMore files status
-  is_failed old between new names failure same why status_is told after =
-      let both = tells_after taken failed old between new (failure_line files failure) (AreMore failure)
-      (subst (λ x. TellsLine taken failed old between (failure_line x failure)) same told) after in
-      record { failure = failure; why = why; status_is = status_is; more = both.0; is_more = both.1; line = both.2 }
