@@ -2,7 +2,7 @@
 ghost use Rattle.std.specs.Prelude.{◌≡◌, [], ◌∷◌, ◌++◌, OnOk, OnErr};
 ghost use Rattle.hunk_words.specs.DebugInfo.{lists_of, no_debug_info};
 ghost use Rattle.hunk_words.specs.EventValue.{on_last};
-ghost use Rattle.hunk_words.specs.OpenName.{bytes_so_far};
+ghost use Rattle.hunk_words.specs.OpenName.{Opens, bytes_so_far};
 
 use crate::name::Name;
 use crate::name::open_name::OpenName;
@@ -52,6 +52,7 @@ impl<A: Allocator + Copy> DebugInfo<A> {
     ) -> Result<(), AllocError>
         ensures adds { OnOk result (self.new ≡ record self.old { symbols = self.old.symbols ++ (bytes_so_far name.old, value) ∷ [] }) }
         ensures refused { OnErr result (self.new ≡ self.old) }
+        ensures emptied { OnOk result (Opens name.new []) }
         ensures name { OnErr result (name.new ≡ name.old) }
     {
         self.symbols.reserve(1)?;

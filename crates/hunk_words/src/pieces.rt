@@ -1,7 +1,7 @@
 //! A reader over memory.
 
-ghost use Rattle.std.specs.Prelude.{◌≡◌, ◌≤◌, ◌-◌, ◌||◌, ℕ, List, length, take, drop, min, Bool, Option, Some, is_err, IfOk, vec_len};
-ghost use Rattle.std.specs.Io.KnownBytes.{Consumes};
+ghost use Rattle.std.specs.Prelude.{◌≡◌, ◌≤◌, ◌-◌, ◌||◌, ℕ, List, length, take, drop, min, Bool, Option, Some, is_err, IfOk, OnErr, vec_len};
+ghost use Rattle.std.specs.Io.KnownBytes.{Consumes, Keeps};
 ghost use Rattle.hunk_words.specs.Streams.{ends};
 
 use crate::fault::DeviceFault;
@@ -45,8 +45,8 @@ impl<A: Allocator> Pieces<A> {
 }
 
 impl<A: Allocator> Source for Pieces<A> {
-    ghost use Rattle.std.specs.Prelude.{◌≡◌, ◌≤◌, ◌||◌, length, take, drop, Some, is_err, IfOk};
-    ghost use Rattle.std.specs.Io.KnownBytes.{Consumes};
+    ghost use Rattle.std.specs.Prelude.{◌≡◌, ◌≤◌, ◌||◌, length, take, drop, Some, is_err, IfOk, OnErr};
+    ghost use Rattle.std.specs.Io.KnownBytes.{Consumes, Keeps};
     ghost use Rattle.hunk_words.specs.Streams.{ends};
     ghost use Rattle.hunk_words.specs.Pieces.{bytes_left, answer_of, has_ended, has_failed, IsCounted};
 
@@ -61,6 +61,7 @@ impl<A: Allocator> Source for Pieces<A> {
         ensures bytes { IfOk result (λ n. Consumes (Some (bytes_left self.old)) (Some (bytes_left self.new)) (take n buffer.new)) }
         ensures failed { has_failed self.new ≡ (is_err result || has_failed self.old) }
         ensures ended { has_ended self.new ≡ (ends result (length buffer.old) || has_ended self.old) }
+        ensures unread { OnErr result (Keeps (Some (bytes_left self.old)) (Some (bytes_left self.new))) }
         ensures answer { result ≡ answer_of self.old (length buffer.old) }
         ensures counted { IsCounted self.old self.new }
     {

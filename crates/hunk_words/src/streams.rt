@@ -25,12 +25,13 @@ pub trait Source {
     ///
     /// # Errors
     ///
-    /// [`DeviceFault`] if the read failed.
+    /// [`DeviceFault`] if the read failed. It has then taken no byte.
     fn read(&mut self, buffer: &mut [u8]) -> Result<usize, DeviceFault>
         ensures count { IfOk result (λ n. n ≤ length buffer.old) }
         ensures bytes { IfOk result (λ n. Consumes (left self.old) (left self.new) (take n buffer.new)) }
         ensures failed { failed self.new ≡ (is_err result || failed self.old) }
-        ensures ended { ended self.new ≡ (ends result (length buffer.old) || ended self.old) };
+        ensures ended { ended self.new ≡ (ends result (length buffer.old) || ended self.old) }
+        ensures unread { OnErr result (Keeps (left self.old) (left self.new)) };
 
     /// Whether a read has failed so far.
     fn failed(&self) -> bool

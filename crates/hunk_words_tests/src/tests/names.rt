@@ -1,6 +1,6 @@
 //! Names: their bytes, their longwords, their order and their hashes.
 
-use super::asserts::equals;
+use super::asserts::{equals, holds};
 use hunk_test_support::Refusing;
 use hunk_words::{Name, OpenName};
 use std::collections::{BTreeSet, HashSet};
@@ -75,6 +75,24 @@ fn allocates_once_for_a_run_and_the_longword_after_it(rt: HostRuntime) -> Result
     name.push(0x7061_6765)?;
     equals(&rt, heap.asked(), 1);
     equals(&rt, name.close().bytes(), b"_start_of_page".as_slice());
+    Ok(())
+}
+
+#[test]
+fn stays_as_it_was_where_a_run_of_a_name_has_no_memory(rt: HostRuntime) -> Result<(), Fail> {
+    let heap = Refusing::new(rt.alloc(), 1);
+    let mut name = OpenName::new(&heap);
+    name.push_bytes(b"_start_of_")?;
+    // more than the memory that the first run was given
+    let run = b"the_longest_name_that_any_of_these_tests_has";
+    holds(&rt, &"refused", name.push_bytes(run).is_err());
+    equals(&rt, name.len(), 10);
+    name.push_bytes(run)?;
+    equals(
+        &rt,
+        name.close().bytes(),
+        b"_start_of_the_longest_name_that_any_of_these_tests_has".as_slice(),
+    );
     Ok(())
 }
 
