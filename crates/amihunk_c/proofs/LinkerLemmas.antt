@@ -5,7 +5,7 @@ use Rattle.std.proofs.lemmas.List.{append-nil, append_assoc, length-append}
 use Rattle.std.specs.Io.KnownBytes.{Appends}
 use Rattle.std.specs.List.{All}
 use Rattle.hunk_words.specs.Decoder.{refusal_of}
-use Rattle.hunk_words.specs.Name.{bytes_of}
+use Rattle.hunk_base.specs.Name.{bytes_of}
 use Rattle.hunk_words.specs.declared.decoder.Decoder.{Decoder}
 use Rattle.hunk_objects.specs.ObjectDecoder.{StandsFor}
 use Rattle.hunk_objects.specs.ProgramUnit.{IsObjectOf, ObjectUnit}

@@ -3,11 +3,11 @@ use Rattle.std.specs.Global.{Global}
 use Rattle.std.proofs.Common.{◌≡◌, ℕ, List, [], ◌∷◌, ◌++◌, length, Option, Some, None, IsSome, IsTrue, false, ap, refl, sym, subst, ◌∙◌}
 use Rattle.hunk_words.specs.Decoder.{RefusesBytes, RefusesInput}
 use Rattle.hunk_words.specs.Files.{IsValidPrefix}
-use Rattle.hunk_words.specs.Longwords.{longwords}
+use Rattle.hunk_base.specs.Longwords.{longwords}
 use Rattle.hunk_words.specs.declared.decoder.Decoder.{Decoder}
 use Rattle.hunk_words.specs.declared.event.FileKind.TheVariants.{Object}
-use Rattle.hunk_words.specs.declared.fault.Refusal.{Refusal}
-use Rattle.hunk_words.specs.declared.fault.Refusal.TheVariants.{Fault, OutOfMemory}
+use Rattle.hunk_base.specs.declared.fault.Refusal.{Refusal}
+use Rattle.hunk_base.specs.declared.fault.Refusal.TheVariants.{Fault, OutOfMemory}
 use Rattle.hunk_objects.specs.declared.unit_builder.UnitBuilder.{UnitBuilder}
 use Rattle.hunk_tool.specs.declared.link_options.LinkOptions.{LinkOptions}
 use Rattle.amihunk_c.specs.Answers.{plain_answer}

@@ -1,7 +1,7 @@
 -- What C is told of a call, in numbers.
 use Rattle.std.specs.Global.{Global}
 use Rattle.std.specs.Prelude.{ℕ}
-use Rattle.hunk_words.specs.declared.fault.Fault.{Fault}
+use Rattle.hunk_base.specs.declared.fault.Fault.{Fault}
 use Rattle.hunk_loader.specs.declared.places.PlaceFault.{PlaceFault}
 use Rattle.hunk_loader.specs.declared.places.PlaceFault.TheVariants.{WrongCount, PastEnd, Overlap}
 use Rattle.hunk_link.specs.declared.refusal.LinkRefusal.{LinkRefusal}

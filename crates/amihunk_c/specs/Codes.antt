@@ -1,7 +1,7 @@
 -- The numbers of statuses and reasons, as C knows them: the one table of them.
 use Rattle.std.specs.Prelude.{ℕ}
-use Rattle.hunk_words.specs.declared.fault.Reason.{Reason}
-use Rattle.hunk_words.specs.declared.fault.Reason.TheVariants.{PartialLongword, UnexpectedEnd, WrongStart, UnknownType, MisplacedType, UnsupportedBlock, UnsupportedExt, BothMemoryBits, ResidentNames, HunkTable, TooLarge, ContentTooLong, NoSuchHunk, SiteOutside, SiteOverlap, SymbolKind, TrailingData}
+use Rattle.hunk_base.specs.declared.fault.Reason.{Reason}
+use Rattle.hunk_base.specs.declared.fault.Reason.TheVariants.{PartialLongword, UnexpectedEnd, WrongStart, UnknownType, MisplacedType, UnsupportedBlock, UnsupportedExt, BothMemoryBits, ResidentNames, HunkTable, TooLarge, ContentTooLong, NoSuchHunk, SiteOutside, SiteOverlap, SymbolKind, TrailingData}
 use Rattle.hunk_loader.specs.declared.places.PlaceFault.{PlaceFault}
 use Rattle.hunk_loader.specs.declared.places.PlaceFault.TheVariants as place
 use Rattle.hunk_link.specs.declared.refusal.LinkRefusal.{LinkRefusal}

@@ -3,7 +3,7 @@ use Rattle.std.specs.Global.{Global}
 use Rattle.std.specs.Prelude.{◌≡◌, ℕ, List, [], ◌∷◌, ◌++◌, length, Option, Some, None}
 use Rattle.hunk_words.specs.Files.{IsValidPrefix}
 use Rattle.hunk_words.specs.FirstOffence.{FirstOffence, OffendsAt}
-use Rattle.hunk_words.specs.Longwords.{longwords, unfinished}
+use Rattle.hunk_base.specs.Longwords.{longwords, unfinished}
 use Rattle.hunk_words.specs.declared.event.FileKind.TheVariants.{Object}
 use Rattle.hunk_tool.specs.Link.{IsLinked}
 use Rattle.hunk_tool.specs.declared.link_options.LinkOptions.{LinkOptions}

@@ -3,7 +3,7 @@ use Rattle.std.specs.Global.{Global}
 use Rattle.std.specs.Prelude.{◌≡◌, ℕ, List, [], ◌++◌, length, None}
 use Rattle.hunk_words.specs.Files.{IsValidPrefix}
 use Rattle.hunk_words.specs.FirstOffence.{FirstOffence, OffendsAt}
-use Rattle.hunk_words.specs.Longwords.{longwords, unfinished}
+use Rattle.hunk_base.specs.Longwords.{longwords, unfinished}
 use Rattle.hunk_words.specs.declared.event.FileKind.TheVariants.{Load}
 use Rattle.hunk_loader.specs.ImageLoader.{IsNotPlaced, LoadsAs, StandsFor, bases_of, refusal_of}
 use Rattle.hunk_loader.specs.declared.image_loader.ImageLoader.{ImageLoader}

@@ -1,12 +1,12 @@
 //! What a linker has taken.
 ghost use Rattle.std.specs.Prelude.{◌≡◌, ◌↔◌, ◌++◌, ◌∷◌, ℕ, List, [], length, Option, Some, None, IsSome, IsTrue, IfOk, IfErr, OnOk, OnErr};
 ghost use Rattle.hunk_words.specs.Decoder.{RefusesBytes, RefusesInput, refusal_of};
-ghost use Rattle.hunk_words.specs.Name.{bytes_of};
+ghost use Rattle.hunk_base.specs.Name.{bytes_of};
 ghost use Rattle.hunk_loadfile.specs.LoadFile.{IsLoadOf};
 ghost use Rattle.hunk_loadfile.specs.WrittenForm.{IsShortEnough, written_in};
 ghost use Rattle.hunk_tool.specs.LinkOptions.{form_of, trimmed_if};
 ghost use Rattle.hunk_words.specs.Files.{IsValidPrefix};
-ghost use Rattle.hunk_words.specs.Longwords.{longwords};
+ghost use Rattle.hunk_base.specs.Longwords.{longwords};
 ghost use Rattle.hunk_words.specs.declared.event.FileKind.TheVariants.{Object};
 ghost use Rattle.hunk_tool.specs.Link.{IsLinked};
 ghost use Rattle.hunk_tool.specs.declared.link_options.LinkOptions.{LinkOptions};

@@ -5,9 +5,9 @@ use Rattle.std.proofs.KnownBytes.{Appends-nil, Appends-trans}
 use Rattle.std.specs.Option.{IfSome}
 use Rattle.std.specs.Io.KnownBytes.{Appends}
 use Rattle.hunk_words.specs.FirstOffence.{FirstOffence}
-use Rattle.hunk_words.specs.Longwords.{longwords, unfinished}
+use Rattle.hunk_base.specs.Longwords.{longwords, unfinished}
 use Rattle.hunk_words.specs.declared.event.FileKind.{FileKind}
-use Rattle.hunk_words.specs.declared.fault.Fault.{Fault}
+use Rattle.hunk_base.specs.declared.fault.Fault.{Fault}
 use Rattle.hunk_words.proofs.FirstOffenceLemmas.{file-no-offence, first-one}
 use Rattle.hunk_loadfile.specs.LoadHunk.{FileHunk}
 use Rattle.hunk_tool.specs.Explanation.{EndsWith, IsEnd, IsExplained}

@@ -1,9 +1,9 @@
 -- The line of a failure, as it is written.
 use Rattle.std.proofs.Common.{◌≡◌, ◌++◌, ℕ, List, Bool, IfErr, Option, Result, Ok, Err, inl, inr, append_assoc}
 use Rattle.std.specs.Prelude.{codes, decimal}
-use Rattle.hunk_words.specs.Streams.{IsDevice, WroteAll}
-use Rattle.hunk_words.specs.declared.fault.WriteFault.{WriteFault}
-use Rattle.hunk_words.specs.declared.fault.WriteFault.TheVariants.{Device, OutOfMemory}
+use Rattle.hunk_base.specs.Streams.{IsDevice, WroteAll}
+use Rattle.hunk_base.specs.declared.fault.WriteFault.{WriteFault}
+use Rattle.hunk_base.specs.declared.fault.WriteFault.TheVariants.{Device, OutOfMemory}
 use Rattle.hunk_tool.specs.FaultLine.{program_line}
 use Rattle.hunk_commands.specs.Failure.{TellsLine, about_line, bad_number_line, origin_name}
 use Rattle.hunk_commands.specs.Addresses.{Origin}

@@ -2,11 +2,11 @@
 use Rattle.std.proofs.Common.{◌≡◌, ◌∙◌, ap, ap₂, eq-eqb, eqb-true, false, refl, sym, true, true≢false, Bool}
 use Rattle.std.proofs.lemmas.Bool.{and_parts}
 use Rattle.std.specs.Cmp.Derive.{both_true}
-use Rattle.hunk_words.specs.contracts.fault.FaultPartialEq.TheImpl as fault_eq
-use Rattle.hunk_words.specs.contracts.fault.ReasonPartialEq.TheImpl as reason_eq
-use Rattle.hunk_words.specs.declared.fault.Fault.{Fault}
-use Rattle.hunk_words.specs.declared.fault.Reason.{Reason}
-use Rattle.hunk_words.specs.declared.fault.Reason.TheVariants.{PartialLongword, UnexpectedEnd, WrongStart, UnknownType, MisplacedType, UnsupportedBlock, UnsupportedExt, BothMemoryBits, ResidentNames, HunkTable, TooLarge, ContentTooLong, NoSuchHunk, SiteOutside, SiteOverlap, SymbolKind, TrailingData}
+use Rattle.hunk_base.specs.contracts.fault.FaultPartialEq.TheImpl as fault_eq
+use Rattle.hunk_base.specs.contracts.fault.ReasonPartialEq.TheImpl as reason_eq
+use Rattle.hunk_base.specs.declared.fault.Fault.{Fault}
+use Rattle.hunk_base.specs.declared.fault.Reason.{Reason}
+use Rattle.hunk_base.specs.declared.fault.Reason.TheVariants.{PartialLongword, UnexpectedEnd, WrongStart, UnknownType, MisplacedType, UnsupportedBlock, UnsupportedExt, BothMemoryBits, ResidentNames, HunkTable, TooLarge, ContentTooLong, NoSuchHunk, SiteOutside, SiteOverlap, SymbolKind, TrailingData}
 
 -- what `==` says of reasons and of faults
 

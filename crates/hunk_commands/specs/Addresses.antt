@@ -1,6 +1,6 @@
 -- Where the addresses of hunks come from, what is known of them, and why they are not known.
 use Rattle.std.specs.Prelude.{◌≡◌, ℕ, Bool, IsTrue, List, Option, Some, ⊤, map}
-use Rattle.hunk_words.specs.Streams.{HasRead}
+use Rattle.hunk_base.specs.Streams.{HasRead}
 use Rattle.hunk_tool.specs.Bases.{IsBasesFault, numbers}
 use Rattle.hunk_tool.specs.BasesFile.{IsRejected, file_numbers}
 use Rattle.hunk_tool.specs.Inputs.{Input, WasRead}

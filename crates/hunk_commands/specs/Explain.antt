@@ -2,10 +2,10 @@
 use Rattle.std.specs.declared.alloc.Global.{Global}
 use Rattle.std.specs.Prelude.{◌≡◌, ◌⊎◌, ℕ, List, [], length, map, Bool, true, false, Option, Some, None}
 use Rattle.hunk_words.specs.FirstOffence.{FirstOffence}
-use Rattle.hunk_words.specs.Longwords.{longwords, unfinished}
+use Rattle.hunk_base.specs.Longwords.{longwords, unfinished}
 use Rattle.hunk_words.specs.declared.event.FileKind.{FileKind}
 use Rattle.hunk_words.specs.declared.event.FileKind.TheVariants as file_kind
-use Rattle.hunk_words.specs.declared.fault.Fault.{Fault}
+use Rattle.hunk_base.specs.declared.fault.Fault.{Fault}
 use Rattle.hunk_loadfile.specs.LoadFile.{IsLoadOf}
 use Rattle.hunk_loadfile.specs.LoadHunk.{FileHunk}
 use Rattle.hunk_link.specs.declared.refusal.LinkRefusal.{LinkRefusal}

@@ -2,8 +2,8 @@
 use Rattle.std.specs.declared.alloc.Global.{Global}
 use Rattle.std.specs.Prelude.{◌≡◌, ◌⊎◌, ◌++◌, ℕ, List, Bool, Option, ⊤, codes, decimal}
 use Rattle.std.specs.Io.KnownBytes.{Appends}
-use Rattle.hunk_words.specs.Streams.{WriteStopped}
-use Rattle.hunk_words.specs.declared.fault.WriteFault.TheVariants.{Device}
+use Rattle.hunk_base.specs.Streams.{WriteStopped}
+use Rattle.hunk_base.specs.declared.fault.WriteFault.TheVariants.{Device}
 use Rattle.hunk_tool.specs.FaultLine.{fault_line, IsOfInputs}
 use Rattle.hunk_tool.specs.declared.tool_fault.ToolFault.TheVariants.{Output}
 use Rattle.hunk_tool.specs.ToolFault.{status}

@@ -3,8 +3,8 @@
 ghost use Rattle.std.specs.Prelude.{◌≡◌, IfOk, IfErr};
 ghost use Rattle.std.specs.Io.Buffered.{writer_contents};
 ghost use Rattle.std.specs.Io.KnownBytes.{Appends, Keeps};
-ghost use Rattle.hunk_words.specs.Name.{bytes_of};
-ghost use Rattle.hunk_words.specs.Watched.{inner_of};
+ghost use Rattle.hunk_base.specs.Name.{bytes_of};
+ghost use Rattle.hunk_base.specs.Watched.{inner_of};
 ghost use Rattle.hunk_loadfile.specs.WrittenForm.{written_in};
 ghost use Rattle.hunk_commands.specs.Devices.{IsCutShort};
 

@@ -1,7 +1,7 @@
 //! Why a request failed: the line that reports it, and the exit status.
 ghost use Rattle.std.specs.Prelude.{◌≡◌, ◌≤◌, length, map, IfErr};
 ghost use Rattle.std.specs.String.{string_bytes};
-ghost use Rattle.hunk_words.specs.Streams.{IsDevice, WroteAll};
+ghost use Rattle.hunk_base.specs.Streams.{IsDevice, WroteAll};
 ghost use Rattle.hunk_commands.specs.Addresses.{origin_of};
 ghost use Rattle.hunk_commands.specs.Failure.{about_line, bad_number_line, failure_line, origin_name};
 ghost use Rattle.hunk_commands.specs.Failure.{status_of, IsOfFiles, TellsLine};

@@ -1,6 +1,6 @@
 //! The request `load`: the image or the symbols of a load file at given addresses.
 ghost use Rattle.std.specs.Prelude.{IfOk, IfErr, OnOk};
-ghost use Rattle.hunk_words.specs.Streams.{HasRead};
+ghost use Rattle.hunk_base.specs.Streams.{HasRead};
 ghost use Rattle.hunk_tool.specs.Load.{IsFaultAt, IsWrittenAt, ends_of};
 ghost use Rattle.hunk_commands.specs.Addresses.{origin_of};
 ghost use Rattle.hunk_commands.specs.Devices.{IsPrintFailure, Prints};

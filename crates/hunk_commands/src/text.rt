@@ -1,6 +1,6 @@
 //! The requests that print a text about a file.
 ghost use Rattle.std.specs.Prelude.{IfOk, IfErr, IsTrue, OnOk};
-ghost use Rattle.hunk_words.specs.Streams.{HasRead};
+ghost use Rattle.hunk_base.specs.Streams.{HasRead};
 ghost use Rattle.hunk_tool.specs.FileText.{IsTextFault, IsWritten};
 ghost use Rattle.hunk_tool.specs.Load.{ends_of};
 ghost use Rattle.hunk_commands.specs.Devices.{IsPrintFailure, Prints};

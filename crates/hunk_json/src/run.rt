@@ -2,7 +2,7 @@
 
 ghost use Rattle.std.specs.Prelude.{◌≡◌, IsTrue, OnOk, IfOk, IfErr, string_bytes};
 ghost use Rattle.serde_json.specs.Written.{compact_text};
-ghost use Rattle.hunk_words.specs.Streams.{HasRead};
+ghost use Rattle.hunk_base.specs.Streams.{HasRead};
 ghost use Rattle.hunk_tool.specs.FileText.{IsTextFault, IsWritten};
 ghost use Rattle.hunk_tool.specs.HunkFile.{value_of};
 ghost use Rattle.hunk_tool.specs.Load.{ends_of};

@@ -13,7 +13,7 @@ use Rattle.hunk_loadfile.specs.Rules.{carried_by as file_carried_by, carried_lon
 use Rattle.hunk_loadfile.specs.declared.rules.BuildFault.{BuildFault}
 use Rattle.hunk_loadfile.specs.declared.rules.BuildFault.TheVariants.{HunkCount, TooLarge, Content, SiteLimit, Target, LongName}
 use Rattle.hunk_loadfile.proofs.PatchingLemmas.{length-patched_bytes}
-use Rattle.hunk_words.specs.Name.{most_name}
+use Rattle.hunk_base.specs.Name.{most_name}
 use Rattle.hunk_objects.specs.UnitHunk.{IsUnitHunk, content_bytes}
 use Rattle.hunk_link.specs.Addend.{addend_of, reference_addends}
 use Rattle.hunk_link.specs.Carried.{carried, carried_ranked, unless_stripped}

@@ -1,6 +1,6 @@
 -- What holds of the hunks of the load file.
 use Rattle.std.proofs.Common.{◌≡◌, ℕ, ◌*◌, Bool, true, false, List, [], length}
-use Rattle.hunk_words.specs.Sites.{SiteMap}
+use Rattle.hunk_base.specs.Sites.{SiteMap}
 use Rattle.hunk_words.specs.declared.kinds.HunkKind.{HunkKind}
 use Rattle.hunk_words.specs.declared.kinds.Memory.{Memory}
 use Rattle.hunk_loadfile.specs.Laws.{second_sites}

@@ -4,9 +4,9 @@ use Rattle.std.specs.BTreeMap.{insert_entry}
 use Rattle.std.specs.List.{cons_option}
 use Rattle.std.specs.Option.{option_map}
 use Rattle.std.specs.Ordering.{nat_cmp}
-use Rattle.hunk_words.specs.Page.{LieWithin}
-use Rattle.hunk_words.specs.Sites.{SiteMap, StandFrom}
-use Rattle.hunk_words.proofs.PageLemmas.{LieWithin-append, LieWithin-weaker, insert_entry-between}
+use Rattle.hunk_base.specs.Page.{LieWithin}
+use Rattle.hunk_base.specs.Sites.{SiteMap, StandFrom}
+use Rattle.hunk_base.proofs.PageLemmas.{LieWithin-append, LieWithin-weaker, insert_entry-between}
 use Rattle.hunk_loadfile.specs.Laws.{second_sites}
 use Rattle.hunk_loadfile.specs.Patching.{patched_bytes}
 use Rattle.hunk_loadfile.proofs.PatchingLemmas.{length-patched_bytes, patched_bytes-first, patched_bytes-no_sites}

@@ -7,11 +7,11 @@ use Rattle.hunk_words.specs.EventValue.{EventValue, value_of_events, initial_loa
 use Rattle.hunk_words.specs.Taker.{context_of}
 use Rattle.hunk_words.specs.Values.{Hunk}
 use Rattle.hunk_words.specs.SiteContext.{SiteContext}
-use Rattle.hunk_words.specs.Name.{bytes_of}
+use Rattle.hunk_base.specs.Name.{bytes_of}
 use Rattle.hunk_words.specs.declared.event.Event.{Event}
 use Rattle.hunk_words.specs.declared.event.FileKind.TheVariants.{Load}
-use Rattle.hunk_words.specs.declared.sites.SiteRefusal.{SiteRefusal}
-use Rattle.hunk_words.proofs.SitesLemmas.{AreApart-few}
+use Rattle.hunk_base.specs.declared.sites.SiteRefusal.{SiteRefusal}
+use Rattle.hunk_base.proofs.SitesLemmas.{AreApart-few}
 use Rattle.hunk_loadfile.proofs.PatchingLemmas.{length-patched_bytes}
 use Rattle.hunk_loadfile.specs.LoadFile.{file_hunk, with_sites}
 use Rattle.hunk_loadfile.specs.Partial.{file_hunks}

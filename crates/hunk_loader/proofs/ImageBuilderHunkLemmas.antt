@@ -5,15 +5,15 @@ use Rattle.std.specs.BTreeMap.{insert_entry}
 use Rattle.std.specs.Ordering.{nat_cmp}
 use Rattle.std.specs.List.{zip}
 use Rattle.hunk_words.specs.EventValue.{EventValue, step, on_last}
-use Rattle.hunk_words.specs.Name.{bytes_of}
+use Rattle.hunk_base.specs.Name.{bytes_of}
 use Rattle.hunk_words.specs.SiteContext.{SameSites}
 use Rattle.hunk_words.specs.PartialHunk.{HoldsSites, begun_hunk, hunk_with_site}
-use Rattle.hunk_words.specs.Sites.{AreApart}
+use Rattle.hunk_base.specs.Sites.{AreApart}
 use Rattle.hunk_words.specs.Taker.{JudgesSite}
 use Rattle.hunk_words.specs.Values.{Hunk, Part}
 use Rattle.hunk_words.specs.SiteContext.{SiteContext}
 use Rattle.hunk_words.specs.declared.event.Event.TheVariants as event
-use Rattle.hunk_words.specs.declared.sites.SiteRefusal.{SiteRefusal}
+use Rattle.hunk_base.specs.declared.sites.SiteRefusal.{SiteRefusal}
 use Rattle.hunk_words.proofs.TakerLemmas.{SameSites-none}
 use Rattle.hunk_loadfile.specs.LoadFile.{with_sites}
 use Rattle.hunk_loadfile.proofs.OpenHunkLemmas.{with_sites-append}

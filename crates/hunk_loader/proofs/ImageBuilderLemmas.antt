@@ -4,11 +4,11 @@ use Rattle.std.proofs.lemmas.List.{length-append, map-append}
 use Rattle.std.specs.List.{All}
 use Rattle.std.specs.declared.alloc.AllocError.{AllocError}
 use Rattle.byteorder.specs.Endian.{big_bytes}
-use Rattle.hunk_words.specs.Longwords.{IsWhole, longwords}
-use Rattle.hunk_words.proofs.LongwordsByteLemmas.{bytes_of-longwords}
+use Rattle.hunk_base.specs.Longwords.{IsWhole, longwords}
+use Rattle.hunk_base.proofs.LongwordsByteLemmas.{bytes_of-longwords}
 use Rattle.hunk_words.specs.EventValue.{EventValue, Receiver, value_of_events, step, word_to, value_to, count_to, initial_load}
 use Rattle.hunk_words.specs.EventValue.Receiver.{nothing_more, to_unit_name, to_name, to_content, to_debug, to_symbol, to_entry}
-use Rattle.hunk_words.specs.Name.{bytes_of}
+use Rattle.hunk_base.specs.Name.{bytes_of}
 use Rattle.hunk_words.specs.Event.{word_events}
 use Rattle.hunk_words.specs.PartialHunk.{goes_to_content, hunk_with_bytes, hunk_with_word}
 use Rattle.hunk_words.specs.Taker.{Judges, context_of}
@@ -17,8 +17,8 @@ use Rattle.hunk_words.specs.SiteContext.{SiteContext, initial_context}
 use Rattle.hunk_words.specs.declared.event.Event.{Event}
 use Rattle.hunk_words.specs.declared.event.Event.TheVariants as event
 use Rattle.hunk_words.specs.declared.event.FileKind.TheVariants.{Load}
-use Rattle.hunk_words.specs.declared.sites.SiteRefusal.{SiteRefusal}
-use Rattle.hunk_words.specs.declared.sites.SiteRefusal.TheVariants.{OutOfMemory}
+use Rattle.hunk_base.specs.declared.sites.SiteRefusal.{SiteRefusal}
+use Rattle.hunk_base.specs.declared.sites.SiteRefusal.TheVariants.{OutOfMemory}
 use Rattle.hunk_words.proofs.PartialHunkLemmas.{bytes_of-append, hunk_with_bytes-more, hunk_with_bytes-none, hunk_with_word-dropped, hunk_with_word-kept, receiver-content}
 use Rattle.hunk_words.proofs.TakerLemmas.{value_of_events-append, context_after-append, judges-memory}
 use Rattle.hunk_loadfile.specs.LoadFile.{with_sites}

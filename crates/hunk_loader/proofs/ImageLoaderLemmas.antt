@@ -7,8 +7,8 @@ use Rattle.hunk_words.specs.Spelling.{load_spelling, LoadFits}
 use Rattle.hunk_words.specs.Trees.{LoadHunkTree, LoadTree}
 use Rattle.hunk_words.specs.Values.{Hunk, Part, load_sizes, load_hunk_values}
 use Rattle.hunk_words.specs.declared.event.FileKind.TheVariants.{Load}
-use Rattle.hunk_words.specs.declared.fault.Refusal.{Refusal}
-use Rattle.hunk_words.specs.declared.fault.Refusal.TheVariants as refusal_is
+use Rattle.hunk_base.specs.declared.fault.Refusal.{Refusal}
+use Rattle.hunk_base.specs.declared.fault.Refusal.TheVariants as refusal_is
 use Rattle.hunk_words.proofs.EventValueTreeLemmas.{load-told}
 use Rattle.hunk_loadfile.specs.LoadFile.{load_hunk_value, load_value}
 use Rattle.hunk_loadfile.specs.LoadHunk.{FileHunk}

@@ -3,13 +3,13 @@ use Rattle.std.proofs.Common.{◌≡◌, ℕ, List, length, Option, Some, Err, B
 use Rattle.hunk_words.specs.DecoderCore.{kept}
 use Rattle.hunk_words.specs.FirstOffence.{FirstOffence}
 use Rattle.hunk_words.specs.FirstOffence.FirstOffence.{longword_offends, end_offends}
-use Rattle.hunk_words.specs.Longwords.{longwords, unfinished}
-use Rattle.hunk_words.specs.Streams.{HasRead, ReadStopped}
+use Rattle.hunk_base.specs.Longwords.{longwords, unfinished}
+use Rattle.hunk_base.specs.Streams.{HasRead, ReadStopped}
 use Rattle.hunk_words.specs.declared.event.FileKind.TheVariants.{Load}
-use Rattle.hunk_words.specs.declared.fault.ReadFault.{ReadFault}
-use Rattle.hunk_words.specs.declared.fault.ReadFault.TheVariants as read_fault
-use Rattle.hunk_words.specs.declared.fault.Refusal.TheVariants as refusal_is
-use Rattle.hunk_words.proofs.StreamsLemmas.{HasRead-weaker}
+use Rattle.hunk_base.specs.declared.fault.ReadFault.{ReadFault}
+use Rattle.hunk_base.specs.declared.fault.ReadFault.TheVariants as read_fault
+use Rattle.hunk_base.specs.declared.fault.Refusal.TheVariants as refusal_is
+use Rattle.hunk_base.proofs.StreamsLemmas.{HasRead-weaker}
 use Rattle.hunk_loader.specs.ImageLoader.{Finished, StandsFor}
 use Rattle.hunk_loader.specs.ImageReader.{IsImageFault, IsRefused, image_fault}
 use Rattle.hunk_loader.specs.declared.image_loader.ImageLoader.{ImageLoader}

@@ -7,7 +7,7 @@ use Rattle.std.specs.declared.cmp.Ordering.{Ordering}
 use Rattle.std.specs.declared.cmp.Ordering.TheVariants.{Less, Equal, Greater}
 use Rattle.std.proofs.lemmas.List.Elements.{All-cons}
 use Rattle.hunk_words.specs.PartialHunk.{HunkSoFar, hunk_with_site}
-use Rattle.hunk_words.specs.declared.sites.SiteRefusal.{SiteRefusal}
+use Rattle.hunk_base.specs.declared.sites.SiteRefusal.{SiteRefusal}
 
 -- What holds of each entry, and of one more, holds of each entry of the map with it.
 pub All-insert : (P : ℕ × ℕ → Type 0) (es : List (ℕ × ℕ)) (o t : ℕ) → ((k : ℕ) → P (k, t)) → All P es → All P (insert_entry nat_cmp es o t)

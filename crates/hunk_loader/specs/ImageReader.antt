@@ -1,12 +1,12 @@
 -- Why the image of a load file was not made from a reader.
 use Rattle.std.specs.Prelude.{◌⊎◌, ℕ, List, length, Bool, IsTrue, Option}
 use Rattle.hunk_words.specs.FirstOffence.{OffendsAt, EndsEarly}
-use Rattle.hunk_words.specs.Longwords.{longwords, unfinished}
-use Rattle.hunk_words.specs.Streams.{HasRead}
+use Rattle.hunk_base.specs.Longwords.{longwords, unfinished}
+use Rattle.hunk_base.specs.Streams.{HasRead}
 use Rattle.hunk_words.specs.declared.event.FileKind.TheVariants.{Load}
-use Rattle.hunk_words.specs.declared.fault.Fault.{Fault}
-use Rattle.hunk_words.specs.declared.fault.ReadFault.{ReadFault}
-use Rattle.hunk_words.specs.declared.fault.ReadFault.TheVariants as read_fault
+use Rattle.hunk_base.specs.declared.fault.Fault.{Fault}
+use Rattle.hunk_base.specs.declared.fault.ReadFault.{ReadFault}
+use Rattle.hunk_base.specs.declared.fault.ReadFault.TheVariants as read_fault
 use Rattle.hunk_loader.specs.ImageLoader.{IsNotPlaced}
 use Rattle.hunk_loader.specs.Loading.{load_refusal}
 use Rattle.hunk_loader.specs.declared.image_reader.ImageFault.{ImageFault}

@@ -1,7 +1,7 @@
 //! The image of a load file, made from its events.
 
 ghost use Rattle.std.specs.Prelude.{◌≡◌, OnOk, OnErr, slice_index};
-ghost use Rattle.hunk_words.specs.Longwords.{IsWhole, longwords};
+ghost use Rattle.hunk_base.specs.Longwords.{IsWhole, longwords};
 ghost use Rattle.hunk_words.specs.declared.event.Event.{Event};
 ghost use Rattle.hunk_loader.specs.ImageBuilder.{IsImage, KeepsHunk, TakesEvent, TakesRun, initial_builder, passed};
 ghost use Rattle.hunk_loader.specs.Placing.{Settled};

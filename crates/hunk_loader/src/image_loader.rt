@@ -1,7 +1,7 @@
 //! Loading a load file at given addresses while its bytes come, in pieces of any size.
 
 ghost use Rattle.std.specs.Prelude.{◌≡◌, ℕ, ◌++◌, List, [], Some, None, IfOk, OnOk};
-ghost use Rattle.hunk_words.specs.declared.fault.Refusal.{Refusal};
+ghost use Rattle.hunk_base.specs.declared.fault.Refusal.{Refusal};
 ghost use Rattle.hunk_loader.specs.declared.loading.LoadRefusal.{LoadRefusal};
 
 use crate::bounded_image_builder::BoundedImageBuilder;

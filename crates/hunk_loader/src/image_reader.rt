@@ -1,7 +1,7 @@
 //! The image of a load file that a reader has, at given addresses.
 
 ghost use Rattle.std.specs.Prelude.{◌≡◌, IfOk, IfErr, IsTrue, OnOk};
-ghost use Rattle.hunk_words.specs.Streams.{HasRead};
+ghost use Rattle.hunk_base.specs.Streams.{HasRead};
 ghost use Rattle.hunk_loader.specs.ImageLoader.{LoadsAs};
 ghost use Rattle.hunk_loader.specs.ImageReader.{image_fault, IsImageFault};
 ghost use Rattle.hunk_loader.specs.declared.image_reader.ImageFault.TheVariants.{Refused};

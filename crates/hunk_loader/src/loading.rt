@@ -2,7 +2,7 @@
 
 ghost use Rattle.std.specs.Prelude.{◌≡◌, ◌≢◌, ◌↔◌, ◌*◌, ◌<◌, ◌≤◌, length, slice_index, IfOk, IsOk};
 ghost use Rattle.std.specs.List.{All};
-ghost use Rattle.hunk_words.specs.Sites.{AreApart};
+ghost use Rattle.hunk_base.specs.Sites.{AreApart};
 ghost use Rattle.hunk_loadfile.specs.Patching.{patched_bytes};
 ghost use Rattle.hunk_loadfile.specs.Rules.{IsLoadHunk};
 ghost use Rattle.hunk_loader.specs.Image.{hunks_of};

@@ -2,7 +2,7 @@
 
 ghost use Rattle.std.specs.Prelude.{◌≡◌, ℕ, ◌*◌, ◌≤◌, List, ◌∷◌, false, length, slice_index, IfOk, OnOk, OnErr};
 ghost use Rattle.hunk_words.specs.PartialHunk.{HoldsSites, begun_hunk, hunk_with_bytes, hunk_with_site, hunk_with_word};
-ghost use Rattle.hunk_words.specs.Sites.{AreApart};
+ghost use Rattle.hunk_base.specs.Sites.{AreApart};
 ghost use Rattle.hunk_words.specs.Taker.{JudgesSite};
 ghost use Rattle.hunk_loadfile.specs.Patching.{patched_bytes};
 

@@ -6,20 +6,20 @@ use Rattle.hunk_words.specs.Values.Adds.{to_hunk}
 use Rattle.hunk_words.specs.EventValue.{Receiver as ToldReceiver, EventValue, step, on_last, word_to, value_to, value_of_events, initial_load}
 use Rattle.hunk_words.specs.EventValue.Receiver.{nothing_more, to_unit_name, to_name, to_content, to_debug, to_symbol, to_entry}
 use Rattle.hunk_words.specs.Kinds.{hunk_kind_of}
-use Rattle.hunk_words.specs.OpenName.{Opens}
+use Rattle.hunk_base.specs.OpenName.{Opens}
 use Rattle.hunk_words.specs.Taker.{context_of}
 use Rattle.hunk_words.specs.SiteContext.{SiteContext, initial_context}
 use Rattle.hunk_words.specs.declared.event.Event.{Event}
 use Rattle.hunk_words.specs.declared.event.Event.TheVariants.{HunkSize, Content, Word, Site, Value, HunkEnd}
 use Rattle.hunk_words.specs.declared.event.FileKind.TheVariants.{Load}
-use Rattle.hunk_words.specs.declared.name.open_name.OpenName.{OpenName}
+use Rattle.hunk_base.specs.declared.name.open_name.OpenName.{OpenName}
 use Rattle.std.specs.declared.alloc.AllocError.{AllocError}
-use Rattle.hunk_words.specs.declared.sites.SiteRefusal.{SiteRefusal}
+use Rattle.hunk_base.specs.declared.sites.SiteRefusal.{SiteRefusal}
 use Rattle.hunk_words.proofs.TakerLemmas.{value_of_events-append, context_after-append}
 use Rattle.hunk_loadfile.specs.LoadHunk.{FileHunk}
 use Rattle.hunk_loadfile.specs.LoadFile.{file_hunk}
 use Rattle.hunk_words.specs.Event.{word_events}
-use Rattle.hunk_words.specs.Name.{bytes_of}
+use Rattle.hunk_base.specs.Name.{bytes_of}
 use Rattle.hunk_words.specs.PartialHunk.{goes_to_content, hunk_with_bytes, hunk_with_word}
 use Rattle.hunk_words.proofs.PartialHunkLemmas.{hunk_with_bytes-more, hunk_with_bytes-none}
 use Rattle.hunk_loadfile.proofs.OpenHunkLemmas.{takes-word}

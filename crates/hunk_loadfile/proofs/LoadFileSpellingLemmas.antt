@@ -17,8 +17,8 @@ use Rattle.hunk_words.specs.Trees.ContentTree.{code_tree, data_tree, bss_tree}
 use Rattle.hunk_words.specs.Values.{Adds, Hunk, HunkTables, merged, tables_of_block, tables_of_blocks, content_value, tables_of_groups, hunk_value, name_words, no_tables, one_site, one_symbol, tables_of_sites, tables_of_symbols}
 use Rattle.hunk_words.specs.Values.Adds.{to_hunk, to_reference}
 use Rattle.hunk_words.specs.FieldLongwords.{longwords_after}
-use Rattle.hunk_words.specs.declared.fault.Reason.{Reason}
-use Rattle.hunk_words.specs.declared.fault.Reason.TheVariants.{ContentTooLong, NoSuchHunk, SiteOutside, SiteOverlap, SymbolKind, TooLarge}
+use Rattle.hunk_base.specs.declared.fault.Reason.{Reason}
+use Rattle.hunk_base.specs.declared.fault.Reason.TheVariants.{ContentTooLong, NoSuchHunk, SiteOutside, SiteOverlap, SymbolKind, TooLarge}
 use Rattle.hunk_words.specs.declared.kinds.BlockType.{BlockType}
 use Rattle.hunk_words.specs.declared.kinds.BlockType.TheVariants.{Reloc as reloc, Ext as ext, Symbol as symbol, Debug as debug, End as end, Short as short}
 use Rattle.hunk_words.specs.declared.kinds.HunkKind.{HunkKind}

@@ -4,17 +4,17 @@ use Rattle.std.proofs.lemmas.List.{length-append, length-map}
 use Rattle.std.proofs.lemmas.List.Elements.{All-head, All-tail, All-nil, All-cons, All-take}
 use Rattle.std.proofs.lemmas.List.Sums.{sum_by-cons, sum_by-take-le}
 use Rattle.std.specs.List.{All, flat_map}
-use Rattle.hunk_words.specs.Longwords.{longwords}
-use Rattle.hunk_words.specs.Name.{bytes_of}
-use Rattle.hunk_words.proofs.SitesLemmas.{AreApart-few}
+use Rattle.hunk_base.specs.Longwords.{longwords}
+use Rattle.hunk_base.specs.Name.{bytes_of}
+use Rattle.hunk_base.proofs.SitesLemmas.{AreApart-few}
 use Rattle.hunk_loadfile.specs.declared.load_form.LoadForm.{LoadForm}
 use Rattle.hunk_loadfile.specs.LoadHunk.{FileHunk}
 use Rattle.hunk_loadfile.specs.Rules.{IsLoadFile, IsLoadHunk, carried_by, debug_longwords, most_size, symbol_longwords}
 use Rattle.hunk_loadfile.specs.WrittenForm.{content_words, debug_words, header_words, hunk_words, relocation_words, size_word, symbols_words}
 use Rattle.hunk_loadfile.proofs.WrittenFormLengthLemmas.{length-content_words-le, length-debugs, length-hunks-le, length-relocation_words-le, length-symbols_words-le}
 use Rattle.hunk_loadfile.proofs.LongwordWriterLemmas.{bytes_of-append, length-bytes_of}
-use Rattle.hunk_words.proofs.LongwordsByteLemmas.{bytes_of-longwords}
-use Rattle.hunk_words.proofs.LongwordsLemmas.{IsWhole-length}
+use Rattle.hunk_base.proofs.LongwordsByteLemmas.{bytes_of-longwords}
+use Rattle.hunk_base.proofs.LongwordsLemmas.{IsWhole-length}
 
 -- ---- sizes
 

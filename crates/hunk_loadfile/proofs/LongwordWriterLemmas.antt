@@ -4,13 +4,13 @@ use Rattle.byteorder.specs.Endian.{big_bytes}
 use Rattle.std.proofs.lemmas.Grind.{flat_map-append}
 use Rattle.std.proofs.lemmas.List.{get_or-map, length-append, length-map, length-replicate, map-append}
 use Rattle.std.specs.List.{All, flat_map}
-use Rattle.hunk_words.specs.Longwords.{longwords}
-use Rattle.hunk_words.specs.Name.{IsNameByte, bytes_of, longword_count, name_words}
-use Rattle.hunk_words.specs.Streams.{Wrote}
-use Rattle.hunk_words.specs.declared.fault.WriteFault.{WriteFault}
-use Rattle.hunk_words.proofs.LongwordsLemmas.{length-whole}
-use Rattle.hunk_words.proofs.NameLemmas.{length-name_words, name_words-writes}
-use Rattle.hunk_words.proofs.StreamsWritingLemmas.{Wrote-more, Wrote-part, Wrote-stop, Wrote-then}
+use Rattle.hunk_base.specs.Longwords.{longwords}
+use Rattle.hunk_base.specs.Name.{IsNameByte, bytes_of, longword_count, name_words}
+use Rattle.hunk_base.specs.Streams.{Wrote}
+use Rattle.hunk_base.specs.declared.fault.WriteFault.{WriteFault}
+use Rattle.hunk_base.proofs.LongwordsLemmas.{length-whole}
+use Rattle.hunk_base.proofs.NameLemmas.{length-name_words, name_words-writes}
+use Rattle.hunk_base.proofs.StreamsWritingLemmas.{Wrote-more, Wrote-part, Wrote-stop, Wrote-then}
 use Rattle.hunk_words.specs.declared.kinds.HunkKind.TheVariants.{Code, Data, Bss}
 use Rattle.hunk_words.specs.DebugInfo.{lists_of}
 use Rattle.hunk_loadfile.specs.declared.number_width.NumberWidth.{NumberWidth}

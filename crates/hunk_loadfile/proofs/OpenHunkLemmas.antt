@@ -3,12 +3,12 @@ use Rattle.std.proofs.Common.{◌≡◌, ℕ, List, [], ◌∷◌, ◌++◌, map
 use Rattle.std.specs.BTreeMap.{insert_entry}
 use Rattle.std.specs.Ordering.{nat_cmp}
 use Rattle.byteorder.specs.Endian.{big_bytes}
-use Rattle.hunk_words.specs.Name.{bytes_of, name_of}
+use Rattle.hunk_base.specs.Name.{bytes_of, name_of}
 use Rattle.hunk_words.specs.PartialHunk.{HunkSoFar, HoldsSites, begun_hunk, hunk_with_site, hunk_with_word}
 use Rattle.hunk_words.specs.Values.{Hunk, Adds, with_tables, one_site}
 use Rattle.hunk_words.specs.Values.Adds.{to_hunk}
 use Rattle.hunk_words.specs.declared.kinds.HunkKind.{HunkKind}
-use Rattle.hunk_words.specs.declared.sites.SiteRefusal.{SiteRefusal}
+use Rattle.hunk_base.specs.declared.sites.SiteRefusal.{SiteRefusal}
 use Rattle.hunk_words.proofs.PartialHunkLemmas.{AddsSite, HoldsSites-begun, bytes_of-append, hunk_with_word-kept, hunk_with_word-dropped}
 use Rattle.hunk_loadfile.specs.LoadFile.{with_site, with_sites}
 use Rattle.hunk_loadfile.specs.OpenHunk.{Shows, Takes, TakesSite, told_with_word}

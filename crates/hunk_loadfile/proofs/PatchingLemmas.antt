@@ -10,8 +10,8 @@ use Rattle.std.proofs.Math.Path.{fun_ext}
 use borrow.Rule.Slice.PartMut.{put_mid}
 use Rattle.byteorder.specs.Endian.{big_bytes, big_from, big_number}
 use Rattle.byteorder.specs.Numbers.{big_from-take}
-use Rattle.hunk_words.specs.Sites.{StandFrom}
-use Rattle.hunk_words.proofs.NameLemmas.{big_bytes-of_four}
+use Rattle.hunk_base.specs.Sites.{StandFrom}
+use Rattle.hunk_base.proofs.NameLemmas.{big_bytes-of_four}
 use Rattle.hunk_loadfile.specs.Patching.{holds, site_over, patched, patched_in, patched_bytes, sum_at}
 
 -- ---- which bytes a site holds

@@ -6,7 +6,7 @@ use Rattle.std.proofs.lemmas.Bool.{cases_lt}
 use Rattle.std.proofs.lemmas.List.{get_or_past}
 use Rattle.byteorder.specs.Endian.{big_bytes, big_from}
 use Rattle.byteorder.specs.Numbers.{big_number-reads_back}
-use Rattle.hunk_words.specs.Sites.{StandFrom}
+use Rattle.hunk_base.specs.Sites.{StandFrom}
 use Rattle.hunk_loadfile.specs.Patching.{holds, patched, patched_bytes, patched_in, site_over, sum_at}
 use Rattle.hunk_loadfile.specs.Laws.{PatchedTwice, second_addend, second_sites}
 use Rattle.hunk_loadfile.proofs.PatchingLemmas.{Side, before, within, behind, side, holds-behind, holds-below, holds-inside, length-patched_bytes, patched_bytes-same, site_over-before, StandFrom-wider, slice_index-patched_bytes}

@@ -11,8 +11,8 @@ use Rattle.std.specs.Ordering.{is_lt, nat_cmp}
 use Rattle.std.specs.Cmp.{nat_cmp_is}
 use Rattle.std.specs.declared.cmp.Ordering.TheVariants.{Less, Equal, Greater}
 use Rattle.std.proofs.Math.Seq.{drop-append_seam, take-append_seam}
-use Rattle.hunk_words.specs.Name.{bytes_of}
-use Rattle.hunk_words.specs.Sites.{StandFrom}
+use Rattle.hunk_base.specs.Name.{bytes_of}
+use Rattle.hunk_base.specs.Sites.{StandFrom}
 use Rattle.byteorder.specs.Endian.{big_bytes}
 use Rattle.hunk_loadfile.specs.declared.number_width.NumberWidth.{NumberWidth}
 use Rattle.hunk_loadfile.specs.declared.number_width.NumberWidth.TheVariants.{Word, Longword}

@@ -6,7 +6,7 @@ use Rattle.std.proofs.lemmas.List.Elements.{All-cons, All-nil, All-weaker}
 use Rattle.hunk_loadfile.specs.LoadHunk.{FileHunk}
 use Rattle.hunk_loadfile.specs.declared.rules.BuildFault.{BuildFault}
 use Rattle.hunk_loadfile.specs.Rules.{IsTyped, IsLoadHunk, IsLoadFile, build_fault, carried_longwords, fault_at, fault_unless, has_content, has_limit, has_names, has_targets, most_content, size_of}
-use Rattle.hunk_words.specs.Name.{most_name}
+use Rattle.hunk_base.specs.Name.{most_name}
 
 fault_unless-none : (b : Bool) (fault : BuildFault) (next : Option BuildFault) → fault_unless b fault next ≡ None → (b ≡ true) × (next ≡ None)
 fault_unless-none true fault next h = (refl, h)

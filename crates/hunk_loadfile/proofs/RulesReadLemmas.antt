@@ -11,21 +11,21 @@ use Rattle.std.proofs.lemmas.List.{length-map, length-take}
 use Rattle.std.proofs.lemmas.List.Elements.{All-from_recursion}
 use Rattle.std.proofs.lemmas.List.Sums.{sum_by-cons}
 use Rattle.hunk_words.specs.Files.{IsFileOf}
-use Rattle.hunk_words.specs.Name.{bytes_of, longword_count, most_name, name_of}
+use Rattle.hunk_base.specs.Name.{bytes_of, longword_count, most_name, name_of}
 use Rattle.hunk_words.specs.SiteContext.{Has, SameSites}
 use Rattle.hunk_words.specs.SiteRules.{all_apart, apart}
-use Rattle.hunk_words.specs.Sites.{Meets, SharesByte, StandFrom}
+use Rattle.hunk_base.specs.Sites.{Meets, SharesByte, StandFrom}
 use Rattle.hunk_words.specs.Spelling.{load_hunks, load_spelling}
 use Rattle.hunk_words.specs.Trees.{LoadHunkTree, LoadTree}
 use Rattle.hunk_words.specs.Values.{Adds, Hunk}
 use Rattle.hunk_words.specs.Values.Adds.{to_hunk, to_reference}
 use Rattle.hunk_words.specs.declared.event.FileKind.TheVariants.{Load}
-use Rattle.hunk_words.specs.declared.fault.Reason.TheVariants.{HunkTable}
+use Rattle.hunk_base.specs.declared.fault.Reason.TheVariants.{HunkTable}
 use Rattle.hunk_words.specs.declared.kinds.HunkKind.{HunkKind}
 use Rattle.hunk_words.specs.declared.kinds.HunkKind.TheVariants.{Code, Data, Bss}
 use Rattle.hunk_words.proofs.FaultTableLemmas.{reject_unless-none}
-use Rattle.hunk_words.proofs.NameLemmas.{bytes_of-lt, name_of-bytes}
-use Rattle.hunk_words.proofs.SitesLemmas.{StandFrom-insert_entry, target_at-insert_entry}
+use Rattle.hunk_base.proofs.NameLemmas.{bytes_of-lt, name_of-bytes}
+use Rattle.hunk_base.proofs.SitesLemmas.{StandFrom-insert_entry, target_at-insert_entry}
 use Rattle.hunk_words.proofs.TakerLemmas.{SameSites-more, SameSites-none}
 use Rattle.hunk_loadfile.specs.LoadFile.{IsLoad, file_hunk, load_hunk_value, load_value, with_sites}
 use Rattle.hunk_loadfile.specs.LoadHunk.{FileHunk}

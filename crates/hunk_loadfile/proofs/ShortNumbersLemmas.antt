@@ -5,7 +5,7 @@ use Rattle.std.proofs.lemmas.Bool.{cases_eq, ne_eqb}
 use Rattle.std.proofs.lemmas.List.{length-map}
 use Rattle.std.proofs.lemmas.List.Elements.{All-from_recursion, All-weaker, recursion_from_All}
 use Rattle.std.proofs.lemmas.List.Sums.{count_by-le-length, length-filter}
-use Rattle.hunk_words.specs.Sites.{StandFrom}
+use Rattle.hunk_base.specs.Sites.{StandFrom}
 use Rattle.hunk_loadfile.specs.declared.load_form.LoadForm.{LoadForm}
 use Rattle.hunk_loadfile.specs.declared.load_form.LoadForm.TheVariants.{Short}
 use Rattle.hunk_loadfile.specs.Laws.{ShortNumbersFit}

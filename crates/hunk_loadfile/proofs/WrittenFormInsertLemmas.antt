@@ -6,7 +6,7 @@ use Rattle.std.specs.Cmp.{nat_cmp_is}
 use Rattle.std.specs.Ordering.{nat_cmp}
 use Rattle.std.specs.declared.cmp.Ordering.TheVariants.{Less, Greater}
 use Rattle.std.proofs.lemmas.Bool.{cases_Bool, cases_order, eq-eqb, ne_eqb, le-ltb, lt-ltb}
-use Rattle.hunk_words.specs.Sites.{StandFrom}
+use Rattle.hunk_base.specs.Sites.{StandFrom}
 use Rattle.hunk_words.specs.Values.{Adds}
 use Rattle.hunk_words.specs.Values.Adds.{to_hunk, to_reference}
 use Rattle.hunk_loadfile.specs.LoadFile.{with_site, with_sites}

@@ -5,11 +5,11 @@ use Rattle.std.proofs.lemmas.Bool.{cases_lt, cases_eq, ne_eqb, eq-eqb, le-leb, l
 use Rattle.std.proofs.lemmas.List.{length-append, length-map}
 use Rattle.std.proofs.lemmas.List.Elements.{All-head, All-tail}
 use Rattle.std.proofs.lemmas.List.Sums.{sum_by-cons}
-use Rattle.hunk_words.specs.Longwords.{longwords}
-use Rattle.hunk_words.specs.Name.{name_words}
-use Rattle.hunk_words.proofs.LongwordsLemmas.{length-longwords}
-use Rattle.hunk_words.proofs.NameLemmas.{length-name_words}
-use Rattle.hunk_words.proofs.SitesLemmas.{AreApart-few}
+use Rattle.hunk_base.specs.Longwords.{longwords}
+use Rattle.hunk_base.specs.Name.{name_words}
+use Rattle.hunk_base.proofs.LongwordsLemmas.{length-longwords}
+use Rattle.hunk_base.proofs.NameLemmas.{length-name_words}
+use Rattle.hunk_base.proofs.SitesLemmas.{AreApart-few}
 use Rattle.hunk_words.specs.declared.kinds.HunkKind.{HunkKind}
 use Rattle.hunk_words.specs.declared.kinds.HunkKind.TheVariants.{Code, Data, Bss}
 use Rattle.hunk_loadfile.specs.declared.load_form.LoadForm.{LoadForm}

@@ -5,7 +5,7 @@ use Rattle.std.specs.List.{All, AllByRecursion, flat_map, range_with_len}
 use Rattle.std.proofs.lemmas.Bool.{cond-true, eq-eqb, le-leb, lt-ltb}
 use Rattle.std.proofs.lemmas.List.Elements.{recursion_from_All}
 use Rattle.std.proofs.lemmas.List.Sums.{sum_by-cons}
-use Rattle.hunk_words.specs.Name.{most_name, name_words}
+use Rattle.hunk_base.specs.Name.{most_name, name_words}
 use Rattle.hunk_words.specs.Kinds.{Kind, Field, field, low, type_of, entry_type}
 use Rattle.hunk_words.specs.FaultTable.{Passes, AllPass, reject_unless, may_follow, begins_in_load, refused_type, knows_short}
 use Rattle.hunk_words.specs.Kinds.Within.{in_load}
@@ -13,15 +13,15 @@ use Rattle.hunk_words.specs.Kinds.Kind.{hunk_type, block_type, word, value, cont
 use Rattle.hunk_words.specs.declared.kinds.HunkKind.{HunkKind}
 use Rattle.hunk_words.specs.declared.kinds.BlockType.{BlockType}
 use Rattle.hunk_words.specs.declared.kinds.BlockType.TheVariants.{Content as content, Reloc as reloc, Symbol as symbol, Debug as debug, End as end}
-use Rattle.hunk_words.specs.declared.fault.Reason.{Reason}
-use Rattle.hunk_words.specs.declared.fault.Reason.TheVariants.{ContentTooLong, NoSuchHunk, SymbolKind, SiteOutside, SiteOverlap}
+use Rattle.hunk_base.specs.declared.fault.Reason.{Reason}
+use Rattle.hunk_base.specs.declared.fault.Reason.TheVariants.{ContentTooLong, NoSuchHunk, SymbolKind, SiteOutside, SiteOverlap}
 use Rattle.hunk_words.specs.Machine.{reverse_onto}
 use Rattle.hunk_words.specs.SiteRules.{Obeys, all_apart, limit_of, seen_after, seen_at, site_judged}
-use Rattle.hunk_words.specs.Sites.{StandFrom}
+use Rattle.hunk_base.specs.Sites.{StandFrom}
 use Rattle.hunk_words.specs.Spelling.{joined_bits, type_longword, each, groups, symbols, blocks_end}
 use Rattle.hunk_words.specs.Trees.{Group, SymbolTree, BlockTree}
 use Rattle.hunk_words.specs.FieldLongwords.{longwords_of}
-use Rattle.hunk_words.proofs.NameLemmas.{length-name_words, name_words-lt}
+use Rattle.hunk_base.proofs.NameLemmas.{length-name_words, name_words-lt}
 use Rattle.hunk_words.proofs.SpellingBitLemmas.{type_longword-low, type_longword-type}
 use Rattle.hunk_words.proofs.KindsTypeLemmas.{type-reloc, type-symbol, type-debug, type-end}
 use Rattle.hunk_loadfile.specs.Rules.{IsLongword, IsTypedSymbol, debug_longwords}

@@ -10,10 +10,10 @@ use Rattle.hunk_words.specs.Kinds.Kind.{short_count, short_hunk, short_offset}
 use Rattle.hunk_words.specs.declared.kinds.Half.{Half}
 use Rattle.hunk_words.specs.declared.kinds.Half.TheVariants.{Upper as upper, Lower as lower}
 use Rattle.hunk_words.specs.declared.kinds.BlockType.TheVariants.{Short as short_block}
-use Rattle.hunk_words.specs.declared.fault.Reason.TheVariants.{NoSuchHunk}
+use Rattle.hunk_base.specs.declared.fault.Reason.TheVariants.{NoSuchHunk}
 use Rattle.hunk_words.specs.Machine.{reverse_onto}
 use Rattle.hunk_words.specs.SiteRules.{Obeys, limit_of, seen_after, site_judged}
-use Rattle.hunk_words.specs.Sites.{StandFrom}
+use Rattle.hunk_base.specs.Sites.{StandFrom}
 use Rattle.hunk_words.specs.Spelling.{blocks_end, padded, short_groups, short_offsets}
 use Rattle.hunk_words.specs.Trees.{BlockTree, Group}
 use Rattle.hunk_words.proofs.KindsTypeLemmas.{type-short}

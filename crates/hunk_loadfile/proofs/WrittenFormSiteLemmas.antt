@@ -5,7 +5,7 @@ use Rattle.std.specs.List.{AllByRecursion}
 use Rattle.std.proofs.lemmas.Bool.{and_from, and_parts, cases_eq, eq-eqb, le-leb, lt-leb, ne_eqb}
 use Rattle.hunk_words.specs.Machine.{reverse_onto}
 use Rattle.hunk_words.specs.SiteRules.{all_apart, apart}
-use Rattle.hunk_words.specs.Sites.{StandFrom}
+use Rattle.hunk_base.specs.Sites.{StandFrom}
 use Rattle.hunk_loadfile.specs.WrittenForm.{offsets_to}
 use Rattle.hunk_loadfile.proofs.LoadFormLemmas.{LieBefore}
 

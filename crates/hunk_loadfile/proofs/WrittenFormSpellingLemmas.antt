@@ -5,20 +5,20 @@ use Rattle.std.proofs.lemmas.Bool.{and_from, eq-eqb, le-leb, lt-ltb}
 use Rattle.std.proofs.lemmas.List.{length-map}
 use Rattle.std.proofs.lemmas.List.Elements.{All-head, All-tail, recursion_from_All}
 use Rattle.std.proofs.lemmas.List.Sums.{sum_by-cons}
-use Rattle.hunk_words.specs.Longwords.{longwords}
+use Rattle.hunk_base.specs.Longwords.{longwords}
 use Rattle.hunk_words.specs.Kinds.{Field, field, low}
 use Rattle.hunk_words.specs.FaultTable.{and_then}
 use Rattle.hunk_words.specs.Kinds.Within.{in_load}
 use Rattle.hunk_words.specs.Kinds.Kind.{load_start, hunk_type, resident, table_size, first_hunk, last_hunk, header_size}
 use Rattle.hunk_words.specs.declared.kinds.HunkKind.TheVariants as content_type
-use Rattle.hunk_words.specs.declared.fault.Reason.{Reason}
-use Rattle.hunk_words.specs.declared.fault.Reason.TheVariants.{BothMemoryBits, HunkTable, TooLarge, WrongStart}
-use Rattle.hunk_words.specs.Sites.{StandFrom}
+use Rattle.hunk_base.specs.declared.fault.Reason.{Reason}
+use Rattle.hunk_base.specs.declared.fault.Reason.TheVariants.{BothMemoryBits, HunkTable, TooLarge, WrongStart}
+use Rattle.hunk_base.specs.Sites.{StandFrom}
 use Rattle.hunk_words.specs.Spelling.{type_longword, blocks_end, content_then, hunk_at, load_hunks, load_spelling, sizes_at}
 use Rattle.hunk_words.specs.Trees.{BlockTree}
-use Rattle.hunk_words.proofs.LongwordsLemmas.{length-longwords}
+use Rattle.hunk_base.proofs.LongwordsLemmas.{length-longwords}
 use Rattle.hunk_words.proofs.SpellingBitLemmas.{type_longword-bits, type_longword-low}
-use Rattle.hunk_words.proofs.SitesLemmas.{AreApart-few}
+use Rattle.hunk_base.proofs.SitesLemmas.{AreApart-few}
 use Rattle.hunk_words.proofs.KindsTypeLemmas.{type-code, type-data, type-bss}
 use Rattle.hunk_words.specs.declared.kinds.HunkKind.{HunkKind}
 use Rattle.hunk_words.specs.declared.kinds.HunkKind.TheVariants.{Code, Data, Bss}
@@ -28,11 +28,11 @@ use Rattle.hunk_loadfile.specs.declared.load_form.LoadForm.{LoadForm}
 use Rattle.hunk_loadfile.specs.LoadForm.{is_short, long_sites, short_sites}
 use Rattle.hunk_loadfile.specs.LoadHunk.{FileHunk}
 use Rattle.hunk_loadfile.specs.Rules.{IsLoadFile, IsLoadHunk, IsLongword, IsTypedSymbol, carried_longwords, carried_by, size_of}
-use Rattle.hunk_words.specs.Name.{most_name}
+use Rattle.hunk_base.specs.Name.{most_name}
 use Rattle.hunk_loadfile.specs.WrittenForm.{content_words, debug_words, hunk_words, memory_bits, short_words, site_words, size_word, symbols_words, written_in}
 use Rattle.hunk_loadfile.proofs.LoadHunkLemmas.{most_content-le}
 use Rattle.hunk_loadfile.proofs.WrittenFormTree.{body_tree, content_tree, debug_trees, file_tree, hunk_tree, short_trees, site_trees, symbol_trees}
-use Rattle.hunk_words.proofs.LongwordsByteLemmas.{longwords-long}
+use Rattle.hunk_base.proofs.LongwordsByteLemmas.{longwords-long}
 use Rattle.hunk_loadfile.proofs.LoadFormLemmas.{in_parts, length-both, lie-before, short_sites-few, short_sites-near, stand-filter}
 use Rattle.hunk_loadfile.proofs.WrittenFormShortLemmas.{spells-short}
 use Rattle.hunk_loadfile.proofs.WrittenFormPartLemmas.{Spells, reject_unless-holds, spells-begin, spells-debugs, spells-next, spells-sites, spells-size, spells-symbols, spells-words, type_longword-is, type_longword-plain}

@@ -1,8 +1,8 @@
 -- The trees of the written forms of a load file.
 use Rattle.std.proofs.Common.{ℕ, List, [], ◌∷◌, ◌++◌, None, length, map}
 use Rattle.std.specs.List.{flat_map, range_with_len}
-use Rattle.hunk_words.specs.Longwords.{longwords}
-use Rattle.hunk_words.specs.Name.{name_words}
+use Rattle.hunk_base.specs.Longwords.{longwords}
+use Rattle.hunk_base.specs.Name.{name_words}
 use Rattle.hunk_words.specs.Trees.{Group, SymbolTree, BlockTree, ContentTree, BodyTree, LoadHunkTree, LoadTree}
 use Rattle.hunk_words.specs.Trees.BlockTree.{reloc_tree, short_tree, symbol_tree, debug_tree}
 use Rattle.hunk_words.specs.Trees.ContentTree.{code_tree, data_tree, bss_tree}

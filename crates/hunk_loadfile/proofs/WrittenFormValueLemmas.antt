@@ -5,15 +5,15 @@ use Rattle.std.proofs.lemmas.List.{append-nil}
 use Rattle.std.proofs.lemmas.List.Elements.{All-head, All-tail, recursion_from_All}
 use Rattle.hunk_words.specs.Kinds.{Within}
 use Rattle.hunk_words.specs.Kinds.Within.{in_load}
-use Rattle.hunk_words.specs.Longwords.{longwords, IsWhole}
-use Rattle.hunk_words.specs.Name.{bytes_of, name_of, name_words}
-use Rattle.hunk_words.specs.Sites.{StandFrom}
+use Rattle.hunk_base.specs.Longwords.{longwords, IsWhole}
+use Rattle.hunk_base.specs.Name.{bytes_of, name_of, name_words}
+use Rattle.hunk_base.specs.Sites.{StandFrom}
 use Rattle.hunk_words.specs.Trees.{BlockTree, Group}
 use Rattle.hunk_words.specs.Trees.BlockTree.{reloc_tree, short_tree}
 use Rattle.hunk_words.specs.Values.{Adds, HunkTables, merged, tables_of_block, tables_of_blocks, content_value, tables_of_groups, hunk_value, one_debug, one_site, one_symbol, tables_of_sites, tables_of_symbols}
 use Rattle.hunk_words.specs.Values.Adds.{to_hunk}
-use Rattle.hunk_words.proofs.LongwordsLemmas.{list-none, IsWhole-length}
-use Rattle.hunk_words.proofs.NameLemmas.{length-name_words, name_of-name_words}
+use Rattle.hunk_base.proofs.LongwordsLemmas.{list-none, IsWhole-length}
+use Rattle.hunk_base.proofs.NameLemmas.{length-name_words, name_of-name_words}
 use Rattle.hunk_words.specs.declared.kinds.HunkKind.{HunkKind}
 use Rattle.hunk_words.specs.declared.kinds.HunkKind.TheVariants.{Code, Data, Bss}
 use Rattle.hunk_words.specs.declared.kinds.Memory.{Memory}
@@ -27,7 +27,7 @@ use Rattle.hunk_loadfile.specs.Rules.{IsLoadFile, IsLoadHunk, IsTypedSymbol, mos
 use Rattle.hunk_loadfile.specs.WrittenForm.{memory_bits, offsets_to}
 use Rattle.hunk_loadfile.proofs.LoadFormLemmas.{AllByRecursion-filter, LieBefore, in_parts, lie-before, lies-behind, stand-filter}
 use Rattle.hunk_loadfile.proofs.WrittenFormInsertLemmas.{AreBehind, put_in-all, put_in-behind, sites_from, sites_from-behind, sites_to, with_sites-append}
-use Rattle.hunk_words.proofs.LongwordsByteLemmas.{bytes_of-longwords}
+use Rattle.hunk_base.proofs.LongwordsByteLemmas.{bytes_of-longwords}
 use Rattle.hunk_loadfile.proofs.WrittenFormTree.{block_trees, body_tree, content_tree, debug_trees, file_tree, group_tree, group_trees, hunk_tree, short_trees, site_trees, symbol_of, symbol_trees}
 
 -- ---- what the blocks mean

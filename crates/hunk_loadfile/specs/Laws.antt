@@ -4,7 +4,7 @@ use Rattle.std.specs.List.{All, filter_map}
 use Rattle.std.specs.Option.{option_map}
 use Rattle.hunk_words.specs.Event.{events}
 use Rattle.hunk_words.specs.Files.{most_longwords}
-use Rattle.hunk_words.specs.Sites.{StandFrom}
+use Rattle.hunk_base.specs.Sites.{StandFrom}
 use Rattle.hunk_words.specs.Spelling.{load_spelling, LoadFits}
 use Rattle.hunk_words.specs.Trees.{LoadTree}
 use Rattle.hunk_loadfile.specs.declared.load_form.LoadForm.{LoadForm}

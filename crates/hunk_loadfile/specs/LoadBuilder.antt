@@ -1,6 +1,6 @@
 -- What a builder of load files stands for: the events that it has taken.
 use Rattle.std.specs.Prelude.{◌≡◌, ◌≤◌, List, [], ◌∷◌, length, map, Result, MatchResult}
-use Rattle.hunk_words.specs.OpenName.{Opens}
+use Rattle.hunk_base.specs.OpenName.{Opens}
 use Rattle.hunk_words.specs.PartialHunk.{goes_to_content}
 use Rattle.hunk_words.specs.Values.{Part}
 use Rattle.hunk_words.specs.EventValue.{Receiver as ToldReceiver, EventValue, value_of_events, initial_load, step}

@@ -8,9 +8,9 @@ use Rattle.hunk_words.specs.Kinds.Within.{in_load}
 use Rattle.hunk_words.specs.Trees.{LoadHunkTree, LoadTree}
 use Rattle.hunk_words.specs.Values.{Adds, Hunk, hunk_value}
 use Rattle.hunk_words.specs.Values.Adds.{to_hunk, to_reference}
-use Rattle.hunk_words.specs.Name.{bytes_of, name_of}
+use Rattle.hunk_base.specs.Name.{bytes_of, name_of}
 use Rattle.hunk_words.specs.Files.{IsFileOf}
-use Rattle.hunk_words.specs.Longwords.{longwords, IsWhole}
+use Rattle.hunk_base.specs.Longwords.{longwords, IsWhole}
 use Rattle.hunk_words.specs.declared.event.FileKind.TheVariants.{Load}
 use Rattle.hunk_loadfile.specs.LoadHunk.{FileHunk}
 

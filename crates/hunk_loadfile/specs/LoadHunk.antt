@@ -1,7 +1,7 @@
 -- The hunks of a load file, as contracts see them: records of their fields, with every Vec as a
 -- list.
 use Rattle.std.specs.Prelude.{ℕ, List}
-use Rattle.hunk_words.specs.Sites.{SiteMap}
+use Rattle.hunk_base.specs.Sites.{SiteMap}
 use Rattle.hunk_words.specs.declared.kinds.HunkKind.{HunkKind}
 use Rattle.hunk_words.specs.declared.kinds.Memory.{Memory}
 

@@ -4,8 +4,8 @@ use Rattle.hunk_words.specs.Values.{Hunk, with_tables, one_site}
 use Rattle.hunk_words.specs.Values.Adds.{to_hunk}
 use Rattle.hunk_words.specs.PartialHunk.{HoldsSites}
 use Rattle.hunk_words.specs.Taker.{JudgesSite}
-use Rattle.hunk_words.specs.declared.sites.SiteRefusal.{SiteRefusal}
-use Rattle.hunk_words.specs.Name.{bytes_of, name_of}
+use Rattle.hunk_base.specs.declared.sites.SiteRefusal.{SiteRefusal}
+use Rattle.hunk_base.specs.Name.{bytes_of, name_of}
 use Rattle.hunk_loadfile.specs.LoadFile.{with_sites}
 use Rattle.hunk_loadfile.specs.declared.open_hunk.OpenHunk.{OpenHunk}
 

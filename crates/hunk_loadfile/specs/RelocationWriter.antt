@@ -2,7 +2,7 @@
 use Rattle.std.specs.Prelude.{◌≡◌, ℕ, ◌-◌, ◌%◌, ◌<◌, List, [], ◌∷◌, ◌++◌, length, replicate}
 use Rattle.std.specs.List.{All}
 use Rattle.std.specs.List.Sorted.{IsNonDecreasingBy, IsPermutation}
-use Rattle.hunk_words.specs.Name.{bytes_of}
+use Rattle.hunk_base.specs.Name.{bytes_of}
 use Rattle.hunk_loadfile.specs.declared.number_width.NumberWidth.{NumberWidth}
 use Rattle.hunk_loadfile.specs.NumberWidth.{block_type, bytes_in}
 use Rattle.hunk_loadfile.specs.WrittenForm.{groups_words, offsets_to}

@@ -1,8 +1,8 @@
 -- The rules for the hunks of a load file, and which of them is broken first.
 use Rattle.std.specs.Prelude.{◌≡◌, ℕ, ◌+◌, ◌*◌, ◌%◌, ◌^◌, ◌<◌, ◌≤◌, ◌==◌, Bool, true, false, not, nat_le, nat_lt, ◌&&◌, Option, Some, None, List, length, sum_by, position}
 use Rattle.std.specs.List.{All, list_all}
-use Rattle.hunk_words.specs.Name.{IsNameByte, longword_count, most_name}
-use Rattle.hunk_words.specs.Sites.{AreApart}
+use Rattle.hunk_base.specs.Name.{IsNameByte, longword_count, most_name}
+use Rattle.hunk_base.specs.Sites.{AreApart}
 use Rattle.hunk_words.specs.declared.kinds.HunkKind.{HunkKind}
 use Rattle.hunk_words.specs.declared.kinds.HunkKind.TheVariants.{Bss}
 use Rattle.hunk_loadfile.specs.LoadHunk.{FileHunk}

@@ -4,8 +4,8 @@
 use Rattle.std.specs.Prelude.{ℕ, ◌+◌, ◌-◌, ◌*◌, ◌^◌, ◌==◌, ◌≤◌, List, [], ◌∷◌, ◌++◌, length, map}
 use Rattle.std.specs.List.{filter, flat_map, range_with_len}
 use Rattle.hunk_words.specs.Files.{most_longwords}
-use Rattle.hunk_words.specs.Longwords.{longwords}
-use Rattle.hunk_words.specs.Name.{name_words}
+use Rattle.hunk_base.specs.Longwords.{longwords}
+use Rattle.hunk_base.specs.Name.{name_words}
 use Rattle.hunk_words.specs.declared.kinds.HunkKind.{HunkKind}
 use Rattle.hunk_words.specs.declared.kinds.HunkKind.TheVariants.{Code, Data, Bss}
 use Rattle.hunk_words.specs.declared.kinds.Memory.{Memory}

@@ -1,8 +1,8 @@
 //! The symbols and debug blocks of a hunk, as they are written.
 ghost use Rattle.std.specs.Prelude.{◌≡◌, ◌+◌, ◌*◌, ◌<◌, ◌≤◌, ◌^◌, length, sum_by};
 ghost use Rattle.std.specs.List.{All, flat_map};
-ghost use Rattle.hunk_words.specs.Name.{bytes_of, longword_count, most_name, name_words};
-ghost use Rattle.hunk_words.specs.Streams.{Wrote};
+ghost use Rattle.hunk_base.specs.Name.{bytes_of, longword_count, most_name, name_words};
+ghost use Rattle.hunk_base.specs.Streams.{Wrote};
 ghost use Rattle.hunk_words.specs.DebugInfo.{lists_of};
 ghost use Rattle.hunk_loadfile.specs.Rules.{debug_longwords, symbol_longwords};
 ghost use Rattle.hunk_loadfile.specs.WrittenForm.{debug_words, symbol_words, symbols_words};

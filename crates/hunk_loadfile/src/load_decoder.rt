@@ -4,10 +4,10 @@ ghost use Rattle.hunk_words.specs.Decoder.{RefusesBytes, RefusesInput, RefusesRe
 ghost use Rattle.hunk_words.specs.DecoderCore.{Keeps};
 ghost use Rattle.hunk_words.specs.Files.{IsValidPrefix};
 ghost use Rattle.hunk_loadfile.specs.LoadFile.{IsLoadOf};
-ghost use Rattle.hunk_words.specs.Longwords.{longwords};
-ghost use Rattle.hunk_words.specs.Streams.{HasRead};
+ghost use Rattle.hunk_base.specs.Longwords.{longwords};
+ghost use Rattle.hunk_base.specs.Streams.{HasRead};
 ghost use Rattle.hunk_words.specs.declared.event.FileKind.TheVariants.{Load};
-ghost use Rattle.hunk_words.specs.declared.fault.Refusal.{Refusal};
+ghost use Rattle.hunk_base.specs.declared.fault.Refusal.{Refusal};
 
 use crate::load_builder::LoadBuilder;
 use crate::load_file::LoadFile;

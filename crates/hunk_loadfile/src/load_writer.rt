@@ -1,9 +1,9 @@
 //! Load files as bytes: writing one, hunk by hunk.
 ghost use Rattle.std.specs.Prelude.{◌≡◌, ◌+◌, ◌*◌, ◌<◌, ◌≤◌, ◌^◌, ◌++◌, ℕ, length, map};
 ghost use Rattle.std.specs.List.{All, flat_map};
-ghost use Rattle.hunk_words.specs.Longwords.{longwords};
-ghost use Rattle.hunk_words.specs.Name.{bytes_of};
-ghost use Rattle.hunk_words.specs.Streams.{Wrote, WroteAll};
+ghost use Rattle.hunk_base.specs.Longwords.{longwords};
+ghost use Rattle.hunk_base.specs.Name.{bytes_of};
+ghost use Rattle.hunk_base.specs.Streams.{Wrote, WroteAll};
 ghost use Rattle.hunk_loadfile.specs.Rules.{IsLoadFile, IsLoadHunk, carried_by, most_hunks, most_size};
 ghost use Rattle.hunk_loadfile.specs.WrittenForm.{content_words, header_words, hunk_words, size_word, written_form, written_in};
 

@@ -1,7 +1,7 @@
 //! The numbers of a text, as they are written.
 ghost use Rattle.std.specs.Prelude.{◌≡◌, ◌+◌, ◌*◌, ◌%◌, ◌<◌, ◌≤◌, ◌^◌, length, map};
-ghost use Rattle.hunk_words.specs.Name.{bytes_of};
-ghost use Rattle.hunk_words.specs.Streams.{Wrote};
+ghost use Rattle.hunk_base.specs.Name.{bytes_of};
+ghost use Rattle.hunk_base.specs.Streams.{Wrote};
 ghost use Rattle.hunk_loadfile.specs.NumberWidth.{bytes_in, width_bytes};
 
 use crate::number_width::NumberWidth;

@@ -1,7 +1,7 @@
 //! The current hunk of a load file.
 ghost use Rattle.std.specs.Prelude.{◌≡◌, ℕ, ◌*◌, Bool, true, false, List, [], ◌∷◌, ◌++◌, IsTrue, IsFalse, OnOk, OnErr};
 ghost use Rattle.hunk_words.specs.EventValue.{on_last};
-ghost use Rattle.hunk_words.specs.OpenName.{Opens};
+ghost use Rattle.hunk_base.specs.OpenName.{Opens};
 ghost use Rattle.hunk_words.specs.PartialHunk.{hunk_with_bytes};
 ghost use Rattle.hunk_words.specs.Values.{Hunk, empty, with_tables, one_debug, one_symbol};
 ghost use Rattle.hunk_loadfile.specs.LoadFile.{file_hunk};

@@ -2,9 +2,9 @@
 ghost use Rattle.std.specs.Prelude.{◌≡◌, ◌≢◌, ◌+◌, ◌*◌, ◌<◌, ◌≤◌, ◌^◌, ℕ, length, map, slice_index_or, IfOk};
 ghost use Rattle.std.specs.List.{All};
 ghost use Rattle.std.specs.List.Sorted.{IsNonDecreasingBy};
-ghost use Rattle.hunk_words.specs.Name.{bytes_of};
-ghost use Rattle.hunk_words.specs.Sites.{AreApart};
-ghost use Rattle.hunk_words.specs.Streams.{Wrote};
+ghost use Rattle.hunk_base.specs.Name.{bytes_of};
+ghost use Rattle.hunk_base.specs.Sites.{AreApart};
+ghost use Rattle.hunk_base.specs.Streams.{Wrote};
 ghost use Rattle.hunk_loadfile.specs.LoadForm.{long_sites, short_sites};
 ghost use Rattle.hunk_loadfile.specs.NumberWidth.{bytes_in};
 ghost use Rattle.hunk_loadfile.specs.RelocationWriter.{AreByTarget, IsGroup, block_bytes};

@@ -3,7 +3,7 @@ ghost use Rattle.std.specs.Prelude.{◌≡◌, ◌≤◌, ◌<◌, ◌+◌, not,
 ghost use Rattle.std.specs.List.{All};
 ghost use Rattle.hunk_loadfile.specs.Rules.{IsLongword, IsTyped, IsTypedSymbol, build_fault, carried_longwords, carried_by, debug_longwords, info_longwords, has_content, has_limit, has_names, has_targets, is_hunk_count, is_small, most_hunks, symbol_longwords};
 ghost use Rattle.hunk_words.specs.DebugInfo.{lists_of};
-ghost use Rattle.hunk_words.specs.Sites.{AreApart};
+ghost use Rattle.hunk_base.specs.Sites.{AreApart};
 
 use crate::load_hunk::LoadHunk;
 use hunk_words::{HunkKind, Name};

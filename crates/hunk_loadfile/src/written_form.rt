@@ -1,6 +1,6 @@
 //! The written forms of a load file in memory, and their lengths.
 ghost use Rattle.std.specs.Prelude.{◌≡◌, length, IfOk};
-ghost use Rattle.hunk_words.specs.Name.{bytes_of};
+ghost use Rattle.hunk_base.specs.Name.{bytes_of};
 ghost use Rattle.hunk_loadfile.specs.WrittenForm.{written_in};
 
 use crate::load_file::LoadFile;

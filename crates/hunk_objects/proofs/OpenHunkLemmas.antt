@@ -5,7 +5,7 @@ use Rattle.std.specs.Map.{values_of}
 use Rattle.std.specs.Ordering.{nat_cmp}
 use Rattle.std.proofs.lemmas.Map.Views.{All-values-insert_entry}
 use Rattle.hunk_words.specs.PartialHunk.{HunkSoFar, hunk_with_site}
-use Rattle.hunk_words.specs.declared.sites.SiteRefusal.{SiteRefusal}
+use Rattle.hunk_base.specs.declared.sites.SiteRefusal.{SiteRefusal}
 use Rattle.hunk_objects.specs.UnitHunk.{IsAmong}
 use Rattle.hunk_objects.specs.declared.unit_hunk.Adds.{Adds}
 

@@ -6,8 +6,8 @@ use Rattle.std.proofs.lemmas.List.{map_push}
 use Rattle.std.specs.declared.alloc.AllocError.{AllocError}
 use Rattle.byteorder.specs.Endian.{big_bytes}
 use Rattle.hunk_words.specs.Event.{word_events}
-use Rattle.hunk_words.specs.Name.{bytes_of, name_of}
-use Rattle.hunk_words.specs.OpenName.{Opens, bytes_so_far}
+use Rattle.hunk_base.specs.Name.{bytes_of, name_of}
+use Rattle.hunk_base.specs.OpenName.{Opens, bytes_so_far}
 use Rattle.hunk_words.specs.PartialHunk.{HoldsSites, goes_to_content, hunk_with_bytes, hunk_with_site, hunk_with_word}
 use Rattle.hunk_words.proofs.PartialHunkLemmas.{bytes_of-append, hunk_with_bytes-more, hunk_with_bytes-none, hunk_with_word-dropped, hunk_with_word-kept}
 use Rattle.hunk_words.specs.Taker.{context_of}
@@ -18,8 +18,8 @@ use Rattle.hunk_words.specs.SiteContext.{SiteContext, context_after, context_wit
 use Rattle.hunk_words.specs.declared.event.Event.{Event}
 use Rattle.hunk_words.specs.declared.event.Event.TheVariants.{Unit as UnitBegins, Word, HunkEnd}
 use Rattle.hunk_words.specs.declared.event.FileKind.TheVariants.{Object}
-use Rattle.hunk_words.specs.declared.name.open_name.OpenName.{OpenName}
-use Rattle.hunk_words.specs.declared.sites.SiteRefusal.{SiteRefusal}
+use Rattle.hunk_base.specs.declared.name.open_name.OpenName.{OpenName}
+use Rattle.hunk_base.specs.declared.sites.SiteRefusal.{SiteRefusal}
 use Rattle.hunk_words.proofs.EventValueLemmas.{on_last-append}
 use Rattle.hunk_words.proofs.TakerLemmas.{value_of_events-append, context_after-append}
 use Rattle.hunk_objects.specs.OpenHunk.{UnitHunkSoFar, Shows, Takes, receiver_of}

@@ -2,15 +2,15 @@
 use Rattle.std.specs.Prelude.{◌≡◌, ℕ, Bool, List, [], map, Result, OnOk}
 use Rattle.hunk_words.specs.DebugInfo.{DebugLists}
 use Rattle.hunk_words.specs.Kinds.{memory_of}
-use Rattle.hunk_words.specs.Name.{bytes_of, name_of}
-use Rattle.hunk_words.specs.OpenName.{Opens}
+use Rattle.hunk_base.specs.Name.{bytes_of, name_of}
+use Rattle.hunk_base.specs.OpenName.{Opens}
 use Rattle.hunk_words.specs.PartialHunk.{HoldsSites, HunkSoFar}
 use Rattle.hunk_words.specs.EventValue.{Receiver}
 use Rattle.hunk_words.specs.EventValue.Receiver.{to_symbol, to_entry}
 use Rattle.hunk_words.specs.Values.{Hunk, HunkTables, with_tables}
 use Rattle.hunk_words.specs.declared.kinds.HunkKind.{HunkKind}
 use Rattle.hunk_words.specs.declared.kinds.Memory.{Memory}
-use Rattle.hunk_words.specs.declared.name.open_name.OpenName.{OpenName}
+use Rattle.hunk_base.specs.declared.name.open_name.OpenName.{OpenName}
 use Rattle.hunk_objects.specs.declared.open_hunk.Named.{Named}
 use Rattle.hunk_objects.specs.declared.open_hunk.Named.TheVariants.{Symbol, Offset, Number, Reference}
 use Rattle.hunk_objects.specs.UnitHunk.{definition_of, with_sites}

@@ -1,8 +1,8 @@
 -- The current unit of an object file, and what it shows of the events.
 use Rattle.std.specs.Prelude.{◌≡◌, List, map}
-use Rattle.hunk_words.specs.OpenName.{Opens}
+use Rattle.hunk_base.specs.OpenName.{Opens}
 use Rattle.hunk_words.specs.Values.{Part}
-use Rattle.hunk_words.specs.declared.name.open_name.OpenName.{OpenName}
+use Rattle.hunk_base.specs.declared.name.open_name.OpenName.{OpenName}
 use Rattle.hunk_objects.specs.UnitHunk.{ObjectHunk, object_hunk}
 
 -- its name so far, and its hunks that have ended

@@ -2,8 +2,8 @@
 -- are the object file of which units.
 use Rattle.std.specs.Prelude.{◌≡◌, ℕ, List, length, map}
 use Rattle.hunk_words.specs.Files.{IsFileOf}
-use Rattle.hunk_words.specs.Longwords.{longwords, IsWhole}
-use Rattle.hunk_words.specs.Name.{name_of}
+use Rattle.hunk_base.specs.Longwords.{longwords, IsWhole}
+use Rattle.hunk_base.specs.Name.{name_of}
 use Rattle.hunk_words.specs.Trees.{ObjectTree}
 use Rattle.hunk_words.specs.Values.{Part, object_value}
 use Rattle.hunk_words.specs.declared.event.FileKind.TheVariants.{Object}

@@ -1,6 +1,6 @@
 -- What a builder of program units stands for: the events that it has taken.
 use Rattle.std.specs.Prelude.{◌≡◌, ◌⊎◌, ℕ, ◌<◌, List, [], ◌∷◌, ◌++◌, Option, Some, None, Result, MatchResult, Vec, vec_len, vec_capacity}
-use Rattle.hunk_words.specs.OpenName.{Opens, bytes_so_far}
+use Rattle.hunk_base.specs.OpenName.{Opens, bytes_so_far}
 use Rattle.hunk_words.specs.PartialHunk.{goes_to_content}
 use Rattle.hunk_words.specs.Values.{Part}
 use Rattle.hunk_words.specs.EventValue.{Receiver as ToldReceiver, EventValue, value_of_events, initial_object, step}
@@ -9,7 +9,7 @@ use Rattle.hunk_words.specs.SiteContext.{SiteContext, context_with}
 use Rattle.hunk_words.specs.Taker.{context_of}
 use Rattle.hunk_words.specs.declared.event.Event.{Event}
 use Rattle.hunk_words.specs.declared.event.FileKind.TheVariants.{Object}
-use Rattle.hunk_words.specs.declared.name.open_name.OpenName.{OpenName}
+use Rattle.hunk_base.specs.declared.name.open_name.OpenName.{OpenName}
 use Rattle.hunk_objects.specs.OpenHunk.{Shows, receiver_of}
 use Rattle.hunk_objects.specs.OpenUnit.{ShowsUnit, UnitSoFar}
 use Rattle.hunk_objects.specs.ProgramUnit.{ObjectUnit, object_units}

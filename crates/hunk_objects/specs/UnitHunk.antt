@@ -5,9 +5,9 @@ use Rattle.std.specs.List.{All}
 use Rattle.std.specs.Map.{values_of}
 use Rattle.std.specs.Ordering.{nat_cmp}
 use Rattle.hunk_words.specs.Kinds.{memory_of}
-use Rattle.hunk_words.specs.Name.{bytes_of, most_name, name_of}
+use Rattle.hunk_base.specs.Name.{bytes_of, most_name, name_of}
 use Rattle.hunk_words.specs.SiteContext.{content_limit}
-use Rattle.hunk_words.specs.Sites.{AreApart, SiteMap}
+use Rattle.hunk_base.specs.Sites.{AreApart, SiteMap}
 use Rattle.hunk_words.specs.Values.{Adds as FileAdds, Definition as FileDefinition, Hunk}
 use Rattle.hunk_words.specs.Values.Adds.{to_hunk, to_reference}
 use Rattle.hunk_words.specs.Values.Definition.{offset_at, absolute_at}

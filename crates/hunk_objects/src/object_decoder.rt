@@ -3,10 +3,10 @@ ghost use Rattle.std.specs.Prelude.{◌≡◌, ℕ, ◌+◌, ◌<◌, ◌^◌, L
 ghost use Rattle.hunk_words.specs.Decoder.{RefusesBytes, RefusesInput, RefusesRead, refusal_of};
 ghost use Rattle.hunk_words.specs.DecoderCore.{Keeps};
 ghost use Rattle.hunk_words.specs.Files.{IsValidPrefix};
-ghost use Rattle.hunk_words.specs.Longwords.{longwords};
-ghost use Rattle.hunk_words.specs.Streams.{HasRead};
+ghost use Rattle.hunk_base.specs.Longwords.{longwords};
+ghost use Rattle.hunk_base.specs.Streams.{HasRead};
 ghost use Rattle.hunk_words.specs.declared.event.FileKind.TheVariants.{Object};
-ghost use Rattle.hunk_words.specs.declared.fault.Refusal.{Refusal};
+ghost use Rattle.hunk_base.specs.declared.fault.Refusal.{Refusal};
 ghost use Rattle.hunk_objects.specs.ProgramUnit.{IsObjectOf};
 
 use crate::program_unit::ProgramUnit;

@@ -1,9 +1,9 @@
 //! The current hunk of a unit.
 ghost use Rattle.std.specs.Prelude.{◌≡◌, ℕ, ◌<◌, pred, Bool, true, false, List, [], ◌∷◌, ◌++◌, length, IsTrue, IsFalse, IsErr, OnOk, OnErr};
 ghost use Rattle.hunk_words.specs.EventValue.{count_to, on_last, value_to};
-ghost use Rattle.hunk_words.specs.OpenName.{Opens, bytes_so_far};
+ghost use Rattle.hunk_base.specs.OpenName.{Opens, bytes_so_far};
 ghost use Rattle.hunk_words.specs.PartialHunk.{HoldsSites, begun_hunk, hunk_with_bytes, hunk_with_site, hunk_with_word};
-ghost use Rattle.hunk_words.specs.Sites.{AreApart};
+ghost use Rattle.hunk_base.specs.Sites.{AreApart};
 ghost use Rattle.hunk_words.specs.Taker.{JudgesSite};
 ghost use Rattle.hunk_words.specs.Values.{Hunk, empty};
 ghost use Rattle.hunk_objects.specs.UnitHunk.{IsUnitHunk, content_bytes, object_hunk};
@@ -48,7 +48,7 @@ impl<A: Allocator + Copy> Model for OpenHunk<A> {
     ghost use Rattle.std.specs.List.{All};
     ghost use Rattle.std.specs.Map.{values_of};
     ghost use Rattle.hunk_objects.specs.OpenHunk.{UnitHunkSoFar};
-    ghost use Rattle.hunk_words.specs.Name.{most_name};
+    ghost use Rattle.hunk_base.specs.Name.{most_name};
     ghost use Rattle.hunk_objects.specs.UnitHunk.{IsAmong};
 
     ghost Value = { UnitHunkSoFar A };

@@ -1,6 +1,6 @@
 //! The current unit of an object file.
 ghost use Rattle.std.specs.Prelude.{◌≡◌, ℕ, Bool, false, List, [], ◌∷◌, ◌++◌, OnOk, OnErr};
-ghost use Rattle.hunk_words.specs.OpenName.{Opens, bytes_so_far};
+ghost use Rattle.hunk_base.specs.OpenName.{Opens, bytes_so_far};
 ghost use Rattle.hunk_words.specs.Values.{Hunk, empty};
 ghost use Rattle.hunk_objects.specs.OpenHunk.{Shows};
 ghost use Rattle.hunk_objects.specs.UnitHunk.{object_hunk};

@@ -1,6 +1,6 @@
 //! The file of most tests, and the bytes of longwords.
 ghost use Rattle.std.specs.Prelude.{◌≡◌, ◌++◌, IfOk};
-ghost use Rattle.hunk_words.specs.Name.{bytes_of};
+ghost use Rattle.hunk_base.specs.Name.{bytes_of};
 
 use byteorder::{BigEndian, ByteOrder};
 use std::alloc::{AllocError, Global};

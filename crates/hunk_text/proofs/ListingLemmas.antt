@@ -7,12 +7,12 @@ use Rattle.std.proofs.lemmas.List.Folds.{length-flat_map-take}
 use Rattle.std.proofs.lemmas.List.Sums.{sum_by-cons}
 use Rattle.std.proofs.lemmas.List.FromFn.{get_or-enumerate_from, length-enumerate_from}
 use Rattle.hunk_words.specs.DebugInfo.{lists_of}
-use Rattle.hunk_words.specs.Streams.{Wrote}
-use Rattle.hunk_words.specs.declared.fault.WriteFault.{WriteFault}
+use Rattle.hunk_base.specs.Streams.{Wrote}
+use Rattle.hunk_base.specs.declared.fault.WriteFault.{WriteFault}
 use Rattle.hunk_objects.specs.ProgramUnit.{ObjectUnit, hunk_count}
 use Rattle.hunk_objects.specs.UnitHunk.{ObjectHunk}
 use Rattle.hunk_text.specs.Listing.{unit_hunk_lines, unit_line, unit_lines}
-use Rattle.hunk_words.proofs.StreamsWritingLemmas.{Wrote-inside, Wrote-more, Wrote-part, Wrote-then}
+use Rattle.hunk_base.proofs.StreamsWritingLemmas.{Wrote-inside, Wrote-more, Wrote-part, Wrote-then}
 
 -- ---- the elements of a list
 

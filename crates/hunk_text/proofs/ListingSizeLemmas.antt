@@ -13,7 +13,7 @@ use Rattle.hunk_words.specs.declared.kinds.HunkKind.{HunkKind}
 use Rattle.hunk_words.specs.declared.kinds.HunkKind.TheVariants.{Code, Data, Bss}
 use Rattle.hunk_words.specs.declared.kinds.Memory.{Memory}
 use Rattle.hunk_words.specs.declared.kinds.Memory.TheVariants.{Any, Chip, Fast}
-use Rattle.hunk_words.specs.Name.{most_name}
+use Rattle.hunk_base.specs.Name.{most_name}
 use Rattle.hunk_text.specs.Digits.{eight_digits}
 use Rattle.hunk_text.specs.Listing.{adds_hunk, debug_line, debug_lines, hunk_front, kind_word, memory_word, site_line, symbol_line}
 use Rattle.hunk_text.specs.QuotedName.{escaped, escaped_all, is_plain, quoted}

@@ -7,7 +7,7 @@ use Rattle.std.proofs.lemmas.List.{get_or_past, length-append}
 use Rattle.std.proofs.lemmas.List.Elements.{All-cons, All-get_or, All-head, All-nil, All-tail}
 use Rattle.std.proofs.lemmas.List.Sums.{get_or-le-sum_by, sum_by-le-sum_by}
 use Rattle.hunk_objects.specs.ProgramUnit.{ObjectUnit, hunk_count}
-use Rattle.hunk_words.specs.Name.{most_name}
+use Rattle.hunk_base.specs.Name.{most_name}
 use Rattle.hunk_objects.specs.UnitHunk.{ObjectHunk}
 use Rattle.hunk_objects.specs.declared.unit_hunk.Adds.{Adds}
 use Rattle.hunk_objects.specs.declared.unit_hunk.Adds.TheVariants.{Hunk, Reference}

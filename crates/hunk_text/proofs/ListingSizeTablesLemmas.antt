@@ -15,7 +15,7 @@ use Rattle.hunk_words.specs.Trees.BlockTree.{reloc_tree, short_tree, ext_tree, s
 use Rattle.hunk_words.specs.Values.{Adds, Definition, HunkTables, merged, no_tables, one_definition, one_reference, one_site, one_symbol, tables_of_block, tables_of_blocks, tables_of_entries, tables_of_groups, tables_of_sites, tables_of_symbols}
 use Rattle.hunk_words.specs.Values.Adds.{to_hunk, to_reference}
 use Rattle.hunk_words.specs.Values.Definition.{offset_at, absolute_at}
-use Rattle.hunk_words.specs.declared.fault.Reason.TheVariants.{SymbolKind}
+use Rattle.hunk_base.specs.declared.fault.Reason.TheVariants.{SymbolKind}
 use Rattle.hunk_words.specs.declared.kinds.BlockType.{BlockType}
 use Rattle.hunk_words.specs.declared.kinds.BlockType.TheVariants.{Short as short}
 use Rattle.hunk_words.proofs.FaultTableLemmas.{reject_unless-none, reject_unless-number}

@@ -11,8 +11,8 @@ use Rattle.std.proofs.lemmas.List.Elements.{All-from_recursion, All-map, All-nil
 use Rattle.std.proofs.lemmas.List.Sums.{sum_by-cons}
 use Rattle.std.proofs.lemmas.Map.Views.{All-values-insert_entry}
 use Rattle.hunk_words.specs.Files.{IsFileOf}
-use Rattle.hunk_words.specs.Longwords.{longwords}
-use Rattle.hunk_words.specs.Name.{bytes_of, name_of}
+use Rattle.hunk_base.specs.Longwords.{longwords}
+use Rattle.hunk_base.specs.Name.{bytes_of, name_of}
 use Rattle.hunk_words.specs.Spelling.{object_spelling}
 use Rattle.hunk_words.specs.Trees.{ObjectTree}
 use Rattle.hunk_words.specs.Values.{Adds, Hunk, Part, object_value}

@@ -1,7 +1,7 @@
 //! The line of what a file is, which begins its listing.
 
 ghost use Rattle.std.specs.Prelude.{IfErr};
-ghost use Rattle.hunk_words.specs.Streams.{IsDevice, Wrote};
+ghost use Rattle.hunk_base.specs.Streams.{IsDevice, Wrote};
 ghost use Rattle.hunk_text.specs.Listing.{load_line, object_line};
 
 use crate::digits::Digits;

@@ -2,7 +2,7 @@
 
 ghost use Rattle.std.specs.Prelude.{◌≡◌, ◌+◌, ◌<◌, ◌^◌, length, IfErr};
 ghost use Rattle.std.specs.List.{enumerate_from, flat_map};
-ghost use Rattle.hunk_words.specs.Streams.{IsDevice, Wrote, WroteAll};
+ghost use Rattle.hunk_base.specs.Streams.{IsDevice, Wrote, WroteAll};
 ghost use Rattle.hunk_text.specs.Listing.{adds_hunk, load_hunk_line, load_hunk_lines, load_listing, load_site_lines, site_line};
 
 use crate::digits::Digits;

@@ -2,7 +2,7 @@
 
 ghost use Rattle.std.specs.Prelude.{◌≡◌, ◌++◌, ◌+◌, ◌<◌, ◌^◌, [], length, get_or, IfErr};
 ghost use Rattle.std.specs.List.{enumerate_from, flat_map};
-ghost use Rattle.hunk_words.specs.Streams.{IsDevice, Wrote, WroteAll};
+ghost use Rattle.hunk_base.specs.Streams.{IsDevice, Wrote, WroteAll};
 ghost use Rattle.hunk_text.specs.Digits.{eight_digits};
 ghost use Rattle.hunk_text.specs.Listing.{adds_text, definition_line, definition_text, object_listing, site_line, unit_hunk_line, unit_hunk_lines, unit_line, unit_lines, unit_site_lines};
 

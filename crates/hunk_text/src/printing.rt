@@ -1,7 +1,7 @@
 //! Lines that are written in pieces.
 
 ghost use Rattle.std.specs.Prelude.{◌+◌, ◌<◌, ◌^◌, length, IfErr};
-ghost use Rattle.hunk_words.specs.Streams.{IsDevice, Wrote};
+ghost use Rattle.hunk_base.specs.Streams.{IsDevice, Wrote};
 ghost use Rattle.hunk_text.specs.Printing.{joined};
 
 use hunk_words::{Sink, WriteFault, write_all};

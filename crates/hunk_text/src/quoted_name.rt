@@ -2,7 +2,7 @@
 
 ghost use Rattle.std.specs.Prelude.{◌≡◌, ◌+◌, ◌<◌, ◌≤◌, ◌^◌, ◌++◌, length, IfErr};
 ghost use Rattle.arrayvec.specs.ArrayVec.{array_vec_len};
-ghost use Rattle.hunk_words.specs.Streams.{IsDevice, Wrote};
+ghost use Rattle.hunk_base.specs.Streams.{IsDevice, Wrote};
 ghost use Rattle.hunk_text.specs.Printing.{joined};
 ghost use Rattle.hunk_text.specs.QuotedName.{escaped, is_plain, quoted};
 

@@ -1,9 +1,9 @@
 -- The line of a file that was counted, put together from the pieces that are written.
 use Rattle.std.proofs.Common.{◌≡◌, ℕ, List, Option, ap, ap₂, refl}
-use Rattle.hunk_words.specs.Streams.{HasRead}
+use Rattle.hunk_base.specs.Streams.{HasRead}
 use Rattle.hunk_words.specs.declared.event.FileKind.{FileKind}
 use Rattle.hunk_words.specs.declared.event.FileKind.TheVariants as kind_is
-use Rattle.hunk_words.proofs.StreamsLemmas.{HasRead-weaker}
+use Rattle.hunk_base.proofs.StreamsLemmas.{HasRead-weaker}
 use Rattle.hunk_text.specs.Listing.{load_line, object_line}
 use Rattle.hunk_tool.specs.Check.{check_text, line_of}
 use Rattle.hunk_tool.specs.Counters.{CountsLoad, CountsObject}

@@ -4,7 +4,7 @@ use Rattle.hunk_words.specs.Decoder.{Finished, RefusesInput}
 use Rattle.hunk_words.specs.declared.event.Event.{Event}
 use Rattle.hunk_words.specs.declared.event.FileKind.{FileKind}
 use Rattle.hunk_words.specs.declared.event.FileKind.TheVariants.{Load, Object}
-use Rattle.hunk_words.specs.declared.fault.Refusal.{Refusal}
+use Rattle.hunk_base.specs.declared.fault.Refusal.{Refusal}
 use Rattle.hunk_words.specs.Values.{object_value}
 use Rattle.hunk_words.proofs.DecoderRefusalLemmas.{refuses-input}
 use Rattle.hunk_objects.specs.ProgramUnit.{object_units}

@@ -2,7 +2,7 @@
 use Rattle.std.proofs.Common.{◌≡◌, ℕ, List, [], ◌∷◌, ◌++◌, slice_index_or, ap, ◌∙◌, append_assoc}
 use Rattle.std.specs.Prelude.{codes}
 use Rattle.std.specs.Fmt.{decimal}
-use Rattle.hunk_words.specs.declared.fault.Fault.{Fault}
+use Rattle.hunk_base.specs.declared.fault.Fault.{Fault}
 use Rattle.hunk_tool.specs.FaultLine.{fault_line, fault_text, name_of, program_line, reason_text}
 use Rattle.hunk_text.specs.Printing.{line}
 use Rattle.hunk_tool.specs.declared.tool_fault.ToolFault.{ToolFault}

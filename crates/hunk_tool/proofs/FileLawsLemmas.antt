@@ -5,14 +5,14 @@ use Rattle.std.proofs.lemmas.List.{nil_from_length}
 use Rattle.hunk_words.specs.Files.{IsFile}
 use Rattle.hunk_words.specs.FirstOffence.{FirstOffence}
 use Rattle.hunk_words.specs.FirstOffence.FirstOffence.{longword_offends, end_offends}
-use Rattle.hunk_words.specs.Longwords.{IsWhole, longwords, unfinished}
+use Rattle.hunk_base.specs.Longwords.{IsWhole, longwords, unfinished}
 use Rattle.hunk_words.specs.Values.{object_value}
 use Rattle.hunk_words.specs.declared.event.FileKind.{FileKind}
 use Rattle.hunk_words.specs.declared.event.FileKind.TheVariants.{Load, Object}
-use Rattle.hunk_words.specs.declared.fault.Fault.{Fault}
-use Rattle.hunk_words.specs.declared.fault.Reason.{Reason}
+use Rattle.hunk_base.specs.declared.fault.Fault.{Fault}
+use Rattle.hunk_base.specs.declared.fault.Reason.{Reason}
 use Rattle.hunk_words.proofs.FirstOffenceLemmas.{file-no-offence, file-or-offence, first-one}
-use Rattle.hunk_words.proofs.LongwordsByteLemmas.{longwords-long}
+use Rattle.hunk_base.proofs.LongwordsByteLemmas.{longwords-long}
 use Rattle.hunk_objects.specs.ProgramUnit.{object_units}
 use Rattle.hunk_objects.proofs.PartialLemmas.{one-object}
 use Rattle.hunk_loadfile.specs.LoadFile.{load_value}

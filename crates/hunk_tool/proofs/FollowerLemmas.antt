@@ -5,18 +5,18 @@ use Rattle.hunk_words.specs.Due.{Dues}
 use Rattle.hunk_words.specs.Files.{IsValidPrefix, most_longwords}
 use Rattle.hunk_words.specs.FirstOffence.{FirstOffence, OffendsAt}
 use Rattle.hunk_words.specs.FirstOffence.FirstOffence.{longword_offends, end_offends}
-use Rattle.hunk_words.specs.Longwords.{longwords, unfinished}
+use Rattle.hunk_base.specs.Longwords.{longwords, unfinished}
 use Rattle.hunk_words.specs.declared.event.Event.{Event}
 use Rattle.hunk_words.specs.declared.event.FileKind.{FileKind}
 use Rattle.hunk_words.specs.declared.event.FileKind.TheVariants.{Object, Load}
-use Rattle.hunk_words.specs.declared.fault.Fault.{Fault}
-use Rattle.hunk_words.specs.declared.fault.Reason.{Reason}
-use Rattle.hunk_words.specs.declared.fault.Refusal.{Refusal}
-use Rattle.hunk_words.specs.declared.fault.Refusal.TheVariants as refusal_is
+use Rattle.hunk_base.specs.declared.fault.Fault.{Fault}
+use Rattle.hunk_base.specs.declared.fault.Reason.{Reason}
+use Rattle.hunk_base.specs.declared.fault.Refusal.{Refusal}
+use Rattle.hunk_base.specs.declared.fault.Refusal.TheVariants as refusal_is
 use Rattle.hunk_words.proofs.DecoderCoreLemmas.{StandsBy-append, StandsBy-front}
 use Rattle.hunk_words.proofs.FilesReadingLemmas.{front-front}
 use Rattle.hunk_words.proofs.FirstOffenceLemmas.{file-no-offence, first-one}
-use Rattle.hunk_words.proofs.LongwordsLemmas.{length-longwords, length-unfinished, longwords-append}
+use Rattle.hunk_base.proofs.LongwordsLemmas.{length-longwords, length-unfinished, longwords-append}
 use Rattle.hunk_tool.specs.Explanation.{EndsWith, Explains, Follows, IsEnd, IsExplained}
 use Rattle.hunk_tool.specs.FileDecoder.{IsFileOf, inner}
 use Rattle.hunk_tool.specs.declared.file_decoder.File.{File}

@@ -7,8 +7,8 @@ use Rattle.std.proofs.Math.Path.{fun_ext}
 use Rattle.std.proofs.lemmas.Bool.{cases_Bool}
 use Rattle.std.proofs.lemmas.List.{append_cancel_left}
 use Rattle.std.proofs.lemmas.List.Elements.{All-head, All-tail}
-use Rattle.hunk_words.specs.Longwords.{longwords}
-use Rattle.hunk_words.specs.Sites.{StandFrom}
+use Rattle.hunk_base.specs.Longwords.{longwords}
+use Rattle.hunk_base.specs.Sites.{StandFrom}
 use Rattle.hunk_objects.specs.ProgramUnit.{ObjectUnit}
 use Rattle.hunk_objects.specs.UnitHunk.{IsUnitHunk, ObjectHunk}
 use Rattle.hunk_objects.specs.declared.unit_hunk.Adds.{Adds}

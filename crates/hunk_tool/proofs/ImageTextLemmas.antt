@@ -6,7 +6,7 @@ use Rattle.std.proofs.lemmas.List.{get_or-map, length-append, length-map, take_a
 use Rattle.std.proofs.lemmas.List.FromFn.{get_or-enumerate_from, length-enumerate_from}
 use Rattle.hex.specs.Hex.{encode_with}
 use Rattle.hunk_loader.specs.Image.{hunks_of}
-use Rattle.hunk_words.proofs.StreamsWritingLemmas.{flat_map-around, length-front-le}
+use Rattle.hunk_base.proofs.StreamsWritingLemmas.{flat_map-around, length-front-le}
 use Rattle.hunk_text.proofs.DigitsLemmas.{length-decimal}
 use Rattle.hunk_tool.specs.ImageText.{EndsInside, all_hunk_lines, closing, hunk_heading, hunk_lines, numbered_lines, opening}
 use Rattle.hunk_tool.specs.Rows.{row_lines}

@@ -6,7 +6,7 @@ use Rattle.hunk_link.specs.Linkable.{IsLinkRefusal}
 use Rattle.hunk_link.specs.declared.refusal.LinkRefusal.{LinkRefusal}
 use Rattle.hunk_link.specs.declared.refusal.LinkRefusal.TheVariants as link_refusal
 use Rattle.hunk_tool.specs.FaultLine.{IsOfInputs}
-use Rattle.hunk_words.specs.declared.fault.ReadFault.{ReadFault}
+use Rattle.hunk_base.specs.declared.fault.ReadFault.{ReadFault}
 use Rattle.hunk_tool.specs.Inputs.{AreObjects, HaveRead, Input, IsInputFault, IsRefusedAt}
 use Rattle.hunk_tool.specs.ToolFault.{tool_fault_of_link}
 use Rattle.hunk_tool.specs.declared.tool_fault.ToolFault.{ToolFault}

@@ -5,13 +5,13 @@ use Rattle.std.proofs.lemmas.List.{nil_from_length}
 use Rattle.hunk_words.specs.Files.{IsFile}
 use Rattle.hunk_words.specs.FirstOffence.{FirstOffence, OffendsAt}
 use Rattle.hunk_words.specs.FirstOffence.FirstOffence.{longword_offends, end_offends}
-use Rattle.hunk_words.specs.Longwords.{longwords, unfinished}
+use Rattle.hunk_base.specs.Longwords.{longwords, unfinished}
 use Rattle.hunk_words.specs.declared.event.FileKind.TheVariants.{Load}
-use Rattle.hunk_words.specs.declared.fault.Fault.{Fault}
-use Rattle.hunk_words.specs.declared.fault.Reason.{Reason}
+use Rattle.hunk_base.specs.declared.fault.Fault.{Fault}
+use Rattle.hunk_base.specs.declared.fault.Reason.{Reason}
 use Rattle.hunk_words.proofs.FirstOffenceLemmas.{file-no-offence, file-or-offence, first-one}
-use Rattle.hunk_words.proofs.LongwordsByteLemmas.{longwords-long}
-use Rattle.hunk_words.proofs.LongwordsLemmas.{longwords-append}
+use Rattle.hunk_base.proofs.LongwordsByteLemmas.{longwords-long}
+use Rattle.hunk_base.proofs.LongwordsLemmas.{longwords-append}
 use Rattle.hunk_loadfile.specs.LoadHunk.{FileHunk}
 use Rattle.hunk_loadfile.proofs.LoadFileLemmas.{one-load}
 use Rattle.hunk_loadfile.specs.LoadFile.{IsLoadOf, load_value}

@@ -4,19 +4,20 @@ use Rattle.std.specs.Io.KnownBytes.{Appends}
 use Rattle.std.specs.List.{All}
 use Rattle.std.proofs.KnownBytes.{Keeps-refl}
 use Rattle.std.proofs.lemmas.List.Elements.{All-from_recursion}
-use Rattle.hunk_words.specs.Files.{AllLong, IsFileOf, most_longwords}
+use Rattle.hunk_base.specs.Longwords.{AllLong}
+use Rattle.hunk_words.specs.Files.{IsFileOf, most_longwords}
 use Rattle.hunk_words.specs.Kinds.{Kind, Width, bound, width}
 use Rattle.hunk_words.specs.Kinds.Width.{long, half}
 use Rattle.hunk_words.specs.Machine.{due}
-use Rattle.hunk_words.specs.Name.{bytes_of}
+use Rattle.hunk_base.specs.Name.{bytes_of}
 use Rattle.hunk_words.specs.Reading.{Reads, WordPasses, word_next}
-use Rattle.hunk_words.specs.Streams.{TookFront, WriteStopped}
+use Rattle.hunk_base.specs.Streams.{TookFront, WriteStopped}
 use Rattle.hunk_words.specs.Trees.{LoadTree}
 use Rattle.hunk_words.specs.declared.event.FileKind.TheVariants.{Load}
-use Rattle.hunk_words.specs.declared.fault.WriteFault.{WriteFault}
-use Rattle.hunk_words.specs.declared.fault.WriteFault.TheVariants as write_fault
+use Rattle.hunk_base.specs.declared.fault.WriteFault.{WriteFault}
+use Rattle.hunk_base.specs.declared.fault.WriteFault.TheVariants as write_fault
 use Rattle.hunk_words.proofs.FilesPrefixLemmas.{end_of, spelling-read, start}
-use Rattle.hunk_words.proofs.LongwordsByteLemmas.{bytes_of-IsWhole, longwords-bytes_of}
+use Rattle.hunk_base.proofs.LongwordsByteLemmas.{bytes_of-IsWhole, longwords-bytes_of}
 use Rattle.hunk_objects.specs.ProgramUnit.{ObjectUnit}
 use Rattle.hunk_loadfile.specs.LoadFile.{IsLoad, IsLoadOf}
 use Rattle.hunk_loadfile.specs.Trimming.{trimmed}

@@ -8,12 +8,12 @@ use Rattle.std.proofs.lemmas.Bool.{and_parts, leb-true}
 use Rattle.std.proofs.lemmas.List.{length-map}
 use Rattle.std.proofs.lemmas.List.Elements.{All-cons, All-nil}
 use Rattle.std.proofs.lemmas.Slice.Zip.{length-zip}
-use Rattle.hunk_words.specs.Streams.{HasRead, IsDevice, TookFront, WriteStopped}
-use Rattle.hunk_words.specs.declared.fault.Reason.TheVariants.{HunkTable}
-use Rattle.hunk_words.specs.declared.fault.WriteFault.{WriteFault}
-use Rattle.hunk_words.specs.declared.fault.WriteFault.TheVariants as write_fault
+use Rattle.hunk_base.specs.Streams.{HasRead, IsDevice, TookFront, WriteStopped}
+use Rattle.hunk_base.specs.declared.fault.Reason.TheVariants.{HunkTable}
+use Rattle.hunk_base.specs.declared.fault.WriteFault.{WriteFault}
+use Rattle.hunk_base.specs.declared.fault.WriteFault.TheVariants as write_fault
 use Rattle.hunk_words.proofs.FaultTableLemmas.{reject_unless-none}
-use Rattle.hunk_words.proofs.StreamsLemmas.{HasRead-weaker}
+use Rattle.hunk_base.proofs.StreamsLemmas.{HasRead-weaker}
 use Rattle.hunk_loadfile.specs.LoadFile.{load_hunk_value}
 use Rattle.hunk_loadfile.specs.LoadHunk.{FileHunk}
 use Rattle.hunk_loadfile.proofs.PatchingLemmas.{length-patched_bytes}

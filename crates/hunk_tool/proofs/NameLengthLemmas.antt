@@ -4,7 +4,7 @@ use Rattle.std.proofs.Common.{ℕ, ◌^◌, ◌≤◌, List, [], ◌∷◌, leng
 use Rattle.std.specs.List.{All, position_or_len}
 use Rattle.std.proofs.lemmas.List.{length-take}
 use Rattle.std.proofs.lemmas.List.Elements.{All-append, All-from_recursion, All-map, All-nil, All-weaker}
-use Rattle.hunk_words.specs.Name.{bytes_of, name_of}
+use Rattle.hunk_base.specs.Name.{bytes_of, name_of}
 use Rattle.hunk_words.specs.Values.{Hunk, object_value}
 use Rattle.hunk_objects.specs.ProgramUnit.{IsObjectOf, ObjectUnit, object_unit}
 use Rattle.hunk_objects.specs.UnitHunk.{ObjectHunk, definition_of, object_hunk}

@@ -1,7 +1,7 @@
 -- The lines of the rows of a hunk, block by block.
 use Rattle.std.proofs.Common.{◌≡◌, ◌≤◌, ◌+◌, ◌*◌, ℕ, List, ◌++◌, length, take, drop, ap, ◌∙◌, arith}
 use Rattle.std.proofs.lemmas.List.{drop-take, take-take, take_all}
-use Rattle.hunk_words.proofs.StreamsWritingLemmas.{length-front-le}
+use Rattle.hunk_base.proofs.StreamsWritingLemmas.{length-front-le}
 use Rattle.hunk_tool.specs.Rows.{row_lines}
 use Rattle.hunk_tool.specs.declared.image_form.ImageForm.{ImageForm}
 use Rattle.hunk_tool.proofs.RowsLemmas.{row_lines-at_block}

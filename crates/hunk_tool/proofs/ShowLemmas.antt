@@ -1,6 +1,6 @@
 -- The listing of a file that was read.
 use Rattle.std.proofs.Common.{◌^◌, ◌<◌, ℕ, List, length, Option}
-use Rattle.hunk_words.specs.Streams.{HasRead}
+use Rattle.hunk_base.specs.Streams.{HasRead}
 use Rattle.hunk_words.specs.declared.event.FileKind.{FileKind}
 use Rattle.hunk_words.specs.declared.event.FileKind.TheVariants as kind_is
 use Rattle.hunk_text.proofs.ListingSizeLoadLemmas.{load_listing-fits}

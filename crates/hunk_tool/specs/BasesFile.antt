@@ -1,7 +1,7 @@
 -- What the bytes of a file of addresses mean, and why the addresses of a file are not known.
 use Rattle.std.specs.Prelude.{◌≡◌, ◌++◌, ℕ, Bool, true, false, ◌||◌, ◌==◌, IsTrue, List, [], ◌∷◌, map, Option, Some}
 use Rattle.std.specs.List.{filter, slice_split}
-use Rattle.hunk_words.specs.Streams.{HasRead}
+use Rattle.hunk_base.specs.Streams.{HasRead}
 use Rattle.hunk_tool.specs.Bases.{IsNumbersFault, number_of}
 use Rattle.hunk_tool.specs.declared.bases.BasesFault.{BasesFault}
 use Rattle.hunk_tool.specs.declared.bases_file.BasesFileFault.{BasesFileFault}

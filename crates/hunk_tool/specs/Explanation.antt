@@ -3,11 +3,11 @@ use Rattle.std.specs.Prelude.{◌≡◌, ℕ, ◌*◌, List, ◌∷◌, ◌++◌
 use Rattle.hunk_words.specs.Due.{Dues}
 use Rattle.hunk_words.specs.Files.{IsFile}
 use Rattle.hunk_words.specs.FirstOffence.{FirstOffence}
-use Rattle.hunk_words.specs.Longwords.{longwords, unfinished, IsWhole}
+use Rattle.hunk_base.specs.Longwords.{longwords, unfinished, IsWhole}
 use Rattle.hunk_words.specs.declared.event.FileKind.{FileKind}
-use Rattle.hunk_words.specs.declared.fault.ReadFault.{ReadFault}
-use Rattle.hunk_words.specs.declared.fault.ReadFault.TheVariants as read_fault
-use Rattle.hunk_words.specs.declared.fault.Refusal.TheVariants as refusal_is
+use Rattle.hunk_base.specs.declared.fault.ReadFault.{ReadFault}
+use Rattle.hunk_base.specs.declared.fault.ReadFault.TheVariants as read_fault
+use Rattle.hunk_base.specs.declared.fault.Refusal.TheVariants as refusal_is
 use Rattle.hunk_tool.specs.Path.{IsPathOf, blocks_begun}
 use Rattle.hunk_tool.specs.declared.explanation.Explanation.{Explanation}
 use Rattle.hunk_tool.specs.declared.explanation.Found.{Found}

@@ -1,7 +1,7 @@
 -- What it means that a text of the value of a file was written, or why it was not.
 use Rattle.std.specs.Prelude.{◌≡◌, ℕ, List, IsTrue, Option}
 use Rattle.std.specs.Io.KnownBytes.{Appends, Keeps}
-use Rattle.hunk_words.specs.Streams.{HasRead, TookFront}
+use Rattle.hunk_base.specs.Streams.{HasRead, TookFront}
 use Rattle.hunk_tool.specs.FileDecoder.{IsRefused}
 use Rattle.hunk_tool.specs.FileValue.{FileValue, IsOfItsKind}
 use Rattle.hunk_tool.specs.Load.{Ends}

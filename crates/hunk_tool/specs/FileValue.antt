@@ -1,7 +1,7 @@
 -- The kind of a file by its first four bytes, and its value.
 use Rattle.std.specs.Prelude.{ℕ, ◌==◌, if◌then◌else◌, List, [], ◌∷◌}
 use Rattle.hunk_words.specs.Kinds.{low}
-use Rattle.hunk_words.specs.Longwords.{longwords}
+use Rattle.hunk_base.specs.Longwords.{longwords}
 use Rattle.hunk_words.specs.declared.event.FileKind.{FileKind}
 use Rattle.hunk_words.specs.declared.event.FileKind.TheVariants.{Object, Load}
 use Rattle.hunk_objects.specs.ProgramUnit.{IsObjectOf, ObjectUnit}

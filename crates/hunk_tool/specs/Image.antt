@@ -1,7 +1,7 @@
 -- What it means that the memory that object files define was written, or why it was not.
 use Rattle.std.specs.Prelude.{ℕ, List, map, true, IsTrue, Option}
 use Rattle.std.specs.Io.KnownBytes.{Appends, Keeps}
-use Rattle.hunk_words.specs.Streams.{TookFront}
+use Rattle.hunk_base.specs.Streams.{TookFront}
 use Rattle.hunk_objects.specs.ProgramUnit.{ObjectUnit}
 use Rattle.hunk_link.specs.Ranks.{hunks_of}
 use Rattle.hunk_loader.specs.Places.{IsFirstRefusal, Placed}

@@ -1,7 +1,7 @@
 -- Laws about the outcomes of what was read: one of them holds, and no other.
 use Rattle.std.specs.Prelude.{◌≡◌, ◌⊎◌, List, [], map, ℕ, ◌^◌, ◌<◌, ◌++◌, Bool, true, IsTrue, Option, slice_index, EachIndex}
 use Rattle.std.specs.List.{All}
-use Rattle.hunk_words.specs.declared.fault.Fault.{Fault}
+use Rattle.hunk_base.specs.declared.fault.Fault.{Fault}
 use Rattle.hunk_words.specs.declared.kinds.HunkKind.{HunkKind}
 use Rattle.hunk_words.specs.declared.kinds.Memory.{Memory}
 use Rattle.hunk_loadfile.specs.LoadHunk.{FileHunk}

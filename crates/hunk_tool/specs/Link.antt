@@ -2,8 +2,8 @@
 use Rattle.std.specs.Prelude.{◌≡◌, ◌≢◌, ◌⊎◌, ℕ, List, Bool, IsTrue, Option}
 use Rattle.std.specs.Io.KnownBytes.{Appends, Keeps}
 use Rattle.std.specs.List.{All}
-use Rattle.hunk_words.specs.Name.{bytes_of}
-use Rattle.hunk_words.specs.Streams.{TookFront}
+use Rattle.hunk_base.specs.Name.{bytes_of}
+use Rattle.hunk_base.specs.Streams.{TookFront}
 use Rattle.hunk_objects.specs.ProgramUnit.{ObjectUnit}
 use Rattle.hunk_loadfile.specs.LoadFile.{IsLoadOf}
 use Rattle.hunk_loadfile.specs.LoadHunk.{FileHunk}

@@ -2,7 +2,7 @@
 -- was not: any text of its hunks and the bases, and above all its image.
 use Rattle.std.specs.Prelude.{◌≡◌, ℕ, List, Bool, IsTrue, Option}
 use Rattle.std.specs.Io.KnownBytes.{Appends, Keeps}
-use Rattle.hunk_words.specs.Streams.{HasRead, TookFront}
+use Rattle.hunk_base.specs.Streams.{HasRead, TookFront}
 use Rattle.hunk_loadfile.specs.LoadHunk.{FileHunk}
 use Rattle.hunk_loadfile.specs.LoadFile.{IsLoadOf}
 use Rattle.hunk_loader.specs.ImageLoader.{IsNotPlaced}

@@ -1,10 +1,10 @@
 -- What the faults of the parts of an engine are as its own, and the exit status of each.
 use Rattle.std.specs.Prelude.{ℕ}
-use Rattle.hunk_words.specs.declared.fault.ReadFault.{ReadFault}
-use Rattle.hunk_words.specs.declared.fault.ReadFault.TheVariants as read_fault
-use Rattle.hunk_words.specs.declared.fault.Refusal.TheVariants as refusal
-use Rattle.hunk_words.specs.declared.fault.WriteFault.{WriteFault}
-use Rattle.hunk_words.specs.declared.fault.WriteFault.TheVariants as write_fault
+use Rattle.hunk_base.specs.declared.fault.ReadFault.{ReadFault}
+use Rattle.hunk_base.specs.declared.fault.ReadFault.TheVariants as read_fault
+use Rattle.hunk_base.specs.declared.fault.Refusal.TheVariants as refusal
+use Rattle.hunk_base.specs.declared.fault.WriteFault.{WriteFault}
+use Rattle.hunk_base.specs.declared.fault.WriteFault.TheVariants as write_fault
 use Rattle.hunk_link.specs.declared.refusal.LinkRefusal.{LinkRefusal}
 use Rattle.hunk_link.specs.declared.refusal.LinkRefusal.TheVariants as link_refusal
 use Rattle.hunk_loader.specs.declared.image_reader.ImageFault.{ImageFault}

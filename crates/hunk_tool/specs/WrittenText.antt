@@ -1,8 +1,8 @@
 -- A text that was written, or of which only the first bytes were.
 use Rattle.std.specs.Prelude.{◌≡◌, ℕ, Bool, List, Option, Result, Ok, Err}
 use Rattle.std.specs.Io.KnownBytes.{Appends}
-use Rattle.hunk_words.specs.Streams.{WriteStopped}
-use Rattle.hunk_words.specs.declared.fault.WriteFault.TheVariants.{Device}
+use Rattle.hunk_base.specs.Streams.{WriteStopped}
+use Rattle.hunk_base.specs.declared.fault.WriteFault.TheVariants.{Device}
 
 -- The text was appended, and no write failed; or a write failed, and exactly the first bytes of the
 -- text were appended.

@@ -1,7 +1,7 @@
 //! The addresses in a file, one for each hunk.
 
 ghost use Rattle.std.specs.Prelude.{◌≡◌, ◌++◌, ℕ, List, [], ◌∷◌, map, IfOk, IfErr, IsTrue, OnOk, Some};
-ghost use Rattle.hunk_words.specs.Streams.{HasRead};
+ghost use Rattle.hunk_base.specs.Streams.{HasRead};
 ghost use Rattle.hunk_tool.specs.BasesFile.{file_numbers, is_separator, IsBasesFileFault, IsRejected, StandsFor};
 ghost use Rattle.hunk_tool.specs.PartDigits.{ended_number};
 ghost use Rattle.hunk_tool.specs.declared.bases_file.BasesFileFault.TheVariants as file_fault;

@@ -1,7 +1,7 @@
 //! Checks a file, and writes what it is.
 
 ghost use Rattle.std.specs.Prelude.{IsTrue, OnOk, IfErr};
-ghost use Rattle.hunk_words.specs.Streams.{HasRead, IsDevice, WroteAll};
+ghost use Rattle.hunk_base.specs.Streams.{HasRead, IsDevice, WroteAll};
 ghost use Rattle.hunk_tool.specs.Check.{check_text, line_of};
 ghost use Rattle.hunk_tool.specs.FileText.{IsTextFault, IsWritten};
 ghost use Rattle.hunk_tool.specs.Load.{ends_of};

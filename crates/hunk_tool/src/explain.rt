@@ -1,9 +1,9 @@
 //! Reads a file once more, to tell where and why it is refused.
 
 ghost use Rattle.std.specs.Prelude.{◌≡◌, [], true, false, Ok, IfOk, IfErr, OnOk, IsTrue};
-ghost use Rattle.hunk_words.specs.Streams.{HasRead};
+ghost use Rattle.hunk_base.specs.Streams.{HasRead};
 ghost use Rattle.hunk_words.specs.declared.event.FileKind.TheVariants.{Load, Object};
-ghost use Rattle.hunk_words.specs.declared.fault.Fault.{Fault};
+ghost use Rattle.hunk_base.specs.declared.fault.Fault.{Fault};
 ghost use Rattle.hunk_tool.specs.Explanation.{EndsWith, IsExplained, IsUnexplained};
 ghost use Rattle.hunk_tool.specs.FileValue.{kind_of_bytes};
 ghost use Rattle.hunk_tool.specs.Follower.{StandsFor};

@@ -1,7 +1,7 @@
 //! The lines that explain the first offence of a file.
 
 ghost use Rattle.std.specs.Prelude.{◌≡◌, ◌≤◌, length, IfErr};
-ghost use Rattle.hunk_words.specs.Streams.{IsDevice, WroteAll};
+ghost use Rattle.hunk_base.specs.Streams.{IsDevice, WroteAll};
 ghost use Rattle.hunk_tool.specs.ExplanationText.{block_name, due_text, explanation_text, found_text, hunk_text, side_text, unit_text};
 ghost use Rattle.hunk_tool.specs.Phrase.{phrase_text};
 

@@ -2,7 +2,7 @@
 
 ghost use Rattle.std.specs.Prelude.{◌≡◌, ◌≢◌, ◌++◌, ◌+◌, ◌<◌, ◌≤◌, ◌^◌, ℕ, List, codes, length, map, IfErr};
 ghost use Rattle.std.specs.String.{string_bytes};
-ghost use Rattle.hunk_words.specs.Streams.{IsDevice, Wrote, WroteAll};
+ghost use Rattle.hunk_base.specs.Streams.{IsDevice, Wrote, WroteAll};
 ghost use Rattle.hunk_tool.specs.FaultLine.{fault_line, fault_text, name_of, place_text, program_line, reason_text, HasShortName, IsOfInputs};
 ghost use Rattle.hunk_link.specs.declared.refusal.LinkRefusal.{LinkRefusal};
 ghost use Rattle.hunk_tool.specs.Phrase.{phrase_text};

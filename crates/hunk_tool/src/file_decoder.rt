@@ -2,10 +2,10 @@
 
 ghost use Rattle.std.specs.Prelude.{◌≡◌, ℕ, ◌+◌, ◌<◌, ◌^◌, List, [], ◌++◌, length, IfOk, IfErr, OnOk, IsTrue};
 ghost use Rattle.hunk_words.specs.Decoder.{RefusesBytes, RefusesInput};
-ghost use Rattle.hunk_words.specs.Streams.{HasRead};
+ghost use Rattle.hunk_base.specs.Streams.{HasRead};
 ghost use Rattle.hunk_words.specs.declared.event.FileKind.{FileKind};
 ghost use Rattle.hunk_words.specs.declared.event.FileKind.TheVariants.{Object, Load};
-ghost use Rattle.hunk_words.specs.declared.fault.Refusal.{Refusal};
+ghost use Rattle.hunk_base.specs.declared.fault.Refusal.{Refusal};
 ghost use Rattle.hunk_tool.specs.FileDecoder.{inner, IsFileOf, IsReadFault, KindStandsFor, RefusesFed, StandsFor};
 ghost use Rattle.hunk_tool.specs.FileValue.{kind_of_bytes};
 

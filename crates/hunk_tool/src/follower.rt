@@ -3,7 +3,7 @@
 ghost use Rattle.std.specs.Prelude.{◌≡◌, ◌+◌, ◌<◌, ◌^◌, ℕ, List, [], ◌∷◌, ◌++◌, length, Some, None, IfOk, IfErr, OnOk};
 ghost use Rattle.hunk_words.specs.Decoder.{RefusesBytes};
 ghost use Rattle.hunk_words.specs.DecoderCore.{Keeps};
-ghost use Rattle.hunk_words.specs.declared.fault.Refusal.{Refusal};
+ghost use Rattle.hunk_base.specs.declared.fault.Refusal.{Refusal};
 ghost use Rattle.hunk_tool.specs.Explanation.{IsExplained};
 ghost use Rattle.hunk_tool.specs.Follower.{FollowsWords, StandsFor, refusal_of};
 

@@ -1,7 +1,7 @@
 //! Files of either kind, as values.
 
 ghost use Rattle.std.specs.Prelude.{IsTrue, OnOk, IfOk, IfErr};
-ghost use Rattle.hunk_words.specs.Streams.{HasRead};
+ghost use Rattle.hunk_base.specs.Streams.{HasRead};
 ghost use Rattle.hunk_words.specs.declared.event.FileKind.TheVariants.{Load, Object};
 ghost use Rattle.hunk_objects.specs.ProgramUnit.{IsObjectOf};
 ghost use Rattle.hunk_loadfile.specs.LoadFile.{IsLoadOf};

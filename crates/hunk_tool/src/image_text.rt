@@ -1,7 +1,7 @@
 //! The text of an image, line by line as it is written.
 ghost use Rattle.std.specs.Prelude.{◌≡◌, ◌+◌, ◌<◌, ◌≤◌, ◌^◌, length, IfErr};
 ghost use Rattle.std.specs.List.{All};
-ghost use Rattle.hunk_words.specs.Streams.{IsDevice, Wrote, WroteAll};
+ghost use Rattle.hunk_base.specs.Streams.{IsDevice, Wrote, WroteAll};
 ghost use Rattle.hunk_loader.specs.Image.{hunks_of};
 ghost use Rattle.hunk_tool.specs.ImageText.{all_hunk_lines, closing, hunk_heading, hunk_line, hunk_lines, image_text};
 ghost use Rattle.hunk_tool.specs.ImageText.{opening, EndsInside};

@@ -2,7 +2,7 @@
 
 ghost use Rattle.std.specs.Prelude.{◌++◌, ◌≤◌, ◌^◌, codes, length, IfErr};
 ghost use Rattle.std.specs.Fmt.{decimal};
-ghost use Rattle.hunk_words.specs.Streams.{IsDevice, WroteAll};
+ghost use Rattle.hunk_base.specs.Streams.{IsDevice, WroteAll};
 ghost use Rattle.hunk_text.specs.QuotedName.{quoted};
 ghost use Rattle.hunk_tool.specs.FaultLine.{HasShortName, hunk_of_unit, link_text, program_line};
 

@@ -1,7 +1,7 @@
 //! Loads a file at given addresses, and writes its image.
 
 ghost use Rattle.std.specs.Prelude.{IsTrue, OnOk, IfErr};
-ghost use Rattle.hunk_words.specs.Streams.{HasRead};
+ghost use Rattle.hunk_base.specs.Streams.{HasRead};
 ghost use Rattle.hunk_tool.specs.Load.{ends_of, IsLoadFault, IsReported};
 ghost use Rattle.hunk_tool.specs.declared.image_form.ImageForm.TheVariants.{Report};
 

@@ -3,7 +3,7 @@
 ghost use Rattle.std.specs.Prelude.{◌≡◌, ◌++◌, ◌+◌, ◌≤◌, length, IfErr};
 ghost use Rattle.std.specs.Fmt.{decimal};
 ghost use Rattle.hunk_text.specs.Digits.{eight_digits};
-ghost use Rattle.hunk_words.specs.Streams.{IsDevice, WroteAll};
+ghost use Rattle.hunk_base.specs.Streams.{IsDevice, WroteAll};
 
 use hunk_text::{Digits, write_pieces};
 use hunk_words::{Sink, WriteFault};

@@ -1,7 +1,7 @@
 //! The lines that tell what hunks need, beside their addresses.
 
 ghost use Rattle.std.specs.Prelude.{◌≡◌, IfErr};
-ghost use Rattle.hunk_words.specs.Streams.{IsDevice, WroteAll};
+ghost use Rattle.hunk_base.specs.Streams.{IsDevice, WroteAll};
 ghost use Rattle.hunk_loader.specs.Sizes.{sizes_of};
 ghost use Rattle.hunk_tool.specs.WrittenText.{WroteText};
 ghost use Rattle.hunk_tool.specs.Phrase.{phrase_text};

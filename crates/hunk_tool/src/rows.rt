@@ -1,6 +1,6 @@
 //! The lines that hold the bytes of a hunk, row by row as they are written.
 ghost use Rattle.std.specs.Prelude.{◌≡◌, ◌+◌, ◌*◌, ◌<◌, ◌≤◌, ◌^◌, length, take, IfErr};
-ghost use Rattle.hunk_words.specs.Streams.{IsDevice, Wrote};
+ghost use Rattle.hunk_base.specs.Streams.{IsDevice, Wrote};
 ghost use Rattle.hunk_tool.specs.Rows.{line_overhead, longest_line, report_line, row_count, row_line, row_lines, row_size};
 
 use crate::hex_digits::put_digits;

@@ -1,7 +1,7 @@
 //! Shows what is in a file.
 
 ghost use Rattle.std.specs.Prelude.{◌^◌, ◌<◌, length, IsTrue, OnOk, IfErr};
-ghost use Rattle.hunk_words.specs.Streams.{HasRead, IsDevice, WroteAll};
+ghost use Rattle.hunk_base.specs.Streams.{HasRead, IsDevice, WroteAll};
 ghost use Rattle.hunk_tool.specs.FileText.{IsTextFault, IsWritten};
 ghost use Rattle.hunk_tool.specs.HunkFile.{value_of};
 ghost use Rattle.hunk_tool.specs.Load.{ends_of};

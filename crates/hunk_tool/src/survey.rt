@@ -1,7 +1,7 @@
 //! Surveys files: what each of them is, the line about it, and the line with their numbers.
 
 ghost use Rattle.std.specs.Prelude.{◌≡◌, ◌++◌, codes, IfOk, IfErr};
-ghost use Rattle.hunk_words.specs.Streams.{IsDevice, Wrote};
+ghost use Rattle.hunk_base.specs.Streams.{IsDevice, Wrote};
 ghost use Rattle.hunk_text.specs.Printing.{line};
 ghost use Rattle.hunk_tool.specs.Phrase.{phrase_text};
 ghost use Rattle.hunk_tool.specs.Survey.{finding_line, finding_text, is_load, is_object, is_refused, is_unreadable, number_of, survey_status, totals_line, IsFound};

@@ -2,7 +2,7 @@
 
 ghost use Rattle.std.specs.Prelude.{◌≡◌, ◌+◌, ◌<◌, ◌^◌, length, IsTrue, OnOk, IfErr};
 ghost use Rattle.std.specs.List.{flat_map};
-ghost use Rattle.hunk_words.specs.Streams.{HasRead, IsDevice, Wrote, WroteAll};
+ghost use Rattle.hunk_base.specs.Streams.{HasRead, IsDevice, Wrote, WroteAll};
 ghost use Rattle.hunk_loadfile.specs.Rules.{IsLoadFile};
 ghost use Rattle.hunk_tool.specs.Load.{ends_of, IsFaultAt, IsWrittenAt};
 ghost use Rattle.hunk_tool.specs.Symbols.{address_line, symbols_text};

@@ -10,16 +10,16 @@ use Rattle.hunk_words.specs.Decoder.{RefusesBytes, RefusesInput}
 use Rattle.hunk_words.specs.FirstOffence.FirstOffence.{longword_offends}
 use Rattle.hunk_words.specs.declared.event.FileKind.{FileKind}
 use Rattle.hunk_words.specs.declared.event.FileKind.TheVariants.{Object}
-use Rattle.hunk_words.specs.declared.fault.Fault.{Fault}
-use Rattle.hunk_words.specs.declared.fault.Refusal.{Refusal}
-use Rattle.hunk_words.specs.declared.fault.Refusal.TheVariants as refusal_is
+use Rattle.hunk_base.specs.declared.fault.Fault.{Fault}
+use Rattle.hunk_base.specs.declared.fault.Refusal.{Refusal}
+use Rattle.hunk_base.specs.declared.fault.Refusal.TheVariants as refusal_is
 use Rattle.hunk_objects.specs.ProgramUnit.{IsObjectOf, ObjectUnit}
 use Rattle.hunk_loadfile.specs.LoadFile.{IsLoadOf}
 use Rattle.hunk_loadfile.specs.LoadHunk.{FileHunk}
 use Rattle.hunk_loadfile.specs.Rules.{IsLoadFile}
 use Rattle.hunk_loadfile.specs.WrittenForm.{IsShortEnough, written_in}
 use Rattle.hunk_loadfile.specs.declared.load_form.LoadForm.TheVariants.{Plain}
-use Rattle.hunk_words.specs.Name.{bytes_of}
+use Rattle.hunk_base.specs.Name.{bytes_of}
 use Rattle.hunk_link.specs.Carried.{carried}
 use Rattle.hunk_link.specs.Ranks.{IsUnit}
 use Rattle.hunk_link.specs.Linkable.{IsLinkRefusal, Linkable}

@@ -1,10 +1,10 @@
 -- Where an emulator places the hunks of a program, and what it is told of one that it cannot load.
 use Rattle.std.specs.Prelude.{◌≡◌, ℕ, ◌+◌, ◌-◌, ◌*◌, ◌^◌, List, [], ◌∷◌, Bool, IsTrue, Option, min}
 use Rattle.hunk_words.specs.Decoder.{RefusesRead}
-use Rattle.hunk_words.specs.Streams.{HasRead}
+use Rattle.hunk_base.specs.Streams.{HasRead}
 use Rattle.hunk_words.specs.declared.event.FileKind.TheVariants.{Load}
-use Rattle.hunk_words.specs.declared.fault.ReadFault.TheVariants as read_fault
-use Rattle.hunk_words.specs.declared.fault.Refusal.TheVariants as refusal_is
+use Rattle.hunk_base.specs.declared.fault.ReadFault.TheVariants as read_fault
+use Rattle.hunk_base.specs.declared.fault.Refusal.TheVariants as refusal_is
 use Rattle.hunk_loadfile.specs.LoadFile.{IsLoadOf}
 use Rattle.hunk_loadfile.specs.LoadHunk.{FileHunk}
 use Rattle.hunk_loader.specs.Loading.{loaded}

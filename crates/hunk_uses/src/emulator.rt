@@ -1,6 +1,6 @@
 //! An emulator that loads a program from its disk, inside a budget of memory.
 ghost use Rattle.std.specs.Prelude.{◌≡◌, IfOk, IfErr, IsTrue, OnOk};
-ghost use Rattle.hunk_words.specs.Streams.{HasRead};
+ghost use Rattle.hunk_base.specs.Streams.{HasRead};
 ghost use Rattle.hunk_loader.specs.Sizes.{sizes_of};
 ghost use Rattle.hunk_uses.specs.Emulator.{IsLoadedFrom, IsNotLoadedFrom, bases_from};
 

@@ -1,10 +1,11 @@
 -- What a core stands for, after one more longword.
 use Rattle.std.proofs.Common.{◌≡◌, ℕ, zero, suc, ◌+◌, ◌*◌, ◌<◌, ◌≤◌, ◌^◌, List, [], ◌∷◌, ◌++◌, length, Some, None, Result, Ok, Err, refl, sym, ap, subst, ◌∙◌, append_assoc, length-append, arith}
+use Rattle.hunk_base.specs.Longwords.{AllLong}
 use Rattle.hunk_words.specs.Kinds.{Width, Kind, Field, width}
 use Rattle.hunk_words.specs.Kinds.Width.{long, half}
 use Rattle.hunk_words.specs.Machine.{due, IsComplete}
 use Rattle.hunk_words.specs.Reading.{Progress, Reads, start_of, initial_progress, word_next, read_word, read_words, word_labels, labels}
-use Rattle.hunk_words.specs.Files.{AllLong, Tree, spelling, IsFileOf, IsValidPrefix, most_longwords}
+use Rattle.hunk_words.specs.Files.{Tree, spelling, IsFileOf, IsValidPrefix, most_longwords}
 use Rattle.hunk_words.specs.FirstOffence.{OffendsAt, FirstOffence, end_reason}
 use Rattle.hunk_words.specs.FirstOffence.FirstOffence.{end_offends}
 use Rattle.hunk_words.specs.Event.{event_of, events}
@@ -14,11 +15,11 @@ use Rattle.hunk_words.specs.DecoderCore.{Behind, StandsBy, TellsFile, fields_rea
 use Rattle.hunk_words.specs.declared.decoder_core.CoreState.{CoreState}
 use Rattle.hunk_words.specs.declared.event.Event.{Event}
 use Rattle.hunk_words.specs.declared.event.FileKind.{FileKind}
-use Rattle.hunk_words.specs.declared.fault.Fault.{Fault}
-use Rattle.hunk_words.specs.declared.fault.Reason.{Reason}
-use Rattle.hunk_words.specs.declared.fault.Reason.TheVariants.{TooLarge, PartialLongword, UnexpectedEnd}
-use Rattle.hunk_words.specs.declared.fault.Refusal.{Refusal}
-use Rattle.hunk_words.specs.declared.fault.Refusal.TheVariants as refusal_is
+use Rattle.hunk_base.specs.declared.fault.Fault.{Fault}
+use Rattle.hunk_base.specs.declared.fault.Reason.{Reason}
+use Rattle.hunk_base.specs.declared.fault.Reason.TheVariants.{TooLarge, PartialLongword, UnexpectedEnd}
+use Rattle.hunk_base.specs.declared.fault.Refusal.{Refusal}
+use Rattle.hunk_base.specs.declared.fault.Refusal.TheVariants as refusal_is
 use Rattle.hunk_words.specs.declared.state.State.{State}
 use Rattle.hunk_words.proofs.ReadingProgressLemmas.{words-read}
 use Rattle.hunk_words.proofs.FirstOffenceLemmas.{offends-at, too-long, ends-early}

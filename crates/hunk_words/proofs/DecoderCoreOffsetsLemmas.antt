@@ -6,7 +6,7 @@ use Rattle.hunk_words.specs.DecoderCore.{Behind, StandsBy, fields_read, in_offse
 use Rattle.hunk_words.specs.declared.decoder_core.CoreState.{CoreState}
 use Rattle.hunk_words.specs.declared.event.Event.{Event}
 use Rattle.hunk_words.specs.declared.event.FileKind.{FileKind}
-use Rattle.hunk_words.specs.declared.fault.Refusal.{Refusal}
+use Rattle.hunk_base.specs.declared.fault.Refusal.{Refusal}
 use Rattle.hunk_words.specs.declared.numbers.NumberRefusal.{NumberRefusal}
 use Rattle.hunk_words.specs.declared.numbers.NumberRefusal.TheVariants.{Refused, OutOfMemory}
 use Rattle.hunk_words.specs.declared.state.Expected.TheVariants.{Offset}

@@ -1,10 +1,11 @@
 -- A run of words: what a core stands for after many of them at once.
 use Rattle.std.proofs.Common.{◌≡◌, ℕ, suc, ◌+◌, ◌-◌, ◌<◌, ◌≤◌, ◌^◌, List, [], ◌∷◌, ◌++◌, length, Some, None, Ok, refl, sym, ap, subst, append_assoc, false, arith}
 use Rattle.std.proofs.lemmas.List.{append-nil}
+use Rattle.hunk_base.specs.Longwords.{AllLong}
 use Rattle.hunk_words.specs.Kinds.{is_half, width}
 use Rattle.hunk_words.specs.Machine.{due}
 use Rattle.hunk_words.specs.SiteRules.{limit_of, site_judged}
-use Rattle.hunk_words.specs.Files.{AllLong, most_longwords}
+use Rattle.hunk_words.specs.Files.{most_longwords}
 use Rattle.hunk_words.specs.Event.{events, word_events}
 use Rattle.hunk_words.specs.Taker.{sizes_told}
 use Rattle.hunk_words.specs.State.{Steps, IsState, SizesIn}

@@ -1,21 +1,21 @@
 -- What a decoder stands for, after more bytes, and at their end.
 use Rattle.std.proofs.Common.{◌≡◌, ℕ, ◌+◌, ◌-◌, ◌*◌, ◌<◌, ◌≤◌, ◌^◌, List, [], ◌∷◌, ◌++◌, length, take, drop, get_or, Option, Some, None, Result, Ok, Err, OnOk, sym, ap, subst, ◌∙◌, append_assoc, length-drop, arith}
 use Rattle.std.proofs.lemmas.List.{take_more, take-append-drop, take_all}
-use Rattle.hunk_words.specs.Longwords.{longwords, unfinished}
+use Rattle.hunk_base.specs.Longwords.{longwords, unfinished}
 use Rattle.hunk_words.specs.Files.{IsValidPrefix}
 use Rattle.hunk_words.specs.FirstOffence.{FirstOffence}
 use Rattle.hunk_words.specs.FirstOffence.FirstOffence.{longword_offends}
 use Rattle.hunk_words.specs.DecoderCore.{EndAnswered, Keeps, kept}
 use Rattle.hunk_words.specs.DecoderCore.{StandsFor as CoreStandsFor}
-use Rattle.hunk_words.specs.Splitter.{StandsFor as SplitterStandsFor}
+use Rattle.hunk_base.specs.Splitter.{StandsFor as SplitterStandsFor}
 use Rattle.hunk_words.specs.Decoder.{StandsFor, Finished}
 use Rattle.hunk_words.specs.declared.decoder.Decoder.{Decoder}
 use Rattle.hunk_words.specs.declared.decoder_core.Core.{Core}
 use Rattle.hunk_words.specs.declared.event.Event.{Event}
 use Rattle.hunk_words.specs.declared.event.FileKind.{FileKind}
-use Rattle.hunk_words.specs.declared.fault.Refusal.{Refusal}
-use Rattle.hunk_words.specs.declared.fault.Refusal.TheVariants as refusal_is
-use Rattle.hunk_words.proofs.LongwordsLemmas.{longwords-append, unfinished-append, length-longwords, length-unfinished, list-none, unfinished-none}
+use Rattle.hunk_base.specs.declared.fault.Refusal.{Refusal}
+use Rattle.hunk_base.specs.declared.fault.Refusal.TheVariants as refusal_is
+use Rattle.hunk_base.proofs.LongwordsLemmas.{longwords-append, unfinished-append, length-longwords, length-unfinished, list-none, unfinished-none}
 use Rattle.hunk_words.proofs.DecoderCoreLemmas.{StandsBy-append, StandsBy-front}
 
 -- what keeps an error stands for everything that comes

@@ -4,16 +4,16 @@ use Rattle.hunk_words.specs.Decoder.{Finished, RefusesBytes, RefusesInput, Refus
 use Rattle.hunk_words.specs.DecoderCore.{Keeps}
 use Rattle.hunk_words.specs.FirstOffence.{FirstOffence}
 use Rattle.hunk_words.specs.FirstOffence.FirstOffence.{longword_offends, end_offends}
-use Rattle.hunk_words.specs.Longwords.{longwords, unfinished}
-use Rattle.hunk_words.specs.Streams.{HasRead, ReadStopped}
+use Rattle.hunk_base.specs.Longwords.{longwords, unfinished}
+use Rattle.hunk_base.specs.Streams.{HasRead, ReadStopped}
 use Rattle.hunk_words.specs.declared.decoder.Decoder.{Decoder}
 use Rattle.hunk_words.specs.declared.event.Event.{Event}
 use Rattle.hunk_words.specs.declared.event.FileKind.{FileKind}
-use Rattle.hunk_words.specs.declared.fault.Refusal.{Refusal}
-use Rattle.hunk_words.specs.declared.fault.Refusal.TheVariants as refusal_is
-use Rattle.hunk_words.specs.declared.fault.ReadFault.{ReadFault}
-use Rattle.hunk_words.specs.declared.fault.ReadFault.TheVariants as read_fault
-use Rattle.hunk_words.proofs.StreamsLemmas.{HasRead-weaker}
+use Rattle.hunk_base.specs.declared.fault.Refusal.{Refusal}
+use Rattle.hunk_base.specs.declared.fault.Refusal.TheVariants as refusal_is
+use Rattle.hunk_base.specs.declared.fault.ReadFault.{ReadFault}
+use Rattle.hunk_base.specs.declared.fault.ReadFault.TheVariants as read_fault
+use Rattle.hunk_base.proofs.StreamsLemmas.{HasRead-weaker}
 
 -- a piece was rejected
 pub refuses-bytes : {T : Type 0} (kind : FileKind) (stands_for : T → List Event → Type 0) (d : Decoder T) (answer : Result (Unit {0}) Refusal) → Keeps (refusal_of d) answer

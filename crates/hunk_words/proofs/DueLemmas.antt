@@ -1,9 +1,10 @@
 -- What is due after what was read.
 use Rattle.std.proofs.Common.{◌≡◌, ℕ, ◌≤◌, List, [], ◌∷◌, ◌++◌, length, Ok, refl, ap, sym, subst, ◌∙◌}
+use Rattle.hunk_base.specs.Longwords.{AllLong}
 use Rattle.hunk_words.specs.Kinds.{Kind, width}
 use Rattle.hunk_words.specs.Machine.{due}
 use Rattle.hunk_words.specs.Reading.{Progress, Reads, start_of, initial_progress, read_words, word_next}
-use Rattle.hunk_words.specs.Files.{AllLong, IsFile, IsValidPrefix, most_longwords}
+use Rattle.hunk_words.specs.Files.{IsFile, IsValidPrefix, most_longwords}
 use Rattle.hunk_words.specs.DecoderCore.{Behind, fields_read}
 use Rattle.hunk_words.specs.Event.{events}
 use Rattle.hunk_words.specs.State.{Around, around, expected_view}

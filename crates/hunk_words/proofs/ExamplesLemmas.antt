@@ -1,19 +1,20 @@
 -- What the machine computes for a worked file is what the definitions say about it.
 use Rattle.std.proofs.Common.{◌≡◌, ℕ, ◌^◌, ◌<◌, ◌≤◌, List, [], ◌∷◌, length, Bool, true, false, ◌&&◌, nat_lt, nat_le, Ok, Err, refl, ap, sym, ◌∙◌, arith}
 use Rattle.std.proofs.lemmas.Bool.Decides.{nat_tests}
+use Rattle.hunk_base.specs.Longwords.{AllLong}
 use Rattle.hunk_words.specs.Kinds.Kind.{object_start, load_start}
 use Rattle.hunk_words.specs.Event.{events}
 use Rattle.hunk_words.specs.EventValue.{value_of_events, initial_object, initial_load}
 use Rattle.hunk_words.specs.Examples.{OffendsFirst, TellsUnits, TellsHunks}
-use Rattle.hunk_words.specs.Files.{AllLong, IsFile, most_longwords}
+use Rattle.hunk_words.specs.Files.{IsFile, most_longwords}
 use Rattle.hunk_words.specs.FirstOffence.FirstOffence.{longword_offends, end_offends}
 use Rattle.hunk_words.specs.Machine.{IsComplete}
 use Rattle.hunk_words.specs.Reading.{Progress, initial_progress, labels, read_words}
 use Rattle.hunk_words.specs.Values.{Hunk, Part}
 use Rattle.hunk_words.specs.declared.event.FileKind.{FileKind}
 use Rattle.hunk_words.specs.declared.event.FileKind.TheVariants.{Object, Load}
-use Rattle.hunk_words.specs.declared.fault.Reason.{Reason}
-use Rattle.hunk_words.specs.declared.fault.Reason.TheVariants.{UnexpectedEnd}
+use Rattle.hunk_base.specs.declared.fault.Reason.{Reason}
+use Rattle.hunk_base.specs.declared.fault.Reason.TheVariants.{UnexpectedEnd}
 use Rattle.hunk_words.proofs.EventValueTreeLemmas.{object-told, load-told}
 use Rattle.hunk_words.proofs.FilesReadingLemmas.{complete-file}
 use Rattle.hunk_words.proofs.FirstOffenceLemmas.{ends-early, offends-at}

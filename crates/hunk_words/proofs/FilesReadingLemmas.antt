@@ -1,12 +1,13 @@
 -- Valid prefixes and files: the machine reads each, and nothing else.
 use Rattle.std.proofs.Common.{◌≡◌, ℕ, zero, suc, ◌≤◌, List, [], ◌∷◌, ◌++◌, length, Ok, refl, ap, sym, subst, ◌∙◌, append-nil, append_assoc, length-append, arith}
+use Rattle.hunk_base.specs.Longwords.{AllLong}
 use Rattle.hunk_words.specs.Kinds.{Width, Field, width}
 use Rattle.hunk_words.specs.Kinds.Width.{long, half}
 use Rattle.hunk_words.specs.FieldLongwords.{fields_from, fields_in}
 use Rattle.hunk_words.specs.Machine.{IsComplete}
 use Rattle.hunk_words.specs.SiteRules.{seen_after, Obeys}
 use Rattle.hunk_words.specs.Reading.{Reads, labels, Progress, initial_progress, read_words}
-use Rattle.hunk_words.specs.Files.{AllLong, spelling, most_longwords, IsFile, IsValidPrefix}
+use Rattle.hunk_words.specs.Files.{spelling, most_longwords, IsFile, IsValidPrefix}
 use Rattle.hunk_words.specs.declared.event.FileKind.{FileKind}
 use Rattle.hunk_words.specs.declared.kinds.Half.{Half}
 use Rattle.hunk_words.specs.declared.kinds.Half.TheVariants.{Upper as upper, Lower as lower}

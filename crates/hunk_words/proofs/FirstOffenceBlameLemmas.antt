@@ -1,6 +1,7 @@
 -- What is expected after a valid prefix, and what is blamed there: the machine stops for the reason
 -- of the first offence.
 use Rattle.std.proofs.Common.{◌≡◌, ℕ, ◌/◌, ◌%◌, ◌^◌, ◌<◌, List, [], ◌∷◌, length, Option, Some, None, Result, Ok, Err, ◌⊎◌, inl, inr, refl, ap, sym, subst, ◌∙◌, arith}
+use Rattle.hunk_base.specs.Longwords.{AllLong}
 use Rattle.hunk_words.specs.Kinds.{Kind, Width, Field, field, width, bound}
 use Rattle.hunk_words.specs.FaultTable.{Passes, judged, and_then}
 use Rattle.hunk_words.specs.Kinds.Width.{long, half}
@@ -9,14 +10,14 @@ use Rattle.hunk_words.specs.FieldLongwords.{fields_after}
 use Rattle.hunk_words.specs.Machine.{due, next, push}
 use Rattle.hunk_words.specs.SiteRules.{limit_of, site_judged, seen_after, seen_all}
 use Rattle.hunk_words.specs.Reading.{word_next, word_labels, Reads, labels, Progress, initial_progress, field_next, unless, field_step, ◌>>=◌, width_step, read_word, read_words}
-use Rattle.hunk_words.specs.Files.{AllLong, spelling, most_longwords, IsFile}
+use Rattle.hunk_words.specs.Files.{spelling, most_longwords, IsFile}
 use Rattle.hunk_words.specs.FirstOffence.{Completion, first_kind, second_kind, seen_with_first, kind_at, seen_before, lower_kind_at, seen_before_lower, IsDue, IsLowerDue, wrong_with, Blames}
 use Rattle.hunk_words.specs.FirstOffence.Blames.{too_large, behind_file, longword, upper_half, lower_half}
 use Rattle.hunk_words.specs.declared.event.FileKind.{FileKind}
 use Rattle.hunk_words.specs.declared.event.FileKind.TheVariants.{Object, Load}
 use Rattle.hunk_words.specs.declared.kinds.Half.{Half}
 use Rattle.hunk_words.specs.declared.kinds.Half.TheVariants.{Upper as upper}
-use Rattle.hunk_words.specs.declared.fault.Reason.{Reason}
+use Rattle.hunk_base.specs.declared.fault.Reason.{Reason}
 use Rattle.hunk_words.proofs.ReadingSplitLemmas.{reads-one, upper-due}
 use Rattle.hunk_words.proofs.FilesPrefixLemmas.{start, end_of, spelling-read, read-spelled, aligned-front, spelling-in, spelling-behind, completion, completion-upper}
 use Rattle.hunk_words.proofs.ReadingProgressLemmas.{and_then-none, WordsRead, words-read}

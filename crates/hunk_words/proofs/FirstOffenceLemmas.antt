@@ -1,18 +1,19 @@
 -- The first offence: the machine stops there, longwords that are not a file have one, and it is
 -- unique.
 use Rattle.std.proofs.Common.{◌≡◌, ℕ, zero, suc, ◌+◌, ◌^◌, ◌<◌, ◌≤◌, List, [], ◌∷◌, ◌++◌, length, Result, Ok, Err, ◌⊎◌, inl, inr, refl, ap, sym, subst, ◌∙◌, append_assoc, length-append, arith}
+use Rattle.hunk_base.specs.Longwords.{AllLong}
 use Rattle.hunk_words.specs.Kinds.{Kind}
 use Rattle.hunk_words.specs.Kinds.Kind.{unit_type}
 use Rattle.hunk_words.specs.Machine.{IsComplete}
 use Rattle.hunk_words.specs.Reading.{Progress, initial_progress, read_words}
-use Rattle.hunk_words.specs.Files.{AllLong, most_longwords, IsFile, IsValidPrefix}
+use Rattle.hunk_words.specs.Files.{most_longwords, IsFile, IsValidPrefix}
 use Rattle.hunk_words.specs.FirstOffence.{Blames, OffendsAt, EndsEarly, end_reason, FirstOffence}
 use Rattle.hunk_words.specs.FirstOffence.Blames.{too_large, behind_file, longword, upper_half, lower_half}
 use Rattle.hunk_words.specs.FirstOffence.FirstOffence.{longword_offends, end_offends}
 use Rattle.hunk_words.specs.FirstOffenceLaws.{Offends}
 use Rattle.hunk_words.specs.declared.event.FileKind.{FileKind}
-use Rattle.hunk_words.specs.declared.fault.Reason.{Reason}
-use Rattle.hunk_words.specs.declared.fault.Reason.TheVariants.{TooLarge}
+use Rattle.hunk_base.specs.declared.fault.Reason.{Reason}
+use Rattle.hunk_base.specs.declared.fault.Reason.TheVariants.{TooLarge}
 use Rattle.hunk_words.proofs.ReadingProgressLemmas.{StopsInside, stops, stays}
 use Rattle.hunk_words.proofs.FilesReadingLemmas.{front-front, file-front, front-read, read-front, complete-file, file-complete}
 use Rattle.hunk_words.proofs.FirstOffenceBlameLemmas.{blames-stop, reason-read}

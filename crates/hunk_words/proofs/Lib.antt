@@ -1,11 +1,3 @@
-pub mod LongwordsLemmas
-pub mod SplitterLemmas
-pub mod StreamsLemmas
-pub mod StreamsWritingLemmas
-pub mod NameLemmas
-pub mod SitesLemmas
-pub mod PageLemmas
-pub mod PagesLemmas
 pub mod StateLemmas
 pub mod SpellingBitLemmas
 pub mod KindsTypeLemmas
@@ -34,14 +26,12 @@ pub mod ReadingLabelLemmas
 pub mod ReadingSameLemmas
 pub mod ValuesLemmas
 pub mod FirstOffenceLemmas
-pub mod LongwordsByteLemmas
 pub mod DueLemmas
 pub mod DecoderCoreLemmas
 pub mod DecoderLemmas
 pub mod DecoderRefusalLemmas
 pub mod DecoderCoreRunLemmas
 pub mod DecoderCoreOffsetsLemmas
-pub mod OpenNameLemmas
 pub mod TakerLemmas
 pub mod PartialHunkLemmas
 pub mod DebugInfoLemmas

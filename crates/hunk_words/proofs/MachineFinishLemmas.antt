@@ -11,7 +11,7 @@ use Rattle.hunk_words.specs.Kinds.Kind.{object_start, load_start, unit_type, hun
 use Rattle.hunk_words.specs.declared.kinds.Half.{Half}
 use Rattle.hunk_words.specs.declared.kinds.Half.TheVariants.{Upper as upper, Lower as lower}
 use Rattle.hunk_words.specs.declared.kinds.HunkKind.{HunkKind}
-use Rattle.hunk_words.specs.declared.fault.Reason.{Reason}
+use Rattle.hunk_base.specs.declared.fault.Reason.{Reason}
 use Rattle.hunk_words.specs.declared.kinds.HunkKind.TheVariants.{Code, Data, Bss}
 use Rattle.hunk_words.specs.Machine.{times, short_times, reverse_onto, hunks_due, push, Takes, IsComplete}
 use Rattle.hunk_words.proofs.MachineStackLemmas.{Passable, Finishable}

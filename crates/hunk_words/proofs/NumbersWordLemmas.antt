@@ -10,7 +10,7 @@ use Rattle.hunk_words.specs.State.{around, expected_view}
 use Rattle.hunk_words.specs.Numbers.{Reached, MayCome, NumberAnswered, WordAnswered}
 use Rattle.hunk_words.specs.declared.event.Event.{Event}
 use Rattle.hunk_words.specs.declared.event.FileKind.{FileKind}
-use Rattle.hunk_words.specs.declared.fault.Reason.{Reason}
+use Rattle.hunk_base.specs.declared.fault.Reason.{Reason}
 use Rattle.hunk_words.specs.declared.numbers.NumberRefusal.{NumberRefusal}
 use Rattle.hunk_words.specs.declared.numbers.NumberRefusal.TheVariants.{Refused, OutOfMemory}
 use Rattle.hunk_words.specs.declared.state.State.{State}

@@ -5,16 +5,16 @@ use Rattle.std.proofs.lemmas.Grind.{flat_map-append}
 use Rattle.std.specs.BTreeMap.{insert_entry}
 use Rattle.std.specs.Ordering.{nat_cmp}
 use Rattle.byteorder.specs.Endian.{big_bytes}
-use Rattle.hunk_words.specs.Name.{bytes_of}
+use Rattle.hunk_base.specs.Name.{bytes_of}
 use Rattle.hunk_words.specs.EventValue.{Receiver}
 use Rattle.hunk_words.specs.EventValue.Receiver.{nothing_more, to_unit_name, to_name, to_content, to_debug, to_symbol, to_entry}
 use Rattle.hunk_words.specs.PartialHunk.{HunkSoFar, HoldsSites, initial_hunk, begun_hunk, hunk_with_bytes, hunk_with_word, hunk_with_site, goes_to_content}
 use Rattle.hunk_words.specs.SiteContext.{SameSites}
-use Rattle.hunk_words.specs.Sites.{SiteMap, AreApart, Meets}
+use Rattle.hunk_base.specs.Sites.{SiteMap, AreApart, Meets}
 use Rattle.hunk_words.specs.Taker.{JudgesSite}
-use Rattle.hunk_words.specs.declared.sites.SiteRefusal.{SiteRefusal}
-use Rattle.hunk_words.specs.declared.sites.SiteRefusal.TheVariants.{Outside, Overlap}
-use Rattle.hunk_words.proofs.SitesLemmas.{StandFrom-insert_entry}
+use Rattle.hunk_base.specs.declared.sites.SiteRefusal.{SiteRefusal}
+use Rattle.hunk_base.specs.declared.sites.SiteRefusal.TheVariants.{Outside, Overlap}
+use Rattle.hunk_base.proofs.SitesLemmas.{StandFrom-insert_entry}
 use Rattle.hunk_words.proofs.TakerLemmas.{SameSites-none, judges-site}
 
 -- ---- before its sites

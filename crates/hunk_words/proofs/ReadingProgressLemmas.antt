@@ -1,14 +1,14 @@
 -- The machine with the rules for sites reads what passes and obeys them.
 use Rattle.std.proofs.Common.{◌≡◌, ℕ, ◌+◌, ◌/◌, ◌%◌, ◌^◌, ◌<◌, List, [], ◌∷◌, ◌++◌, length, Option, Some, None, Result, Ok, Err, refl, ap, sym, subst, ◌∙◌, arith}
+use Rattle.hunk_base.specs.Longwords.{AllLong}
 use Rattle.hunk_words.specs.Kinds.{Kind, Width, Field, width, bound}
 use Rattle.hunk_words.specs.FaultTable.{judged, and_then}
 use Rattle.hunk_words.specs.Kinds.Width.{long, half}
 use Rattle.hunk_words.specs.Machine.{due}
 use Rattle.hunk_words.specs.SiteRules.{limit_of, site_judged, seen_all, Obeys}
 use Rattle.hunk_words.specs.Reading.{word_next, WordPasses, Reads, word_labels, labels, Progress, field_judged, field_next, unless, field_step, ◌>>=◌, width_step, read_word, read_words}
-use Rattle.hunk_words.specs.Files.{AllLong}
 use Rattle.hunk_words.specs.declared.kinds.Half.{Half}
-use Rattle.hunk_words.specs.declared.fault.Reason.{Reason}
+use Rattle.hunk_base.specs.declared.fault.Reason.{Reason}
 
 -- ---- a field
 

@@ -13,7 +13,7 @@ use Rattle.hunk_words.specs.SiteContext.{SiteContext, HunkPosition, content_limi
 use Rattle.hunk_words.specs.declared.event.FileKind.{FileKind}
 use Rattle.hunk_words.specs.declared.event.FileKind.TheVariants.{Object, Load}
 use Rattle.hunk_words.specs.declared.event.Event.TheVariants.{Content, HunkEnd}
-use Rattle.hunk_words.specs.declared.fault.Reason.{Reason}
+use Rattle.hunk_base.specs.declared.fault.Reason.{Reason}
 use Rattle.hunk_words.specs.declared.kinds.Half.{Half}
 use Rattle.hunk_words.specs.declared.kinds.Half.TheVariants.{Upper as upper, Lower as lower}
 use Rattle.hunk_words.specs.declared.kinds.HunkKind.{HunkKind}

@@ -14,7 +14,7 @@ use Rattle.hunk_words.specs.declared.kinds.BlockType.{BlockType}
 use Rattle.hunk_words.specs.declared.kinds.BlockType.TheVariants.{Name as name, Content as content, Reloc as reloc, Ext as ext, Symbol as symbol, Debug as debug, End as end, Short as short}
 use Rattle.hunk_words.specs.declared.kinds.EntryType.{EntryType}
 use Rattle.hunk_words.specs.declared.kinds.EntryType.TheVariants.{Definition as definition, Absolute as absolute, Reference as reference}
-use Rattle.hunk_words.specs.declared.fault.Reason.{Reason}
+use Rattle.hunk_base.specs.declared.fault.Reason.{Reason}
 use Rattle.hunk_words.specs.Trees.{Group, ExtTree, SymbolTree, BlockTree, ContentTree, BodyTree, NameTree, HunkTree, UnitTree, ObjectTree, LoadHunkTree, LoadTree}
 use Rattle.hunk_words.specs.Trees.ExtTree.{ext_def, ext_abs, ext_ref}
 use Rattle.hunk_words.specs.Trees.BlockTree.{reloc_tree, short_tree, ext_tree, symbol_tree, debug_tree}

@@ -4,7 +4,7 @@ use Rattle.std.proofs.Common.{◌≡◌, ℕ, ◌+◌, ◌<◌, ◌≤◌, ◌�
 use Rattle.std.proofs.lemmas.Bool.{cases_lt, eqb-true}
 use Rattle.std.proofs.lemmas.Bool.Decides.{leb_tells}
 use Rattle.hunk_words.specs.SiteRules.{apart, all_apart}
-use Rattle.hunk_words.specs.Sites.{Meets, SharesByte, target_at}
+use Rattle.hunk_base.specs.Sites.{Meets, SharesByte, target_at}
 use Rattle.hunk_words.specs.SiteContext.{Has, SameSites}
 use Rattle.hunk_words.specs.Taker.{Judges, JudgesSite}
 use Rattle.hunk_words.specs.EventValue.{EventValue, value_of_events, step}
@@ -12,8 +12,8 @@ use Rattle.hunk_words.specs.SiteContext.{SiteContext, context_after, context_wit
 use Rattle.hunk_words.specs.declared.event.FileKind.{FileKind}
 use Rattle.hunk_words.specs.declared.event.Event.{Event}
 use Rattle.hunk_words.specs.declared.event.Event.TheVariants as event
-use Rattle.hunk_words.specs.declared.sites.SiteRefusal.{SiteRefusal}
-use Rattle.hunk_words.specs.declared.sites.SiteRefusal.TheVariants.{Outside, Overlap, OutOfMemory}
+use Rattle.hunk_base.specs.declared.sites.SiteRefusal.{SiteRefusal}
+use Rattle.hunk_base.specs.declared.sites.SiteRefusal.TheVariants.{Outside, Overlap, OutOfMemory}
 
 -- ---- one more event
 

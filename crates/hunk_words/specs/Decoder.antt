@@ -1,17 +1,17 @@
 -- What a decoder stands for: the bytes that it was fed, in any pieces.
 use Rattle.std.specs.Prelude.{◌≡◌, ◌⊎◌, ℕ, Bool, IsTrue, List, length, Option, None, Result, Ok, Err}
-use Rattle.hunk_words.specs.Longwords.{longwords, unfinished, IsWhole}
-use Rattle.hunk_words.specs.Splitter.{StandsFor as SplitterStandsFor}
+use Rattle.hunk_base.specs.Longwords.{longwords, unfinished, IsWhole}
+use Rattle.hunk_base.specs.Splitter.{StandsFor as SplitterStandsFor}
 use Rattle.hunk_words.specs.FirstOffence.{EndsEarly, FirstOffence, OffendsAt}
-use Rattle.hunk_words.specs.Streams.{HasRead}
+use Rattle.hunk_base.specs.Streams.{HasRead}
 use Rattle.hunk_words.specs.DecoderCore.{StandsFor as CoreStandsFor, TellsFile, kept, taker_of as core_taker}
 use Rattle.hunk_words.specs.declared.decoder.Decoder.{Decoder}
 use Rattle.hunk_words.specs.declared.event.Event.{Event}
 use Rattle.hunk_words.specs.declared.event.FileKind.{FileKind}
-use Rattle.hunk_words.specs.declared.fault.ReadFault.{ReadFault}
-use Rattle.hunk_words.specs.declared.fault.ReadFault.TheVariants as read_fault
-use Rattle.hunk_words.specs.declared.fault.Refusal.{Refusal}
-use Rattle.hunk_words.specs.declared.fault.Refusal.TheVariants as refusal_is
+use Rattle.hunk_base.specs.declared.fault.ReadFault.{ReadFault}
+use Rattle.hunk_base.specs.declared.fault.ReadFault.TheVariants as read_fault
+use Rattle.hunk_base.specs.declared.fault.Refusal.{Refusal}
+use Rattle.hunk_base.specs.declared.fault.Refusal.TheVariants as refusal_is
 
 -- the taker of a decoder
 abbrev pub taker_of : {T : Type 0} → Decoder T → T

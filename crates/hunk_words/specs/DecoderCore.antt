@@ -2,16 +2,16 @@
 use Rattle.std.specs.Prelude.{◌≡◌, ℕ, ◌+◌, ◌-◌, ◌*◌, ◌<◌, ◌≤◌, List, [], ◌∷◌, ◌++◌, length, take, Option, Some, None, Result, Ok, Err}
 use Rattle.hunk_words.specs.Kinds.{Field}
 use Rattle.hunk_words.specs.Reading.{Progress, start_of, initial_progress, read_words, labels}
-use Rattle.hunk_words.specs.Files.{AllLong, Tree, spelling, most_longwords, IsFileOf}
+use Rattle.hunk_words.specs.Files.{Tree, spelling, most_longwords, IsFileOf}
 use Rattle.hunk_words.specs.FirstOffence.{OffendsAt, FirstOffence}
-use Rattle.hunk_words.specs.Longwords.{longwords}
+use Rattle.hunk_base.specs.Longwords.{AllLong, longwords}
 use Rattle.hunk_words.specs.Event.{events}
 use Rattle.hunk_words.specs.Numbers.{Reached, at_offset}
 use Rattle.hunk_words.specs.declared.event.FileKind.{FileKind}
 use Rattle.hunk_words.specs.declared.event.Event.{Event}
-use Rattle.hunk_words.specs.declared.fault.Fault.{Fault}
-use Rattle.hunk_words.specs.declared.fault.Refusal.{Refusal}
-use Rattle.hunk_words.specs.declared.fault.Refusal.TheVariants as refusal_is
+use Rattle.hunk_base.specs.declared.fault.Fault.{Fault}
+use Rattle.hunk_base.specs.declared.fault.Refusal.{Refusal}
+use Rattle.hunk_base.specs.declared.fault.Refusal.TheVariants as refusal_is
 use Rattle.hunk_words.specs.declared.decoder_core.Core.{Core}
 use Rattle.hunk_words.specs.declared.decoder_core.CoreState.{CoreState}
 use Rattle.hunk_words.specs.declared.numbers.NumberRefusal.{NumberRefusal}

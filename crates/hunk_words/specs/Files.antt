@@ -1,7 +1,6 @@
 -- What a file is, and how a file may begin. A file is the spelling of a tree, each number passes,
 -- and its sites obey the rules. It has at most 2^28 longwords (own).
-use Rattle.std.specs.Prelude.{◌≡◌, ℕ, ◌^◌, ◌<◌, ◌≤◌, List, [], ◌++◌, length}
-use Rattle.std.specs.List.{AllByRecursion}
+use Rattle.std.specs.Prelude.{◌≡◌, ℕ, ◌^◌, ◌≤◌, List, [], ◌++◌, length}
 use Rattle.hunk_words.specs.Kinds.{Field}
 use Rattle.hunk_words.specs.FaultTable.{AllPass}
 use Rattle.hunk_words.specs.Trees.{ObjectTree, LoadTree}
@@ -10,10 +9,6 @@ use Rattle.hunk_words.specs.FieldLongwords.{longwords_of, fields_in}
 use Rattle.hunk_words.specs.SiteRules.{Obeys}
 use Rattle.hunk_words.specs.declared.event.FileKind.{FileKind}
 use Rattle.hunk_words.specs.declared.event.FileKind.TheVariants.{Object, Load}
-
--- numbers that are longwords
-abbrev pub AllLong : List ℕ → Type 0
-AllLong ws = AllByRecursion (λ w. w < 2 ^ 32) ws
 
 abbrev pub Tree : FileKind → Type 0
 Tree Object = ObjectTree

@@ -12,8 +12,8 @@ use Rattle.hunk_words.specs.Files.{Tree, Fits, spelling, longwords_spelled, most
 use Rattle.hunk_words.specs.declared.event.FileKind.{FileKind}
 use Rattle.hunk_words.specs.declared.event.FileKind.TheVariants.{Load}
 use Rattle.hunk_words.specs.declared.kinds.Half.TheVariants.{Upper as upper}
-use Rattle.hunk_words.specs.declared.fault.Reason.{Reason}
-use Rattle.hunk_words.specs.declared.fault.Reason.TheVariants.{TooLarge, PartialLongword, UnexpectedEnd}
+use Rattle.hunk_base.specs.declared.fault.Reason.{Reason}
+use Rattle.hunk_base.specs.declared.fault.Reason.TheVariants.{TooLarge, PartialLongword, UnexpectedEnd}
 
 -- The prefix is followed by a file's numbers, with this longword next.
 pub record Completion (kind : FileKind) (front : List ℕ) : Type 0 where

@@ -1,12 +1,13 @@
 -- Laws about files, valid prefixes and the first offence. The machine stops exactly there.
 use Rattle.std.specs.Prelude.{◌≡◌, ℕ, ◌<◌, ◌≤◌, List, [], ◌∷◌, ◌++◌, length, Ok, Err, ◌⊎◌, ◌↔◌}
+use Rattle.hunk_base.specs.Longwords.{AllLong}
 use Rattle.hunk_words.specs.Machine.{IsComplete}
 use Rattle.hunk_words.specs.Reading.{Progress, initial_progress, read_word, read_words}
-use Rattle.hunk_words.specs.Files.{AllLong, most_longwords, IsFile, IsValidPrefix}
+use Rattle.hunk_words.specs.Files.{most_longwords, IsFile, IsValidPrefix}
 use Rattle.hunk_words.specs.FirstOffence.{OffendsAt, EndsEarly, end_reason, FirstOffence}
 use Rattle.hunk_words.specs.declared.event.FileKind.{FileKind}
-use Rattle.hunk_words.specs.declared.fault.Reason.{Reason}
-use Rattle.hunk_words.specs.declared.fault.Reason.TheVariants.{TooLarge}
+use Rattle.hunk_base.specs.declared.fault.Reason.{Reason}
+use Rattle.hunk_base.specs.declared.fault.Reason.TheVariants.{TooLarge}
 
 -- The machine stops at this place for this reason, after a valid prefix: a means to prove the first
 -- offence.

@@ -22,16 +22,5 @@ pub mod Examples
 pub mod Laws
 pub mod EventLaws
 pub mod FirstOffenceLaws
-pub mod Longwords
-pub mod Pieces
-pub mod Room
-pub mod Splitter
-pub mod Streams
-pub mod Watched
-pub mod Name
-pub mod OpenName
-pub mod Sites
-pub mod Page
-pub mod Pages
 pub mod PartialHunk
 pub mod DebugInfo

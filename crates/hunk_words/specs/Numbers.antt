@@ -9,10 +9,10 @@ use Rattle.hunk_words.specs.Taker.{sizes_told}
 use Rattle.hunk_words.specs.State.{view, IsState}
 use Rattle.hunk_words.specs.declared.event.FileKind.{FileKind}
 use Rattle.hunk_words.specs.declared.event.Event.{Event}
-use Rattle.hunk_words.specs.declared.fault.Reason.TheVariants.{SiteOutside, SiteOverlap}
-use Rattle.hunk_words.specs.declared.sites.SiteRefusal.{SiteRefusal}
-use Rattle.hunk_words.specs.declared.sites.SiteRefusal.TheVariants.{Outside, Overlap}
-use Rattle.hunk_words.specs.declared.sites.SiteRefusal.TheVariants as site_refusal_is
+use Rattle.hunk_base.specs.declared.fault.Reason.TheVariants.{SiteOutside, SiteOverlap}
+use Rattle.hunk_base.specs.declared.sites.SiteRefusal.{SiteRefusal}
+use Rattle.hunk_base.specs.declared.sites.SiteRefusal.TheVariants.{Outside, Overlap}
+use Rattle.hunk_base.specs.declared.sites.SiteRefusal.TheVariants as site_refusal_is
 use Rattle.hunk_words.specs.declared.state.Expected.TheVariants.{Offset}
 use Rattle.hunk_words.specs.declared.state.State.{State}
 use Rattle.hunk_words.specs.declared.numbers.NumberRefusal.{NumberRefusal}

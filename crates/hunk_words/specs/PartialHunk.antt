@@ -6,7 +6,7 @@ use Rattle.byteorder.specs.Endian.{big_bytes}
 use Rattle.hunk_words.specs.EventValue.{Receiver}
 use Rattle.hunk_words.specs.EventValue.Receiver.{to_content}
 use Rattle.hunk_words.specs.SiteContext.{SiteContext, SameSites}
-use Rattle.hunk_words.specs.Sites.{SiteMap}
+use Rattle.hunk_base.specs.Sites.{SiteMap}
 
 -- the bytes of its content so far, its sites, and whether the next word is content
 pub record HunkSoFar (T : Type 0) : Type 0 where

@@ -9,7 +9,7 @@ use Rattle.hunk_words.specs.Machine.{due, next}
 use Rattle.hunk_words.specs.SiteRules.{limit_of, site_judged, seen_after}
 use Rattle.hunk_words.specs.declared.event.FileKind.{FileKind}
 use Rattle.hunk_words.specs.declared.event.FileKind.TheVariants.{Object, Load}
-use Rattle.hunk_words.specs.declared.fault.Reason.{Reason}
+use Rattle.hunk_base.specs.declared.fault.Reason.{Reason}
 
 abbrev pub word_next : Width → List Kind → ℕ → List Kind
 word_next long stack w = next stack w

@@ -1,6 +1,6 @@
 -- The site limit and the sites of the current hunk, from events alone: what a taker can know.
 use Rattle.std.specs.Prelude.{◌≡◌, ℕ, suc, ◌*◌, ◌++◌, ◌⊎◌, List, [], ◌∷◌, IsSome, slice_index}
-use Rattle.hunk_words.specs.Sites.{target_at}
+use Rattle.hunk_base.specs.Sites.{target_at}
 use Rattle.hunk_words.specs.Kinds.{hunk_kind_of}
 use Rattle.hunk_words.specs.declared.kinds.HunkKind.{HunkKind}
 use Rattle.hunk_words.specs.declared.kinds.HunkKind.TheVariants.{Bss}

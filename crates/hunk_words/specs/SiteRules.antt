@@ -7,8 +7,8 @@ use Rattle.hunk_words.specs.FaultTable.{reject_unless}
 use Rattle.hunk_words.specs.Kinds.Kind.{block_type, offset, ref_offset, short_offset}
 use Rattle.hunk_words.specs.declared.kinds.BlockType.{BlockType}
 use Rattle.hunk_words.specs.declared.kinds.BlockType.TheVariants.{End as end}
-use Rattle.hunk_words.specs.declared.fault.Reason.{Reason}
-use Rattle.hunk_words.specs.declared.fault.Reason.TheVariants.{SiteOutside, SiteOverlap}
+use Rattle.hunk_base.specs.declared.fault.Reason.{Reason}
+use Rattle.hunk_base.specs.declared.fault.Reason.TheVariants.{SiteOutside, SiteOverlap}
 
 -- the site limit of a kind that is an offset
 abbrev pub limit_of : Kind → Option ℕ

@@ -1,7 +1,7 @@
 -- What a state of the decoder stands for: a stack of what is expected. The sizes are those of a
 -- load file's header, as far as they have been read.
 use Rattle.std.specs.Prelude.{◌≡◌, ℕ, suc, ◌+◌, ◌≤◌, ◌^◌, List, [], ◌∷◌, ◌++◌, drop, length, reverse, slice_index, Option, Some, None, Result, Ok, Err}
-use Rattle.hunk_words.specs.declared.fault.Reason.{Reason}
+use Rattle.hunk_base.specs.declared.fault.Reason.{Reason}
 use Rattle.hunk_words.specs.declared.event.Event.{Event}
 use Rattle.hunk_words.specs.declared.event.Event.TheVariants.{HunkSize, HunkEnd}
 use Rattle.hunk_words.specs.declared.event.FileKind.{FileKind}

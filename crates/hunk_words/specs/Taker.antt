@@ -7,8 +7,8 @@ use Rattle.hunk_words.specs.SiteContext.{SiteContext, context_after, initial_con
 use Rattle.hunk_words.specs.declared.event.FileKind.{FileKind}
 use Rattle.hunk_words.specs.declared.event.Event.{Event}
 use Rattle.hunk_words.specs.declared.event.Event.TheVariants.{Site, RefSite}
-use Rattle.hunk_words.specs.declared.sites.SiteRefusal.{SiteRefusal}
-use Rattle.hunk_words.specs.declared.sites.SiteRefusal.TheVariants.{Outside, Overlap, OutOfMemory}
+use Rattle.hunk_base.specs.declared.sites.SiteRefusal.{SiteRefusal}
+use Rattle.hunk_base.specs.declared.sites.SiteRefusal.TheVariants.{Outside, Overlap, OutOfMemory}
 
 -- the limit and the sites of the current hunk by the events, and the sizes in the header
 abbrev pub context_of : FileKind → List Event → SiteContext

@@ -7,9 +7,9 @@ ghost use Rattle.hunk_words.specs.State.{Around, StepsFrom, SizedStepsFrom, expe
 ghost use Rattle.hunk_words.specs.declared.event.FileKind.{FileKind};
 
 use crate::event::{Event, FileKind};
-use crate::fault::Reason;
 use crate::kinds::{EntryType, HunkKind, entry, entry_length, entry_type, low};
 use crate::state::{AfterWords, Expected, State, Step};
+use hunk_base::fault::Reason;
 
 // What is expected when this many words follow.
 fn words(count: u32, then: AfterWords) -> Expected

@@ -2,10 +2,10 @@
 ghost use Rattle.std.specs.Prelude.{◌≡◌, [], ◌∷◌, ◌++◌, OnOk, OnErr};
 ghost use Rattle.hunk_words.specs.DebugInfo.{lists_of, no_debug_info};
 ghost use Rattle.hunk_words.specs.EventValue.{on_last};
-ghost use Rattle.hunk_words.specs.OpenName.{Opens, bytes_so_far};
+ghost use Rattle.hunk_base.specs.OpenName.{Opens, bytes_so_far};
 
-use crate::name::Name;
-use crate::name::open_name::OpenName;
+use hunk_base::name::Name;
+use hunk_base::name::open_name::OpenName;
 use std::alloc::{AllocError, Allocator, Global};
 use std::marker::Model;
 use std::mem;

@@ -4,14 +4,14 @@ ghost use Rattle.std.specs.Prelude.{◌≡◌, ℕ, ◌+◌, ◌<◌, ◌^◌, L
 ghost use Rattle.hunk_words.specs.Decoder.{StandsFor, Finished, refusal_of, taker_of};
 ghost use Rattle.hunk_words.specs.DecoderCore.{Keeps};
 ghost use Rattle.hunk_words.specs.Files.{IsValidPrefix};
-ghost use Rattle.hunk_words.specs.Longwords.{longwords};
-ghost use Rattle.hunk_words.specs.declared.fault.Refusal.{Refusal};
+ghost use Rattle.hunk_base.specs.Longwords.{longwords};
+ghost use Rattle.hunk_base.specs.declared.fault.Refusal.{Refusal};
 
 use crate::decoder_core::Core;
-use crate::fault::Refusal;
-use crate::splitter::Splitter;
-use crate::streams::Feed;
 use crate::taker::Taker;
+use hunk_base::fault::Refusal;
+use hunk_base::splitter::Splitter;
+use hunk_base::streams::Feed;
 
 /// A decoder of the bytes of a file, in pieces of any size. It judges each longword with its last
 /// byte, and sends its events to the taker.

@@ -4,19 +4,19 @@ ghost use Rattle.std.specs.Prelude.{◌≡◌, ℕ, ◌+◌, ◌*◌, ◌<◌, �
 ghost use Rattle.hunk_words.specs.DecoderCore.{Behind, StandsBy, StandsFor, SomeTaken, OffsetsTaken, TakesSome, EndAnswered, Keeps, in_offsets, kept, refused_at, taker_of};
 ghost use Rattle.hunk_words.specs.Due.{Dues, dues_read};
 ghost use Rattle.hunk_words.specs.Files.{IsValidPrefix, most_longwords};
-ghost use Rattle.hunk_words.specs.Longwords.{longwords};
+ghost use Rattle.hunk_base.specs.Longwords.{longwords};
 ghost use Rattle.hunk_words.specs.Machine.{IsComplete};
 ghost use Rattle.hunk_words.specs.Reading.{start_of};
 ghost use Rattle.hunk_words.specs.State.{Around, IsState, expected_view, view};
-ghost use Rattle.hunk_words.specs.declared.fault.Refusal.{Refusal};
+ghost use Rattle.hunk_base.specs.declared.fault.Refusal.{Refusal};
 
 use crate::due::{Due, due_of};
 use crate::event::FileKind;
-use crate::fault::{Fault, Reason, Refusal};
 use crate::numbers::{NumberRefusal, take_offset, take_word, take_words};
 use crate::state::{AfterWords, Expected, State};
 use crate::taker::Taker;
 use byteorder::{BigEndian, ByteOrder};
+use hunk_base::fault::{Fault, Reason, Refusal};
 
 // The most longwords that a file may have.
 const MOST_LONGWORDS: u64 = 0x1000_0000;

@@ -5,9 +5,9 @@ ghost use Rattle.hunk_words.specs.State.{StepsFrom};
 
 use crate::doshunks::HUNK_HEADER;
 use crate::event::Event;
-use crate::fault::Reason;
 use crate::kinds::{low, memory_bits};
 use crate::state::{Expected, State, Step};
+use hunk_base::fault::Reason;
 
 // The most longwords of all sizes in a header.
 const ROOM: u32 = 0x100_0000;

@@ -3,7 +3,7 @@
 ghost use Rattle.std.specs.Prelude.{◌≡◌, ℕ, suc, ◌+◌, ◌<◌, ◌^◌, List, [], ◌++◌, length, IfErr, OnOk};
 ghost use Rattle.hunk_words.specs.Kinds.{Field, is_half, width};
 ghost use Rattle.hunk_words.specs.Event.{events, with_event, word_events};
-ghost use Rattle.hunk_words.specs.Longwords.{IsWhole, longwords};
+ghost use Rattle.hunk_base.specs.Longwords.{IsWhole, longwords};
 ghost use Rattle.hunk_words.specs.Machine.{due as first_due};
 ghost use Rattle.hunk_words.specs.Reading.{Progress};
 ghost use Rattle.hunk_words.specs.Numbers.{Reached, MayCome, NumberAnswered, WordAnswered, at_offset, site_refused, with_state};
@@ -13,12 +13,12 @@ ghost use Rattle.hunk_words.specs.declared.event.Event.{Event};
 ghost use Rattle.hunk_words.specs.declared.numbers.NumberRefusal.{NumberRefusal};
 
 use crate::event::{Event, FileKind};
-use crate::fault::Reason;
-use crate::sites::SiteRefusal;
 use crate::state::{Expected, State};
 use crate::step::step;
 use crate::taker::Taker;
 use byteorder::{BigEndian, ByteOrder};
+use hunk_base::fault::Reason;
+use hunk_base::sites::SiteRefusal;
 
 /// Why a number was refused.
 #[derive(Clone, Copy, Debug)]

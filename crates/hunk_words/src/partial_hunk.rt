@@ -1,11 +1,11 @@
 //! The current hunk of a reader: its sites, and its content so far.
 ghost use Rattle.std.specs.Prelude.{◌≡◌, ℕ, ◌<◌, ◌≤◌, ◌↔◌, List, [], ◌∷◌, length, false, IfOk, OnOk, OnErr, IsTrue, IsFalse};
 ghost use Rattle.hunk_words.specs.PartialHunk.{HoldsSites, begun_hunk, filled_hunk, hunk_with_bytes, hunk_with_site, hunk_with_word, initial_hunk};
-ghost use Rattle.hunk_words.specs.Sites.{AreApart};
+ghost use Rattle.hunk_base.specs.Sites.{AreApart};
 ghost use Rattle.hunk_words.specs.Taker.{JudgesSite};
 
-use crate::longwords::{LONGWORD, big_endian};
-use crate::sites::{SiteRefusal, Sites};
+use hunk_base::longwords::{LONGWORD, big_endian};
+use hunk_base::sites::{SiteRefusal, Sites};
 use std::alloc::{AllocError, Allocator, Global};
 use std::marker::Model;
 

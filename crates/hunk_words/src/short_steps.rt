@@ -5,9 +5,9 @@ ghost use Rattle.hunk_words.specs.Kinds as kinds;
 ghost use Rattle.hunk_words.specs.State.{StepsFrom};
 
 use crate::event::Event;
-use crate::fault::Reason;
 use crate::kinds::Half;
 use crate::state::{Expected, State, Step};
+use hunk_base::fault::Reason;
 
 fn other(half: Half) -> Half
     ensures { result ≡ kinds.flip half }

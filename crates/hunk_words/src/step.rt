@@ -3,11 +3,11 @@
 ghost use Rattle.std.specs.Prelude.{◌≡◌, ℕ, List, IsTrue, ◌↔◌};
 ghost use Rattle.hunk_words.specs.State.{IsState, SizeIs, SizeIsGiven, Stepped};
 
-use crate::fault::Reason;
 use crate::state::{Expected, State, Step};
 use crate::{
     block_steps as blocks, header_steps as header, short_steps as short, type_steps as types,
 };
+use hunk_base::fault::Reason;
 
 /// Judges a number, and returns what is expected after it and its event. If the size of content is
 /// expected in a load file, `size` is the size of this hunk in the header, in longwords.

@@ -4,11 +4,11 @@ ghost use Rattle.std.specs.Prelude.{◌≡◌, ℕ, ◌+◌, ◌<◌, ◌^◌, L
 ghost use Rattle.hunk_words.specs.declared.event.Event.{Event};
 ghost use Rattle.hunk_words.specs.declared.event.FileKind.{FileKind};
 ghost use Rattle.hunk_words.specs.declared.event.FileKind.TheVariants.{Load};
-ghost use Rattle.hunk_words.specs.Longwords.{IsWhole, longwords};
+ghost use Rattle.hunk_base.specs.Longwords.{IsWhole, longwords};
 ghost use Rattle.hunk_words.specs.Taker.{Judges, RunTaken, context_of, sizes_told};
 
 use crate::event::{Event, FileKind};
-use crate::sites::SiteRefusal;
+use hunk_base::sites::SiteRefusal;
 use std::alloc::AllocError;
 
 /// What takes the events of a file's longwords, in order.

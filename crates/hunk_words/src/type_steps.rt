@@ -6,9 +6,9 @@ ghost use Rattle.hunk_words.specs.State.{StepsFrom, EndsHunk};
 
 use crate::doshunks::HUNK_UNIT;
 use crate::event::{Event, FileKind};
-use crate::fault::Reason;
 use crate::kinds::{BlockType, Half, block_type, is_unsupported, low, memory_bits};
 use crate::state::{AfterWords, Expected, State, Step};
+use hunk_base::fault::Reason;
 
 // Why a block type is rejected where it is not allowed. 1020 is known only in a load file after the
 // header.

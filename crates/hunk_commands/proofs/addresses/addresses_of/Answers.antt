@@ -1,6 +1,6 @@
 -- The file of addresses was opened, and not read.
 use Rattle.std.proofs.Common.{ap}
-use Rattle.hunk_words.specs.Watched.{inner_of, saw_end, saw_failure}
+use Rattle.hunk_base.specs.Watched.{inner_of, saw_end, saw_failure}
 use Rattle.hunk_commands.specs.Addresses.{input_of, origin_of}
 use Rattle.hunk_commands.proofs.AddressesLemmas.{IsAddressesFailure-read}
 use Rattle.hunk_commands.proofs.addresses.addresses_of.Goals as goal

@@ -1,6 +1,6 @@
 -- What is given is of this fault, or there is no such offence.
 use Rattle.std.proofs.Common.{◌∙◌, sym}
-use Rattle.hunk_words.proofs.StreamsLemmas.{HasRead-weaker}
+use Rattle.hunk_base.proofs.StreamsLemmas.{HasRead-weaker}
 use Rattle.hunk_commands.specs.Explain.{kind_read}
 use Rattle.hunk_commands.proofs.ExplainLemmas.{no_other_offends, none_offends}
 use Rattle.hunk_commands.proofs.FaultLemmas.{other_fault, same_fault}

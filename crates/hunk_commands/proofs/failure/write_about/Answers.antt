@@ -1,5 +1,5 @@
 use Rattle.std.proofs.Common.{subst}
-use Rattle.hunk_words.specs.Streams.{WroteAll}
+use Rattle.hunk_base.specs.Streams.{WroteAll}
 use Rattle.hunk_commands.proofs.FailureLemmas.{about_parts}
 use Rattle.hunk_commands.proofs.failure.write_about.Goals as goal
 

@@ -1,5 +1,5 @@
 use Rattle.std.proofs.Common.{subst}
-use Rattle.hunk_words.specs.Streams.{WroteAll}
+use Rattle.hunk_base.specs.Streams.{WroteAll}
 use Rattle.hunk_commands.specs.Addresses.{origin_of}
 use Rattle.hunk_commands.proofs.FailureLemmas.{bad_number_parts}
 use Rattle.hunk_commands.proofs.failure.write_bad_number.Goals as goal

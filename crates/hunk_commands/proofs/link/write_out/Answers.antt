@@ -2,7 +2,7 @@
 use Rattle.std.proofs.Common.{refl, subst}
 use Rattle.std.specs.Io.KnownBytes.{Appends}
 use Rattle.std.proofs.lemmas.Result.{err_from_is_err_and}
-use Rattle.hunk_words.specs.Name.{bytes_of}
+use Rattle.hunk_base.specs.Name.{bytes_of}
 use Rattle.hunk_loadfile.specs.Rules.{IsLoadFile}
 use Rattle.hunk_loadfile.specs.WrittenForm.{written_in}
 use Rattle.hunk_commands.proofs.LinkLemmas.{IsUnwritten-cut_short}

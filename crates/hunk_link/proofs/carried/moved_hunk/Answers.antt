@@ -2,7 +2,7 @@ use Rattle.std.proofs.Common.{◌≡◌, length, sym, ap, subst, ◌∙◌}
 use Rattle.std.proofs.lemmas.List.{with_items_is}
 use Rattle.std.specs.List.{All}
 use Rattle.hunk_words.specs.DebugInfo.{lists_of}
-use Rattle.hunk_words.specs.Sites.{SiteMap}
+use Rattle.hunk_base.specs.Sites.{SiteMap}
 use Rattle.hunk_objects.specs.declared.unit_hunk.Adds.{Adds}
 use Rattle.hunk_link.specs.Addend.{addend_of}
 use Rattle.hunk_link.specs.Carried.{IsKnown, unless_stripped}

@@ -1,7 +1,7 @@
 -- A refusal is that of the bytes read, or of their end.
 use Rattle.std.proofs.Common.{Err, subst, ◌∙◌}
 use Rattle.std.proofs.lemmas.Result.{err_from_is_err_and}
-use Rattle.hunk_words.proofs.StreamsLemmas.{HasRead-weaker}
+use Rattle.hunk_base.proofs.StreamsLemmas.{HasRead-weaker}
 use Rattle.hunk_loader.specs.ImageLoader.{Finished, LoadsAs, StandsFor}
 use Rattle.hunk_loader.proofs.ImageReaderLemmas.{IsImageFault-end, IsImageFault-stopped}
 use Rattle.hunk_loader.proofs.image_reader.read_image.Goals as goal

@@ -4,7 +4,7 @@ use Rattle.std.proofs.lemmas.List.Sums.{sum_by_more_le}
 use Rattle.std.proofs.lemmas.Result.{err_from_is_err_and}
 use Rattle.std.specs.List.{flat_map}
 use Rattle.hunk_loadfile.specs.Rules.{symbol_longwords}
-use Rattle.hunk_words.specs.Name.{most_name}
+use Rattle.hunk_base.specs.Name.{most_name}
 use Rattle.hunk_loadfile.specs.WrittenForm.{symbol_words}
 use Rattle.hunk_loadfile.proofs.WrittenFormLengthLemmas.{length-symbols}
 use Rattle.hunk_loadfile.proofs.LongwordWriterLemmas.{length-bytes_of, parts-stop}

@@ -1,8 +1,8 @@
 -- The symbols so far were written, and no write failed.
 use Rattle.std.proofs.Common.{take, Ok}
 use Rattle.std.specs.List.{flat_map}
-use Rattle.hunk_words.specs.Name.{bytes_of}
-use Rattle.hunk_words.specs.Streams.{Wrote}
+use Rattle.hunk_base.specs.Name.{bytes_of}
+use Rattle.hunk_base.specs.Streams.{Wrote}
 use Rattle.hunk_loadfile.specs.WrittenForm.{symbol_words}
 use Rattle.hunk_loadfile.proofs.debug_writer.write_each_symbol.Given as goal
 

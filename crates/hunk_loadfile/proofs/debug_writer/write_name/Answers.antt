@@ -1,8 +1,8 @@
 -- The bytes of the name are written, and then the zeros.
 use Rattle.std.proofs.Common.{◌-◌, ◌*◌, ◌∷◌, [], ℕ, List, length, take}
 use Rattle.std.proofs.lemmas.Result.{err_from_is_err_and}
-use Rattle.hunk_words.specs.Name.{bytes_of, name_words}
-use Rattle.hunk_words.proofs.StreamsWritingLemmas.{Wrote-stop, Wrote-then}
+use Rattle.hunk_base.specs.Name.{bytes_of, name_words}
+use Rattle.hunk_base.proofs.StreamsWritingLemmas.{Wrote-stop, Wrote-then}
 use Rattle.hunk_loadfile.proofs.LongwordWriterLemmas.{name_words-bytes}
 use Rattle.hunk_loadfile.proofs.debug_writer.write_name.Goals as goal
 

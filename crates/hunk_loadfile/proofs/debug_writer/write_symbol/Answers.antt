@@ -1,8 +1,8 @@
 -- The length of the name is written, then the name, and then the value.
 use Rattle.std.proofs.Common.{◌≡◌, ◌∙◌, ◌∷◌, ◌++◌, [], ℕ, List, Err, ap, length, refl, arith}
 use Rattle.std.proofs.lemmas.Result.{err_from_is_err_and}
-use Rattle.hunk_words.specs.Name.{longword_count, name_words}
-use Rattle.hunk_words.proofs.NameLemmas.{length-name_words}
+use Rattle.hunk_base.specs.Name.{longword_count, name_words}
+use Rattle.hunk_base.proofs.NameLemmas.{length-name_words}
 use Rattle.hunk_loadfile.specs.WrittenForm.{symbol_words}
 use Rattle.hunk_loadfile.specs.declared.number_width.NumberWidth.TheVariants.{Longword}
 use Rattle.hunk_loadfile.proofs.LongwordWriterLemmas.{length-bytes_of, symbol_words-is, numbers-stop, numbers-then}

@@ -1,7 +1,7 @@
 use Rattle.std.proofs.lemmas.Result.{err_from_is_err_and}
 use Rattle.hunk_words.specs.declared.event.FileKind.TheVariants.{Load}
 use Rattle.hunk_words.proofs.DecoderRefusalLemmas.{read-refused, read-stopped}
-use Rattle.hunk_words.proofs.StreamsLemmas.{HasRead-weaker}
+use Rattle.hunk_base.proofs.StreamsLemmas.{HasRead-weaker}
 use Rattle.hunk_loadfile.specs.LoadBuilder.{StandsFor as BuilderStandsFor}
 use Rattle.hunk_loadfile.proofs.load_decoder.read_load.Goals as goal
 

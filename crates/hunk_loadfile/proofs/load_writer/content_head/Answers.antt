@@ -1,6 +1,6 @@
 -- The count of the longwords is that of the content.
 use Rattle.std.proofs.Common.{◌≡◌, ◌∙◌, ap, sym}
-use Rattle.hunk_words.specs.Longwords.{longwords}
+use Rattle.hunk_base.specs.Longwords.{longwords}
 use Rattle.hunk_words.specs.declared.kinds.HunkKind.{HunkKind}
 use Rattle.hunk_words.specs.declared.kinds.HunkKind.TheVariants.{Code, Data}
 use Rattle.hunk_loadfile.specs.LoadHunk.{FileHunk}

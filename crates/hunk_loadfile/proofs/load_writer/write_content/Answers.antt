@@ -1,8 +1,8 @@
 -- The type and the length are written, and then the content.
 use Rattle.std.proofs.Common.{◌≡◌, ◌∙◌, ap, refl, arith}
-use Rattle.hunk_words.specs.Longwords.{longwords}
-use Rattle.hunk_words.specs.Name.{bytes_of}
-use Rattle.hunk_words.proofs.StreamsWritingLemmas.{Wrote-then}
+use Rattle.hunk_base.specs.Longwords.{longwords}
+use Rattle.hunk_base.specs.Name.{bytes_of}
+use Rattle.hunk_base.proofs.StreamsWritingLemmas.{Wrote-then}
 use Rattle.hunk_loadfile.specs.LoadHunk.{FileHunk}
 use Rattle.hunk_loadfile.specs.Rules.{most_hunks}
 use Rattle.hunk_loadfile.specs.WrittenForm.{content_words}

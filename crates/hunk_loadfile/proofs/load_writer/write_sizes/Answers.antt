@@ -3,7 +3,7 @@ use Rattle.std.proofs.Common.{rules, ◌≡◌, ◌≤◌, ◌∙◌, ◌++◌, 
 use Rattle.std.proofs.lemmas.Result.{err_from_is_err_and}
 use Rattle.std.specs.List.{All}
 use Rattle.std.specs.Slice.Iter.{chunks_rest}
-use Rattle.hunk_words.proofs.StreamsWritingLemmas.{Wrote-nothing}
+use Rattle.hunk_base.proofs.StreamsWritingLemmas.{Wrote-nothing}
 use Rattle.hunk_loadfile.specs.LoadHunk.{FileHunk}
 use Rattle.hunk_loadfile.specs.Rules.{most_size}
 use Rattle.hunk_loadfile.specs.WrittenForm.{size_word}

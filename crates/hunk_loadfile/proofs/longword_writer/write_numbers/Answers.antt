@@ -2,7 +2,7 @@
 use Rattle.std.proofs.Common.{◌≡◌, ◌∙◌, ◌++◌, List, ℕ, Ok, length, sym, ap, refl, append_assoc, arith}
 use Rattle.std.proofs.lemmas.Result.{err_from_is_err_and}
 use Rattle.std.specs.Slice.Iter.{chunks_rest}
-use Rattle.hunk_words.proofs.StreamsWritingLemmas.{length-front-le}
+use Rattle.hunk_base.proofs.StreamsWritingLemmas.{length-front-le}
 use Rattle.hunk_loadfile.specs.NumberWidth.{bytes_in}
 use Rattle.hunk_loadfile.proofs.NumberWidthLemmas.{bytes_in-append}
 use Rattle.hunk_loadfile.proofs.LongwordWriterLemmas.{numbers-inside, numbers-then}

@@ -1,7 +1,7 @@
 -- The numbers so far were written, and those of the remaining chunks are the rest.
 use Rattle.std.proofs.Common.{◌≡◌, List, ◌++◌, ℕ, Ok}
 use Rattle.std.specs.Slice.Iter.{chunks_rest, chunks_size}
-use Rattle.hunk_words.specs.Streams.{Wrote}
+use Rattle.hunk_base.specs.Streams.{Wrote}
 use Rattle.hunk_loadfile.specs.NumberWidth.{bytes_in}
 use Rattle.hunk_loadfile.proofs.longword_writer.write_numbers.Given as goal
 

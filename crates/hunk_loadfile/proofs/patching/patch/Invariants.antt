@@ -2,7 +2,7 @@
 -- as they were.
 use Rattle.std.proofs.Common.{◌≡◌, ◌<◌, length, slice_index}
 use Rattle.std.specs.List.{All}
-use Rattle.hunk_words.specs.Sites.{StandFrom}
+use Rattle.hunk_base.specs.Sites.{StandFrom}
 use Rattle.hunk_loadfile.specs.Patching.{patched_bytes}
 use Rattle.hunk_loadfile.proofs.patching.patch.Given as goal
 

@@ -2,9 +2,9 @@
 use Rattle.std.proofs.Common.{◌≡◌, ◌<◌, ◌==◌, ◌-◌, ◌%◌, ◌∙◌, ℕ, Bool, true, false, inl, inr, [], ◌∷◌, ◌++◌, length, replicate, append_assoc, Ok, refl, sym, ap, subst, eq-eqb, arith}
 use Rattle.std.proofs.lemmas.Bool.{cases_eq}
 use Rattle.std.proofs.lemmas.Result.{err_from_is_err_and}
-use Rattle.hunk_words.specs.Name.{bytes_of}
-use Rattle.hunk_words.specs.Streams.{Wrote}
-use Rattle.hunk_words.proofs.StreamsWritingLemmas.{Wrote-inside, Wrote-stop, Wrote-then}
+use Rattle.hunk_base.specs.Name.{bytes_of}
+use Rattle.hunk_base.specs.Streams.{Wrote}
+use Rattle.hunk_base.proofs.StreamsWritingLemmas.{Wrote-inside, Wrote-stop, Wrote-then}
 use Rattle.hunk_loadfile.specs.NumberWidth.{block_type, bytes_in}
 use Rattle.hunk_loadfile.specs.RelocationWriter.{block_bytes, block_end}
 use Rattle.hunk_loadfile.specs.WrittenForm.{groups_words}

@@ -2,7 +2,7 @@
 use Rattle.std.proofs.Common.{◌≡◌, ◌<◌, ◌∙◌, ◌++◌, ℕ, List, [], length, Ok, refl, sym, ap, subst, append_assoc, append-nil, arith, rules, tests}
 use Rattle.std.proofs.lemmas.List.{nil_from_length}
 use Rattle.std.proofs.lemmas.Result.{err_from_is_err_and}
-use Rattle.hunk_words.specs.Streams.{Wrote}
+use Rattle.hunk_base.specs.Streams.{Wrote}
 use Rattle.hunk_loadfile.specs.NumberWidth.{bytes_in}
 use Rattle.hunk_loadfile.specs.WrittenForm.{groups_words}
 use Rattle.hunk_loadfile.proofs.LongwordWriterLemmas.{numbers-inside, numbers-then}

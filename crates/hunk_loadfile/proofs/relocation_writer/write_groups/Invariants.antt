@@ -2,7 +2,7 @@
 use Rattle.std.proofs.Common.{◌≡◌, ◌≤◌, ◌<◌, ◌+◌, ◌*◌, ◌++◌, ℕ, List, length, Ok}
 use Rattle.std.specs.List.{All}
 use Rattle.std.specs.List.Sorted.{IsNonDecreasingBy}
-use Rattle.hunk_words.specs.Streams.{Wrote}
+use Rattle.hunk_base.specs.Streams.{Wrote}
 use Rattle.hunk_loadfile.specs.NumberWidth.{bytes_in}
 use Rattle.hunk_loadfile.specs.WrittenForm.{groups_words}
 use Rattle.hunk_loadfile.proofs.relocation_writer.write_groups.Given as goal

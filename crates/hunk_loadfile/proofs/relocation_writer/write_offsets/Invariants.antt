@@ -1,7 +1,7 @@
 -- The offsets so far and those of the remaining chunks are all offsets.
 use Rattle.std.proofs.Common.{◌≡◌, ◌++◌, ℕ, List, map, Ok}
 use Rattle.std.specs.Slice.Iter.{chunks_rest, chunks_size}
-use Rattle.hunk_words.specs.Streams.{Wrote}
+use Rattle.hunk_base.specs.Streams.{Wrote}
 use Rattle.hunk_loadfile.specs.NumberWidth.{bytes_in}
 use Rattle.hunk_loadfile.proofs.relocation_writer.write_offsets.Given as goal
 

@@ -2,8 +2,8 @@
 use Rattle.std.proofs.Common.{◌<◌, ℕ, ◌++◌, length, not, sym, ap, subst, arith}
 use Rattle.std.proofs.lemmas.List.Sorted.{length_permutation}
 use Rattle.std.proofs.lemmas.Result.{err_from_is_err_and}
-use Rattle.hunk_words.specs.Name.{bytes_of}
-use Rattle.hunk_words.proofs.StreamsWritingLemmas.{Wrote-stop, Wrote-then}
+use Rattle.hunk_base.specs.Name.{bytes_of}
+use Rattle.hunk_base.proofs.StreamsWritingLemmas.{Wrote-stop, Wrote-then}
 use Rattle.hunk_loadfile.specs.LoadForm.{is_short, long_sites, short_sites}
 use Rattle.hunk_loadfile.specs.RelocationWriter.{AreByTarget}
 use Rattle.hunk_loadfile.specs.WrittenForm.{short_words, site_words}

@@ -1,7 +1,7 @@
 use Rattle.std.proofs.lemmas.Result.{err_from_is_err_and}
 use Rattle.hunk_words.specs.declared.event.FileKind.TheVariants.{Object}
 use Rattle.hunk_words.proofs.DecoderRefusalLemmas.{read-refused, read-stopped}
-use Rattle.hunk_words.proofs.StreamsLemmas.{HasRead-weaker}
+use Rattle.hunk_base.proofs.StreamsLemmas.{HasRead-weaker}
 use Rattle.hunk_objects.specs.UnitBuilder.{StandsFor as BuilderStandsFor}
 use Rattle.hunk_objects.proofs.object_decoder.read_object.Goals as goal
 

@@ -2,7 +2,7 @@
 use Rattle.std.proofs.Common.{◌≡◌, ◌∙◌, ◌++◌, List, ℕ, ap₂, append_assoc, subst}
 use Rattle.std.specs.Fmt.{decimal}
 use Rattle.std.specs.Prelude.{codes}
-use Rattle.hunk_words.specs.Streams.{Wrote}
+use Rattle.hunk_base.specs.Streams.{Wrote}
 use Rattle.hunk_text.proofs.first_line.write_object_line.Goals as goal
 
 pieces : (a b c d e f : List ℕ) → a ++ (b ++ (c ++ (d ++ (e ++ f)))) ≡ ((((a ++ b) ++ c) ++ d) ++ e) ++ f

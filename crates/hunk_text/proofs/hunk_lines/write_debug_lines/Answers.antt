@@ -2,7 +2,7 @@
 use Rattle.std.proofs.Common.{◌++◌, refl}
 use Rattle.std.specs.List.{flat_map}
 use Rattle.hunk_words.specs.DebugInfo.{lists_of}
-use Rattle.hunk_words.proofs.StreamsWritingLemmas.{Wrote-then}
+use Rattle.hunk_base.proofs.StreamsWritingLemmas.{Wrote-then}
 use Rattle.hunk_text.specs.Listing.{debug_line, symbol_line}
 use Rattle.hunk_text.proofs.hunk_lines.write_debug_lines.Goals as goal
 

@@ -1,7 +1,7 @@
 -- One more debug block.
 use Rattle.std.proofs.lemmas.Result.{err_from_is_err_and}
 use Rattle.hunk_words.specs.DebugInfo.{lists_of}
-use Rattle.hunk_words.proofs.StreamsWritingLemmas.{Wrote-more, Wrote-part}
+use Rattle.hunk_base.proofs.StreamsWritingLemmas.{Wrote-more, Wrote-part}
 use Rattle.hunk_loadfile.proofs.LongwordWriterLemmas.{lists_of-at}
 use Rattle.hunk_text.specs.Listing.{debug_line}
 use Rattle.hunk_text.proofs.ListingLemmas.{lists_of-within, part-room}

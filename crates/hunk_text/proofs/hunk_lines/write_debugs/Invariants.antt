@@ -2,7 +2,7 @@
 use Rattle.std.proofs.Common.{take, Ok}
 use Rattle.std.specs.List.{flat_map}
 use Rattle.hunk_words.specs.DebugInfo.{lists_of}
-use Rattle.hunk_words.specs.Streams.{Wrote}
+use Rattle.hunk_base.specs.Streams.{Wrote}
 use Rattle.hunk_text.specs.Listing.{debug_line}
 use Rattle.hunk_text.proofs.hunk_lines.write_debugs.Given as goal
 

@@ -1,7 +1,7 @@
 -- The lines of the symbols so far were written.
 use Rattle.std.proofs.Common.{take, Ok}
 use Rattle.std.specs.List.{flat_map}
-use Rattle.hunk_words.specs.Streams.{Wrote}
+use Rattle.hunk_base.specs.Streams.{Wrote}
 use Rattle.hunk_text.specs.Listing.{symbol_line}
 use Rattle.hunk_text.proofs.hunk_lines.write_symbols.Given as goal
 

@@ -5,8 +5,8 @@ use Rattle.std.proofs.lemmas.Result.{err_from_is_err_and}
 use Rattle.std.specs.Fmt.{decimal}
 use Rattle.std.specs.Prelude.{codes}
 use Rattle.hunk_loadfile.specs.LoadHunk.{FileHunk}
-use Rattle.hunk_words.specs.Streams.{Wrote}
-use Rattle.hunk_words.proofs.StreamsWritingLemmas.{Wrote-stop, Wrote-then}
+use Rattle.hunk_base.specs.Streams.{Wrote}
+use Rattle.hunk_base.proofs.StreamsWritingLemmas.{Wrote-stop, Wrote-then}
 use Rattle.hunk_text.specs.Listing.{hunk_front, load_hunk_line}
 use Rattle.hunk_text.proofs.load_listing.write_hunk_line.Goals as goal
 

@@ -1,7 +1,7 @@
 -- The lines of the hunks so far were written.
 use Rattle.std.proofs.Common.{take, Ok}
 use Rattle.std.specs.List.{enumerate_from, flat_map}
-use Rattle.hunk_words.specs.Streams.{Wrote}
+use Rattle.hunk_base.specs.Streams.{Wrote}
 use Rattle.hunk_text.specs.Listing.{load_hunk_lines}
 use Rattle.hunk_text.proofs.load_listing.write_hunks.Given as goal
 

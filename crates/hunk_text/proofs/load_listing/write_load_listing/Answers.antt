@@ -2,7 +2,7 @@
 use Rattle.std.proofs.Common.{◌++◌, Err, length, refl}
 use Rattle.std.proofs.lemmas.Result.{err_from_is_err_and}
 use Rattle.std.specs.List.{enumerate_from, flat_map}
-use Rattle.hunk_words.proofs.StreamsWritingLemmas.{Wrote-stop, Wrote-then}
+use Rattle.hunk_base.proofs.StreamsWritingLemmas.{Wrote-stop, Wrote-then}
 use Rattle.hunk_text.specs.Listing.{load_hunk_lines, load_line}
 use Rattle.hunk_text.proofs.load_listing.write_load_listing.Goals as goal
 

@@ -1,6 +1,6 @@
 -- One more definition.
 use Rattle.std.proofs.lemmas.Result.{err_from_is_err_and}
-use Rattle.hunk_words.proofs.StreamsWritingLemmas.{Wrote-more, Wrote-part}
+use Rattle.hunk_base.proofs.StreamsWritingLemmas.{Wrote-more, Wrote-part}
 use Rattle.hunk_text.specs.Listing.{definition_line}
 use Rattle.hunk_text.proofs.ListingLemmas.{part-room}
 use Rattle.hunk_text.proofs.object_listing.write_definitions.Goals as goal

@@ -3,8 +3,8 @@ use Rattle.std.proofs.Common.{◌≡◌, ◌∙◌, ◌++◌, List, ℕ, append_
 use Rattle.std.proofs.lemmas.Result.{err_from_is_err_and}
 use Rattle.std.specs.Prelude.{codes}
 use Rattle.hunk_objects.specs.UnitHunk.{ObjectHunk}
-use Rattle.hunk_words.specs.Streams.{Wrote}
-use Rattle.hunk_words.proofs.StreamsWritingLemmas.{Wrote-stop, Wrote-then}
+use Rattle.hunk_base.specs.Streams.{Wrote}
+use Rattle.hunk_base.proofs.StreamsWritingLemmas.{Wrote-stop, Wrote-then}
 use Rattle.hunk_text.specs.Listing.{hunk_front, unit_hunk_line}
 use Rattle.hunk_text.specs.QuotedName.{quoted}
 use Rattle.hunk_text.proofs.object_listing.write_hunk_line.Goals as goal

@@ -4,7 +4,7 @@ use Rattle.std.proofs.lemmas.List.{length-append}
 use Rattle.std.proofs.lemmas.Result.{err_from_is_err_and}
 use Rattle.std.specs.List.{enumerate_from, flat_map}
 use Rattle.hunk_objects.specs.ProgramUnit.{hunk_count}
-use Rattle.hunk_words.proofs.StreamsWritingLemmas.{Wrote-stop, Wrote-then, WroteAll-done}
+use Rattle.hunk_base.proofs.StreamsWritingLemmas.{Wrote-stop, Wrote-then, WroteAll-done}
 use Rattle.hunk_text.specs.Listing.{object_line, object_listing, unit_lines}
 use Rattle.hunk_text.proofs.ListingLemmas.{hunk_count-le}
 use Rattle.hunk_text.proofs.object_listing.write_object_listing.Goals as goal

@@ -1,7 +1,7 @@
 -- The pieces around the name of a reference are the line.
 use Rattle.std.proofs.Common.{◌≡◌, ◌∙◌, ◌++◌, List, [], ℕ, ap₂, append_assoc, get_or, subst}
 use Rattle.std.specs.Prelude.{codes}
-use Rattle.hunk_words.specs.Streams.{Wrote}
+use Rattle.hunk_base.specs.Streams.{Wrote}
 use Rattle.hunk_text.specs.Digits.{eight_digits}
 use Rattle.hunk_text.specs.QuotedName.{quoted}
 use Rattle.hunk_text.proofs.object_listing.write_site.Goals as goal

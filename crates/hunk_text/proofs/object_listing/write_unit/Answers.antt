@@ -2,8 +2,8 @@
 use Rattle.std.proofs.Common.{◌++◌, ◌∙◌, Ok, Err, refl, subst}
 use Rattle.std.proofs.lemmas.Result.{err_from_is_err_and}
 use Rattle.std.specs.List.{enumerate_from, flat_map}
-use Rattle.hunk_words.specs.Streams.{Wrote}
-use Rattle.hunk_words.proofs.StreamsWritingLemmas.{Wrote-stop, Wrote-then}
+use Rattle.hunk_base.specs.Streams.{Wrote}
+use Rattle.hunk_base.proofs.StreamsWritingLemmas.{Wrote-stop, Wrote-then}
 use Rattle.hunk_text.specs.Listing.{unit_hunk_lines, unit_line}
 use Rattle.hunk_text.proofs.object_listing.write_unit.Goals as goal
 

@@ -1,7 +1,7 @@
 -- The lines of the units so far were written.
 use Rattle.std.proofs.Common.{take, Ok}
 use Rattle.std.specs.List.{enumerate_from, flat_map}
-use Rattle.hunk_words.specs.Streams.{Wrote}
+use Rattle.hunk_base.specs.Streams.{Wrote}
 use Rattle.hunk_text.specs.Listing.{unit_lines}
 use Rattle.hunk_text.proofs.object_listing.write_units.Given as goal
 

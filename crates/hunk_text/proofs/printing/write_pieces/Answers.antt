@@ -3,7 +3,7 @@ use Rattle.std.proofs.Common.{ℕ, List, [], get_or, refl, arith}
 use Rattle.std.proofs.lemmas.List.Folds.{length-flat_map-take}
 use Rattle.std.proofs.lemmas.Result.{err_from_is_err_and}
 use Rattle.std.specs.Borrow.{Bor}
-use Rattle.hunk_words.proofs.StreamsWritingLemmas.{Wrote-more, Wrote-part}
+use Rattle.hunk_base.proofs.StreamsWritingLemmas.{Wrote-more, Wrote-part}
 use Rattle.hunk_text.proofs.printing.write_pieces.Goals as goal
 
 abbrev nothing : Bor (List ℕ)

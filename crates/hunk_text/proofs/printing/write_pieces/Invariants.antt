@@ -1,6 +1,6 @@
 -- The pieces so far were written, and no write failed.
 use Rattle.std.proofs.Common.{take, Ok}
-use Rattle.hunk_words.specs.Streams.{Wrote}
+use Rattle.hunk_base.specs.Streams.{Wrote}
 use Rattle.hunk_text.specs.Printing.{joined}
 use Rattle.hunk_text.proofs.printing.write_pieces.Given as goal
 

@@ -1,7 +1,7 @@
 -- The pieces before the name are written, then the name, and then the pieces after it.
 use Rattle.std.proofs.Common.{◌++◌, Ok, refl, append_assoc}
 use Rattle.std.proofs.lemmas.Result.{err_from_is_err_and}
-use Rattle.hunk_words.proofs.StreamsWritingLemmas.{Wrote-inside, Wrote-stop, Wrote-then}
+use Rattle.hunk_base.proofs.StreamsWritingLemmas.{Wrote-inside, Wrote-stop, Wrote-then}
 use Rattle.hunk_text.specs.Printing.{joined}
 use Rattle.hunk_text.specs.QuotedName.{quoted}
 use Rattle.hunk_text.proofs.quoted_name.write_around_name.Goals as goal

@@ -3,7 +3,7 @@ use Rattle.std.proofs.Common.{◌≤◌, ◌++◌, get_or, length, take, ap, ref
 use Rattle.std.specs.Prelude.{codes}
 use Rattle.std.proofs.lemmas.List.{length-append}
 use Rattle.std.proofs.lemmas.Result.{err_from_is_err_and}
-use Rattle.hunk_words.proofs.StreamsWritingLemmas.{Wrote-inside, Wrote-then}
+use Rattle.hunk_base.proofs.StreamsWritingLemmas.{Wrote-inside, Wrote-then}
 use Rattle.hunk_text.specs.QuotedName.{escaped, quoted}
 use Rattle.hunk_text.proofs.QuotedNameLemmas.{Quoting, Quoting-flush, Quoting-push, length-escaped, length-block-lt, quoted-all, quoted-around, quoted_behind}
 use Rattle.hunk_text.proofs.quoted_name.write_quoted.Goals as goal

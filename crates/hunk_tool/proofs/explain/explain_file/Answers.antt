@@ -1,6 +1,6 @@
 -- What was read is explained, as a file of its kind; its end is found only at the reader's end.
 use Rattle.std.proofs.Common.{Ok, ap, ◌∙◌}
-use Rattle.hunk_words.proofs.StreamsLemmas.{HasRead-weaker}
+use Rattle.hunk_base.proofs.StreamsLemmas.{HasRead-weaker}
 use Rattle.hunk_tool.specs.Explanation.{IsExplained}
 use Rattle.hunk_tool.specs.FileDecoder.{inner}
 use Rattle.hunk_tool.specs.FileValue.{kind_of_bytes}

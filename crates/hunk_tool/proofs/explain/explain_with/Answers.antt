@@ -1,6 +1,6 @@
 -- What was read is explained; its end is found only at the reader's end.
 use Rattle.std.proofs.Common.{Ok, ap, ◌∙◌}
-use Rattle.hunk_words.proofs.StreamsLemmas.{HasRead-weaker}
+use Rattle.hunk_base.proofs.StreamsLemmas.{HasRead-weaker}
 use Rattle.hunk_tool.specs.Explanation.{IsExplained}
 use Rattle.hunk_tool.proofs.FollowerLemmas.{EndsWith-read}
 use Rattle.hunk_tool.proofs.explain.explain_with.Goals as goal

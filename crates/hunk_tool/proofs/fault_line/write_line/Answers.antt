@@ -2,7 +2,7 @@
 use Rattle.std.proofs.Common.{◌++◌, Err, Ok, refl}
 use Rattle.std.specs.Prelude.{codes}
 use Rattle.std.proofs.lemmas.Result.{err_from_is_err_and}
-use Rattle.hunk_words.proofs.StreamsWritingLemmas.{Wrote-inside, Wrote-stop, Wrote-then, WroteAll-done}
+use Rattle.hunk_base.proofs.StreamsWritingLemmas.{Wrote-inside, Wrote-stop, Wrote-then, WroteAll-done}
 use Rattle.hunk_tool.specs.FaultLine.{program_line}
 use Rattle.hunk_tool.specs.Phrase.{phrase_text}
 use Rattle.hunk_text.specs.Printing.{line}

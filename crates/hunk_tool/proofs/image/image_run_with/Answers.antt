@@ -2,7 +2,7 @@
 use Rattle.std.proofs.Common.{Err, refl, ap, ◌∙◌}
 use Rattle.std.proofs.KnownBytes.{Keeps-refl}
 use Rattle.std.proofs.lemmas.Result.{err_from_is_err_and}
-use Rattle.hunk_words.specs.Name.{bytes_of}
+use Rattle.hunk_base.specs.Name.{bytes_of}
 use Rattle.hunk_loadfile.specs.WrittenForm.{written_form}
 use Rattle.hunk_loader.specs.Image.{hunks_of}
 use Rattle.hunk_tool.proofs.ImageLemmas.{HaveRead-imaged, HaveRead-not_placed, IsImageFault-unlinked, IsImageFault-written, LoadsAs-written}

@@ -1,7 +1,7 @@
 -- What comes before the rows was written, and then the rows.
 use Rattle.std.proofs.Common.{◌++◌, length, refl}
 use Rattle.std.proofs.lemmas.Result.{err_from_is_err_and}
-use Rattle.hunk_words.proofs.StreamsWritingLemmas.{Wrote-stop, Wrote-then}
+use Rattle.hunk_base.proofs.StreamsWritingLemmas.{Wrote-stop, Wrote-then}
 use Rattle.hunk_tool.specs.ImageText.{hunk_heading}
 use Rattle.hunk_tool.specs.Rows.{row_lines}
 use Rattle.hunk_tool.proofs.image_text.write_hunk.Goals as goal

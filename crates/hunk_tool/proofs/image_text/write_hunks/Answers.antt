@@ -1,8 +1,8 @@
 -- One more hunk.
 use Rattle.std.proofs.Common.{◌+◌, Ok, subst, arith}
 use Rattle.std.proofs.lemmas.Result.{err_from_is_err_and}
-use Rattle.hunk_words.specs.Streams.{Wrote}
-use Rattle.hunk_words.proofs.StreamsWritingLemmas.{Wrote-inside, Wrote-then}
+use Rattle.hunk_base.specs.Streams.{Wrote}
+use Rattle.hunk_base.proofs.StreamsWritingLemmas.{Wrote-inside, Wrote-then}
 use Rattle.hunk_loader.specs.Image.{hunks_of}
 use Rattle.hunk_tool.specs.ImageText.{all_hunk_lines, hunk_lines}
 use Rattle.hunk_tool.proofs.ImageTextLemmas.{IsHunk-hunks_of, ends_inside, first_hunk_lines, first_hunk_lines-all, first_hunk_lines-more, hunk_lines-around, hunks_behind, length-hunk_lines-le, length-hunks_of}

@@ -1,6 +1,6 @@
 -- The hunks so far were written, and no write failed.
 use Rattle.std.proofs.Common.{Ok}
-use Rattle.hunk_words.specs.Streams.{Wrote}
+use Rattle.hunk_base.specs.Streams.{Wrote}
 use Rattle.hunk_loader.specs.Image.{hunks_of}
 use Rattle.hunk_tool.proofs.ImageTextLemmas.{first_hunk_lines}
 use Rattle.hunk_tool.proofs.image_text.write_hunks.Given as goal

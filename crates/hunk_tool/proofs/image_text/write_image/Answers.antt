@@ -1,7 +1,7 @@
 -- What comes before the hunks was written, then the hunks, and then what comes after them.
 use Rattle.std.proofs.Common.{◌<◌, ◌^◌, ◌++◌, Ok, [], length, refl, sym, ap, ◌∙◌, append-nil, append_assoc, arith}
 use Rattle.std.proofs.lemmas.Result.{err_from_is_err_and}
-use Rattle.hunk_words.proofs.StreamsWritingLemmas.{Wrote-inside, Wrote-then}
+use Rattle.hunk_base.proofs.StreamsWritingLemmas.{Wrote-inside, Wrote-then}
 use Rattle.hunk_loader.specs.Image.{hunks_of}
 use Rattle.hunk_tool.specs.ImageText.{all_hunk_lines, closing, image_text, opening}
 use Rattle.hunk_tool.proofs.ImageTextLemmas.{length-all_hunk_lines-lt, length-closing, length-hunks_of, length-opening}

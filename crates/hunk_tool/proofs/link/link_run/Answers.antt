@@ -2,7 +2,7 @@
 use Rattle.std.proofs.Common.{subst}
 use Rattle.std.specs.Io.KnownBytes.{Appends}
 use Rattle.std.proofs.lemmas.Result.{err_from_is_err_and}
-use Rattle.hunk_words.specs.Streams.{WriteStopped}
+use Rattle.hunk_base.specs.Streams.{WriteStopped}
 use Rattle.hunk_loadfile.specs.Rules.{IsLoadFile}
 use Rattle.hunk_tool.proofs.LinkLemmas.{IsLinkFault-unlinked, IsLinkFault-written, IsLinked-written, bytes-chosen}
 use Rattle.hunk_tool.proofs.link.link_run.Goals as goal

@@ -1,8 +1,8 @@
 -- One more block.
 use Rattle.std.proofs.Common.{◌+◌, ◌*◌, Ok, subst, arith}
 use Rattle.std.proofs.lemmas.Result.{err_from_is_err_and}
-use Rattle.hunk_words.specs.Streams.{Wrote}
-use Rattle.hunk_words.proofs.StreamsWritingLemmas.{Wrote-inside, Wrote-then}
+use Rattle.hunk_base.specs.Streams.{Wrote}
+use Rattle.hunk_base.proofs.StreamsWritingLemmas.{Wrote-inside, Wrote-then}
 use Rattle.hunk_tool.specs.Rows.{row_lines}
 use Rattle.hunk_tool.proofs.RowsLemmas.{take-between}
 use Rattle.hunk_tool.proofs.RowBlocksLemmas.{block_lines, length-block_lines-le, lines_before, lines_before-all, lines_before-more, lines_behind, row_lines-around_block}

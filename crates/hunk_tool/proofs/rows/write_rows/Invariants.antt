@@ -1,6 +1,6 @@
 -- The rows of the blocks so far were written, and no write failed.
 use Rattle.std.proofs.Common.{Ok}
-use Rattle.hunk_words.specs.Streams.{Wrote}
+use Rattle.hunk_base.specs.Streams.{Wrote}
 use Rattle.hunk_tool.proofs.RowBlocksLemmas.{lines_before}
 use Rattle.hunk_tool.proofs.rows.write_rows.Given as goal
 

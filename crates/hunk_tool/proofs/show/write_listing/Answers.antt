@@ -1,6 +1,6 @@
 -- The listing of its kind is that of the file.
 use Rattle.std.proofs.Common.{◌∙◌, ap, subst, sym}
-use Rattle.hunk_words.specs.Streams.{WroteAll}
+use Rattle.hunk_base.specs.Streams.{WroteAll}
 use Rattle.hunk_text.specs.Listing.{load_listing, object_listing}
 use Rattle.hunk_tool.specs.HunkFile.{value_of}
 use Rattle.hunk_tool.specs.Show.{show_text}

@@ -1,7 +1,7 @@
 -- The name was written, and then the rest of the line.
 use Rattle.std.proofs.Common.{◌++◌}
 use Rattle.std.proofs.lemmas.Result.{err_from_is_err_and}
-use Rattle.hunk_words.proofs.StreamsWritingLemmas.{Wrote-stop, Wrote-then}
+use Rattle.hunk_base.proofs.StreamsWritingLemmas.{Wrote-stop, Wrote-then}
 use Rattle.hunk_text.specs.Printing.{line}
 use Rattle.hunk_tool.specs.Phrase.{phrase_text}
 use Rattle.hunk_tool.specs.Survey.{finding_line}

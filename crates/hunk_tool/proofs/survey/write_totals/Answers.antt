@@ -1,7 +1,7 @@
 -- The pieces are the line.
 use Rattle.std.proofs.Common.{◌∙◌, ap, subst}
 use Rattle.std.specs.Fmt.{decimal}
-use Rattle.hunk_words.specs.Streams.{Wrote}
+use Rattle.hunk_base.specs.Streams.{Wrote}
 use Rattle.hunk_tool.proofs.SurveyLemmas.{totals_line-pieces}
 use Rattle.hunk_tool.proofs.survey.write_totals.Goals as goal
 

@@ -2,7 +2,7 @@
 use Rattle.std.proofs.Common.{refl, rules, arith}
 use Rattle.std.proofs.lemmas.List.{length-map}
 use Rattle.std.proofs.lemmas.Result.{err_from_is_err_and}
-use Rattle.hunk_words.specs.Streams.{HasRead}
+use Rattle.hunk_base.specs.Streams.{HasRead}
 use Rattle.hunk_loadfile.specs.LoadFile.{IsLoadOf}
 use Rattle.hunk_loadfile.specs.LoadHunk.{FileHunk}
 use Rattle.hunk_loader.specs.Places.{IsFirstRefusal, Placed}

@@ -1,6 +1,6 @@
 -- One more symbol.
 use Rattle.std.proofs.lemmas.Result.{err_from_is_err_and}
-use Rattle.hunk_words.proofs.StreamsWritingLemmas.{Wrote-more, Wrote-part}
+use Rattle.hunk_base.proofs.StreamsWritingLemmas.{Wrote-more, Wrote-part}
 use Rattle.hunk_text.proofs.ListingLemmas.{part-room}
 use Rattle.hunk_tool.specs.Symbols.{address_line}
 use Rattle.hunk_tool.proofs.symbols.write_hunk.Goals as goal

@@ -1,7 +1,7 @@
 -- The lines of the symbols so far were written.
 use Rattle.std.proofs.Common.{take, Ok}
 use Rattle.std.specs.List.{flat_map}
-use Rattle.hunk_words.specs.Streams.{Wrote}
+use Rattle.hunk_base.specs.Streams.{Wrote}
 use Rattle.hunk_tool.specs.Symbols.{address_line}
 use Rattle.hunk_tool.proofs.symbols.write_hunk.Given as goal
 

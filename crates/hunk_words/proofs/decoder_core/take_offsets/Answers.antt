@@ -3,10 +3,10 @@ use Rattle.std.proofs.Common.{◌≡◌, ◌<◌, ◌≤◌, ◌+◌, ◌-◌, �
 use Rattle.byteorder.specs.Endian.{big_number}
 use Rattle.hunk_words.specs.Files.{most_longwords}
 use Rattle.hunk_words.specs.DecoderCore.{Behind, StandsBy, fields_read, in_offsets, refused_at}
-use Rattle.hunk_words.specs.Longwords.{longwords}
+use Rattle.hunk_base.specs.Longwords.{longwords}
 use Rattle.hunk_words.proofs.DecoderCoreLemmas.{StandsBy-append, few-events}
 use Rattle.hunk_words.proofs.DecoderCoreOffsetsLemmas.{StandsBy-kept, StandsBy-stopped, offset-behind}
-use Rattle.hunk_words.proofs.LongwordsLemmas.{longwords-next, longwords-front, length-longwords, length-unfinished, words-rest}
+use Rattle.hunk_base.proofs.LongwordsLemmas.{longwords-next, longwords-front, length-longwords, length-unfinished, words-rest}
 use Rattle.hunk_words.proofs.decoder_core.take_offsets.Goals as goal
 
 -- one longword after others

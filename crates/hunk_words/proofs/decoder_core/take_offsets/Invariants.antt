@@ -1,7 +1,7 @@
 -- The offsets so far were taken.
 use Rattle.std.proofs.Common.{◌≡◌, ℕ, ◌*◌, ◌+◌, ◌-◌, ◌≤◌, List, ◌++◌, take, length}
 use Rattle.hunk_words.specs.DecoderCore.{Behind, in_offsets}
-use Rattle.hunk_words.specs.Longwords.{longwords}
+use Rattle.hunk_base.specs.Longwords.{longwords}
 use Rattle.hunk_words.specs.declared.state.State.{State}
 use Rattle.hunk_words.proofs.decoder_core.take_offsets.Given as goal
 

@@ -3,11 +3,11 @@ use Rattle.std.proofs.Common.{◌≡◌, ◌<◌, ◌≤◌, ◌+◌, ◌-◌, �
 use Rattle.std.proofs.lemmas.List.{length-take-le}
 use Rattle.byteorder.specs.Endian.{big_number}
 use Rattle.hunk_words.specs.Event.{word_events}
-use Rattle.hunk_words.specs.Longwords.{longwords}
+use Rattle.hunk_base.specs.Longwords.{longwords}
 use Rattle.hunk_words.specs.declared.event.Event.{Event}
 use Rattle.hunk_words.specs.declared.event.Event.TheVariants.{Word}
 use Rattle.hunk_words.proofs.DecoderCoreRunLemmas.{word_events-append, length-word_events}
-use Rattle.hunk_words.proofs.LongwordsLemmas.{longwords-next, longwords-front, length-longwords, length-unfinished, length-whole}
+use Rattle.hunk_base.proofs.LongwordsLemmas.{longwords-next, longwords-front, length-longwords, length-unfinished, length-whole}
 use Rattle.hunk_words.proofs.numbers.take_each_word.Goals as goal
 
 -- one word's event after others

@@ -1,7 +1,7 @@
 -- The longwords so far were taken.
 use Rattle.std.proofs.Common.{◌≡◌, ◌*◌, ◌+◌, ◌<◌, ◌^◌, List, ◌++◌, take, length}
 use Rattle.hunk_words.specs.Event.{word_events}
-use Rattle.hunk_words.specs.Longwords.{longwords}
+use Rattle.hunk_base.specs.Longwords.{longwords}
 use Rattle.hunk_words.specs.declared.event.Event.{Event}
 use Rattle.hunk_words.proofs.numbers.take_each_word.Given as goal
 

@@ -1,6 +1,6 @@
 -- The bytes of content are kept, and others are ignored.
 use Rattle.std.proofs.Common.{◌≡◌, ◌≢◌, ◌⊎◌, inl, inr, sym, refl, subst, ◌∙◌}
-use Rattle.hunk_words.proofs.LongwordsByteLemmas.{are-bytes}
+use Rattle.hunk_base.proofs.LongwordsByteLemmas.{are-bytes}
 use Rattle.hunk_loader.specs.Image.{hunks_of}
 use Rattle.hunk_loader.specs.ImageBuilder.{BuilderState}
 use Rattle.hunk_loader.specs.declared.places.PlaceFault.{PlaceFault}

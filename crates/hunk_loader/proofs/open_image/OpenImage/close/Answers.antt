@@ -2,7 +2,7 @@
 use Rattle.std.proofs.Common.{◌≡◌, ◌-◌, ◌++◌, List, ℕ, ap, drop, length, replicate, slice_index, subst, ◌∙◌}
 use Rattle.std.proofs.lemmas.List.{take_at}
 use Rattle.hunk_words.specs.PartialHunk.{HunkSoFar, filled_hunk}
-use Rattle.hunk_words.specs.Sites.{SiteMap}
+use Rattle.hunk_base.specs.Sites.{SiteMap}
 use Rattle.hunk_loadfile.specs.Patching.{patched_bytes}
 use Rattle.hunk_loader.specs.OpenImage.{CountedHunk}
 use Rattle.hunk_loader.proofs.LoadingLemmas.{patched_bytes-size}

@@ -2,10 +2,10 @@
 use Rattle.std.proofs.Common.{◌≡◌, ◌++◌, ap, subst, sym, ◌∙◌}
 use Rattle.std.proofs.lemmas.Result.{err_from_is_err_and}
 use Rattle.hunk_words.specs.Event.{word_events}
-use Rattle.hunk_words.specs.Longwords.{longwords}
-use Rattle.hunk_words.specs.Name.{bytes_of}
+use Rattle.hunk_base.specs.Longwords.{longwords}
+use Rattle.hunk_base.specs.Name.{bytes_of}
 use Rattle.hunk_words.specs.PartialHunk.{hunk_with_bytes}
-use Rattle.hunk_words.proofs.LongwordsByteLemmas.{are-bytes, bytes_of-longwords}
+use Rattle.hunk_base.proofs.LongwordsByteLemmas.{are-bytes, bytes_of-longwords}
 use Rattle.hunk_loadfile.specs.LoadBuilder.{StandsFor}
 use Rattle.hunk_loadfile.proofs.LoadBuilderLemmas.{StandsFor-bytes}
 use Rattle.hunk_loadfile.proofs.load_builder.LoadBuilderTaker.take_words.Goals as goal

@@ -1,5 +1,5 @@
 use Rattle.std.proofs.Common.{ap, sym, subst, ◌∙◌}
-use Rattle.hunk_words.specs.Longwords.{longwords}
+use Rattle.hunk_base.specs.Longwords.{longwords}
 use Rattle.hunk_words.specs.declared.event.FileKind.TheVariants.{Load}
 use Rattle.hunk_words.proofs.DecoderRefusalLemmas.{refuses-input}
 use Rattle.hunk_loadfile.specs.LoadBuilder.{StandsFor as BuilderStandsFor}

@@ -1,9 +1,9 @@
 use Rattle.std.proofs.Common.{◌≤◌, ℕ, List, ap, sym, subst, length, ◌∙◌}
 use Rattle.std.specs.List.{All}
 use Rattle.std.specs.Map.{values_of}
-use Rattle.hunk_words.specs.Sites.{AreApart, SiteMap}
+use Rattle.hunk_base.specs.Sites.{AreApart, SiteMap}
 use Rattle.hunk_objects.specs.OpenHunk.{UnitHunkSoFar}
-use Rattle.hunk_words.specs.Name.{most_name}
+use Rattle.hunk_base.specs.Name.{most_name}
 use Rattle.hunk_objects.specs.UnitHunk.{IsAmong, content_bytes}
 use Rattle.hunk_objects.specs.declared.unit_hunk.Adds.{Adds}
 use Rattle.hunk_objects.proofs.open_hunk.OpenHunk.close.Goals as goal

@@ -1,5 +1,5 @@
 use Rattle.std.proofs.Common.{sym, subst}
-use Rattle.hunk_words.specs.OpenName.{Opens}
+use Rattle.hunk_base.specs.OpenName.{Opens}
 use Rattle.hunk_objects.specs.OpenUnit.{UnitSoFar}
 use Rattle.hunk_objects.proofs.open_unit.OpenUnit.add_name_word.Goals as goal
 

@@ -1,7 +1,7 @@
 use Rattle.std.proofs.Common.{ℕ, List, refl, sym, subst, ap, pred, length, Ok, Err, ◌∙◌}
 use Rattle.std.proofs.lemmas.List.{length-map}
 use Rattle.std.specs.declared.alloc.AllocError.{AllocError}
-use Rattle.hunk_words.specs.Name.{name_of}
+use Rattle.hunk_base.specs.Name.{name_of}
 use Rattle.hunk_words.specs.Taker.{context_of}
 use Rattle.hunk_words.specs.Values.Adds.{to_hunk, to_reference}
 use Rattle.hunk_words.specs.declared.event.Event.TheVariants as event

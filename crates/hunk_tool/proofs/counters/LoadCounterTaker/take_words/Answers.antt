@@ -1,5 +1,5 @@
 -- It holds nothing of a word.
-use Rattle.hunk_words.specs.Longwords.{longwords}
+use Rattle.hunk_base.specs.Longwords.{longwords}
 use Rattle.hunk_tool.proofs.CountersLemmas.{load-words}
 use Rattle.hunk_tool.proofs.counters.LoadCounterTaker.take_words.Goals as goal
 

@@ -1,8 +1,8 @@
 -- A valid prefix is a file, or offends at its end.
 use Rattle.std.proofs.Common.{refl, sym, subst, ◌∙◌, length}
 use Rattle.hunk_words.specs.FirstOffence.{FirstOffence}
-use Rattle.hunk_words.specs.Longwords.{longwords, unfinished}
-use Rattle.hunk_words.proofs.LongwordsLemmas.{list-none}
+use Rattle.hunk_base.specs.Longwords.{longwords, unfinished}
+use Rattle.hunk_base.proofs.LongwordsLemmas.{list-none}
 use Rattle.hunk_tool.proofs.FollowerLemmas.{Explains-of, front-valid, offends-end}
 use Rattle.hunk_tool.proofs.follower.Follower.at_end.Goals as goal
 use Rattle.hunk_tool.proofs.follower.Follower.at_end.Goals.{in-Ok, in-Err-Fault, in-Err-OutOfMemory}

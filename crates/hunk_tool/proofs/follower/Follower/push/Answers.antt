@@ -1,7 +1,7 @@
 -- The byte ends a longword.
 use Rattle.std.proofs.Common.{◌∙◌, ap, sym, subst, ◌++◌}
 use Rattle.std.specs.Prelude.{option_to_list}
-use Rattle.hunk_words.specs.Longwords.{longwords}
+use Rattle.hunk_base.specs.Longwords.{longwords}
 use Rattle.hunk_tool.specs.Follower.{FollowsWords}
 use Rattle.hunk_tool.proofs.FollowerLemmas.{keeps-one}
 use Rattle.hunk_tool.proofs.follower.Follower.push.Goals as goal

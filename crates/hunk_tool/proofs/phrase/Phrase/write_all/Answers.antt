@@ -1,8 +1,8 @@
 -- One more phrase.
 use Rattle.std.proofs.Common.{length, Ok, Err, ap, subst, arith}
 use Rattle.std.proofs.lemmas.Result.{err_from_is_err_and}
-use Rattle.hunk_words.specs.Streams.{Wrote}
-use Rattle.hunk_words.proofs.StreamsWritingLemmas.{Wrote-more, Wrote-part}
+use Rattle.hunk_base.specs.Streams.{Wrote}
+use Rattle.hunk_base.proofs.StreamsWritingLemmas.{Wrote-more, Wrote-part}
 use Rattle.hunk_text.proofs.ListingLemmas.{part-room}
 use Rattle.hunk_tool.specs.Phrase.{phrase_text}
 use Rattle.hunk_tool.proofs.PhraseLemmas.{phrases-fit, pieces-phrase}

@@ -1,6 +1,6 @@
 -- The phrases so far were written.
 use Rattle.std.proofs.Common.{take, Ok}
-use Rattle.hunk_words.specs.Streams.{Wrote}
+use Rattle.hunk_base.specs.Streams.{Wrote}
 use Rattle.hunk_tool.specs.Phrase.{phrases_text}
 use Rattle.hunk_tool.proofs.phrase.Phrase.write_all.Given as goal
 

@@ -1,6 +1,6 @@
 -- The bytes held are those of an unfinished longword.
 use Rattle.std.proofs.Common.{refl}
-use Rattle.hunk_words.specs.Longwords.{longwords}
+use Rattle.hunk_base.specs.Longwords.{longwords}
 use Rattle.hunk_words.proofs.DecoderLemmas.{Finished-end}
 use Rattle.hunk_words.proofs.decoder.Decoder.finish.Goals as goal
 

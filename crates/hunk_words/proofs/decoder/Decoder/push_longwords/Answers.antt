@@ -1,7 +1,7 @@
 -- Whole longwords, and then the bytes after them.
 use Rattle.std.proofs.Common.{◌≡◌, ◌≤◌, ◌*◌, ◌/◌, take, length, subst, ◌∙◌, arith}
 use Rattle.std.proofs.lemmas.List.{length-take-le}
-use Rattle.hunk_words.specs.Longwords.{longwords}
+use Rattle.hunk_base.specs.Longwords.{longwords}
 use Rattle.hunk_words.specs.Decoder.{StandsFor}
 use Rattle.hunk_words.proofs.DecoderLemmas.{StandsFor-rest, StandsFor-words, append-tail}
 use Rattle.hunk_words.proofs.decoder.Decoder.push_longwords.Goals as goal

@@ -1,9 +1,9 @@
 -- The first longword is taken, and an error stands for those after it.
 use Rattle.std.proofs.Common.{◌++◌, take, subst, arith}
-use Rattle.hunk_words.specs.Longwords.{longwords}
+use Rattle.hunk_base.specs.Longwords.{longwords}
 use Rattle.hunk_words.specs.DecoderCore.{StandsFor}
 use Rattle.hunk_words.proofs.DecoderCoreLemmas.{StandsBy-append}
-use Rattle.hunk_words.proofs.LongwordsLemmas.{words-first, words-rest}
+use Rattle.hunk_base.proofs.LongwordsLemmas.{words-first, words-rest}
 use Rattle.hunk_words.proofs.decoder_core.Core.take_one.Goals as goal
 
 pub returns-in-Ok-clause-stands : goal.returns-in-Ok-clause-stands

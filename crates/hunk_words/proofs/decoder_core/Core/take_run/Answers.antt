@@ -2,10 +2,10 @@
 use Rattle.std.proofs.Common.{◌≡◌, ◌<◌, ◌≤◌, ◌+◌, ◌*◌, take, length, arith}
 use Rattle.std.proofs.lemmas.List.{length-take-le}
 use Rattle.hunk_words.specs.Files.{most_longwords}
-use Rattle.hunk_words.specs.Longwords.{longwords}
+use Rattle.hunk_base.specs.Longwords.{longwords}
 use Rattle.std.proofs.lemmas.List.Elements.{All-take}
-use Rattle.hunk_words.proofs.LongwordsByteLemmas.{are-bytes, longwords-long}
-use Rattle.hunk_words.proofs.LongwordsLemmas.{length-whole, unfinished-none}
+use Rattle.hunk_base.proofs.LongwordsByteLemmas.{are-bytes, longwords-long}
+use Rattle.hunk_base.proofs.LongwordsLemmas.{length-whole, unfinished-none}
 use Rattle.hunk_words.proofs.DecoderCoreRunLemmas.{StandsBy-run, StandsBy-due}
 use Rattle.hunk_words.proofs.decoder_core.Core.take_run.Goals as goal
 

@@ -2,10 +2,10 @@
 use Rattle.std.proofs.Common.{◌≡◌, ◌+◌, ◌-◌, ◌*◌, ◌++◌, take, length, Some, refl, subst, arith}
 use Rattle.std.proofs.lemmas.List.{length-take-le}
 use Rattle.hunk_words.specs.DecoderCore.{Behind, StandsBy, in_offsets}
-use Rattle.hunk_words.specs.Longwords.{longwords}
+use Rattle.hunk_base.specs.Longwords.{longwords}
 use Rattle.hunk_words.proofs.DecoderCoreLemmas.{StandsBy-append}
 use Rattle.hunk_words.proofs.DecoderCoreOffsetsLemmas.{Behind-due}
-use Rattle.hunk_words.proofs.LongwordsLemmas.{length-whole, words-rest}
+use Rattle.hunk_base.proofs.LongwordsLemmas.{length-whole, words-rest}
 use Rattle.hunk_words.proofs.decoder_core.Core.take_sites.Goals as goal
 
 pub take_offsets-requires : goal.take_offsets-requires

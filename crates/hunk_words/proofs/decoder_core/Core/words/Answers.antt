@@ -1,9 +1,9 @@
 -- Some more longwords.
 use Rattle.std.proofs.Common.{◌≡◌, ◌≤◌, ◌-◌, ◌*◌, ◌++◌, take, drop, length, ap, ◌∙◌, subst, length-drop, arith}
 use Rattle.std.proofs.lemmas.List.{take_all}
-use Rattle.hunk_words.specs.Longwords.{longwords}
+use Rattle.hunk_base.specs.Longwords.{longwords}
 use Rattle.hunk_words.specs.DecoderCore.{StandsFor}
-use Rattle.hunk_words.proofs.LongwordsLemmas.{words-more, words-all, longwords-front}
+use Rattle.hunk_base.proofs.LongwordsLemmas.{words-more, words-all, longwords-front}
 use Rattle.hunk_words.proofs.decoder_core.Core.words.Goals as goal
 
 pub loop-taken-preserved : goal.loop-taken-preserved

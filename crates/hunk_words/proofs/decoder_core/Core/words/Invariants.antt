@@ -1,6 +1,6 @@
 -- The longwords so far were taken, and no error is kept.
 use Rattle.std.proofs.Common.{◌≡◌, ℕ, ◌*◌, ◌-◌, ◌≤◌, List, ◌++◌, take, length, None}
-use Rattle.hunk_words.specs.Longwords.{longwords}
+use Rattle.hunk_base.specs.Longwords.{longwords}
 use Rattle.hunk_words.specs.DecoderCore.{StandsFor, kept}
 use Rattle.hunk_words.proofs.decoder_core.Core.words.Given as goal
 

@@ -1,0 +1,10 @@
+pub mod LongwordsLemmas
+pub mod SplitterLemmas
+pub mod StreamsLemmas
+pub mod StreamsWritingLemmas
+pub mod NameLemmas
+pub mod SitesLemmas
+pub mod PageLemmas
+pub mod PagesLemmas
+pub mod LongwordsByteLemmas
+pub mod OpenNameLemmas

@@ -1,0 +1,11 @@
+pub mod Longwords
+pub mod Pieces
+pub mod Room
+pub mod Splitter
+pub mod Streams
+pub mod Watched
+pub mod Name
+pub mod OpenName
+pub mod Sites
+pub mod Page
+pub mod Pages

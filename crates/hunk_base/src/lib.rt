@@ -1,0 +1,34 @@
+//! What the files of the Amiga hunk format are made of, whatever is in them: bytes and longwords, names and sites, and how
+//! they are read, written and refused.
+//!
+//! - `longwords`: longwords to bytes; `splitter`: bytes to longwords.
+//! - `fault`: what is wrong with a file, and where; errors of reading and writing.
+//! - `streams`: readers and writers that report their bytes, their failure and their end.
+//! - `watched`: readers and writers of std, watched.
+//! - `pieces`, `room`: a reader and a writer over memory, which fail where they should.
+//! - `name`: names in longwords, all at once or one longword at a time.
+//! - `sites`: the sites of a hunk, no two of which share a byte; they are kept in `pages`, each a `page`.
+#![tactic(auto)]
+
+pub mod fault;
+pub mod longwords;
+pub mod name;
+mod page;
+mod pages;
+pub mod pieces;
+pub mod room;
+pub mod sites;
+pub mod splitter;
+pub mod streams;
+pub mod watched;
+
+pub use fault::{DeviceFault, Fault, ReadFault, Reason, Refusal, WriteFault};
+pub use longwords::{LONGWORD, big_endian};
+pub use name::Name;
+pub use name::open_name::OpenName;
+pub use pieces::Pieces;
+pub use room::Room;
+pub use sites::{SiteRefusal, Sites, Walk};
+pub use splitter::Splitter;
+pub use streams::{Feed, Sink, Source, read_all, write_all};
+pub use watched::Watched;
