@@ -17,7 +17,7 @@ use Rattle.hunk_commands.specs.declared.request.Request.{Request}
 use Rattle.hunk_commands.specs.declared.request.Request.TheVariants.{Link, Load, Image, Check, Show, Survey, Version, Help, Refused, OutOfMemory}
 use Rattle.amihunk.specs.Syntax.{command_line}
 use Rattle.amihunk.specs.CommandLine.{Answers, AsksCheck, AsksImage, AsksLink, AsksLoad, AsksShow, AsksSurvey, AsksVersion, IsAskedBy, IsCalledOn, IsCheck, IsConflict, IsImage, IsLink, IsLoad, IsNoFlag, IsNoFlagIn, IsRefusedBy, IsRetold, IsShow, IsVersionWord, Met, Says, asks_srec, asks_symbols, brief_link_line, brief_words, file_line, form_words, image_line, link_line, load_line, map_words, option_words, show_line, survey_line, text_in, values_of, version_line}
-use Rattle.hunk_tool.specs.declared.image_form.ImageForm.{ImageForm}
+use Rattle.hunk_memory.specs.declared.image_form.ImageForm.{ImageForm}
 use Rattle.hunk_commands.specs.declared.load.LoadText.{LoadText}
 use Rattle.std.specs.Str.{bytes_eq}
 use Rattle.amihunk.proofs.CommandLineValueLemmas.{IsCalledOn-same, IsCheck-same, IsImage-one, IsLink-same, IsLoad-one, IsShow-same, names_apart, no_conflict-image, no_conflict-load, no_conflict-other}

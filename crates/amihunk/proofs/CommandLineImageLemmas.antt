@@ -4,8 +4,8 @@ use Rattle.clap.specs.Lexer.{usize_max}
 use Rattle.clap.specs.Words.{Row, Text, all_of, fault_of, subcommand_of}
 use Rattle.clap.specs.Walk.{Held, nothing_held, walk_from}
 use Rattle.clap.proofs.OnLiterals.{clap_on_literals}
-use Rattle.hunk_tool.specs.declared.image_form.ImageForm.{ImageForm}
-use Rattle.hunk_tool.specs.declared.image_form.ImageForm.TheVariants.{Report, SRecords}
+use Rattle.hunk_memory.specs.declared.image_form.ImageForm.{ImageForm}
+use Rattle.hunk_memory.specs.declared.image_form.ImageForm.TheVariants.{Report, SRecords}
 use Rattle.amihunk.proofs.CommandLineLemmas.{built_image}
 use Rattle.amihunk.proofs.CommandLineFilesLemmas.{AwaitsFiles, HasFiles, files_rows, level_fault-files, rows_after-files}
 use Rattle.amihunk.proofs.CommandLineFlagsLemmas.{IsFront, Leave, front-flags, front-option, walk_on}

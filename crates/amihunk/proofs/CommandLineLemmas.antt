@@ -12,8 +12,8 @@ use Rattle.amihunk.proofs.CommandLineUseLemmas.{AllDefaulting, Filled, HasDefaul
 use Rattle.amihunk.proofs.CommandLineRowLemmas.{AllFilling, filled-settled, filled-walk}
 use Rattle.amihunk.specs.Syntax.{bare_shape, check_shape, command_line, flag_rule, image_shape, letter_s, link_shape, load_shape, option_rule, present, show_shape, survey_shape}
 use Rattle.amihunk.specs.CommandLine.{AddressValues, IsFlag, IsWhole, is_srec}
-use Rattle.hunk_tool.specs.declared.image_form.ImageForm.{ImageForm}
-use Rattle.hunk_tool.specs.declared.image_form.ImageForm.TheVariants.{Report, SRecords}
+use Rattle.hunk_memory.specs.declared.image_form.ImageForm.{ImageForm}
+use Rattle.hunk_memory.specs.declared.image_form.ImageForm.TheVariants.{Report, SRecords}
 use Rattle.amihunk.specs.CommandLine.IsWhole.{link, load, image, check, show, survey}
 
 -- ---- one level

@@ -14,7 +14,7 @@ use Rattle.hunk_commands.specs.declared.text.Text.TheVariants.{Line}
 use Rattle.hunk_tool.specs.declared.link_options.LinkOptions.{LinkOptions}
 use Rattle.hunk_commands.specs.declared.load.LoadText.{LoadText}
 use Rattle.hunk_commands.specs.declared.request.Request.{Request}
-use Rattle.hunk_tool.specs.declared.image_form.ImageForm.{ImageForm}
+use Rattle.hunk_memory.specs.declared.image_form.ImageForm.{ImageForm}
 use Rattle.hunk_commands.specs.declared.request.Request.TheVariants.{Load, Link, Image, Check, Show, Survey, Version, Help, Refused, OutOfMemory}
 use Rattle.hunk_commands.proofs.LinkLemmas.{IsUndone-memory}
 use Rattle.hunk_commands.proofs.RequestLemmas.{not_begun}

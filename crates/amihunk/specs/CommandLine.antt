@@ -7,8 +7,8 @@ use Rattle.clap.specs.Walk.{texts}
 use Rattle.clap.specs.Words.{IsAmong, Kinds, Row, Text, all_of, fault_of, first_of, one_of, subcommand_of}
 use Rattle.clap.specs.declared.error.ErrorKind.{ErrorKind}
 use Rattle.clap.specs.declared.error.ErrorKind.TheVariants as error
-use Rattle.hunk_tool.specs.declared.image_form.ImageForm.{ImageForm}
-use Rattle.hunk_tool.specs.declared.image_form.ImageForm.TheVariants.{Report, SRecords}
+use Rattle.hunk_memory.specs.declared.image_form.ImageForm.{ImageForm}
+use Rattle.hunk_memory.specs.declared.image_form.ImageForm.TheVariants.{Report, SRecords}
 use Rattle.hunk_tool.specs.declared.link_options.LinkOptions.{LinkOptions}
 use Rattle.hunk_commands.specs.Addresses.{Origin, origin_of}
 use Rattle.hunk_commands.specs.Addresses.Origin.{in_file, in_list}

@@ -9,7 +9,7 @@ ghost use Rattle.amihunk.specs.CommandLine.{asks_srec, asks_symbols, brief_link_
 ghost use Rattle.amihunk.specs.CommandLine.{link_line, load_line, show_line, survey_line, text_in, values_given, values_of, version_line};
 ghost use Rattle.hunk_commands.specs.Addresses.{Origin, origin_of};
 ghost use Rattle.hunk_commands.specs.declared.load.LoadText.{LoadText};
-ghost use Rattle.hunk_tool.specs.declared.image_form.ImageForm.{ImageForm};
+ghost use Rattle.hunk_memory.specs.declared.image_form.ImageForm.{ImageForm};
 ghost use Rattle.hunk_tool.specs.declared.link_options.LinkOptions.{LinkOptions};
 
 use crate::syntax::{Edition, PRESENT, command, image_command, load_command};

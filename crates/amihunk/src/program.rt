@@ -1,7 +1,7 @@
 //! The program: the arguments of the command line, what they ask for, and the exit status.
 ghost use Rattle.std.specs.Prelude.{◌≡◌, ◌<◌, ◌≤◌, ℕ, Bool, List, Option, codes, false, length, map};
 ghost use Rattle.std.specs.List.{All};
-ghost use Rattle.hunk_tool.specs.declared.image_form.ImageForm.{ImageForm};
+ghost use Rattle.hunk_memory.specs.declared.image_form.ImageForm.{ImageForm};
 ghost use Rattle.hunk_tool.specs.declared.link_options.LinkOptions.{LinkOptions};
 ghost use Rattle.hunk_commands.specs.Addresses.{Origin};
 ghost use Rattle.hunk_commands.specs.declared.load.LoadText.{LoadText};

@@ -20,6 +20,8 @@ pub enum Kind {
     Directory,
     /// A device that takes no byte.
     Full,
+    /// A device that takes no byte at the first write, and every byte after that.
+    FullAtFirst,
 }
 
 /// What was done with files.
@@ -138,6 +140,7 @@ fn find(name: &str, opened: usize) -> Option<(Kind, &'static [u8])> {
         "pipe" => Some((Kind::Pipe, &LOOP)),
         "directory" => Some((Kind::Directory, &[])),
         "full" => Some((Kind::Full, &[])),
+        "full-at-first" => Some((Kind::FullAtFirst, &[])),
         _ => None,
     }
 }
@@ -145,7 +148,7 @@ fn find(name: &str, opened: usize) -> Option<(Kind, &'static [u8])> {
 /// What the system tells of a file.
 fn metadata_of(kind: Kind) -> io::Result<Metadata> {
     match kind {
-        Kind::Pipe | Kind::Full => unsupported(),
+        Kind::Pipe | Kind::Full | Kind::FullAtFirst => unsupported(),
         Kind::Directory => Ok(Metadata::of_dir()),
         Kind::Regular => Ok(Metadata::of_file(0)),
     }
@@ -260,8 +263,13 @@ impl Read for Handle<'_> {
 
 impl Write for Handle<'_> {
     fn write(&mut self, buf: &[u8]) -> io::Result<usize> {
-        if self.kind == Kind::Full {
-            return Ok(0);
+        match self.kind {
+            Kind::Full => return Ok(0),
+            Kind::FullAtFirst => {
+                self.kind = Kind::Regular;
+                return Ok(0);
+            }
+            Kind::Regular | Kind::Pipe | Kind::Directory => {}
         }
         self.log.append(buf)?;
         Ok(buf.len())

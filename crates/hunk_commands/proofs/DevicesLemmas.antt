@@ -7,7 +7,7 @@ use Rattle.hunk_base.specs.Streams.{HasRead}
 use Rattle.hunk_base.proofs.StreamsLemmas.{HasRead-weaker}
 use Rattle.hunk_loadfile.specs.LoadHunk.{FileHunk}
 use Rattle.hunk_tool.specs.FileText.{IsTextFault}
-use Rattle.hunk_tool.specs.FileValue.{FileValue}
+use Rattle.hunk_files.specs.FileValue.{FileValue}
 use Rattle.hunk_tool.specs.Load.{Ends, IsFaultAt, IsWrittenAt, ends_of}
 use Rattle.hunk_tool.specs.declared.tool_fault.ToolFault.{ToolFault}
 use Rattle.hunk_tool.specs.declared.tool_fault.ToolFault.TheVariants.{OutOfMemory}

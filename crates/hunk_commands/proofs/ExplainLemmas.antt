@@ -10,10 +10,10 @@ use Rattle.hunk_words.specs.declared.event.FileKind.{FileKind}
 use Rattle.hunk_base.specs.declared.fault.Fault.{Fault}
 use Rattle.hunk_words.proofs.FirstOffenceLemmas.{file-no-offence, first-one}
 use Rattle.hunk_loadfile.specs.LoadHunk.{FileHunk}
-use Rattle.hunk_tool.specs.Explanation.{EndsWith, IsEnd, IsExplained}
-use Rattle.hunk_tool.specs.WrittenText.{WroteText}
-use Rattle.hunk_tool.specs.PlacesText.{places_text}
-use Rattle.hunk_tool.specs.declared.explanation.Explanation.{Explanation}
+use Rattle.hunk_files.specs.Explanation.{EndsWith, IsEnd, IsExplained}
+use Rattle.hunk_text.specs.WrittenText.{WroteText}
+use Rattle.hunk_memory.specs.PlacesText.{places_text}
+use Rattle.hunk_files.specs.declared.explanation.Explanation.{Explanation}
 use Rattle.hunk_commands.specs.Addresses.{HaveNumbers, Origin}
 use Rattle.hunk_commands.specs.Explain.{ArePlaceLines, IfAsked, IsMore, IsOffence, TellsMore, sizes_of}
 use Rattle.hunk_commands.specs.Failure.{TellsLine}

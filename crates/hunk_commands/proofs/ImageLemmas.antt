@@ -5,7 +5,7 @@ use Rattle.hunk_commands.specs.Inputs.{file_names}
 use Rattle.hunk_commands.specs.Addresses.{HaveNumbers, Origin}
 use Rattle.hunk_tool.specs.Image.{IsImaged}
 use Rattle.hunk_tool.specs.Inputs.{HaveRead, Input, inputs_of}
-use Rattle.hunk_tool.specs.declared.image_form.ImageForm.{ImageForm}
+use Rattle.hunk_memory.specs.declared.image_form.ImageForm.{ImageForm}
 use Rattle.hunk_tool.specs.declared.tool_fault.ToolFault.TheVariants.{OutOfMemory}
 use Rattle.hunk_commands.specs.Image.{AreImaged, AtBasesOfInputs, HaveNoReport, HaveReport, IsImageFailure, IsUnprinted}
 use Rattle.hunk_commands.specs.declared.failure.Failure.{Failure}

@@ -9,14 +9,14 @@ use Rattle.hunk_base.specs.declared.fault.Fault.{Fault}
 use Rattle.hunk_loadfile.specs.LoadFile.{IsLoadOf}
 use Rattle.hunk_loadfile.specs.LoadHunk.{FileHunk}
 use Rattle.hunk_link.specs.declared.refusal.LinkRefusal.{LinkRefusal}
-use Rattle.hunk_tool.specs.Explanation.{Explains}
-use Rattle.hunk_tool.specs.ExplanationText.{explanation_text}
-use Rattle.hunk_tool.specs.FileValue.{kind_of_bytes}
+use Rattle.hunk_files.specs.Explanation.{Explains}
+use Rattle.hunk_files.specs.ExplanationText.{explanation_text}
+use Rattle.hunk_files.specs.FileValue.{kind_of_bytes}
 use Rattle.hunk_tool.specs.Inputs.{HaveRead}
 use Rattle.hunk_tool.specs.LinkExplanation.{told_of, told_text}
 use Rattle.hunk_tool.specs.ObjectFiles.{AreFileUnits, FileUnit}
-use Rattle.hunk_tool.specs.PlacesText.{places_text}
-use Rattle.hunk_tool.specs.declared.explanation.Explanation.{Explanation}
+use Rattle.hunk_memory.specs.PlacesText.{places_text}
+use Rattle.hunk_files.specs.declared.explanation.Explanation.{Explanation}
 use Rattle.hunk_tool.specs.declared.tool_fault.ToolFault.TheVariants.{Input, Link, Place}
 use Rattle.hunk_commands.specs.Addresses.{AtBases, Origin, origin_of}
 use Rattle.hunk_commands.specs.Failure.{TellsLine}

@@ -4,7 +4,7 @@ use Rattle.std.specs.Prelude.{◌≡◌, ◌⊎◌, ℕ, List, ⊤}
 use Rattle.hunk_json.specs.Run.{json_text}
 use Rattle.hunk_tool.specs.Check.{check_text}
 use Rattle.hunk_tool.specs.FileText.{IsTextFault, IsWritten}
-use Rattle.hunk_tool.specs.FileValue.{FileValue}
+use Rattle.hunk_files.specs.FileValue.{FileValue}
 use Rattle.hunk_tool.specs.Show.{show_text}
 use Rattle.hunk_tool.specs.declared.tool_fault.ToolFault.TheVariants.{OutOfMemory}
 use Rattle.hunk_commands.specs.declared.failure.Failure.{Failure}

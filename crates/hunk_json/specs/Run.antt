@@ -2,8 +2,8 @@
 use Rattle.std.specs.Prelude.{ℕ, List, ◌++◌, codes}
 use Rattle.serde_json.specs.Data.{Data}
 use Rattle.serde_json.specs.Written.{compact_text}
-use Rattle.hunk_tool.specs.FileValue.{FileValue}
-use Rattle.hunk_tool.specs.FileValue.FileValue.{object_file, load_file}
+use Rattle.hunk_files.specs.FileValue.{FileValue}
+use Rattle.hunk_files.specs.FileValue.FileValue.{object_file, load_file}
 use Rattle.hunk_json.specs.FileJson.{load_json, object_json}
 
 -- the JSON value of its kind

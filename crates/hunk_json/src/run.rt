@@ -4,7 +4,7 @@ ghost use Rattle.std.specs.Prelude.{◌≡◌, IsTrue, OnOk, IfOk, IfErr, string
 ghost use Rattle.serde_json.specs.Written.{compact_text};
 ghost use Rattle.hunk_base.specs.Streams.{HasRead};
 ghost use Rattle.hunk_tool.specs.FileText.{IsTextFault, IsWritten};
-ghost use Rattle.hunk_tool.specs.HunkFile.{value_of};
+ghost use Rattle.hunk_files.specs.HunkFile.{value_of};
 ghost use Rattle.hunk_tool.specs.Load.{ends_of};
 ghost use Rattle.hunk_json.specs.Run.{file_json, json_text};
 

@@ -7,3 +7,5 @@ pub mod ListingSizeObjectLemmas
 pub mod ListingSizeTablesLemmas
 pub mod ListingSizeTreeLemmas
 pub mod ListingSizeUnitsLemmas
+pub mod PhraseLemmas
+pub mod WrittenTextLemmas

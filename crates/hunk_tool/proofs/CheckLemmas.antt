@@ -6,14 +6,14 @@ use Rattle.hunk_words.specs.declared.event.FileKind.TheVariants as kind_is
 use Rattle.hunk_base.proofs.StreamsLemmas.{HasRead-weaker}
 use Rattle.hunk_text.specs.Listing.{load_line, object_line}
 use Rattle.hunk_tool.specs.Check.{check_text, line_of}
-use Rattle.hunk_tool.specs.Counters.{CountsLoad, CountsObject}
-use Rattle.hunk_tool.specs.FileDecoder.{IsFileOf}
-use Rattle.hunk_tool.specs.FileValue.{kind_of_bytes}
-use Rattle.hunk_tool.specs.FileValue.FileValue.{load_file, object_file}
-use Rattle.hunk_tool.specs.declared.counters.LoadCounter.{LoadCounter}
-use Rattle.hunk_tool.specs.declared.counters.ObjectCounter.{ObjectCounter}
-use Rattle.hunk_tool.specs.declared.file_decoder.File.{File}
-use Rattle.hunk_tool.specs.declared.file_decoder.File.TheVariants.{Load, Object}
+use Rattle.hunk_files.specs.Counters.{CountsLoad, CountsObject}
+use Rattle.hunk_files.specs.FileDecoder.{IsFileOf}
+use Rattle.hunk_files.specs.FileValue.{kind_of_bytes}
+use Rattle.hunk_files.specs.FileValue.FileValue.{load_file, object_file}
+use Rattle.hunk_files.specs.declared.counters.LoadCounter.{LoadCounter}
+use Rattle.hunk_files.specs.declared.counters.ObjectCounter.{ObjectCounter}
+use Rattle.hunk_files.specs.declared.file_decoder.File.{File}
+use Rattle.hunk_files.specs.declared.file_decoder.File.TheVariants.{Load, Object}
 use Rattle.hunk_tool.proofs.FileTextLemmas.{HasText}
 
 -- the line of the counters is that of the file

@@ -17,9 +17,9 @@ use Rattle.hunk_objects.specs.ProgramUnit.{object_units}
 use Rattle.hunk_objects.proofs.PartialLemmas.{one-object}
 use Rattle.hunk_loadfile.specs.LoadFile.{load_value}
 use Rattle.hunk_loadfile.proofs.LoadFileLemmas.{one-load}
-use Rattle.hunk_tool.specs.FileDecoder.{IsRefused}
-use Rattle.hunk_tool.specs.FileValue.{FileValue, IsOfKind, kind_of_bytes}
-use Rattle.hunk_tool.specs.FileValue.FileValue.{load_file, object_file}
+use Rattle.hunk_files.specs.FileDecoder.{IsRefused}
+use Rattle.hunk_files.specs.FileValue.{FileValue, IsOfKind, kind_of_bytes}
+use Rattle.hunk_files.specs.FileValue.FileValue.{load_file, object_file}
 use Rattle.hunk_tool.specs.Laws.{FaultIsOne, FaultyIsNoFile, FileHasOneValue, FileOrFault}
 
 -- ---- the value of a file

@@ -9,9 +9,9 @@ use Rattle.hunk_base.specs.declared.fault.Refusal.TheVariants as refusal_is
 use Rattle.hunk_base.specs.declared.fault.WriteFault.{WriteFault}
 use Rattle.hunk_base.specs.declared.fault.WriteFault.TheVariants as write_fault
 use Rattle.hunk_base.proofs.StreamsLemmas.{HasRead-weaker}
-use Rattle.hunk_tool.specs.FileDecoder.{IsReadFault}
+use Rattle.hunk_files.specs.FileDecoder.{IsReadFault}
 use Rattle.hunk_tool.specs.FileText.{IsCutShort, IsTextFault, IsWritten}
-use Rattle.hunk_tool.specs.FileValue.{FileValue, IsOfItsKind}
+use Rattle.hunk_files.specs.FileValue.{FileValue, IsOfItsKind}
 use Rattle.hunk_tool.specs.Load.{ends_of}
 use Rattle.hunk_tool.specs.ToolFault.{tool_fault_of_read, tool_fault_of_write}
 

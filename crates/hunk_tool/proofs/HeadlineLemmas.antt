@@ -37,7 +37,7 @@ use Rattle.hunk_tool.specs.Headline.{LinkedIsReported, LoadedIsDirect, MemoryIsD
 use Rattle.hunk_tool.specs.Image.{ranked_sizes}
 use Rattle.hunk_tool.specs.Inputs.{AreObjects}
 use Rattle.hunk_tool.specs.Link.{linked_bytes, linked_hunks}
-use Rattle.hunk_tool.specs.ImageText.{image_text}
+use Rattle.hunk_memory.specs.ImageText.{image_text}
 use Rattle.hunk_tool.specs.declared.link_options.LinkOptions.{LinkOptions}
 use Rattle.hunk_tool.proofs.LawsLemmas.{one-value}
 

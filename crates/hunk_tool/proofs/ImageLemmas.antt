@@ -24,8 +24,8 @@ use Rattle.hunk_tool.specs.Direct.{direct}
 use Rattle.hunk_tool.specs.Image.{AreNotPlaced, IsImageCutShort, IsImageFault, IsImaged, ranked_sizes}
 use Rattle.hunk_tool.specs.Inputs.{HaveRead, Input}
 use Rattle.hunk_tool.specs.Link.{IsUnlinked, LinkTo}
-use Rattle.hunk_tool.specs.ImageText.{image_text}
-use Rattle.hunk_tool.specs.declared.image_form.ImageForm.{ImageForm}
+use Rattle.hunk_memory.specs.ImageText.{image_text}
+use Rattle.hunk_memory.specs.declared.image_form.ImageForm.{ImageForm}
 use Rattle.hunk_tool.specs.ToolFault.{tool_fault_of_write}
 use Rattle.hunk_tool.specs.declared.tool_fault.ToolFault.{ToolFault}
 use Rattle.hunk_tool.specs.declared.tool_fault.ToolFault.TheVariants as tool_fault

@@ -5,8 +5,8 @@ use Rattle.hunk_words.specs.declared.event.FileKind.{FileKind}
 use Rattle.hunk_words.specs.declared.event.FileKind.TheVariants as kind_is
 use Rattle.hunk_text.proofs.ListingSizeLoadLemmas.{load_listing-fits}
 use Rattle.hunk_text.proofs.ListingSizeUnitsLemmas.{object_listing-fits}
-use Rattle.hunk_tool.specs.FileValue.{FileValue, IsOfItsKind, IsOfKind, kind_of_bytes}
-use Rattle.hunk_tool.specs.FileValue.FileValue.{load_file, object_file}
+use Rattle.hunk_files.specs.FileValue.{FileValue, IsOfItsKind, IsOfKind, kind_of_bytes}
+use Rattle.hunk_files.specs.FileValue.FileValue.{load_file, object_file}
 use Rattle.hunk_tool.specs.Show.{show_text}
 
 fits : (kind : FileKind) (value : FileValue) (bytes : List ℕ) → IsOfKind kind value bytes → length (show_text value) < 2 ^ 64

@@ -7,14 +7,14 @@ use Rattle.hunk_base.specs.Streams.{HasRead}
 use Rattle.hunk_words.specs.declared.event.FileKind.{FileKind}
 use Rattle.hunk_words.specs.declared.event.FileKind.TheVariants as kind_is
 use Rattle.hunk_base.proofs.StreamsLemmas.{HasRead-weaker}
-use Rattle.hunk_tool.specs.Counters.{CountsLoad, CountsObject, header_hunks, hunks_of, units_of}
-use Rattle.hunk_tool.specs.FileDecoder.{IsFileOf}
-use Rattle.hunk_tool.specs.FileValue.{kind_of_bytes}
-use Rattle.hunk_tool.specs.FileValue.FileValue.{load_file, object_file}
+use Rattle.hunk_files.specs.Counters.{CountsLoad, CountsObject, header_hunks, hunks_of, units_of}
+use Rattle.hunk_files.specs.FileDecoder.{IsFileOf}
+use Rattle.hunk_files.specs.FileValue.{kind_of_bytes}
+use Rattle.hunk_files.specs.FileValue.FileValue.{load_file, object_file}
 use Rattle.hunk_tool.specs.Survey.{IsFoundIn, finding_line, finding_text, is_load, is_object, is_refused, is_unreadable, number_of, totals_line}
-use Rattle.hunk_tool.specs.declared.counters.LoadCounter.{LoadCounter}
-use Rattle.hunk_tool.specs.declared.counters.ObjectCounter.{ObjectCounter}
-use Rattle.hunk_tool.specs.declared.file_decoder.File.TheVariants as file
+use Rattle.hunk_files.specs.declared.counters.LoadCounter.{LoadCounter}
+use Rattle.hunk_files.specs.declared.counters.ObjectCounter.{ObjectCounter}
+use Rattle.hunk_files.specs.declared.file_decoder.File.TheVariants as file
 use Rattle.hunk_tool.specs.declared.survey.Finding.{Finding}
 use Rattle.hunk_tool.specs.declared.survey.Finding.TheVariants.{Load, Object}
 

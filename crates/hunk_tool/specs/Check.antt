@@ -2,13 +2,13 @@
 use Rattle.std.specs.Prelude.{List, ℕ, length, sum_by}
 use Rattle.hunk_objects.specs.ProgramUnit.{hunk_count}
 use Rattle.hunk_text.specs.Listing.{load_line, object_line}
-use Rattle.hunk_tool.specs.Counters.{header_hunks, hunks_of, units_of}
-use Rattle.hunk_tool.specs.FileValue.{FileValue}
-use Rattle.hunk_tool.specs.FileValue.FileValue.{object_file, load_file}
-use Rattle.hunk_tool.specs.declared.counters.LoadCounter.{LoadCounter}
-use Rattle.hunk_tool.specs.declared.counters.ObjectCounter.{ObjectCounter}
-use Rattle.hunk_tool.specs.declared.file_decoder.File.{File}
-use Rattle.hunk_tool.specs.declared.file_decoder.File.TheVariants.{Object, Load}
+use Rattle.hunk_files.specs.Counters.{header_hunks, hunks_of, units_of}
+use Rattle.hunk_files.specs.FileValue.{FileValue}
+use Rattle.hunk_files.specs.FileValue.FileValue.{object_file, load_file}
+use Rattle.hunk_files.specs.declared.counters.LoadCounter.{LoadCounter}
+use Rattle.hunk_files.specs.declared.counters.ObjectCounter.{ObjectCounter}
+use Rattle.hunk_files.specs.declared.file_decoder.File.{File}
+use Rattle.hunk_files.specs.declared.file_decoder.File.TheVariants.{Object, Load}
 
 -- one line: what kind of file it is, and its numbers of units and of hunks
 abbrev pub check_text : FileValue → List ℕ

@@ -2,8 +2,8 @@
 use Rattle.std.specs.Prelude.{◌≡◌, ℕ, List, IsTrue, Option}
 use Rattle.std.specs.Io.KnownBytes.{Appends, Keeps}
 use Rattle.hunk_base.specs.Streams.{HasRead, TookFront}
-use Rattle.hunk_tool.specs.FileDecoder.{IsRefused}
-use Rattle.hunk_tool.specs.FileValue.{FileValue, IsOfItsKind}
+use Rattle.hunk_files.specs.FileDecoder.{IsRefused}
+use Rattle.hunk_files.specs.FileValue.{FileValue, IsOfItsKind}
 use Rattle.hunk_tool.specs.Load.{Ends}
 use Rattle.hunk_tool.specs.declared.tool_fault.ToolFault.{ToolFault}
 use Rattle.hunk_tool.specs.declared.tool_fault.ToolFault.TheVariants.{Input, InputDevice, Link, Place, Output, OutOfMemory}

@@ -10,12 +10,12 @@ use Rattle.hunk_link.specs.Carried.{carried}
 use Rattle.hunk_loader.specs.ImageLoader.{IsNotPlaced, LoadsAs}
 use Rattle.hunk_loader.specs.declared.places.PlaceFault.{PlaceFault}
 use Rattle.hunk_loader.specs.ImageReader.{IsRefused}
-use Rattle.hunk_tool.specs.FileDecoder.{IsRefused as IsFileRefused}
-use Rattle.hunk_tool.specs.FileValue.{FileValue, IsOfItsKind}
+use Rattle.hunk_files.specs.FileDecoder.{IsRefused as IsFileRefused}
+use Rattle.hunk_files.specs.FileValue.{FileValue, IsOfItsKind}
 use Rattle.hunk_tool.specs.Load.{IsReported}
 use Rattle.hunk_tool.specs.ObjectFiles.{FileUnit, units_of}
 use Rattle.hunk_tool.specs.Origins.{Origin, origins}
-use Rattle.hunk_tool.specs.declared.image_form.ImageForm.{ImageForm}
+use Rattle.hunk_memory.specs.declared.image_form.ImageForm.{ImageForm}
 
 -- What is rejected is not the beginning of a load file, and not one if it is rejected at its end.
 abbrev pub RefusedBeginsNone : Type 0

@@ -9,7 +9,7 @@ use Rattle.hunk_tool.specs.DefinedNames.{first_definition}
 use Rattle.hunk_tool.specs.ObjectFiles.{FileUnit}
 use Rattle.hunk_tool.specs.OriginText.{origin_end}
 use Rattle.hunk_tool.specs.Origins.{Origin, origin_at, origins}
-use Rattle.hunk_tool.specs.Phrase.{joined_texts}
+use Rattle.hunk_text.specs.Phrase.{joined_texts}
 use Rattle.hunk_tool.specs.Undefined.{Use, Uses, undefined_uses}
 
 -- a hunk by its unit's index in the link and its number in the unit, and where it is from

@@ -1,8 +1,8 @@
 -- The text that `show` writes of a file.
 use Rattle.std.specs.Prelude.{List, ℕ}
 use Rattle.hunk_text.specs.Listing.{load_listing, object_listing}
-use Rattle.hunk_tool.specs.FileValue.{FileValue}
-use Rattle.hunk_tool.specs.FileValue.FileValue.{object_file, load_file}
+use Rattle.hunk_files.specs.FileValue.{FileValue}
+use Rattle.hunk_files.specs.FileValue.FileValue.{object_file, load_file}
 
 -- the listing of its kind
 abbrev pub show_text : FileValue → List ℕ

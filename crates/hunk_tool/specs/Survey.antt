@@ -7,9 +7,9 @@ use Rattle.hunk_objects.specs.ProgramUnit.{hunk_count}
 use Rattle.hunk_text.specs.Listing.{load_line, object_line}
 use Rattle.hunk_text.specs.Printing.{line}
 use Rattle.hunk_tool.specs.FaultLine.{reason_text}
-use Rattle.hunk_tool.specs.FileDecoder.{IsRefused}
-use Rattle.hunk_tool.specs.FileValue.{FileValue, IsOfItsKind}
-use Rattle.hunk_tool.specs.FileValue.FileValue.{object_file, load_file}
+use Rattle.hunk_files.specs.FileDecoder.{IsRefused}
+use Rattle.hunk_files.specs.FileValue.{FileValue, IsOfItsKind}
+use Rattle.hunk_files.specs.FileValue.FileValue.{object_file, load_file}
 use Rattle.hunk_tool.specs.declared.survey.Finding.{Finding}
 use Rattle.hunk_tool.specs.declared.survey.Finding.TheVariants.{Object, Load, Refused, Unread, Unopened}
 

@@ -6,11 +6,10 @@ ghost use Rattle.hunk_tool.specs.Check.{check_text, line_of};
 ghost use Rattle.hunk_tool.specs.FileText.{IsTextFault, IsWritten};
 ghost use Rattle.hunk_tool.specs.Load.{ends_of};
 
-use crate::counters::{LoadCounter, ObjectCounter};
-use crate::file_decoder::{File, read_file};
 use crate::tool_fault::ToolFault;
+use hunk_files::{CountedFile, File, count_file};
 use hunk_text::{write_load_line, write_object_line};
-use hunk_words::{Decoder, Sink, Source, WriteFault};
+use hunk_words::{Sink, Source, WriteFault};
 use std::alloc::Allocator;
 
 /// Reads a file to the reader's end, checks it, and writes one line: `object file: U units, H hunks`,
@@ -41,15 +40,13 @@ pub fn check_run<A: Allocator + Copy, R: Source, W: Sink>(
         (R.left reader.old) (R.left reader.new) (R.failed reader.new) (R.ended reader.new)
         (W.taken writer.old) (W.taken writer.new) (W.failed writer.new))) }
 {
-    let object = Decoder::new(ObjectCounter::new(alloc));
-    let load = Decoder::new(LoadCounter::new(alloc));
-    let counted = read_file(reader, object, load)?;
+    let counted = count_file(alloc, reader)?;
     Ok(write_counts(&counted, writer)?)
 }
 
 /// Writes the line of a file that was counted. Does not allocate.
 fn write_counts<A: Allocator + Copy, W: Sink>(
-    counted: &File<ObjectCounter<A>, LoadCounter<A>>,
+    counted: &CountedFile<A>,
     writer: &mut W,
 ) -> Result<(), WriteFault>
     ensures wrote { WroteAll W.taken W.failed writer.old writer.new (line_of counted.now) result }

@@ -1,18 +1,16 @@
 //! The line that reports why an operation failed.
 
-ghost use Rattle.std.specs.Prelude.{◌≡◌, ◌≢◌, ◌++◌, ◌+◌, ◌<◌, ◌≤◌, ◌^◌, ℕ, List, codes, length, map, IfErr};
+ghost use Rattle.std.specs.Prelude.{◌≡◌, ◌≢◌, ◌++◌, ◌≤◌, ◌^◌, ℕ, List, codes, length, map, IfErr};
 ghost use Rattle.std.specs.String.{string_bytes};
-ghost use Rattle.hunk_base.specs.Streams.{IsDevice, Wrote, WroteAll};
+ghost use Rattle.hunk_base.specs.Streams.{IsDevice, WroteAll};
 ghost use Rattle.hunk_tool.specs.FaultLine.{fault_line, fault_text, name_of, place_text, program_line, reason_text, HasShortName, IsOfInputs};
 ghost use Rattle.hunk_link.specs.declared.refusal.LinkRefusal.{LinkRefusal};
-ghost use Rattle.hunk_tool.specs.Phrase.{phrase_text};
-ghost use Rattle.hunk_text.specs.Printing.{line};
+ghost use Rattle.hunk_text.specs.Phrase.{phrase_text};
 
 use crate::link_line::write_link_line;
-use crate::phrase::Phrase;
 use crate::tool_fault::ToolFault;
 use hunk_loader::PlaceFault;
-use hunk_text::write_pieces;
+use hunk_text::{Phrase, write_line_end};
 use hunk_words::{Reason, Sink, WriteFault, write_all};
 use std::alloc::Allocator;
 
@@ -57,34 +55,8 @@ pub fn write_line<W: Sink>(
 {
     let written = write_all(writer, 0, b"amihunk: ")?;
     let written = write_all(writer, written, name)?;
-    write_end(writer, written, first, second)?;
+    write_line_end(writer, written, first, second)?;
     Ok(())
-}
-
-/// Writes the rest of a line.
-pub(crate) fn write_end<W: Sink>(
-    writer: &mut W,
-    written: u64,
-    first: &Phrase,
-    second: &Phrase,
-) -> Result<u64, WriteFault>
-    requires { written + length (line (phrase_text first.now ++ phrase_text second.now)) < 2 ^ 64 }
-    ensures wrote { Wrote W.taken W.failed writer.old writer.new (line (phrase_text first.now ++ phrase_text second.now)) written result }
-    ensures device { IfErr result IsDevice }
-{
-    write_pieces(
-        writer,
-        written,
-        &[
-            first.before(),
-            first.digits(),
-            first.after(),
-            second.before(),
-            second.digits(),
-            second.after(),
-            b"\n",
-        ],
-    )
 }
 
 /// The name of the input that the fault is about; empty if it is about none.

@@ -4,13 +4,12 @@ ghost use Rattle.std.specs.Prelude.{length, OnOk, IfErr};
 ghost use Rattle.hunk_tool.specs.FaultLine.{IsOfInputs};
 ghost use Rattle.hunk_tool.specs.Image.{IsImageFault, IsImaged};
 ghost use Rattle.hunk_tool.specs.Inputs.{HaveRead, inputs_of};
-ghost use Rattle.hunk_tool.specs.declared.image_form.ImageForm.TheVariants.{Report};
+ghost use Rattle.hunk_memory.specs.declared.image_form.ImageForm.TheVariants.{Report};
 
-use crate::image_form::ImageForm;
-use crate::image_text::write_image;
 use crate::link::link_inputs;
 use crate::tool_fault::ToolFault;
 use hunk_loader::{LoadRefusal, load_file};
+use hunk_memory::{ImageForm, write_image};
 use hunk_words::{Sink, Source};
 use std::alloc::Allocator;
 

@@ -3,7 +3,7 @@
 ghost use Rattle.std.specs.Prelude.{◌≤◌, ◌^◌, length, map};
 ghost use Rattle.std.specs.String.{string_bytes};
 ghost use Rattle.hunk_tool.specs.LinkExplanation.{first_line, more_line, place_line, told_text, use_line, uses_text};
-ghost use Rattle.hunk_tool.specs.WrittenText.{WroteText};
+ghost use Rattle.hunk_text.specs.WrittenText.{WroteText};
 
 use crate::link_explanation::{LinkExplanation, Place};
 use crate::origin_text::write_origin;

@@ -8,7 +8,7 @@ ghost use Rattle.hunk_tool.specs.FaultLine.{IsOfInputs};
 ghost use Rattle.hunk_tool.specs.Inputs.{HaveRead, inputs_of};
 ghost use Rattle.hunk_tool.specs.Link.{IsUnlinked};
 ghost use Rattle.hunk_tool.specs.Map.{LinkFiles, map_from, map_line, map_lines, map_text};
-ghost use Rattle.hunk_tool.specs.WrittenText.{WroteText};
+ghost use Rattle.hunk_text.specs.WrittenText.{WroteText};
 ghost use Rattle.hunk_tool.specs.ObjectFiles.{IsShortUnit};
 ghost use Rattle.hunk_tool.specs.Origins.{origins, unit_origins};
 

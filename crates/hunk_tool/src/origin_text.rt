@@ -4,7 +4,7 @@ ghost use Rattle.std.specs.Prelude.{◌≡◌, ◌<◌, ◌^◌, ◌++◌, [], l
 ghost use Rattle.std.specs.String.{string_bytes};
 ghost use Rattle.hunk_tool.specs.OriginText.{origin_end};
 ghost use Rattle.hunk_tool.specs.TextPart.{parts_text};
-ghost use Rattle.hunk_tool.specs.WrittenText.{WroteText};
+ghost use Rattle.hunk_text.specs.WrittenText.{WroteText};
 
 use crate::origins::Origin;
 use crate::text_part::TextPart;

@@ -3,13 +3,12 @@
 ghost use Rattle.std.specs.Prelude.{◌^◌, ◌<◌, length, IsTrue, OnOk, IfErr};
 ghost use Rattle.hunk_base.specs.Streams.{HasRead, IsDevice, WroteAll};
 ghost use Rattle.hunk_tool.specs.FileText.{IsTextFault, IsWritten};
-ghost use Rattle.hunk_tool.specs.HunkFile.{value_of};
+ghost use Rattle.hunk_files.specs.HunkFile.{value_of};
 ghost use Rattle.hunk_tool.specs.Load.{ends_of};
 ghost use Rattle.hunk_tool.specs.Show.{show_text};
 
-use crate::file_decoder::File;
-use crate::hunk_file::{HunkFile, read_hunk_file};
 use crate::tool_fault::ToolFault;
+use hunk_files::{File, HunkFile, read_hunk_file};
 use hunk_text::{write_load_listing, write_object_listing};
 use hunk_words::{Sink, Source, WriteFault};
 use std::alloc::Allocator;

@@ -3,15 +3,13 @@
 ghost use Rattle.std.specs.Prelude.{◌≡◌, ◌++◌, codes, IfOk, IfErr};
 ghost use Rattle.hunk_base.specs.Streams.{IsDevice, Wrote};
 ghost use Rattle.hunk_text.specs.Printing.{line};
-ghost use Rattle.hunk_tool.specs.Phrase.{phrase_text};
+ghost use Rattle.hunk_text.specs.Phrase.{phrase_text};
 ghost use Rattle.hunk_tool.specs.Survey.{finding_line, finding_text, is_load, is_object, is_refused, is_unreadable, number_of, survey_status, totals_line, IsFound};
 
-use crate::counters::{LoadCounter, ObjectCounter};
-use crate::fault_line::{reason_phrase, write_end};
-use crate::file_decoder::{File, read_file};
-use crate::phrase::Phrase;
-use hunk_text::{Digits, write_pieces};
-use hunk_words::{Decoder, Fault, ReadFault, Refusal, Sink, Source, WriteFault, write_all};
+use crate::fault_line::reason_phrase;
+use hunk_files::{File, count_file};
+use hunk_text::{Digits, Phrase, write_line_end, write_pieces};
+use hunk_words::{Fault, ReadFault, Refusal, Sink, Source, WriteFault, write_all};
 use std::alloc::{AllocError, Allocator};
 
 /// What a survey finds of a file.
@@ -74,9 +72,7 @@ pub fn survey_file<A: Allocator + Copy, R: Source>(
 ) -> Result<Finding, AllocError>
     ensures { IfOk result (IsFound (R.left reader.old) (R.left reader.new) (R.failed reader.new) (R.ended reader.new)) }
 {
-    let object = Decoder::new(ObjectCounter::new(alloc));
-    let load = Decoder::new(LoadCounter::new(alloc));
-    match read_file(reader, object, load) {
+    match count_file(alloc, reader) {
         Ok(File::Object(counter)) => Ok(Finding::Object {
             units: counter.units(),
             hunks: counter.hunks(),
@@ -108,7 +104,7 @@ pub fn write_finding<W: Sink>(
 {
     let (first, second) = phrases(finding);
     let written = write_all(writer, 0, name.as_bytes())?;
-    write_end(writer, written, &first, &second)
+    write_line_end(writer, written, &first, &second)
 }
 
 /// What comes after the name of the file.

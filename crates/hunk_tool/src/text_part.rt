@@ -3,7 +3,7 @@
 ghost use Rattle.std.specs.Prelude.{◌≡◌, ◌≤◌, ◌^◌, length};
 ghost use Rattle.std.specs.Fmt.{decimal};
 ghost use Rattle.hunk_text.specs.QuotedName.{quoted};
-ghost use Rattle.hunk_tool.specs.WrittenText.{WroteText};
+ghost use Rattle.hunk_text.specs.WrittenText.{WroteText};
 
 use crate::written_text::uncounted;
 use hunk_text::{Digits, write_around_name};

@@ -78,6 +78,33 @@ fn tells_why_the_map_is_not_written(rt: HostRuntime) -> Result<(), Fail> {
     )
 }
 
+// A line of the map is longer than the buffer in front of it, so that it is written at once.
+#[test]
+fn tells_that_a_write_of_the_map_failed(rt: HostRuntime) -> Result<(), Fail> {
+    let alloc = rt.alloc();
+    let log = Log::new(alloc);
+    let system = FakeFiles {
+        openings: 100,
+        log: &log,
+    };
+    let mut long = String::new(alloc);
+    for _ in 0..20_000 {
+        long.push('c')?;
+    }
+    let names = [long, String::from_str(alloc, "callee")?];
+    let files = ["caller", "callee"];
+    let got = link_with_map(
+        &(system, alloc),
+        "out",
+        "full-at-first",
+        PLAIN,
+        &files,
+        &names,
+    );
+    equals(&rt, got, Err(Failure::Writing("full-at-first")));
+    Ok(())
+}
+
 #[test]
 fn refuses_one_name_for_both_files(rt: HostRuntime) -> Result<(), Fail> {
     let one = Err(Failure::SameFile("out"));

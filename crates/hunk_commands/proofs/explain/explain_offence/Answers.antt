@@ -1,6 +1,6 @@
 -- The lines that explain it, or nothing.
 use Rattle.std.proofs.Common.{refl}
-use Rattle.hunk_tool.specs.ExplanationText.{explanation_text}
+use Rattle.hunk_files.specs.ExplanationText.{explanation_text}
 use Rattle.hunk_commands.specs.Explain.{AreOffenceLines, kind_read}
 use Rattle.hunk_commands.proofs.ExplainLemmas.{tells_lines, tells_nothing}
 use Rattle.hunk_commands.proofs.FailureLemmas.{tells_line}

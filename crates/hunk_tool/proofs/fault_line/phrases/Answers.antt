@@ -1,6 +1,6 @@
 use Rattle.std.proofs.Common.{◌≡◌, ◌++◌, sym, subst}
 use Rattle.hunk_tool.specs.FaultLine.{fault_text, name_of}
-use Rattle.hunk_tool.specs.Phrase.{phrase_text}
+use Rattle.hunk_text.specs.Phrase.{phrase_text}
 use Rattle.hunk_tool.proofs.FaultLineLemmas.{fault_text-Input}
 use Rattle.hunk_tool.proofs.fault_line.phrases.Goals as goal
 

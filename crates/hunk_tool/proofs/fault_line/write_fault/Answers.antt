@@ -3,7 +3,7 @@ use Rattle.std.proofs.Common.{◌++◌, subst}
 use Rattle.std.specs.Prelude.{map}
 use Rattle.std.specs.String.{string_bytes}
 use Rattle.hunk_base.specs.Streams.{WroteAll}
-use Rattle.hunk_tool.specs.Phrase.{phrase_text}
+use Rattle.hunk_text.specs.Phrase.{phrase_text}
 use Rattle.hunk_tool.proofs.FaultLineLemmas.{program_line-fault}
 use Rattle.hunk_tool.proofs.fault_line.write_fault.Goals as goal
 

@@ -4,7 +4,7 @@ use Rattle.std.specs.Prelude.{codes}
 use Rattle.std.proofs.lemmas.Result.{err_from_is_err_and}
 use Rattle.hunk_base.proofs.StreamsWritingLemmas.{Wrote-inside, Wrote-stop, Wrote-then, WroteAll-done}
 use Rattle.hunk_tool.specs.FaultLine.{program_line}
-use Rattle.hunk_tool.specs.Phrase.{phrase_text}
+use Rattle.hunk_text.specs.Phrase.{phrase_text}
 use Rattle.hunk_text.specs.Printing.{line}
 use Rattle.hunk_tool.proofs.FaultLineLemmas.{program_line-split}
 use Rattle.hunk_tool.proofs.fault_line.write_line.Goals as goal
@@ -31,17 +31,17 @@ returns-in_err-written-2 g c =
       device = rw (p.1, p.2) c.in_err-written-2.ensures.device;
     }
 
-pub returns-in_err-write_end : goal.returns-in_err-write_end
-returns-in_err-write_end g c =
-    let p = err_from_is_err_and c.from_residual-in_err-write_end.result c.from_residual-in_err-write_end.ensures.1 in
+pub returns-in_err-write_line_end : goal.returns-in_err-write_line_end
+returns-in_err-write_line_end g c =
+    let p = err_from_is_err_and c.from_residual-in_err-write_line_end.result c.from_residual-in_err-write_line_end.ensures.1 in
     let name = c.args.name.now in
     let told = phrase_text c.args.first.now ++ phrase_text c.args.second.now in
     let whole = program_line-split name told in
-    let fault = Err c.in_err-write_end.field-0.0 in
-    let later = Wrote-then g.W.Sink.taken g.W.Sink.failed c.write_all.new.writer c.write_all-2.new.writer c.write_end.new.writer (name ++ line told) name (line told) c.in_ok-written.written c.in_ok-written-2.written fault refl c.in_ok-written-2.ensures.wrote c.in_err-write_end.ensures.wrote in
+    let fault = Err c.in_err-write_line_end.field-0.0 in
+    let later = Wrote-then g.W.Sink.taken g.W.Sink.failed c.write_all.new.writer c.write_all-2.new.writer c.write_line_end.new.writer (name ++ line told) name (line told) c.in_ok-written.written c.in_ok-written-2.written fault refl c.in_ok-written-2.ensures.wrote c.in_err-write_line_end.ensures.wrote in
     record {
-      wrote = rw (p.1, p.2) (Wrote-then g.W.Sink.taken g.W.Sink.failed c.args.writer.now c.write_all.new.writer c.write_end.new.writer (program_line (name ++ told)) (codes "amihunk: ") (name ++ line told) 0 c.in_ok-written.written fault whole c.in_ok-written.ensures.wrote later);
-      device = rw (p.1, p.2) c.in_err-write_end.ensures.device;
+      wrote = rw (p.1, p.2) (Wrote-then g.W.Sink.taken g.W.Sink.failed c.args.writer.now c.write_all.new.writer c.write_line_end.new.writer (program_line (name ++ told)) (codes "amihunk: ") (name ++ line told) 0 c.in_ok-written.written fault whole c.in_ok-written.ensures.wrote later);
+      device = rw (p.1, p.2) c.in_err-write_line_end.ensures.device;
     }
 
 pub returns-clause-wrote : goal.returns-clause-wrote
@@ -49,7 +49,7 @@ returns-clause-wrote g c =
     let name = c.args.name.now in
     let told = phrase_text c.args.first.now ++ phrase_text c.args.second.now in
     let whole = program_line-split name told in
-    let end = c.in_ok-write_end.field-0 in
-    let later = Wrote-then g.W.Sink.taken g.W.Sink.failed c.write_all.new.writer c.write_all-2.new.writer c.write_end.new.writer (name ++ line told) name (line told) c.in_ok-written.written c.in_ok-written-2.written (Ok end) refl c.in_ok-written-2.ensures.wrote c.in_ok-write_end.ensures.wrote in
-    WroteAll-done g.W.Sink.taken g.W.Sink.failed c.args.writer.now c.write_end.new.writer (program_line (name ++ told)) end
-    (Wrote-then g.W.Sink.taken g.W.Sink.failed c.args.writer.now c.write_all.new.writer c.write_end.new.writer (program_line (name ++ told)) (codes "amihunk: ") (name ++ line told) 0 c.in_ok-written.written (Ok end) whole c.in_ok-written.ensures.wrote later)
+    let end = c.in_ok-write_line_end.field-0 in
+    let later = Wrote-then g.W.Sink.taken g.W.Sink.failed c.write_all.new.writer c.write_all-2.new.writer c.write_line_end.new.writer (name ++ line told) name (line told) c.in_ok-written.written c.in_ok-written-2.written (Ok end) refl c.in_ok-written-2.ensures.wrote c.in_ok-write_line_end.ensures.wrote in
+    WroteAll-done g.W.Sink.taken g.W.Sink.failed c.args.writer.now c.write_line_end.new.writer (program_line (name ++ told)) end
+    (Wrote-then g.W.Sink.taken g.W.Sink.failed c.args.writer.now c.write_all.new.writer c.write_line_end.new.writer (program_line (name ++ told)) (codes "amihunk: ") (name ++ line told) 0 c.in_ok-written.written (Ok end) whole c.in_ok-written.ensures.wrote later)

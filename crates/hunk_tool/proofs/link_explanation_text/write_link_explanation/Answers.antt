@@ -3,8 +3,8 @@ use Rattle.std.proofs.Common.{◌++◌, Err, map, refl, subst}
 use Rattle.std.specs.String.{string_bytes}
 use Rattle.std.proofs.lemmas.Result.{err_from_is_err_and}
 use Rattle.hunk_tool.specs.LinkExplanation.{Told, first_line, place_line, told_text, uses_text}
-use Rattle.hunk_tool.specs.WrittenText.{WroteText}
-use Rattle.hunk_tool.proofs.WrittenTextLemmas.{WroteText-stop, WroteText-then}
+use Rattle.hunk_text.specs.WrittenText.{WroteText}
+use Rattle.hunk_text.proofs.WrittenTextLemmas.{WroteText-stop, WroteText-then}
 use Rattle.hunk_tool.proofs.link_explanation_text.write_link_explanation.Goals as goal
 
 pub returns-in_err-write_place : goal.returns-in_err-write_place

@@ -4,10 +4,10 @@ use Rattle.std.specs.String.{string_bytes}
 use Rattle.std.proofs.lemmas.Option.{slice_get_within}
 use Rattle.std.proofs.lemmas.Result.{err_from_is_err_and}
 use Rattle.hunk_tool.specs.LinkExplanation.{more_line, most_told, use_line, uses_text}
-use Rattle.hunk_tool.specs.WrittenText.{WroteText}
+use Rattle.hunk_text.specs.WrittenText.{WroteText}
 use Rattle.hunk_tool.specs.Undefined.{Use}
 use Rattle.hunk_tool.proofs.LinkExplanationLemmas.{uses_rest, uses_rest-last, uses_rest-more, uses_rest-none}
-use Rattle.hunk_tool.proofs.WrittenTextLemmas.{TextBegun-done, TextBegun-more, TextBegun-stop, WroteText-then}
+use Rattle.hunk_text.proofs.WrittenTextLemmas.{TextBegun-done, TextBegun-more, TextBegun-stop, WroteText-then}
 use Rattle.hunk_tool.proofs.link_explanation_text.write_uses.Goals as goal
 
 pub returns-in_err-write_use-in-Some : goal.returns-in_err-write_use-in-Some

@@ -3,7 +3,7 @@ use Rattle.std.proofs.Common.{◌≤◌, length, map}
 use Rattle.std.specs.String.{string_bytes}
 use Rattle.hunk_tool.specs.LinkExplanation.{uses_text}
 use Rattle.hunk_tool.proofs.LinkExplanationLemmas.{uses_rest}
-use Rattle.hunk_tool.proofs.WrittenTextLemmas.{TextBegun}
+use Rattle.hunk_text.proofs.WrittenTextLemmas.{TextBegun}
 use Rattle.hunk_tool.proofs.link_explanation_text.write_uses.Given as goal
 
 abbrev pub invariant-loop-index : goal.invariant-loop-index

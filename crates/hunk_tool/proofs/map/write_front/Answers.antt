@@ -2,7 +2,7 @@
 use Rattle.std.proofs.Common.{arith}
 use Rattle.hunk_text.specs.Listing.{hunk_front}
 use Rattle.hunk_text.proofs.ListingSizeLemmas.{length-hunk_front-le}
-use Rattle.hunk_tool.proofs.WrittenTextLemmas.{WroteText-uncounted}
+use Rattle.hunk_text.proofs.WrittenTextLemmas.{WroteText-uncounted}
 use Rattle.hunk_tool.proofs.map.write_front.Goals as goal
 
 pub write_hunk_front-requires : goal.write_hunk_front-requires

@@ -6,8 +6,8 @@ use Rattle.std.proofs.lemmas.Result.{err_from_is_err_and}
 use Rattle.hunk_text.specs.Listing.{definition_line}
 use Rattle.hunk_tool.specs.Map.{map_line, map_lines}
 use Rattle.hunk_tool.specs.Origins.{IsShortOrigin, Origin}
-use Rattle.hunk_tool.specs.WrittenText.{WroteText}
-use Rattle.hunk_tool.proofs.WrittenTextLemmas.{WroteText-stop, WroteText-then, WroteText-uncounted}
+use Rattle.hunk_text.specs.WrittenText.{WroteText}
+use Rattle.hunk_text.proofs.WrittenTextLemmas.{WroteText-stop, WroteText-then, WroteText-uncounted}
 use Rattle.hunk_tool.proofs.map.write_hunk.Goals as goal
 
 pub returns-in_err-write_line : goal.returns-in_err-write_line

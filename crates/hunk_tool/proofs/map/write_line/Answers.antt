@@ -5,9 +5,9 @@ use Rattle.std.proofs.lemmas.Result.{err_from_is_err_and}
 use Rattle.hunk_loadfile.specs.LoadHunk.{FileHunk}
 use Rattle.hunk_text.specs.Listing.{hunk_front}
 use Rattle.hunk_tool.specs.Map.{map_line}
-use Rattle.hunk_tool.specs.WrittenText.{WroteText}
+use Rattle.hunk_text.specs.WrittenText.{WroteText}
 use Rattle.hunk_tool.proofs.MapLemmas.{line_rest, map_line-is}
-use Rattle.hunk_tool.proofs.WrittenTextLemmas.{WroteText-stop, WroteText-then}
+use Rattle.hunk_text.proofs.WrittenTextLemmas.{WroteText-stop, WroteText-then}
 use Rattle.hunk_tool.proofs.map.write_line.Goals as goal
 
 abbrev front_of : ℕ → FileHunk → List ℕ

@@ -5,10 +5,10 @@ use Rattle.std.proofs.lemmas.List.{length-drop}
 use Rattle.std.proofs.lemmas.Result.{err_from_is_err_and}
 use Rattle.hunk_loadfile.specs.LoadHunk.{FileHunk}
 use Rattle.hunk_tool.specs.Map.{map_from, map_text}
-use Rattle.hunk_tool.specs.WrittenText.{WroteText}
+use Rattle.hunk_text.specs.WrittenText.{WroteText}
 use Rattle.hunk_tool.specs.Origins.{unit_origins}
 use Rattle.hunk_tool.proofs.MapLemmas.{length-origins-more, rest-is, no_place, next_unit, units_rest, units_rest-more}
-use Rattle.hunk_tool.proofs.WrittenTextLemmas.{TextBegun-more, TextBegun-nothing, TextBegun-stop}
+use Rattle.hunk_text.proofs.WrittenTextLemmas.{TextBegun-more, TextBegun-nothing, TextBegun-stop}
 use Rattle.hunk_tool.proofs.map.write_map.Goals as goal
 
 pub loop-index-init : goal.loop-index-init

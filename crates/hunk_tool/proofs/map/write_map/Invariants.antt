@@ -4,7 +4,7 @@ use Rattle.std.specs.String.{string_bytes}
 use Rattle.hunk_tool.specs.Map.{map_text}
 use Rattle.hunk_tool.specs.Origins.{origins}
 use Rattle.hunk_tool.proofs.MapLemmas.{units_rest}
-use Rattle.hunk_tool.proofs.WrittenTextLemmas.{TextBegun}
+use Rattle.hunk_text.proofs.WrittenTextLemmas.{TextBegun}
 use Rattle.hunk_tool.proofs.map.write_map.Given as goal
 
 abbrev pub invariant-loop-index : goal.invariant-loop-index

@@ -8,7 +8,7 @@ use Rattle.hunk_tool.specs.Map.{map_from, map_lines}
 use Rattle.hunk_tool.specs.ObjectFiles.{IsShortHunk}
 use Rattle.hunk_tool.specs.Origins.{unit_origins}
 use Rattle.hunk_tool.proofs.MapLemmas.{unit_rest, unit_rest-all, unit_rest-more, unit_rest-none}
-use Rattle.hunk_tool.proofs.WrittenTextLemmas.{TextBegun-done, TextBegun-more, TextBegun-nothing, TextBegun-stop}
+use Rattle.hunk_text.proofs.WrittenTextLemmas.{TextBegun-done, TextBegun-more, TextBegun-nothing, TextBegun-stop}
 use Rattle.hunk_tool.proofs.map.write_unit.Goals as goal
 
 pub loop-number-init : goal.loop-number-init

@@ -4,7 +4,7 @@ use Rattle.std.specs.String.{string_bytes}
 use Rattle.hunk_tool.specs.Map.{map_from}
 use Rattle.hunk_tool.specs.Origins.{unit_origins}
 use Rattle.hunk_tool.proofs.MapLemmas.{unit_rest}
-use Rattle.hunk_tool.proofs.WrittenTextLemmas.{TextBegun}
+use Rattle.hunk_text.proofs.WrittenTextLemmas.{TextBegun}
 use Rattle.hunk_tool.proofs.map.write_unit.Given as goal
 
 abbrev pub invariant-loop-number : goal.invariant-loop-number

@@ -5,11 +5,11 @@ use Rattle.std.specs.Fmt.{decimal}
 use Rattle.std.specs.String.{string_bytes}
 use Rattle.hunk_text.specs.QuotedName.{quoted}
 use Rattle.hunk_tool.specs.OriginText.{origin_end}
-use Rattle.hunk_tool.specs.WrittenText.{WroteText}
+use Rattle.hunk_text.specs.WrittenText.{WroteText}
 use Rattle.hunk_tool.specs.Origins.{Origin}
 use Rattle.hunk_tool.specs.TextPart.{parts_text}
 use Rattle.hunk_tool.proofs.OriginTextLemmas.{origin_end-is}
-use Rattle.hunk_tool.proofs.WrittenTextLemmas.{WroteText-then}
+use Rattle.hunk_text.proofs.WrittenTextLemmas.{WroteText-then}
 use Rattle.hunk_tool.proofs.origin_text.write_origin.Goals as goal
 
 pub returns : goal.returns

@@ -1,6 +1,6 @@
 -- The listing is that of the file that was read.
 use Rattle.std.proofs.lemmas.Result.{err_from_is_err_and}
-use Rattle.hunk_tool.specs.HunkFile.{value_of}
+use Rattle.hunk_files.specs.HunkFile.{value_of}
 use Rattle.hunk_tool.specs.Show.{show_text}
 use Rattle.hunk_tool.proofs.ShowLemmas.{show_text-fits}
 use Rattle.hunk_tool.proofs.FileTextLemmas.{HasText-read, IsTextFault-read, IsTextFault-written, IsWritten-of}

@@ -2,7 +2,7 @@
 use Rattle.std.proofs.Common.{◌∙◌, ap, subst, sym}
 use Rattle.hunk_base.specs.Streams.{WroteAll}
 use Rattle.hunk_text.specs.Listing.{load_listing, object_listing}
-use Rattle.hunk_tool.specs.HunkFile.{value_of}
+use Rattle.hunk_files.specs.HunkFile.{value_of}
 use Rattle.hunk_tool.specs.Show.{show_text}
 use Rattle.hunk_tool.proofs.show.write_listing.Goals as goal
 

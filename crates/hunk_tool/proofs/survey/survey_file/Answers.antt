@@ -4,10 +4,10 @@ use Rattle.hunk_tool.proofs.survey.survey_file.Goals as goal
 
 pub returns-in-Ok-Object : goal.returns-in-Ok-Object
 returns-in-Ok-Object g c =
-    let found = HasRead-object c.in-Ok-Object.counter (g.R.Source.left c.args.reader.now) (g.R.Source.left c.read_file.new.reader) (rw c.in-Ok-Object.field-0-is at c.in-Ok-Object.ensures.file) in
+    let found = HasRead-object c.in-Ok-Object.counter (g.R.Source.left c.args.reader.now) (g.R.Source.left c.count_file.new.reader) (rw c.in-Ok-Object.field-0-is at c.in-Ok-Object.ensures.file) in
     rw (c.units.ensures, c.hunks.ensures) (c.in-Ok-Object.ensures.ended, found)
 
 pub returns-in-Ok-Load : goal.returns-in-Ok-Load
 returns-in-Ok-Load g c =
-    let found = HasRead-load c.in-Ok-Load.counter (g.R.Source.left c.args.reader.now) (g.R.Source.left c.read_file.new.reader) (rw c.in-Ok-Load.field-0-is at c.in-Ok-Load.ensures.file) in
+    let found = HasRead-load c.in-Ok-Load.counter (g.R.Source.left c.args.reader.now) (g.R.Source.left c.count_file.new.reader) (rw c.in-Ok-Load.field-0-is at c.in-Ok-Load.ensures.file) in
     rw c.hunks-in-Ok-Load.ensures (c.in-Ok-Load.ensures.ended, found)

@@ -3,8 +3,8 @@ use Rattle.std.proofs.Common.{◌++◌, [], arith, append-nil, subst}
 use Rattle.std.proofs.lemmas.List.{length-append}
 use Rattle.hunk_text.specs.QuotedName.{quoted}
 use Rattle.hunk_text.proofs.ListingSizeLemmas.{length-escaped_all-le}
-use Rattle.hunk_tool.specs.WrittenText.{WroteText}
-use Rattle.hunk_tool.proofs.WrittenTextLemmas.{WroteText-uncounted}
+use Rattle.hunk_text.specs.WrittenText.{WroteText}
+use Rattle.hunk_text.proofs.WrittenTextLemmas.{WroteText-uncounted}
 use Rattle.hunk_tool.proofs.text_part.TextPart.write.Goals as goal
 
 pub write_around_name-requires : goal.write_around_name-requires

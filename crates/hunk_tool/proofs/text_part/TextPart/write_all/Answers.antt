@@ -4,7 +4,7 @@ use Rattle.std.proofs.lemmas.List.{drop_all}
 use Rattle.std.proofs.lemmas.Result.{err_from_is_err_and}
 use Rattle.hunk_tool.specs.TextPart.{part_text, parts_text}
 use Rattle.hunk_tool.proofs.TextPartLemmas.{flat_map-next}
-use Rattle.hunk_tool.proofs.WrittenTextLemmas.{TextBegun-done, TextBegun-more, TextBegun-nothing, TextBegun-stop}
+use Rattle.hunk_text.proofs.WrittenTextLemmas.{TextBegun-done, TextBegun-more, TextBegun-nothing, TextBegun-stop}
 use Rattle.hunk_tool.proofs.text_part.TextPart.write_all.Goals as goal
 
 pub loop-part-init : goal.loop-part-init

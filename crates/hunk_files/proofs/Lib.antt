@@ -1,0 +1,5 @@
+pub mod CountersLemmas
+pub mod FileDecoderLemmas
+pub mod PathLemmas
+pub mod FollowerLemmas
+pub mod CountingLemmas

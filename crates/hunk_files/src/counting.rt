@@ -1,0 +1,78 @@
+//! Files of either kind, checked and counted.
+
+ghost use Rattle.std.specs.Prelude.{IsTrue, IfOk, IfErr, OnOk};
+ghost use Rattle.hunk_base.specs.Streams.{HasRead};
+ghost use Rattle.hunk_words.specs.Decoder.{StandsFor};
+ghost use Rattle.hunk_words.specs.declared.event.FileKind.TheVariants.{Object, Load};
+ghost use Rattle.hunk_files.specs.Counters.{CountsLoad, CountsObject, LoadStandsFor, ObjectStandsFor};
+ghost use Rattle.hunk_files.specs.FileDecoder.{IsFileOf, IsReadFault};
+ghost use Rattle.hunk_files.specs.FileValue.{kind_of_bytes};
+
+use crate::counters::{LoadCounter, ObjectCounter};
+use crate::file_decoder::{File, KindDecoder, read_file};
+use hunk_words::{Decoder, ReadFault, Refusal, Source};
+use std::alloc::{Allocator, Global};
+
+/// What a file of either kind has, counted.
+pub type CountedFile<A = Global> = File<ObjectCounter<A>, LoadCounter<A>>;
+
+/// Reads a file to the reader's end, checks it, and counts what it has. Of the file it keeps the sites
+/// of one hunk, and the sizes in the header of a load file.
+///
+/// A file is a load file if its first four bytes are there and the low 30 bits of that longword are
+/// the block type 1011, `HUNK_HEADER` of `doshunks.h`. Otherwise it is read as an object file.
+///
+/// # Errors
+///
+/// - [`ReadFault::Refused`] with the first offence of the bytes read, for a file of its kind; where
+///   the file ends too early only once the reader has ended.
+/// - [`ReadFault::Refused`] with [`Refusal::OutOfMemory`] if an allocation failed.
+/// - [`ReadFault::Device`] if a read failed.
+pub fn count_file<A: Allocator + Copy, R: Source>(
+    alloc: A,
+    reader: &mut R,
+) -> Result<CountedFile<A>, ReadFault>
+    ensures file { IfOk result (λ counted. HasRead (R.left reader.old) (R.left reader.new) (λ bytes. IsFileOf CountsObject CountsLoad (kind_of_bytes bytes) counted bytes)) }
+    ensures ended { OnOk result (IsTrue (R.ended reader.new)) }
+    ensures refused { IfErr result (IsReadFault (R.left reader.old) (R.left reader.new) (R.failed reader.new) (R.ended reader.new)) }
+{
+    let object = Decoder::new(ObjectCounter::new(alloc));
+    let load = Decoder::new(LoadCounter::new(alloc));
+    read_file(reader, object, load)
+}
+
+impl<A: Allocator + Copy> KindDecoder for Decoder<ObjectCounter<A>> {
+    ghost stands_for = { λ decoder bytes. StandsFor Object ObjectStandsFor decoder bytes };
+
+    ghost KIND = { Object };
+
+    ghost is_value = { λ counter bytes. CountsObject counter bytes };
+
+    type Value = ObjectCounter<A>;
+
+    fn feed(&mut self, piece: &[u8]) -> Result<(), Refusal> {
+        self.feed(piece)
+    }
+
+    fn finish(self) -> Result<ObjectCounter<A>, Refusal> {
+        self.finish()
+    }
+}
+
+impl<A: Allocator + Copy> KindDecoder for Decoder<LoadCounter<A>> {
+    ghost stands_for = { λ decoder bytes. StandsFor Load LoadStandsFor decoder bytes };
+
+    ghost KIND = { Load };
+
+    ghost is_value = { λ counter bytes. CountsLoad counter bytes };
+
+    type Value = LoadCounter<A>;
+
+    fn feed(&mut self, piece: &[u8]) -> Result<(), Refusal> {
+        self.feed(piece)
+    }
+
+    fn finish(self) -> Result<LoadCounter<A>, Refusal> {
+        self.finish()
+    }
+}

@@ -1,0 +1,81 @@
+//! Files of either kind, as values.
+
+ghost use Rattle.std.specs.Prelude.{IsTrue, OnOk, IfOk, IfErr};
+ghost use Rattle.hunk_base.specs.Streams.{HasRead};
+ghost use Rattle.hunk_words.specs.declared.event.FileKind.TheVariants.{Load, Object};
+ghost use Rattle.hunk_objects.specs.ProgramUnit.{IsObjectOf};
+ghost use Rattle.hunk_loadfile.specs.LoadFile.{IsLoadOf};
+ghost use Rattle.hunk_files.specs.FileDecoder.{IsReadFault};
+ghost use Rattle.hunk_files.specs.FileValue.{IsOfItsKind};
+ghost use Rattle.hunk_files.specs.HunkFile.{value_of};
+
+use crate::file_decoder::{File, KindDecoder, read_file};
+use hunk_loadfile::{LoadDecoder, LoadFile};
+use hunk_objects::{ObjectDecoder, ProgramUnit};
+use hunk_words::{ReadFault, Refusal, Source};
+use std::alloc::{Allocator, Global};
+
+/// What is in a hunk file: the units of an object file, or a load file.
+pub type HunkFile<A = Global> = File<Vec<ProgramUnit<A>, A>, LoadFile<A>>;
+
+/// Reads a file to the reader's end, and returns what is in it.
+///
+/// A file is a load file if its first four bytes are there and the low 30 bits of that longword are
+/// the block type 1011, `HUNK_HEADER` of `doshunks.h`. Otherwise it is read as an object file.
+///
+/// # Errors
+///
+/// - [`ReadFault::Refused`] with the first offence of the bytes read, for a file of its kind; where
+///   the file ends too early only once the reader has ended.
+/// - [`ReadFault::Refused`] with [`Refusal::OutOfMemory`] if an allocation failed.
+/// - [`ReadFault::Device`] if a read failed.
+pub fn read_hunk_file<A: Allocator + Copy, R: Source>(
+    alloc: A,
+    reader: &mut R,
+) -> Result<HunkFile<A>, ReadFault>
+    ensures file { IfOk result (λ file. HasRead (R.left reader.old) (R.left reader.new) (IsOfItsKind (value_of file))) }
+    ensures ended { OnOk result (IsTrue (R.ended reader.new)) }
+    ensures refused { IfErr result (IsReadFault (R.left reader.old) (R.left reader.new) (R.failed reader.new) (R.ended reader.new)) }
+{
+    read_file(reader, ObjectDecoder::new(alloc), LoadDecoder::new(alloc))
+}
+
+impl<A: Allocator + Copy> KindDecoder for ObjectDecoder<A> {
+    ghost use Rattle.hunk_objects.specs.ObjectDecoder.{StandsFor};
+
+    ghost stands_for = { StandsFor };
+
+    ghost KIND = { Object };
+
+    ghost is_value = { λ units bytes. IsObjectOf units.items bytes };
+
+    type Value = Vec<ProgramUnit<A>, A>;
+
+    fn feed(&mut self, piece: &[u8]) -> Result<(), Refusal> {
+        self.feed(piece)
+    }
+
+    fn finish(self) -> Result<Vec<ProgramUnit<A>, A>, Refusal> {
+        self.finish()
+    }
+}
+
+impl<A: Allocator + Copy> KindDecoder for LoadDecoder<A> {
+    ghost use Rattle.hunk_loadfile.specs.LoadDecoder.{StandsFor};
+
+    ghost stands_for = { StandsFor };
+
+    ghost KIND = { Load };
+
+    ghost is_value = { λ file bytes. IsLoadOf file bytes };
+
+    type Value = LoadFile<A>;
+
+    fn feed(&mut self, piece: &[u8]) -> Result<(), Refusal> {
+        self.feed(piece)
+    }
+
+    fn finish(self) -> Result<LoadFile<A>, Refusal> {
+        self.finish()
+    }
+}

@@ -1,0 +1,29 @@
+//! Files of either kind: reading them, counting what they have, and telling where and why one is refused.
+//!
+//! - `file_decoder`: reads a file of either kind; `first_bytes` tell which.
+//! - `hunk_file`: files of either kind, as values.
+//! - `counters`: takers that check sites, and count what a file has.
+//! - `counting`: files of either kind, checked and counted.
+//! - `explain`: reads a file once more, to tell where and why it is refused.
+//! - `explanation`: what is told of its first offence; `explanation_text`: the lines of that.
+//! - `follower`: follows the longwords of a file up to it; `path`: in which unit, hunk and block.
+#![tactic(auto)]
+
+pub mod counters;
+pub mod counting;
+pub mod explain;
+pub mod explanation;
+mod explanation_text;
+pub mod file_decoder;
+mod first_bytes;
+mod follower;
+pub mod hunk_file;
+mod path;
+
+pub use counters::{LoadCounter, ObjectCounter};
+pub use counting::{CountedFile, count_file};
+pub use explain::{explain_file, explain_load, explain_object};
+pub use explanation::{Explanation, Found};
+pub use explanation_text::write_explanation;
+pub use file_decoder::File;
+pub use hunk_file::{HunkFile, read_hunk_file};

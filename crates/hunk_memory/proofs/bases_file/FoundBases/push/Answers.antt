@@ -1,0 +1,18 @@
+use Rattle.std.proofs.Common.{◌∙◌, ◌∷◌, ◌++◌, [], Some, ap, arith, subst, sym}
+use Rattle.std.proofs.lemmas.Result.{IfOk-weaker}
+use Rattle.hunk_memory.specs.BasesFile.{StandsFor}
+use Rattle.hunk_memory.proofs.BasesFileLemmas.{no_digits, rejected, stands-separator}
+use Rattle.hunk_memory.proofs.bases_file.FoundBases.push.Goals as goal
+
+pub returns-then-is_separator-clause-stands : goal.returns-then-is_separator-clause-stands
+returns-then-is_separator-clause-stands g c =
+    IfOk-weaker c.end_part.result _ _
+    (λ done ends bytes stands. subst (λ items. StandsFor items c.end_part.new.self.digits (bytes ++ c.args.byte ∷ [])) (sym ends)
+    (stands-separator c.args.self.now.bases.items c.args.self.now.digits c.end_part.new.self.digits bytes c.args.byte c.args.self.now.digits.few
+    (sym c.is_separator.ensures ∙ c.if-is_separator.true) (no_digits c.end_part.new.self.digits c.end_part.ensures.none) stands))
+    c.end_part.ensures.ends
+
+pub returns-in_default-clause-rejected : goal.returns-in_default-clause-rejected
+returns-in_default-clause-rejected g c bytes stands rest =
+    rejected c.args.self.now.bases.items c.args.self.now.digits bytes c.args.byte rest (sym c.is_separator.ensures ∙ c.if-is_separator.false) stands c.in_default.ensures
+    ∙ ap Some (omega (arith, c.len.ensures))

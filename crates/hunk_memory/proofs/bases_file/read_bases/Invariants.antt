@@ -1,0 +1,12 @@
+-- What has been read so far, of which the numbers are known.
+use Rattle.std.proofs.Common.{ℕ, List}
+use Rattle.std.specs.Io.KnownBytes.{Consumes}
+use Rattle.hunk_memory.specs.BasesFile.{StandsFor}
+use Rattle.hunk_memory.proofs.bases_file.read_bases.Given as goal
+
+abbrev pub invariant-reads : goal.invariant-reads
+invariant-reads g l = record {
+  bytes : List ℕ;
+  consumed : Consumes (g.R.Source.left l.fn.reader) (g.R.Source.left l.reader) bytes;
+  stands : StandsFor l.found.bases.items l.found.digits bytes;
+}

@@ -1,0 +1,41 @@
+-- What the bytes of a file of addresses mean, and why the addresses of a file are not known.
+use Rattle.std.specs.Prelude.{◌≡◌, ◌++◌, ℕ, Bool, true, false, ◌||◌, ◌==◌, IsTrue, List, [], ◌∷◌, map, Option, Some}
+use Rattle.std.specs.List.{filter, slice_split}
+use Rattle.hunk_base.specs.Streams.{HasRead}
+use Rattle.hunk_memory.specs.Bases.{IsNumbersFault, number_of}
+use Rattle.hunk_memory.specs.declared.bases.BasesFault.{BasesFault}
+use Rattle.hunk_memory.specs.declared.bases_file.BasesFileFault.{BasesFileFault}
+use Rattle.hunk_memory.specs.declared.bases_file.BasesFileFault.TheVariants.{Refused, Device}
+use Rattle.hunk_memory.specs.declared.part_digits.PartDigits.{PartDigits}
+use Rattle.hunk_memory.specs.PartDigits.{AreDigits}
+
+-- a comma (44), a space (32), a carriage return (13) or a line feed (10)
+abbrev pub is_separator : ℕ → Bool
+is_separator byte = byte == 44 || (byte == 32 || (byte == 13 || byte == 10))
+
+abbrev pub has_bytes : List ℕ → Bool
+has_bytes [] = false
+has_bytes (byte ∷ rest) = true
+
+-- the parts of a file: the longest runs of bytes that are no separators
+abbrev pub file_parts : List ℕ → List (List ℕ)
+file_parts bytes = filter has_bytes (slice_split is_separator bytes)
+
+-- the number of each part of a file, in order
+abbrev pub file_numbers : List ℕ → List (Option ℕ)
+file_numbers bytes = map number_of (file_parts bytes)
+
+-- whatever bytes follow these, this is why the file is rejected
+abbrev pub IsRejected : List ℕ → BasesFault → Type 0
+IsRejected bytes fault = (rest : List ℕ) → IsNumbersFault (file_numbers (bytes ++ rest)) fault
+
+-- why the addresses that a reader has are not known: what was read of them is rejected, or a read failed
+abbrev pub IsBasesFileFault : (old new : Option (List ℕ)) (failed : Bool) → BasesFileFault → Type 0
+IsBasesFileFault old new failed (Refused fault) = HasRead old new (λ bytes. IsRejected bytes fault)
+IsBasesFileFault old new failed Device = IsTrue failed
+
+-- these numbers, and the digits of a last part that may go on, are those of these bytes
+pub record StandsFor (bases : List ℕ) (digits : PartDigits) (bytes : List ℕ) : Type 0 where
+  pub part : List ℕ
+  pub are : AreDigits digits part
+  pub numbers : (rest : List ℕ) → file_numbers (bytes ++ rest) ≡ map Some bases ++ file_numbers (part ++ rest)

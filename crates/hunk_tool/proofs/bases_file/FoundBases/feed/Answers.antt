@@ -1,9 +1,0 @@
--- The byte is in the piece.
-use Rattle.std.proofs.lemmas.Result.{err_from_is_err_and}
-use Rattle.hunk_tool.proofs.BasesFileLemmas.{rejected-longer}
-use Rattle.hunk_tool.proofs.bases_file.FoundBases.feed.Goals as goal
-
-pub returns-in_err-push-clause-rejected : goal.returns-in_err-push-clause-rejected
-returns-in_err-push-clause-rejected g c =
-    let p = err_from_is_err_and c.from_residual.result c.from_residual.ensures.1 in
-    rw (p.1, p.2) (λ bytes stands. rejected-longer bytes c.args.piece.now c.loop-byte.byte-index _ _ c.loop-byte-test.true (c.in_err-push.ensures.rejected _ (c.loop-byte.invariant bytes stands)))

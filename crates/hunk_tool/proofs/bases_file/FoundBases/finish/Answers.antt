@@ -1,7 +1,0 @@
-use Rattle.std.proofs.Common.{Some, ap, map, sym, ◌∙◌}
-use Rattle.hunk_tool.proofs.BasesFileLemmas.{numbers-ended}
-use Rattle.hunk_tool.proofs.bases_file.FoundBases.finish.Goals as goal
-
-pub returns-clause-numbers : goal.returns-clause-numbers
-returns-clause-numbers g c bytes stands =
-    numbers-ended c.args.self.bases.items c.args.self.digits bytes c.args.self.digits.few stands ∙ ap (map Some) (sym c.in_ok-end_part.ensures.ends)

@@ -1,7 +1,0 @@
--- It holds nothing of a word.
-use Rattle.hunk_base.specs.Longwords.{longwords}
-use Rattle.hunk_tool.proofs.CountersLemmas.{load-words}
-use Rattle.hunk_tool.proofs.counters.LoadCounterTaker.take_words.Goals as goal
-
-pub returns-clause-takes : goal.returns-clause-takes
-returns-clause-takes g c = λ told stands few. load-words c.args.self.now told (longwords c.args._bytes.now) few stands
