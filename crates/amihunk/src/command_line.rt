@@ -249,7 +249,7 @@ fn image_request<'a>(
 }
 
 /// Arguments that exclude each other, or of which one is missing.
-#[derive(Clone, Copy, Debug, PartialEq, Eq)]
+#[derive(Clone, Copy)]
 enum Conflict {
     /// `--srec` and `--symbols`.
     Texts,

@@ -10,7 +10,7 @@ use hunk_commands::VERSION;
 use std::alloc::{AllocError, Global};
 
 /// An edition of the command line: which of the newer options it has.
-#[derive(Clone, Copy, Debug, PartialEq, Eq)]
+#[derive(Clone, Copy)]
 pub struct Edition {
     /// `--at-file`, without which `--at` is required.
     pub at_file: bool,

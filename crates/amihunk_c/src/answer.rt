@@ -9,7 +9,7 @@ use hunk_words::Fault;
 /// What became of a call, in numbers: a status, and what is known of a refusal. What the status
 /// does not tell is 0.
 #[repr(C)]
-#[derive(Clone, Copy, Debug, PartialEq, Eq)]
+#[derive(Clone, Copy)]
 pub struct Answer {
     /// Of [`Status::File`]: the longword of the file that offends first, from 0.
     pub place: u64,

@@ -7,7 +7,7 @@ use hunk_loader::PlaceFault;
 use hunk_words::Reason;
 
 /// What became of a call.
-#[derive(Clone, Copy, Debug, PartialEq, Eq)]
+#[derive(Clone, Copy)]
 pub enum Status {
     /// It did what it says.
     Ok,

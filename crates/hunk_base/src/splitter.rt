@@ -3,7 +3,7 @@
 use byteorder::{BigEndian, ByteOrder};
 
 /// The bytes of a longword that is not whole yet, in order.
-#[derive(Clone, Copy, Debug)]
+#[derive(Clone, Copy)]
 enum Held {
     Nothing,
     One(u8),
@@ -12,7 +12,7 @@ enum Held {
 }
 
 /// Makes longwords from bytes that come one at a time, the most significant byte first.
-#[derive(Clone, Copy, Debug)]
+#[derive(Clone, Copy)]
 pub struct Splitter {
     held: Held,
 }

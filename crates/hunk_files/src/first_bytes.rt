@@ -8,7 +8,7 @@ use std::marker::Model;
 pub(crate) const LONGWORD: usize = 4;
 
 /// The first bytes of a file, at most four.
-#[derive(Debug, Drop)]
+#[derive(Drop)]
 pub(crate) struct FirstBytes {
     bytes: [u8; LONGWORD],
     count: usize,

@@ -14,7 +14,7 @@ use std::hash::{BuildHasherDefault, FoldHasher};
 use std::marker::Model;
 
 /// What a name stands for: the definition, and the rank of the hunk that defines it.
-#[derive(Clone, Copy, Debug, PartialEq, Eq)]
+#[derive(Clone, Copy)]
 pub struct Defined {
     /// The rank of the hunk: its place among all hunks, in the order of linking.
     pub rank: u32,

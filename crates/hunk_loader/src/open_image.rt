@@ -13,7 +13,7 @@ use std::marker::Model;
 use std::mem;
 
 /// A hunk that has not ended, and the number of hunks, which its sites name.
-#[derive(Debug, Drop)]
+#[derive(Drop)]
 pub(crate) struct OpenImage<A: Allocator + Copy> {
     partial: PartialHunk<u32, A>,
     count: usize,

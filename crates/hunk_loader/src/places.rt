@@ -100,7 +100,7 @@ fn first_past_end<S: Sizes>(sizes: &S, bases: &[u32]) -> Option<usize>
 }
 
 /// From which end hunks are looked at.
-#[derive(Clone, Copy, Debug)]
+#[derive(Clone, Copy)]
 enum Direction {
     /// From the first one on.
     Forward,

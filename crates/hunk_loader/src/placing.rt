@@ -5,7 +5,7 @@ ghost use Rattle.hunk_loader.specs.Placing.{Decides};
 use crate::places::{PlaceFault, check_places};
 
 /// What is known about it.
-#[derive(Clone, Copy, Debug)]
+#[derive(Clone, Copy)]
 pub(crate) enum Placing {
     /// Nothing yet: not all sizes are known.
     Unknown,

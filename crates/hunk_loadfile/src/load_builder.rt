@@ -10,7 +10,7 @@ use std::alloc::{AllocError, Allocator, Global};
 use std::mem;
 
 // What takes the next word.
-#[derive(Debug, Drop)]
+#[derive(Drop)]
 enum Receiver<A: Allocator + Copy> {
     /// The hunk, which keeps it if it is content.
     Hunk,
@@ -20,7 +20,7 @@ enum Receiver<A: Allocator + Copy> {
 
 /// Builds a load file from the events of its longwords: the hunks that have ended, and the current
 /// one. An error leaves it as it was.
-#[derive(Debug, Drop)]
+#[derive(Drop)]
 pub(crate) struct LoadBuilder<A: Allocator + Copy = Global> {
     alloc: A,
     // the memory bits and the sizes in the header

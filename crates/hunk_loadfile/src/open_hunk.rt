@@ -12,7 +12,7 @@ use hunk_words::{DebugInfo, HunkKind, Memory, OpenName, PartialHunk, SiteRefusal
 use std::alloc::{AllocError, Allocator};
 
 /// A hunk of a load file that has not ended. If an allocation fails, it is left as it was.
-#[derive(Debug, Drop)]
+#[derive(Drop)]
 pub(crate) struct OpenHunk<A: Allocator + Copy> {
     kind: HunkKind,
     partial: PartialHunk<u32, A>,

@@ -18,7 +18,7 @@ use std::mem;
 const MOST_NAME: usize = 0x03FF_FFFC;
 
 /// What a name in a block after the content is the name of.
-#[derive(Clone, Copy, Debug, PartialEq, Eq)]
+#[derive(Clone, Copy)]
 pub(crate) enum Named {
     /// A symbol.
     Symbol,
@@ -31,7 +31,7 @@ pub(crate) enum Named {
 }
 
 /// A hunk of a unit that has not ended. If an allocation fails, it is left as it was.
-#[derive(Debug, Drop)]
+#[derive(Drop)]
 pub(crate) struct OpenHunk<A: Allocator + Copy> {
     name: OpenName<A>,
     kind: HunkKind,

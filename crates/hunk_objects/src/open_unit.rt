@@ -15,7 +15,7 @@ use std::mem;
 
 /// A unit that has not ended: its name so far, and its hunks that have ended. If an allocation
 /// fails, it is left as it was.
-#[derive(Debug, Drop)]
+#[derive(Drop)]
 pub(crate) struct OpenUnit<A: Allocator + Copy> {
     name: OpenName<A>,
     hunks: Vec<UnitHunk<A>, A>,

@@ -13,7 +13,7 @@ use hunk_words::{Event, FileKind, HunkKind, Memory, OpenName, SiteRefusal, Taker
 use std::alloc::{AllocError, Allocator, Global};
 
 // What takes the next word.
-#[derive(Debug, Drop)]
+#[derive(Drop)]
 enum Receiver<A: Allocator + Copy> {
     /// The name of the unit.
     UnitName,
@@ -28,7 +28,7 @@ enum Receiver<A: Allocator + Copy> {
 
 /// Builds the units of an object file from the events of their longwords: the units that have ended,
 /// the current one, and the current hunk. An error leaves it as it was.
-#[derive(Debug, Drop)]
+#[derive(Drop)]
 pub(crate) struct UnitBuilder<A: Allocator + Copy = Global> {
     alloc: A,
     // with room for the current unit

@@ -52,7 +52,7 @@ pub struct UnitHunk<A: Allocator + Copy = Global> {
 }
 
 /// What a load file keeps of a hunk of a program unit.
-#[derive(Debug, Drop)]
+#[derive(Drop)]
 pub struct HunkParts<A: Allocator + Copy = Global> {
     /// What the hunk holds.
     pub kind: HunkKind,

@@ -12,7 +12,7 @@ use std::alloc::{AllocError, Allocator, Global};
 use std::marker::Model;
 
 /// Where a unit was read: the number of its file, and its number in that file, both from 0.
-#[derive(Clone, Copy, Debug, PartialEq, Eq)]
+#[derive(Clone, Copy)]
 pub(crate) struct UnitPlace {
     pub(crate) file: usize,
     pub(crate) number: usize,

@@ -14,7 +14,7 @@ use std::mem;
 /// file order.
 ///
 /// Every builder that keeps them holds one. If an allocation fails, it is left as it was.
-#[derive(Debug, Drop)]
+#[derive(Drop)]
 pub struct DebugInfo<A: Allocator + Copy = Global> {
     symbols: Vec<(Name<A>, u32), A>,
     debugs: Vec<Vec<u32, A>, A>,

@@ -22,7 +22,7 @@ use hunk_base::fault::{Fault, Reason, Refusal};
 const MOST_LONGWORDS: u64 = 0x1000_0000;
 
 /// What a core keeps apart from its taker: what is expected, the place, and an error.
-#[derive(Clone, Copy, Debug)]
+#[derive(Clone, Copy)]
 pub struct CoreState {
     state: State,
     place: u64,

@@ -14,7 +14,7 @@ pub enum FileKind {
 ///
 /// Block types and layouts are those of The AmigaDOS Manual, 3rd edition, "Amiga binary file
 /// structure".
-#[derive(Clone, Copy, Debug, PartialEq, Eq)]
+#[derive(Clone, Copy)]
 pub enum Event {
     /// A program unit begins (object files only). The words of its name follow.
     Unit,

@@ -7,7 +7,7 @@ ghost use Rattle.hunk_words.specs.Kinds as kinds;
 use crate::doshunks::*;
 
 /// The meaning of a block's type longword: its low 30 bits, by the block types of `doshunks.h`.
-#[derive(Clone, Copy, Debug, PartialEq, Eq)]
+#[derive(Clone, Copy, Debug)]
 pub enum BlockType {
     /// 999, which begins a program unit.
     Unit,
@@ -59,7 +59,7 @@ pub enum Memory {
 }
 
 /// The kind of an entry of an EXT block, by the upper 8 bits of its first longword.
-#[derive(Clone, Copy, Debug, PartialEq, Eq)]
+#[derive(Clone, Copy)]
 pub enum EntryType {
     /// 1, ext_def: an offset in the hunk has a name.
     Definition,
@@ -72,7 +72,7 @@ pub enum EntryType {
 }
 
 /// One of the two 16-bit halves of a longword.
-#[derive(Clone, Copy, Debug, PartialEq, Eq)]
+#[derive(Clone, Copy)]
 pub enum Half {
     /// Bits 16 to 31, which come first in the file.
     Upper,

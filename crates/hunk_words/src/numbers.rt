@@ -21,7 +21,7 @@ use hunk_base::fault::Reason;
 use hunk_base::sites::SiteRefusal;
 
 /// Why a number was refused.
-#[derive(Clone, Copy, Debug)]
+#[derive(Clone, Copy)]
 pub enum NumberRefusal {
     /// It is not allowed.
     Refused(Reason),

@@ -14,7 +14,7 @@ use std::marker::Model;
 ///
 /// Every builder that takes the events of a file holds one. The sites lie below a limit in bytes,
 /// and the content is no longer than this limit.
-#[derive(Debug, Drop)]
+#[derive(Drop)]
 pub struct PartialHunk<T, A: Allocator + Copy = Global> {
     content: Vec<u8, A>,
     sites: Sites<T, A>,

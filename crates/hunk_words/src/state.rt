@@ -6,7 +6,7 @@ use crate::event::{Event, FileKind};
 use crate::kinds::{Half, HunkKind};
 
 /// What is expected after a run of words.
-#[derive(Clone, Copy, Debug)]
+#[derive(Clone, Copy)]
 pub enum AfterWords {
     /// The type longword after a unit's name.
     UnitType,
@@ -23,7 +23,7 @@ pub enum AfterWords {
 }
 
 /// What is expected next, and how many follow it.
-#[derive(Clone, Copy, Debug)]
+#[derive(Clone, Copy)]
 pub enum Expected {
     /// The first longword of an object file.
     ObjectStart,
@@ -88,7 +88,7 @@ pub enum Expected {
 }
 
 /// The position in a file.
-#[derive(Clone, Copy, Debug)]
+#[derive(Clone, Copy)]
 pub struct State {
     /// What is expected.
     pub due: Expected,
@@ -103,7 +103,7 @@ pub struct State {
 }
 
 /// What a number turns a state into, and its event.
-#[derive(Clone, Copy, Debug)]
+#[derive(Clone, Copy)]
 pub struct Step {
     /// The state after the number.
     pub state: State,

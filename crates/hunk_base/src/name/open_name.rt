@@ -8,7 +8,7 @@ use crate::longwords::{LONGWORD, big_endian};
 use std::alloc::{AllocError, Allocator, Global};
 
 /// A name whose longwords come one after another. After its first zero byte it does not allocate.
-#[derive(Debug, Drop)]
+#[derive(Drop)]
 pub struct OpenName<A: Allocator + Copy = Global> {
     bytes: Vec<u8, A>,
     ended: bool,
