@@ -1,10 +1,9 @@
 -- The report of the inputs at the numbers of addresses, or why it was not printed.
 use Rattle.std.proofs.Common.{◌≡◌, inr, refl, false, Bool, Bor, List, length, ℕ, Option}
 use Rattle.std.proofs.KnownBytes.{Keeps-refl}
-use Rattle.hunk_commands.specs.Inputs.{file_names}
 use Rattle.hunk_commands.specs.Addresses.{HaveNumbers, Origin}
 use Rattle.hunk_tool.specs.Image.{IsImaged}
-use Rattle.hunk_tool.specs.Inputs.{HaveRead, Input, inputs_of}
+use Rattle.hunk_tool.specs.Inputs.{HaveRead, Input, inputs_of, file_names}
 use Rattle.hunk_memory.specs.declared.image_form.ImageForm.{ImageForm}
 use Rattle.hunk_tool.specs.declared.tool_fault.ToolFault.TheVariants.{OutOfMemory}
 use Rattle.hunk_commands.specs.Image.{AreImaged, AtBasesOfInputs, HaveNoReport, HaveReport, IsImageFailure, IsUnprinted}

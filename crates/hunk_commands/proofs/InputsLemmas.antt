@@ -2,8 +2,7 @@
 use Rattle.std.proofs.Common.{◌≡◌, ℕ, ◌<◌, Bool, Bor, List, Option, length, get_or, arith}
 use Rattle.std.specs.List.{Contains}
 use Rattle.std.proofs.lemmas.List.{get_or-map, length-map}
-use Rattle.hunk_commands.specs.Inputs.{file_names}
-use Rattle.hunk_tool.specs.Inputs.{Input, inputs_of}
+use Rattle.hunk_tool.specs.Inputs.{Input, inputs_of, file_names}
 use Rattle.hunk_tool.proofs.InputsLemmas.{length-inputs_of}
 use Rattle.hunk_commands.specs.Inputs.{OfInputs}
 

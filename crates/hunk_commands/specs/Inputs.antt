@@ -1,14 +1,9 @@
 -- The files that a request reads.
-use Rattle.std.specs.Borrow.{Bor}
-use Rattle.std.specs.Prelude.{◌≡◌, ℕ, List, length, map, Contains}
+use Rattle.std.specs.Prelude.{◌≡◌, ℕ, List, length, Contains}
 use Rattle.hunk_tool.specs.Inputs.{Input}
 use Rattle.hunk_tool.specs.declared.tool_fault.ToolFault.TheVariants.{OutOfMemory}
 use Rattle.hunk_commands.specs.declared.failure.Failure.{Failure}
 use Rattle.hunk_commands.specs.declared.failure.Failure.TheVariants.{Opening, Tool}
-
--- the names of these files
-abbrev pub file_names : List (Bor (List ℕ)) → List (List ℕ)
-file_names = map (λ name. name.now)
 
 -- this holds of some inputs, one for each file
 pub record OfInputs (files : List (List ℕ)) (Holds : List Input → Type 0) : Type 0 where

@@ -3,9 +3,9 @@
 ghost use Rattle.std.specs.Prelude.{◌≡◌, true, IfErr, IfOk, IfSome, IsTrue};
 ghost use Rattle.hunk_base.specs.Streams.{HasRead};
 ghost use Rattle.hunk_files.specs.Explanation.{IsEnd, IsExplained, IsUnexplained};
+ghost use Rattle.hunk_tool.specs.Inputs.{file_names};
 ghost use Rattle.hunk_commands.specs.Addresses.{HaveNumbers, origin_of};
 ghost use Rattle.hunk_commands.specs.Explain.{AreLinesOf, AreOffenceLines, ArePlaceLines, ArePlaceLinesOf, AreRefusalLines, HaveUnits, IsGiven, IsLoadFile, TellsMore, kind_read};
-ghost use Rattle.hunk_commands.specs.Inputs.{file_names};
 ghost use Rattle.hunk_commands.specs.Link.{DoLinkTo};
 
 use crate::addresses::{Addresses, addresses_of};

@@ -1,8 +1,7 @@
 //! The request `image`: the memory that object files define at given addresses.
 ghost use Rattle.std.specs.Prelude.{IfOk, IfErr, OnOk, length};
-ghost use Rattle.hunk_commands.specs.Inputs.{file_names};
 ghost use Rattle.hunk_tool.specs.Image.{IsImaged};
-ghost use Rattle.hunk_tool.specs.Inputs.{HaveRead, inputs_of};
+ghost use Rattle.hunk_tool.specs.Inputs.{HaveRead, inputs_of, file_names};
 ghost use Rattle.hunk_commands.specs.Addresses.{origin_of};
 ghost use Rattle.hunk_commands.specs.Failure.{IsOfFiles};
 ghost use Rattle.hunk_commands.specs.Image.{AreImaged, IsImageFailure, IsUnprinted};

@@ -1,7 +1,8 @@
 //! The files that a request reads, all of which are opened before the first is read.
 ghost use Rattle.std.specs.Prelude.{◌≡◌, IfOk, IfErr, length, map, vec_len};
 ghost use Rattle.std.specs.String.{string_bytes};
-ghost use Rattle.hunk_commands.specs.Inputs.{IsOpenFailure, file_names};
+ghost use Rattle.hunk_tool.specs.Inputs.{file_names};
+ghost use Rattle.hunk_commands.specs.Inputs.{IsOpenFailure};
 
 use crate::devices::open;
 use crate::failure::Failure;

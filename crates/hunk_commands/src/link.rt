@@ -2,8 +2,8 @@
 ghost use Rattle.std.specs.Prelude.{◌≡◌, Err, IfOk, IfErr, OnOk, length, map};
 ghost use Rattle.std.specs.Io.KnownBytes.{Appends};
 ghost use Rattle.std.specs.String.{string_bytes};
-ghost use Rattle.hunk_commands.specs.Inputs.{file_names};
 ghost use Rattle.hunk_loadfile.specs.WrittenForm.{IsShortEnough};
+ghost use Rattle.hunk_tool.specs.Inputs.{file_names};
 ghost use Rattle.hunk_tool.specs.Map.{map_text};
 ghost use Rattle.hunk_tool.specs.Origins.{origins};
 ghost use Rattle.hunk_commands.specs.Devices.{IsCutShort};

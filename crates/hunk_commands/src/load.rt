@@ -17,7 +17,7 @@ use std::io::{Read, Write};
 use std::rt::Files;
 
 /// What is printed of a load file at given addresses.
-#[derive(Clone, Copy, Debug, PartialEq, Eq)]
+#[derive(Clone, Copy)]
 pub enum LoadText {
     /// Its image, in this form.
     Image(ImageForm),

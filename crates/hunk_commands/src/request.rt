@@ -1,9 +1,9 @@
 //! What a command line asks for, and doing it.
 ghost use Rattle.std.specs.Prelude.{◌≡◌, IfErr, OnOk, length, map, string_bytes};
+ghost use Rattle.hunk_tool.specs.Inputs.{file_names};
 ghost use Rattle.hunk_commands.specs.Addresses.{origin_of};
 ghost use Rattle.hunk_commands.specs.Explain.{AreLinesOf, IfAsked};
 ghost use Rattle.hunk_commands.specs.Failure.{IsOfFiles};
-ghost use Rattle.hunk_commands.specs.Inputs.{file_names};
 ghost use Rattle.hunk_commands.specs.Link.{IsDone, IsUndone};
 ghost use Rattle.hunk_commands.specs.Request.{Ends, EndsImage, EndsLink, EndsLoad, EndsSurvey, EndsText, EndsVersion, IsFailed, given_text, shown};
 
@@ -22,7 +22,7 @@ use hunk_words::{Sink, write_all};
 use std::rt::Files;
 
 /// What the arguments of a command line ask for.
-#[derive(Debug, Drop)]
+#[derive(Drop)]
 pub enum Request<'a> {
     /// `link --out OUT [--map MAP] [--strip] [--short] [--trim] [--explain] FILE...`: the load file of
     /// the object files FILE..., written to OUT, and the map of it, written to MAP.

@@ -1,17 +1,17 @@
 //! The request `survey`: what each of some files is.
 ghost use Rattle.std.specs.Prelude.{IfOk, IfErr};
+ghost use Rattle.hunk_tool.specs.Inputs.{file_names};
 ghost use Rattle.hunk_commands.specs.Devices.{IsCutShort};
-ghost use Rattle.hunk_commands.specs.Inputs.{file_names};
-ghost use Rattle.hunk_commands.specs.Survey.{AreFound, IsOfFile, IsSurveyed, IsSurveyedSomewhere};
+ghost use Rattle.hunk_commands.specs.Survey.{IsSurveyed, IsSurveyedSomewhere};
 
-use crate::devices::{buffered, flushed, open};
+use crate::devices::{buffered, flushed};
 use crate::failure::Failure;
-use hunk_tool::{Finding, survey_file, survey_status, write_finding, write_totals};
-use hunk_words::{Sink, Watched};
+use hunk_tool::{FileSystem, SurveyFault, survey_files, survey_status, write_totals};
+use hunk_words::Watched;
 use std::alloc::Global;
-use std::io;
 use std::io::Write;
 use std::rt::Files;
+use std::{fs, io};
 
 /// Prints a line about each of the files named `files`, and then one with their numbers, and returns
 /// the exit status: 0 if all are hunk files, 3 if one could not be read, and otherwise 1.
@@ -48,12 +48,12 @@ pub fn survey_to<'a, R: Files, O: Write + Drop>(
     ensures err { IfErr result IsCutShort }
 {
     let mut writer = buffered(alloc, output)?;
-    let findings = match survey_each(rt, alloc, files, &mut writer) {
+    let findings = match survey_files(alloc, &System { rt }, files, &mut writer) {
         Ok(findings) => findings,
-        Err(failure) => {
+        Err(fault) => {
             // The lines about the files before are printed all the same.
             let _ = flushed(writer);
-            return Err(failure);
+            return Err(failure_of(fault));
         }
     };
     let Ok(_) = write_totals(&findings, &mut writer) else {
@@ -63,39 +63,27 @@ pub fn survey_to<'a, R: Files, O: Write + Drop>(
     Ok((output, survey_status(&findings)))
 }
 
-/// Writes a line about each of the files, and returns what was found of them.
-fn survey_each<'a, R: Files, W: Sink>(
-    rt: &R,
-    alloc: Global,
-    files: &[&'a str],
-    writer: &mut W,
-) -> Result<Vec<Finding>, Failure<'a>>
-    ensures ok { IfOk result (λ findings. AreFound (file_names files.entry.now) (W.taken writer.old) (W.taken writer.new) findings.items) }
-    ensures err { IfErr result IsCutShort }
+/// Why a survey was not printed.
+fn failure_of<'a>(fault: SurveyFault) -> Failure<'a>
+    ensures { IsCutShort result }
 {
-    let mut findings = Vec::new(alloc);
-    for name in files {
-        let finding = finding_of(rt, alloc, name)?;
-        let Ok(_) = write_finding(name, finding, writer) else {
-            return Err(Failure::Printing);
-        };
-        let Ok(()) = findings.push(finding) else {
-            return Err(Failure::out_of_memory());
-        };
+    match fault {
+        SurveyFault::Output => Failure::Printing,
+        SurveyFault::OutOfMemory => Failure::out_of_memory(),
     }
-    Ok(findings)
 }
 
-/// What is found of the file named `name`.
-fn finding_of<'a, R: Files>(rt: &R, alloc: Global, name: &str) -> Result<Finding, Failure<'a>>
-    ensures ok { IfOk result IsOfFile }
-    ensures err { IfErr result IsCutShort }
-{
-    let Ok(file) = open(rt, name) else {
-        return Ok(Finding::Unopened);
-    };
-    match survey_file(alloc, &mut Watched::new(file)) {
-        Ok(finding) => Ok(finding),
-        Err(_) => Err(Failure::out_of_memory()),
+/// The files of the operating system, or of what stands for it.
+#[derive(Drop)]
+struct System<'r, R: Files> {
+    rt: &'r R,
+}
+
+impl<R: Files> FileSystem for System<'_, R> {
+    type File = Watched<R::File>;
+
+    fn open(&self, name: &str) -> Option<Watched<R::File>> {
+        let file = fs::open(self.rt, name).ok()?;
+        Some(Watched::new(file))
     }
 }

@@ -17,7 +17,7 @@ use std::io::{Read, Write};
 use std::rt::Files;
 
 /// A text about a file.
-#[derive(Clone, Copy, Debug, PartialEq, Eq)]
+#[derive(Clone, Copy)]
 pub enum Text {
     /// One line: the kind of the file, and how many units and hunks it has.
     Line,

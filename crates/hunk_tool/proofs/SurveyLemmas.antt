@@ -1,7 +1,10 @@
 -- What a survey finds of a file that was counted, and its lines, put together from the pieces that are
 -- written.
-use Rattle.std.proofs.Common.{◌≡◌, ◌∙◌, ℕ, List, ◌++◌, Option, ap₂, ap, append_assoc, length, refl, sym}
+use Rattle.std.proofs.Common.{◌≡◌, ◌∙◌, ℕ, zero, suc, ◌+◌, ◌<◌, List, [], ◌∷◌, ◌++◌, Bor, Option, ap₂, ap, append_assoc, append-nil, length, take, get_or, refl, subst, sym, arith}
 use Rattle.std.specs.Fmt.{decimal}
+use Rattle.std.specs.Io.KnownBytes.{Appends}
+use Rattle.std.proofs.KnownBytes.{Appends-trans}
+use Rattle.std.proofs.lemmas.List.{get_or-map, length-map}
 use Rattle.std.specs.Prelude.{codes}
 use Rattle.hunk_base.specs.Streams.{HasRead}
 use Rattle.hunk_words.specs.declared.event.FileKind.{FileKind}
@@ -11,7 +14,8 @@ use Rattle.hunk_files.specs.Counters.{CountsLoad, CountsObject, header_hunks, hu
 use Rattle.hunk_files.specs.FileDecoder.{IsFileOf}
 use Rattle.hunk_files.specs.FileValue.{kind_of_bytes}
 use Rattle.hunk_files.specs.FileValue.FileValue.{load_file, object_file}
-use Rattle.hunk_tool.specs.Survey.{IsFoundIn, finding_line, finding_text, is_load, is_object, is_refused, is_unreadable, number_of, totals_line}
+use Rattle.hunk_tool.specs.Inputs.{file_names}
+use Rattle.hunk_tool.specs.Survey.{IsFoundIn, finding_line, finding_lines, finding_text, is_load, is_object, is_refused, is_unreadable, number_of, totals_line}
 use Rattle.hunk_files.specs.declared.counters.LoadCounter.{LoadCounter}
 use Rattle.hunk_files.specs.declared.counters.ObjectCounter.{ObjectCounter}
 use Rattle.hunk_files.specs.declared.file_decoder.File.TheVariants as file
@@ -70,3 +74,31 @@ totals_line-pieces findings files objects loads refused unreadable all of_object
     (ten-append (decimal (length findings)) (codes " files: ") (decimal (number_of is_object findings)) (codes " object files, ")
     (decimal (number_of is_load findings)) (codes " load files, ") (decimal (number_of is_refused findings)) (codes " refused, ")
     (decimal (number_of is_unreadable findings)) (codes " unreadable") (codes "\n"))
+
+-- ---- all files
+
+-- the lines about the files so far, and that about the next one
+lines-more : (names : List (List ℕ)) (findings : List Finding) (finding : Finding) (index : ℕ) → length findings ≡ index → index < length names
+    → finding_lines (take (suc index) names) (findings ++ finding ∷ []) ≡ finding_lines (take index names) findings ++ finding_line (get_or names index []) finding
+lines-more [] findings finding index is within = absurd (omega (arith, within))
+lines-more (name ∷ names) [] finding zero is within = append-nil (finding_line name finding)
+lines-more (name ∷ names) [] finding (suc index) is within = absurd (omega (arith, is))
+lines-more (name ∷ names) (found ∷ rest) finding zero is within = absurd (omega (arith, is))
+lines-more (name ∷ names) (found ∷ rest) finding (suc index) is within =
+    ap (λ lines. finding_line name found ++ lines) (lines-more names rest finding index (omega (arith, is)) (omega (arith, within)))
+    ∙ sym (append_assoc (finding_line name found) (finding_lines (take index names) rest) (finding_line (get_or names index []) finding))
+
+-- the line about the next file is written after those about the files before it
+pub written-more : (files : List (Bor (List ℕ))) (none : Bor (List ℕ)) (findings : List Finding) (finding : Finding) (index : ℕ) (before between now : Option (List ℕ))
+    → length findings ≡ index → index < length files
+    → Appends before between (finding_lines (take index (file_names files)) findings)
+    → Appends between now (finding_line (get_or files index none).now finding)
+    → Appends before now (finding_lines (take (index + 1) (file_names files)) (findings ++ finding ∷ []))
+written-more files none findings finding index before between now is within front next =
+    let name : Bor (List ℕ) → List ℕ = λ file. file.now in
+    let here : get_or (file_names files) index [] ≡ (get_or files index none).now = get_or-map name files index none [] within in
+    let one : suc index ≡ index + 1 = omega arith in
+    let more = lines-more (file_names files) findings finding index is (omega (arith, within, length-map files name)) in
+    let both = Appends-trans before between now (finding_lines (take index (file_names files)) findings) (finding_line (get_or files index none).now finding) front next in
+    subst (λ count. Appends before now (finding_lines (take count (file_names files)) (findings ++ finding ∷ []))) one
+    (subst (Appends before now) (sym (more ∙ ap (λ it. finding_lines (take index (file_names files)) findings ++ finding_line it finding) here)) both)

@@ -1,4 +1,5 @@
 -- Object files that are read from several readers, one after another.
+use Rattle.std.specs.Borrow.{Bor}
 use Rattle.std.specs.Prelude.{◌≡◌, ℕ, List, [], ◌∷◌, ◌++◌, length, map, Bool, IsTrue, Option}
 use Rattle.std.specs.Io.KnownBytes.{Consumes}
 use Rattle.std.specs.List.{zip}
@@ -11,6 +12,10 @@ use Rattle.hunk_base.specs.declared.fault.Refusal.TheVariants as refusal_is
 use Rattle.hunk_objects.specs.ProgramUnit.{IsObjectOf, ObjectUnit}
 use Rattle.hunk_tool.specs.declared.tool_fault.ToolFault.{ToolFault}
 use Rattle.hunk_tool.specs.declared.tool_fault.ToolFault.TheVariants.{Input as InputFault, InputDevice, OutOfMemory}
+
+-- the names of files, of which each is borrowed
+abbrev pub file_names : List (Bor (List ℕ)) → List (List ℕ)
+file_names = map (λ name. name.now)
 
 -- what is known of a reader before and after a call
 pub record Input : Type 0 where

@@ -1,7 +1,8 @@
 -- What a survey finds of files, and what it tells of them.
-use Rattle.std.specs.Prelude.{◌≡◌, ℕ, Bool, true, false, IsTrue, List, ◌++◌, codes, if◌then◌else◌, length, nat_lt, sum_by, Option}
+use Rattle.std.specs.Prelude.{◌≡◌, ◌⊎◌, ℕ, Bool, true, false, IsTrue, List, ◌++◌, codes, if◌then◌else◌, length, nat_lt, sum_by, Option}
 use Rattle.std.specs.Fmt.{decimal}
-use Rattle.std.specs.List.{filter}
+use Rattle.std.specs.Io.KnownBytes.{Appends}
+use Rattle.std.specs.List.{All, filter, flat_map, zip}
 use Rattle.hunk_base.specs.Streams.{HasRead}
 use Rattle.hunk_objects.specs.ProgramUnit.{hunk_count}
 use Rattle.hunk_text.specs.Listing.{load_line, object_line}
@@ -12,6 +13,8 @@ use Rattle.hunk_files.specs.FileValue.{FileValue, IsOfItsKind}
 use Rattle.hunk_files.specs.FileValue.FileValue.{object_file, load_file}
 use Rattle.hunk_tool.specs.declared.survey.Finding.{Finding}
 use Rattle.hunk_tool.specs.declared.survey.Finding.TheVariants.{Object, Load, Refused, Unread, Unopened}
+use Rattle.hunk_tool.specs.declared.survey.SurveyFault.{SurveyFault}
+use Rattle.hunk_tool.specs.declared.survey.SurveyFault.TheVariants.{Output, OutOfMemory}
 
 -- ---- what is found
 
@@ -34,6 +37,18 @@ IsFound left left_then failed ended Unread = IsTrue failed
 IsFound left left_then failed ended Unopened = ⊥
 IsFound left left_then failed ended finding = IsTrue ended × HasRead left left_then (IsFoundIn finding)
 
+-- this is found of what some reader has
+pub record IsOfReader (finding : Finding) : Type 0 where
+  pub left : Option (List ℕ)
+  pub left_then : Option (List ℕ)
+  pub failed : Bool
+  pub ended : Bool
+  pub found : IsFound left left_then failed ended finding
+
+-- this is found of some file
+abbrev pub IsOfFile : Finding → Type 0
+IsOfFile finding = (finding ≡ Unopened) ⊎ IsOfReader finding
+
 -- ---- the line about a file
 
 -- what comes after its name
@@ -46,6 +61,25 @@ finding_text Unopened = line (codes "cannot be opened")
 
 abbrev pub finding_line : List ℕ → Finding → List ℕ
 finding_line name finding = name ++ codes ": " ++ finding_text finding
+
+-- ---- all files
+
+-- the lines about the files with these names, in order
+abbrev pub finding_lines : (names : List (List ℕ)) → List Finding → List ℕ
+finding_lines names findings = flat_map (λ about. finding_line about.0 about.1) (zip names findings)
+
+-- these are the findings of the files with these names, one for each, and the lines about them were
+-- written
+pub record AreFound (names : List (List ℕ)) (old new : Option (List ℕ)) (findings : List Finding) : Type 0 where
+  pub one_each : length findings ≡ length names
+  pub of_files : All IsOfFile findings
+  pub written : Appends old new (finding_lines names findings)
+
+-- why the lines were not all written, where this says whether a write of the writer failed before
+-- and after: a write failed, or out of memory and no write failed
+abbrev pub IsSurveyFault : (failed failed_then : Bool) → SurveyFault → Type 0
+IsSurveyFault failed failed_then Output = IsTrue failed_then
+IsSurveyFault failed failed_then OutOfMemory = failed_then ≡ failed
 
 -- ---- the numbers of files
 

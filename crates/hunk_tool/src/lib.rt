@@ -6,7 +6,7 @@
 //! - `laws`: laws about the outcomes of the operations.
 //! - `check`: checks a file of either kind and writes what it is.
 //! - `show`: reads a file of either kind and writes its listing.
-//! - `survey`: what files are, the line about each, and their numbers.
+//! - `survey`: what files are, the line about each, and their numbers; `file_system`: what opens them.
 //! - `inputs`: the object files that an operation reads.
 //! - `link`: links object files and writes the load file.
 //! - `link_options`: how object files are linked, and how their load file is written.
@@ -29,6 +29,7 @@
 pub mod check;
 mod defined_names;
 pub mod fault_line;
+pub mod file_system;
 pub mod image;
 mod inputs;
 pub mod laws;
@@ -52,6 +53,7 @@ mod written_text;
 
 pub use check::check_run;
 pub use fault_line::{write_fault, write_line};
+pub use file_system::FileSystem;
 pub use hunk_files::{
     CountedFile, Explanation, File, Found, HunkFile, LoadCounter, ObjectCounter, count_file,
     explain_file, explain_load, explain_object, read_hunk_file, write_explanation,
@@ -70,6 +72,8 @@ pub use load::{load_run, load_run_with};
 pub use map::{link_files, write_map};
 pub use object_files::{ObjectFiles, read_object_files};
 pub use show::show_run;
-pub use survey::{Finding, survey_file, survey_status, write_finding, write_totals};
+pub use survey::{
+    Finding, SurveyFault, survey_file, survey_files, survey_status, write_finding, write_totals,
+};
 pub use symbols::symbols_run;
 pub use tool_fault::{ToolFault, status_of};

@@ -4,9 +4,12 @@ ghost use Rattle.std.specs.Prelude.{◌≡◌, ◌++◌, codes, IfOk, IfErr};
 ghost use Rattle.hunk_base.specs.Streams.{IsDevice, Wrote};
 ghost use Rattle.hunk_text.specs.Printing.{line};
 ghost use Rattle.hunk_text.specs.Phrase.{phrase_text};
-ghost use Rattle.hunk_tool.specs.Survey.{finding_line, finding_text, is_load, is_object, is_refused, is_unreadable, number_of, survey_status, totals_line, IsFound};
+ghost use Rattle.hunk_tool.specs.Inputs.{file_names};
+ghost use Rattle.hunk_tool.specs.Survey.{finding_line, finding_text, is_load, is_object, is_refused, is_unreadable, number_of, survey_status, totals_line};
+ghost use Rattle.hunk_tool.specs.Survey.{AreFound, IsFound, IsOfFile, IsSurveyFault};
 
 use crate::fault_line::reason_phrase;
+use crate::file_system::FileSystem;
 use hunk_files::{File, count_file};
 use hunk_text::{Digits, Phrase, write_line_end, write_pieces};
 use hunk_words::{Fault, ReadFault, Refusal, Sink, Source, WriteFault, write_all};
@@ -83,6 +86,65 @@ pub fn survey_file<A: Allocator + Copy, R: Source>(
         Err(ReadFault::Refused(Refusal::Fault(fault))) => Ok(Finding::Refused(fault)),
         Err(ReadFault::Refused(Refusal::OutOfMemory)) => Err(AllocError),
         Err(ReadFault::Device) => Ok(Finding::Unread),
+    }
+}
+
+/// Why a survey was cut short.
+#[derive(Clone, Copy, Debug, PartialEq, Eq)]
+pub enum SurveyFault {
+    /// A write failed, or took no byte.
+    Output,
+    /// An allocation failed.
+    OutOfMemory,
+}
+
+/// Writes a line about each of the files named `names`, as [`write_finding`] does, and returns what
+/// was found of them, in order.
+///
+/// A file is opened when its turn comes, read as [`survey_file`] does, and closed before the next
+/// one. No file stops it. It does not flush.
+///
+/// # Errors
+///
+/// - [`SurveyFault::Output`] if a write failed or took no byte.
+/// - [`SurveyFault::OutOfMemory`] if an allocation failed.
+///
+/// The lines about the files before are written then.
+pub fn survey_files<A: Allocator + Copy, S: FileSystem, W: Sink>(
+    alloc: A,
+    system: &S,
+    names: &[&str],
+    writer: &mut W,
+) -> Result<Vec<Finding, A>, SurveyFault>
+    ensures ok { IfOk result (λ findings. AreFound (file_names names.now) (W.taken writer.old) (W.taken writer.new) findings.items) }
+    ensures err { IfErr result (IsSurveyFault (W.failed writer.old) (W.failed writer.new)) }
+{
+    let mut findings = Vec::new(alloc);
+    for name in names {
+        let Ok(finding) = finding_of(alloc, system, name) else {
+            return Err(SurveyFault::OutOfMemory);
+        };
+        let Ok(_) = write_finding(name, finding, writer) else {
+            return Err(SurveyFault::Output);
+        };
+        let Ok(()) = findings.push(finding) else {
+            return Err(SurveyFault::OutOfMemory);
+        };
+    }
+    Ok(findings)
+}
+
+/// What is found of the file named `name`.
+fn finding_of<A: Allocator + Copy, S: FileSystem>(
+    alloc: A,
+    system: &S,
+    name: &str,
+) -> Result<Finding, AllocError>
+    ensures { IfOk result IsOfFile }
+{
+    match system.open(name) {
+        Some(mut file) => survey_file(alloc, &mut file),
+        None => Ok(Finding::Unopened),
     }
 }
 

@@ -3,7 +3,10 @@
 use super::asserts::{equals, equals_at, holds};
 use hunk_test_support::words::{ASSEMBLED, LINKED_ALONE};
 use hunk_test_support::{CHUNKS, Refusing, bytes_of};
-use hunk_tool::{Finding, survey_file, survey_status, write_finding, write_totals};
+use hunk_tool::{
+    FileSystem, Finding, SurveyFault, survey_file, survey_files, survey_status, write_finding,
+    write_totals,
+};
 use hunk_words::{Fault, Pieces, Reason, Room, WriteFault};
 use std::alloc::{AllocError, Global};
 use std::process::Abort;
@@ -183,4 +186,100 @@ fn tells_the_status_of_a_survey(rt: HostRuntime) {
     for (findings, status) in rows {
         equals_at(&rt, &findings, survey_status(findings), status);
     }
+}
+
+// A few files in memory, of which one cannot be read.
+#[derive(Drop)]
+struct Shelf {
+    alloc: Global,
+}
+
+impl FileSystem for Shelf {
+    type File = Pieces<Global>;
+
+    fn open(&self, name: &str) -> Option<Pieces<Global>> {
+        let (words, fails_at): (&[u32], _) = match name {
+            "a.o" => (&ASSEMBLED, None),
+            "ls" => (&LINKED_ALONE, None),
+            "x" => (&[0x7F45_4C46], None),
+            "bad" => (&ASSEMBLED, Some(0)),
+            _ => return None,
+        };
+        let bytes = bytes_of(self.alloc, words, &[]).ok()?;
+        Some(Pieces::new(bytes, 64, fails_at))
+    }
+}
+
+// The files that are surveyed, and what is found of them.
+static NAMES: [&str; 5] = ["a.o", "x", "gone", "bad", "ls"];
+
+static FOUND: [Finding; 5] = [OBJECT, STRANGE, Finding::Unopened, Finding::Unread, LOAD];
+
+const SURVEYED: &str = "a.o: object file: 1 units, 2 hunks\n\
+    x: longword 0: wrong first longword\n\
+    gone: cannot be opened\n\
+    bad: read failed\n\
+    ls: load file: 2 hunks\n";
+
+#[test]
+fn surveys_one_file_after_another(rt: HostRuntime) -> Result<(), Fail> {
+    let alloc = rt.alloc();
+    let shelf = Shelf { alloc };
+    let mut writer = Room::new(alloc, 7, SURVEYED.len(), false)?;
+    match survey_files(alloc, &shelf, &NAMES, &mut writer) {
+        Ok(findings) => equals(&rt, findings.as_slice(), FOUND.as_slice()),
+        Err(fault) => holds(&rt, &fault, false),
+    }
+    equals(&rt, writer.bytes(), SURVEYED.as_bytes());
+    Ok(())
+}
+
+#[test]
+fn stops_a_survey_at_a_failed_write(rt: HostRuntime) -> Result<(), Fail> {
+    let alloc = rt.alloc();
+    let shelf = Shelf { alloc };
+    for room in 0..SURVEYED.len() {
+        let mut writer = Room::new(alloc, 7, room, false)?;
+        let got = survey_files(alloc, &shelf, &NAMES, &mut writer).err();
+        equals_at(&rt, &("room for", room), got, Some(SurveyFault::Output));
+        equals(&rt, Some(writer.bytes()), SURVEYED.as_bytes().get(..room));
+    }
+    Ok(())
+}
+
+// With each allocation failing in turn the survey is out of memory, after whole lines.
+#[test]
+fn stops_a_survey_with_each_growth_refused(rt: HostRuntime) -> Result<(), Fail> {
+    let alloc = rt.alloc();
+    let shelf = Shelf { alloc };
+    for refused in 0..MOST_GROWTHS {
+        let heap = Refusing::new(alloc, refused);
+        let mut writer = Room::new(alloc, 7, SURVEYED.len(), false)?;
+        let got = survey_files(&heap, &shelf, &NAMES, &mut writer);
+        if heap.asked() <= refused {
+            equals(&rt, got.is_ok(), true);
+            // the sites of the object file, the findings, and the sizes and the sites of the load file
+            holds(&rt, &("growths", refused), 4 <= refused);
+            return Ok(());
+        }
+        equals_at(
+            &rt,
+            &("growth", refused),
+            got.err(),
+            Some(SurveyFault::OutOfMemory),
+        );
+        let written = writer.bytes();
+        holds(
+            &rt,
+            &("growth", refused),
+            SURVEYED.as_bytes().starts_with(written),
+        );
+        holds(
+            &rt,
+            &("growth", refused),
+            written.is_empty() || written.ends_with(b"\n"),
+        );
+    }
+    holds(&rt, &("each run was refused a growth", MOST_GROWTHS), false);
+    Ok(())
 }

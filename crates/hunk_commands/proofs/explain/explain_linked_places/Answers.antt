@@ -1,7 +1,7 @@
 -- The lines about the hunks of the load file.
 use Rattle.std.proofs.Common.{true}
+use Rattle.hunk_tool.specs.Inputs.{file_names}
 use Rattle.hunk_commands.specs.Addresses.{HaveNumbers, origin_of}
-use Rattle.hunk_commands.specs.Inputs.{file_names}
 use Rattle.hunk_commands.specs.Link.{DoLinkTo}
 use Rattle.hunk_commands.proofs.ExplainLemmas.{tells_places}
 use Rattle.hunk_commands.proofs.explain.explain_linked_places.Goals as goal

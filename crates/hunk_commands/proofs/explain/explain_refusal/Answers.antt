@@ -1,10 +1,10 @@
 -- The lines about the refusal.
 use Rattle.std.proofs.Common.{◌≡◌, ◌∙◌, List, ℕ, ap, ap₂, map, refl, subst}
 use Rattle.std.specs.String.{string_bytes}
+use Rattle.hunk_tool.specs.Inputs.{file_names}
 use Rattle.hunk_tool.specs.LinkExplanation.{Told, told_of, told_text}
 use Rattle.hunk_text.specs.WrittenText.{WroteText}
 use Rattle.hunk_commands.specs.Explain.{AreRefusalLines}
-use Rattle.hunk_commands.specs.Inputs.{file_names}
 use Rattle.hunk_commands.proofs.ExplainLemmas.{tells_lines, tells_text}
 use Rattle.hunk_commands.proofs.explain.explain_refusal.Goals as goal
 

@@ -1,5 +1,5 @@
 use Rattle.std.proofs.Common.{◌≡◌, map, string_bytes, take}
-use Rattle.hunk_commands.specs.Inputs.{file_names}
+use Rattle.hunk_tool.specs.Inputs.{file_names}
 use Rattle.hunk_commands.proofs.inputs.names_of.Given as goal
 
 abbrev pub invariant-loop-file : goal.invariant-loop-file

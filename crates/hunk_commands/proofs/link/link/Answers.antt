@@ -1,7 +1,7 @@
 -- The load file that was written, and why it was not.
 use Rattle.std.proofs.Common.{inr}
 use Rattle.std.proofs.lemmas.Result.{err_from_is_err_and}
-use Rattle.hunk_commands.specs.Inputs.{file_names}
+use Rattle.hunk_tool.specs.Inputs.{file_names}
 use Rattle.hunk_commands.proofs.LinkLemmas.{IsMade-written}
 use Rattle.hunk_commands.proofs.link.link.Goals as goal
 

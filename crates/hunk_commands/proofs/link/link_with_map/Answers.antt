@@ -1,7 +1,7 @@
 -- What was written to OUT and to MAP, and why it was not.
 use Rattle.std.proofs.Common.{◌∙◌, inl, inr, map, string_bytes}
 use Rattle.std.proofs.lemmas.Result.{err_from_is_err_and}
-use Rattle.hunk_commands.specs.Inputs.{file_names}
+use Rattle.hunk_tool.specs.Inputs.{file_names}
 use Rattle.hunk_commands.proofs.LinkLemmas.{DoLinkTo-files, IsMade-written, IsMapped-written, length-trimmed_if}
 use Rattle.hunk_commands.proofs.link.link_with_map.Goals as goal
 

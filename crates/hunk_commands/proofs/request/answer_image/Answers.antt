@@ -1,8 +1,8 @@
 -- Not done: there is no memory for the names of the files, or the image was not printed.
 use Rattle.std.proofs.Common.{◌∙◌, [], ap, inl, inr, map, refl, string_bytes}
+use Rattle.hunk_tool.specs.Inputs.{file_names}
 use Rattle.hunk_commands.specs.Addresses.{origin_of}
 use Rattle.hunk_commands.specs.Explain.{AreImageLines, IfAsked}
-use Rattle.hunk_commands.specs.Inputs.{file_names}
 use Rattle.hunk_commands.specs.Image.{IsImageFailure}
 use Rattle.hunk_commands.proofs.RequestLemmas.{IsFailed-why, not_begun, out_of_memory_told}
 use Rattle.hunk_commands.proofs.request.answer_image.Goals as goal

@@ -1,7 +1,7 @@
 -- Not done: there is no memory for the names of the files, or the link failed.
 use Rattle.std.proofs.Common.{◌∙◌, [], ap, inr, map, string_bytes}
+use Rattle.hunk_tool.specs.Inputs.{file_names}
 use Rattle.hunk_commands.specs.Explain.{AreLinkLines, IfAsked}
-use Rattle.hunk_commands.specs.Inputs.{file_names}
 use Rattle.hunk_commands.specs.Link.{IsUndone}
 use Rattle.hunk_commands.specs.Request.{given_text}
 use Rattle.hunk_commands.proofs.LinkLemmas.{IsUndone-memory}

@@ -1,6 +1,6 @@
 -- The line was told, and then more if it was asked for.
+use Rattle.hunk_tool.specs.Inputs.{file_names}
 use Rattle.hunk_commands.specs.Explain.{AreLinesOf, IfAsked}
-use Rattle.hunk_commands.specs.Inputs.{file_names}
 use Rattle.hunk_commands.proofs.ExplainLemmas.{after_asked, after_nothing}
 use Rattle.hunk_commands.proofs.RequestLemmas.{is_failed}
 use Rattle.hunk_commands.proofs.request.fail.Goals as goal

@@ -1,5 +1,5 @@
 -- The lines went through the buffer.
-use Rattle.hunk_commands.specs.Inputs.{file_names}
+use Rattle.hunk_tool.specs.Inputs.{file_names}
 use Rattle.hunk_commands.proofs.SurveyLemmas.{surveyed}
 use Rattle.hunk_commands.proofs.survey.survey_to.Goals as goal
 

@@ -1,0 +1,20 @@
+-- The line about one more file was written.
+use Rattle.std.proofs.Common.{[], ◌∷◌, ◌∙◌, arith}
+use Rattle.std.proofs.lemmas.List.{length-append}
+use Rattle.std.proofs.lemmas.List.Elements.{All-append, All-cons, All-nil}
+use Rattle.hunk_tool.specs.Survey.{IsOfFile}
+use Rattle.hunk_tool.proofs.SurveyLemmas.{written-more}
+use Rattle.hunk_tool.proofs.survey.survey_files.Goals as goal
+
+pub loop-name-preserved : goal.loop-name-preserved
+loop-name-preserved g c =
+    let kept = c.loop-name.invariant in
+    let before = c.loop-name.findings.items in
+    let found = c.in-Ok.finding in
+    rw c.in-Ok-push.ensures.items
+    (record {
+      one_each = omega (arith, kept.one_each, length-append before (found ∷ []));
+      of_files = All-append IsOfFile before (found ∷ []) kept.of_files (All-cons IsOfFile found [] c.in-Ok.ensures (All-nil IsOfFile));
+      written = written-more c.args.names.now _ before found c.loop-name.name-index _ _ _ kept.one_each c.loop-name-test.true kept.written c.in-Ok-write_finding.ensures.wrote.1;
+      same_failed = c.in-Ok-write_finding.ensures.wrote.2 ∙ kept.same_failed;
+    })
