@@ -123,22 +123,6 @@ pub extern "C" fn amihunk_c_link(alloc: Global, handle: &mut Handle, answer: &mu
     answer.status
 }
 
-/// The number of bytes of the load file; 0 if none is linked.
-#[unsafe(no_mangle)]
-pub extern "C" fn amihunk_c_linked_length(alloc: Global, handle: &mut Handle) -> u64
-    ensures session { handle.new.session ≡ handle.old.session }
-    ensures count { result ≡ length (shown [] linked_in handle.old.session) }
-{
-    match handle.take(alloc) {
-        Some(session) => {
-            let count = linked_in(&session).len() as u64;
-            handle.put(session);
-            count
-        }
-        None => 0,
-    }
-}
-
 /// Tells where the bytes of the load file are, and how many. They stay there until the handle is
 /// closed.
 ///
