@@ -50,25 +50,51 @@ run_tests() {
     tail -n 40 "$work/log"
 }
 
-# Builds and runs all test programs in one way: NAME FLAGS.. -- WORDS.. (those that run a program)
+# Builds and runs all test programs in one way over the library in a folder: WAY FOLDER FLAGS.. -- WORDS.. (those that run a program)
 run_way() {
-    local way="$1" flags=() test
-    shift
+    local way="$1" library="$2" flags=() test
+    shift 2
     while [ "$1" != -- ]; do
         flags+=("$1")
         shift
     done
     shift
     for test in "${tests[@]}"; do
-        if attempt "build of $test, $way" "$cc" -std=c11 "${warnings[@]}" -Iout "${flags[@]}" "tests/$test.c" \
-            -o "$work/$test" out/libamihunk.a -pthread; then
+        if attempt "build of $test, $way" "$cc" -std=c11 "${warnings[@]}" "-I$library" "${flags[@]}" "tests/$test.c" \
+            -o "$work/$test" "$library/libamihunk.a" -pthread; then
             run_tests "$test, $way" "$@" "$work/$test"
         fi
     done
-    if attempt "build of header, $way" "$cxx" -std=c++11 "${warnings[@]}" -Iout "${flags[@]}" tests/header.cpp \
-        -o "$work/header" out/libamihunk.a; then
+    if attempt "build of header, $way" "$cxx" -std=c++11 "${warnings[@]}" "-I$library" "${flags[@]}" tests/header.cpp \
+        -o "$work/header" "$library/libamihunk.a"; then
         run_tests "header, $way" "$@" "$work/header"
     fi
+}
+
+# Does something while the script goes on, in a folder of its own: COMMAND..
+beside() {
+    local folder
+    folder="$(mktemp -d "$work/beside.XXXXXX")" || exit 1
+    (
+        work="$folder"
+        passed=0
+        failed=0
+        "$@"
+        echo "$passed $failed" > "$folder/sums"
+    ) > "$folder/said" 2>&1 &
+}
+
+# Waits for what is done beside, and adds what it counted. What tells no sums counts as one failure.
+gather() {
+    local folder good bad
+    wait
+    for folder in "$work"/beside.*; do
+        [ -d "$folder" ] || continue
+        cat "$folder/said"
+        read -r good bad < "$folder/sums" || { good=0; bad=1; }
+        passed=$((passed + good))
+        failed=$((failed + bad))
+    done
 }
 
 # Whether the library defines no global names but the calls of the header, and needs none but C's.
@@ -154,22 +180,24 @@ is_there() {
 }
 
 if attempt "the library, by Rattle's own compiler" ./build.sh "$@" --backend rattle; then
-    run_way "by Rattle's own compiler" -O2 --
+    cp -r out "$work/by-rattle"
+    beside run_way "by Rattle's own compiler" "$work/by-rattle" -O2 --
 fi
-attempt "the library" ./build.sh "$@" || finish
+attempt "the library" ./build.sh "$@" || { gather; finish; }
 attempt "the names of the library" only_own_names
-run_way "plainly" -O2 --
+beside run_way "plainly" out -O2 --
 sanitizers=(-g -O1 -fsanitize=address,undefined -fno-sanitize-recover=all)
 if is_there -- "${sanitizers[@]}"; then
-    run_way "with sanitizers" "${sanitizers[@]}" --
+    beside run_way "with sanitizers" out "${sanitizers[@]}" --
 else
     echo "The sanitizers are not installed, and were left out."
 fi
 valgrind=(valgrind --quiet --error-exitcode=99 --leak-check=full --show-leak-kinds=all --errors-for-leak-kinds=all)
 if is_there "${valgrind[@]}" -- -O1; then
-    run_way "in valgrind" -g -O1 -- "${valgrind[@]}"
+    beside run_way "in valgrind" out -g -O1 -- "${valgrind[@]}"
 else
     echo "Valgrind is not installed, and was left out."
 fi
 run_examples
+gather
 finish
