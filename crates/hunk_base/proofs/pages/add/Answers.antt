@@ -1,4 +1,5 @@
 use Rattle.std.proofs.Common.{◌≡◌, ◌∙◌, ℕ, ◌/◌, [], Err, ap, if◌then◌else◌, set, is_ok, arith}
+use Rattle.std.proofs.lemmas.Grind.{common_steps}
 use Rattle.std.proofs.lemmas.List.{get_or_read, set-get_or}
 use Rattle.std.specs.BTreeMap.{insert_entry}
 use Rattle.std.specs.Ordering.{nat_cmp}
@@ -51,3 +52,7 @@ returns-in_default-clause-overlap g c =
 
 pub returns-in_default-clause-added : goal.returns-in_default-clause-added
 returns-in_default-clause-added g c = rw (kept g c) at c.grow_and_add.ensures.added
+
+-- `grind` at once: `search`, which Rattle tries before it, is slow here
+pub grow_and_add-requires-clause-in_pages : goal.grow_and_add-requires-clause-in_pages
+grow_and_add-requires-clause-in_pages g c = grind (arith, common_steps)

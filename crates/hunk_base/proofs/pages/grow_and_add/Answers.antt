@@ -1,4 +1,5 @@
-use Rattle.std.proofs.Common.{◌≡◌, ◌<◌, if◌then◌else◌, is_ok, length, set, rules}
+use Rattle.std.proofs.Common.{◌≡◌, ◌<◌, if◌then◌else◌, is_ok, length, set, rules, arith}
+use Rattle.std.proofs.lemmas.Grind.{common_steps}
 use Rattle.std.specs.BTreeMap.{insert_entry}
 use Rattle.std.specs.Ordering.{nat_cmp}
 use Rattle.hunk_base.specs.Pages.{LieInPages, all_sites, page_at}
@@ -49,3 +50,7 @@ returns-in-Err-clause-overlap g c = (λ told. cc, λ meets. absurd (free g (goal
 
 pub returns-in-Err-clause-added : goal.returns-in-Err-clause-added
 returns-in-Err-clause-added g c = rw c.in-Err.is at (added g (goal.at.returns-in-Err-clause-added g c).After-insert).1
+
+-- `grind` at once: `search`, which Rattle tries before it, is slow here
+pub insert-requires : goal.insert-requires
+insert-requires g c = grind (arith, common_steps)

@@ -1,5 +1,6 @@
 -- One more symbol.
 use Rattle.std.proofs.Common.{◌≤◌, ℕ, List, ap, length, take, sym, subst, arith}
+use Rattle.std.proofs.lemmas.Grind.{common_steps}
 use Rattle.std.proofs.lemmas.List.Sums.{sum_by_more_le}
 use Rattle.std.proofs.lemmas.Result.{err_from_is_err_and}
 use Rattle.std.specs.List.{flat_map}
@@ -32,3 +33,13 @@ returns-in_err-written g c =
     record {
       wrote = rw (p.1, p.2) (parts-stop g.W.Sink.taken g.W.Sink.failed c.args.writer.now c.loop-symbol.writer c.write_symbol.new.writer symbol_words c.args.symbols.now c.loop-symbol.symbol-index c.symbol-item.result c.args.written c.loop-symbol.written _ c.loop-symbol-test.true c.symbol-item.is c.loop-symbol.invariant.wrote c.in_err-written.ensures.wrote);
     }
+
+-- `grind` at once: `search`, which Rattle tries before it, is slow here
+pub loop-symbol-init : goal.loop-symbol-init
+loop-symbol-init g c = grind (arith, common_steps)
+
+pub loop-symbol-preserved : goal.loop-symbol-preserved
+loop-symbol-preserved g c = grind (arith, common_steps)
+
+pub returns : goal.returns
+returns g c = grind (arith, common_steps)

@@ -1,5 +1,6 @@
 -- The type is written, then each symbol, and then the end of the block.
 use Rattle.std.proofs.Common.{◌∷◌, ◌++◌, [], Err, refl, arith}
+use Rattle.std.proofs.lemmas.Grind.{common_steps}
 use Rattle.std.proofs.lemmas.Result.{err_from_is_err_and}
 use Rattle.std.specs.List.{flat_map}
 use Rattle.hunk_loadfile.specs.WrittenForm.{symbol_words, symbols_words}
@@ -42,3 +43,13 @@ returns g c =
     record {
       wrote = numbers-then Longword g.W.Sink.taken g.W.Sink.failed c.args.writer.now c.write_longwords.new.writer c.write_longwords-2.new.writer (symbols_words ss) (1008 ∷ []) (each ++ 0 ∷ []) c.args.written c.in_ok-written.written c.write_longwords-2.result some c.in_ok-written.ensures.wrote rest;
     }
+
+-- `grind` at once: `search`, which Rattle tries before it, is slow here
+pub returns-then-is_empty : goal.returns-then-is_empty
+returns-then-is_empty g c = grind (arith, common_steps)
+
+pub write_each_symbol-requires-clause-names : goal.write_each_symbol-requires-clause-names
+write_each_symbol-requires-clause-names g c = grind (arith, common_steps)
+
+pub write_each_symbol-requires-clause-room : goal.write_each_symbol-requires-clause-room
+write_each_symbol-requires-clause-room g c = grind (arith, common_steps)

@@ -1,5 +1,6 @@
 -- The first five longwords are written, and then the sizes.
-use Rattle.std.proofs.Common.{◌-◌, ◌∷◌, [], length, map, refl}
+use Rattle.std.proofs.Common.{◌-◌, ◌∷◌, [], length, map, refl, arith}
+use Rattle.std.proofs.lemmas.Grind.{common_steps}
 use Rattle.std.proofs.lemmas.Result.{err_from_is_err_and}
 use Rattle.hunk_loadfile.specs.WrittenForm.{header_words, size_word}
 use Rattle.hunk_loadfile.specs.declared.number_width.NumberWidth.TheVariants.{Longword}
@@ -20,3 +21,10 @@ returns g c =
     record {
       wrote = numbers-then Longword g.W.Sink.taken g.W.Sink.failed c.args.writer.now c.write_longwords.new.writer c.write_sizes.new.writer (header_words hunks) (1011 ∷ 0 ∷ length hunks ∷ 0 ∷ (length hunks - 1) ∷ []) (map size_word hunks) 0 c.in_ok-written.written c.write_sizes.result refl c.in_ok-written.ensures.wrote c.write_sizes.ensures.wrote;
     }
+
+-- `grind` at once: `search`, which Rattle tries before it, is slow here
+pub write_sizes-requires-clause-small : goal.write_sizes-requires-clause-small
+write_sizes-requires-clause-small g c = grind (arith, common_steps)
+
+pub write_sizes-requires-clause-room : goal.write_sizes-requires-clause-room
+write_sizes-requires-clause-room g c = grind (arith, common_steps)

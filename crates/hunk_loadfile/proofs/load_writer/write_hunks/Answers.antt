@@ -1,5 +1,6 @@
 -- One more hunk.
 use Rattle.std.proofs.Common.{length, sym, subst, arith}
+use Rattle.std.proofs.lemmas.Grind.{common_steps}
 use Rattle.std.proofs.lemmas.Result.{err_from_is_err_and}
 use Rattle.hunk_loadfile.specs.Rules.{IsLoadHunk}
 use Rattle.hunk_loadfile.specs.WrittenForm.{hunk_words}
@@ -30,4 +31,29 @@ loop-hunk-preserved g c =
     let valid = subst (IsLoadHunk (length hunks)) (sym c.hunk-item.is) (c.requires.valid.each i hunk c.loop-hunk-test.true) in
     record {
       wrote = parts-more g.W.Sink.taken g.W.Sink.failed c.args.writer.now c.loop-hunk.writer c.write_hunk.new.writer (hunk_words c.args.form (length hunks)) hunks i hunk c.args.written c.loop-hunk.written c.in_ok-written.written c.loop-hunk-test.true c.hunk-item.is c.loop-hunk.invariant.wrote (c.in_ok-written.ensures.wrote (length hunks) valid.targets);
+    }
+
+-- `grind` at once: `search`, which Rattle tries before it, is slow here
+pub loop-hunk-init : goal.loop-hunk-init
+loop-hunk-init g c = grind (arith, common_steps)
+
+pub write_hunk-requires-clause-small : goal.write_hunk-requires-clause-small
+write_hunk-requires-clause-small g c = grind (arith, common_steps)
+
+pub write_hunk-requires-clause-carries : goal.write_hunk-requires-clause-carries
+write_hunk-requires-clause-carries g c = grind (arith, common_steps)
+
+pub returns : goal.returns
+returns g c = grind (arith, common_steps)
+
+pub write_hunk-requires-clause-valid : goal.write_hunk-requires-clause-valid
+write_hunk-requires-clause-valid g c =
+    let valid = subst (IsLoadHunk (length c.args.hunks.now)) (sym c.hunk-item.is) (c.requires.valid.each c.loop-hunk.hunk-index c.hunk-item.result c.loop-hunk-test.true) in
+    record {
+      typed = valid.typed;
+      whole = valid.whole;
+      content = valid.content;
+      limit = valid.limit;
+      targets = λ k d low. omega (arith, valid.targets k d low, c.requires.valid.few);
+      names = valid.names;
     }

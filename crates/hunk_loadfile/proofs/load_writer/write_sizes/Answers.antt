@@ -1,5 +1,6 @@
 -- The sizes of each chunk are the next ones.
 use Rattle.std.proofs.Common.{rules, ◌≡◌, ◌≤◌, ◌∙◌, ◌++◌, [], Ok, map, sym, ap, refl, subst, arith}
+use Rattle.std.proofs.lemmas.Grind.{common_steps}
 use Rattle.std.proofs.lemmas.Result.{err_from_is_err_and}
 use Rattle.std.specs.List.{All}
 use Rattle.std.specs.Slice.Iter.{chunks_rest}
@@ -64,3 +65,19 @@ loop-chunk-preserved g c =
       whole = chunk-more size_word inv.words chunk rest c.args.hunks.now (chunks_rest c.loop-chunk.chunk-iterator) steps.1.0 inv.whole;
       wrote = numbers-then Longword g.W.Sink.taken g.W.Sink.failed c.args.writer.now c.loop-chunk.writer c.write_longwords.new.writer (inv.words ++ map size_word chunk) inv.words (map size_word chunk) c.args.written c.loop-chunk.written (Ok c.in_ok-written.written) refl inv.wrote (rw c.fill_sizes.ensures at c.in_ok-written.ensures.wrote);
     }
+
+-- `grind` at once: `search`, which Rattle tries before it, is slow here
+pub slice_bounds-room-end : goal.slice_bounds-room-end
+slice_bounds-room-end g c = grind (arith, common_steps)
+
+pub slice_bounds-words-end : goal.slice_bounds-words-end
+slice_bounds-words-end g c = grind (arith, common_steps)
+
+pub fill_sizes-requires-clause-each : goal.fill_sizes-requires-clause-each
+fill_sizes-requires-clause-each g c = grind (arith, common_steps)
+
+pub loop-chunk-smaller : goal.loop-chunk-smaller
+loop-chunk-smaller g c = grind (arith, common_steps)
+
+pub returns : goal.returns
+returns g c = grind (arith, common_steps)

@@ -1,4 +1,5 @@
 use Rattle.std.proofs.Common.{arith, subst, ap}
+use Rattle.std.proofs.lemmas.Grind.{common_steps}
 use Rattle.std.proofs.lemmas.List.Elements.{All-more}
 use Rattle.std.proofs.lemmas.List.Sums.{sum_by_more}
 use Rattle.hunk_loadfile.specs.LoadHunk.{FileHunk}
@@ -21,3 +22,13 @@ loop-hunk-preserved g c =
       room = omega (arith, costs, cost_here, c.in-Some.ensures.room, c.loop-hunk.invariant.room);
       typed = All-more IsTyped xs i x c.loop-hunk-test.true c.loop-hunk.invariant.typed (subst IsTyped c.hunk-item.is typed);
     }
+
+-- `grind` at once: `search`, which Rattle tries before it, is slow here
+pub returns-in-None-clause-small : goal.returns-in-None-clause-small
+returns-in-None-clause-small g c = grind (arith, common_steps)
+
+pub returns-clause-small : goal.returns-clause-small
+returns-clause-small g c = grind (arith, common_steps)
+
+pub returns-clause-typed : goal.returns-clause-typed
+returns-clause-typed g c = grind (arith, common_steps)

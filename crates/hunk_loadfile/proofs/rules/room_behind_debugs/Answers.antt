@@ -1,4 +1,5 @@
 use Rattle.std.proofs.Common.{◌≡◌, ◌+◌, ◌∙◌, ◌-◌, ◌<◌, ◌≤◌, length, List, Vec, ℕ, arith, sum_by, take, get_or, subst, sym, ap}
+use Rattle.std.proofs.lemmas.Grind.{common_steps}
 use Rattle.std.specs.List.{All}
 use Rattle.std.proofs.lemmas.List.Elements.{All-map, All-more}
 use Rattle.std.proofs.lemmas.List.{take_all}
@@ -27,3 +28,10 @@ returns-clause-typed g c =
     let P : Vec ℕ g.row.A.Denot → Type 0 = λ v. All IsLongword v.items in
     let whole = take_all c.loop-debug.debug-index c.args.debugs.now c.loop-debug-test.false in
     All-map (All IsLongword) (λ (v : Vec ℕ g.row.A.Denot). v.items) c.args.debugs.now (subst (All P) whole c.loop-debug.invariant.typed)
+
+-- `grind` at once: `search`, which Rattle tries before it, is slow here
+pub returns-then-left-count-clause-room : goal.returns-then-left-count-clause-room
+returns-then-left-count-clause-room g c = grind (arith, common_steps)
+
+pub returns-clause-room : goal.returns-clause-room
+returns-clause-room g c = grind (arith, common_steps)

@@ -1,4 +1,5 @@
-use Rattle.std.proofs.Common.{◌≡◌, ◌<◌, ◌+◌, ◌∙◌, ℕ, suc, List, length, set, get_or, ap, arith}
+use Rattle.std.proofs.Common.{◌≡◌, ◌<◌, ◌+◌, ◌%◌, ◌∙◌, ℕ, suc, List, length, set, get_or, ap, sym, subst, arith}
+use Rattle.std.proofs.lemmas.Grind.{common_steps}
 use Rattle.hunk_loadfile.specs.LoadHunk.{FileHunk}
 use Rattle.hunk_loadfile.specs.Trimming.{trimmed_hunk}
 use Rattle.hunk_loadfile.proofs.TrimmingLemmas.{trimmed_to, trimmed_to-at, trimmed_to-more}
@@ -16,3 +17,15 @@ loop-hunk-preserved g c =
     ∙ ap (λ hunks. set hunks i (trimmed_hunk (get_or old i hunk))) c.loop-hunk.invariant
     ∙ trimmed_to-more old i hunk low
     ∙ ap (λ count. trimmed_to count old) next
+
+pub trim_hunk-requires : goal.trim_hunk-requires
+trim_hunk-requires g c =
+    let i = c.loop-hunk.hunk-index in
+    let hunk = c.hunk-item.result in
+    let low = c.loop-hunk-test.true in
+    let same = ap (λ hunks. get_or hunks i hunk) c.loop-hunk.invariant ∙ trimmed_to-at c.args.hunks.now i hunk low in
+    subst (λ (h : FileHunk). length h.content % 4 ≡ 0) (sym same) (c.requires i hunk low)
+
+-- `grind` at once: `search`, which Rattle tries before it, is slow here
+pub returns : goal.returns
+returns g c = grind (arith, common_steps)

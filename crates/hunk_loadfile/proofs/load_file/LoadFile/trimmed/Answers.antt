@@ -1,4 +1,5 @@
-use Rattle.std.proofs.Common.{◌≡◌, ◌++◌, ◌∙◌, List, length, take, drop, ap, subst, sym}
+use Rattle.std.proofs.Common.{◌≡◌, ◌++◌, ◌∙◌, List, length, take, drop, ap, subst, sym, arith}
+use Rattle.std.proofs.lemmas.Grind.{common_steps}
 use Rattle.std.proofs.lemmas.List.{take_at}
 use Rattle.hunk_loadfile.specs.LoadHunk.{FileHunk}
 use Rattle.hunk_loadfile.specs.Rules.{IsLoadFile}
@@ -12,3 +13,10 @@ of_hunks-requires g c =
     let made = c.into_hunks-hunks in
     let whole : take made.result.len (new ++ drop (length new) made.result.items) ≡ new = take_at new (drop (length new) made.result.items) made.result.len (c.trim.auto.hunks ∙ c.deref_mut.ensures.len) in
     subst IsLoadFile (sym (whole ∙ c.trim.ensures ∙ ap trimmed (c.deref_mut.ensures.value ∙ made.ensures.value))) (IsLoadFile-trimmed c.args.self made.ensures.valid)
+
+-- `grind` at once: `search`, which Rattle tries before it, is slow here
+pub trim-requires : goal.trim-requires
+trim-requires g c = grind (arith, common_steps)
+
+pub returns : goal.returns
+returns g c = grind (arith, common_steps)
