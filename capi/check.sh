@@ -50,7 +50,8 @@ run_tests() {
     tail -n 40 "$work/log"
 }
 
-# Builds and runs all test programs in one way over the library in a folder: WAY FOLDER FLAGS.. -- WORDS.. (those that run a program)
+# Builds and runs all test programs in one way over the library in a folder:
+# WAY FOLDER FLAGS.. -- WORDS.. (those that run a program)
 run_way() {
     local way="$1" library="$2" flags=() test
     shift 2
