@@ -56,3 +56,15 @@ returns-in_default-clause-added g c = rw (kept g c) at c.grow_and_add.ensures.ad
 -- `grind` at once: `search`, which Rattle tries before it, is slow here
 pub grow_and_add-requires-clause-in_pages : goal.grow_and_add-requires-clause-in_pages
 grow_and_add-requires-clause-in_pages g c = grind (arith, common_steps)
+
+pub returns-then-not-is_free_beside-clause-outside : goal.returns-then-not-is_free_beside-clause-outside
+returns-then-not-is_free_beside-clause-outside g c = grind (arith, common_steps)
+
+pub returns-then-not-is_free_beside-clause-overlap : goal.returns-then-not-is_free_beside-clause-overlap
+returns-then-not-is_free_beside-clause-overlap g c = grind (arith, common_steps)
+
+pub returns-in-Some-clause-outside : goal.returns-in-Some-clause-outside
+returns-in-Some-clause-outside g c = grind (arith, common_steps)
+
+pub returns-in_default-clause-outside : goal.returns-in_default-clause-outside
+returns-in_default-clause-outside g c = grind (arith, common_steps)

@@ -54,3 +54,21 @@ returns-in-Err-clause-added g c = rw c.in-Err.is at (added g (goal.at.returns-in
 -- `grind` at once: `search`, which Rattle tries before it, is slow here
 pub insert-requires : goal.insert-requires
 insert-requires g c = grind (arith, common_steps)
+
+pub returns-in_default-clause-outside : goal.returns-in_default-clause-outside
+returns-in_default-clause-outside g c = grind (arith, common_steps)
+
+pub returns-in_default-clause-overlap : goal.returns-in_default-clause-overlap
+returns-in_default-clause-overlap g c = grind (arith, common_steps)
+
+pub returns-then-is_err-clause-outside : goal.returns-then-is_err-clause-outside
+returns-then-is_err-clause-outside g c = grind (arith, common_steps)
+
+pub index_mut-requires : goal.index_mut-requires
+index_mut-requires g c = grind (arith, common_steps)
+
+pub returns-in-Ok-clause-outside : goal.returns-in-Ok-clause-outside
+returns-in-Ok-clause-outside g c = grind (arith, common_steps)
+
+pub returns-in-Err-clause-outside : goal.returns-in-Err-clause-outside
+returns-in-Err-clause-outside g c = grind (arith, common_steps)

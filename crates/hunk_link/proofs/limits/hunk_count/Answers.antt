@@ -1,6 +1,7 @@
 use Rattle.std.proofs.Common.{arith, ap, length, subst}
-use Rattle.std.proofs.lemmas.List.Sums.{sum_by_more, sum_by_more_le}
+use Rattle.std.proofs.lemmas.Grind.{common_steps}
 use Rattle.std.proofs.lemmas.List.Elements.{All-more}
+use Rattle.std.proofs.lemmas.List.Sums.{sum_by_more, sum_by_more_le}
 use Rattle.hunk_objects.specs.ProgramUnit.{hunk_count}
 use Rattle.hunk_link.specs.Ranks.{IsUnit}
 use Rattle.hunk_link.proofs.limits.hunk_count.Goals as goal
@@ -18,3 +19,13 @@ loop-unit-preserved g c =
       few = omega arith;
       typed = All-more IsUnit c.args.units.now c.loop-unit.unit-index x c.loop-unit-test.true c.loop-unit.invariant.typed (subst IsUnit c.unit-item.is c.hunks-more.ensures.valid);
     }
+
+-- `grind` at once: `search`, which Rattle tries before it, is slow here
+pub loop-unit-init : goal.loop-unit-init
+loop-unit-init g c = grind (arith, common_steps)
+
+pub returns-clause-count : goal.returns-clause-count
+returns-clause-count g c = grind (arith, common_steps)
+
+pub returns-clause-typed : goal.returns-clause-typed
+returns-clause-typed g c = grind (arith, common_steps)

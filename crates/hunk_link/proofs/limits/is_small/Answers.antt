@@ -1,4 +1,5 @@
 use Rattle.std.proofs.Common.{ap, inl, inr, arith, sum_by}
+use Rattle.std.proofs.lemmas.Grind.{common_steps}
 use Rattle.std.proofs.lemmas.List.{take_all}
 use Rattle.hunk_link.proofs.LimitsLemmas.{IsSmall-from, carried_longwords-hunks_of, room-passed, size_of-hunks_of, unit_carried, unit_size}
 use Rattle.hunk_link.proofs.limits.is_small.Goals as goal
@@ -19,3 +20,7 @@ returns g c =
     let strip = c.args.strip in
     let whole = take_all c.loop-unit.unit-index units c.loop-unit-test.false in
     IsSmall-from strip units (omega (arith, ap (sum_by unit_size) whole, c.loop-unit.invariant.size)) (omega (arith, ap (sum_by (unit_carried strip)) whole, c.loop-unit.invariant.carried))
+
+-- `grind` at once: `search`, which Rattle tries before it, is slow here
+pub loop-unit-preserved : goal.loop-unit-preserved
+loop-unit-preserved g c = grind (arith, common_steps)

@@ -1,4 +1,5 @@
 use Rattle.std.proofs.Common.{ℕ, inl, inr, arith, ap, sum_by}
+use Rattle.std.proofs.lemmas.Grind.{common_steps}
 use Rattle.hunk_objects.specs.UnitHunk.{ObjectHunk}
 use Rattle.hunk_link.specs.Limits.{carried_by}
 use Rattle.hunk_link.proofs.LimitsLemmas.{room-more, room-passed}
@@ -26,3 +27,7 @@ loop-hunk-preserved g c =
       size = room-more (λ (h : ObjectHunk). h.size) hunks i hunk.result _ _ _ c.loop-hunk-test.true hunk.is c.loop-hunk.invariant.size fits.0;
       carried = room-more (carried_by c.args.strip) hunks i hunk.result _ _ _ c.loop-hunk-test.true hunk.is c.loop-hunk.invariant.carried fits.1;
     }
+
+-- `grind` at once: `search`, which Rattle tries before it, is slow here
+pub returns : goal.returns
+returns g c = grind (arith, common_steps)

@@ -1,4 +1,5 @@
-use Rattle.std.proofs.Common.{sym, subst, ◌∙◌}
+use Rattle.std.proofs.Common.{sym, subst, ◌∙◌, rules, arith}
+use Rattle.std.proofs.lemmas.Grind.{common_steps}
 use Rattle.std.proofs.lemmas.Result.{err_from_is_err_and}
 use Rattle.hunk_link.specs.Limits.{IsHunkCount, IsSmall}
 use Rattle.hunk_link.specs.Linkable.{IsFirstReason}
@@ -45,3 +46,7 @@ returns-clause-file g c =
     let linked = linked-all units _ _ (c.deref.ensures.value ∙ c.in_ok-hunks.ensures.value) named.own named.once named.defined named.addends in
     c.load_file.ensures.value
     ∙ carried-linked units c.args.strip _ linked _ _ (c.deref-2.ensures.value ∙ c.in_ok-hunks.ensures.value) c.deref-3.ensures.value _ c.in_ok-carried.ensures
+
+-- `grind` at once: `search`, which Rattle tries before it, is slow here
+pub returns-clause-short : goal.returns-clause-short
+returns-clause-short g c = grind (rules, arith, common_steps)

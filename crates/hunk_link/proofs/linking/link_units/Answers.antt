@@ -1,6 +1,7 @@
-use Rattle.std.proofs.Common.{ap, refl, sym, subst, ◌∙◌}
-use Rattle.std.specs.List.{All}
+use Rattle.std.proofs.Common.{ap, refl, sym, subst, ◌∙◌, arith}
+use Rattle.std.proofs.lemmas.Grind.{common_steps}
 use Rattle.std.proofs.lemmas.Result.{err_from_is_err_and}
+use Rattle.std.specs.List.{All}
 use Rattle.hunk_link.specs.Limits.{IsHunkCount, IsSmall}
 use Rattle.hunk_link.specs.Linkable.{IsFirstReason}
 use Rattle.hunk_link.specs.Ranks.{IsUnit, hunks_of}
@@ -55,3 +56,25 @@ returns-clause-file g c =
     let all = c.deref-3.ensures.value ∙ c.in_ok-hunks.ensures.value ∙ ap hunks_of c.deref-2.ensures.value in
     let linked = linked-all units _ _ all named.own named.once named.defined named.addends in
     c.load_file.ensures.value ∙ carried-linked units c.args.strip _ linked _ _ refl c.deref-4.ensures.value _ c.in_ok-carried.ensures
+
+-- `grind` at once: `search`, which Rattle tries before it, is slow here
+pub returns-in_err-total-clause-refused : goal.returns-in_err-total-clause-refused
+returns-in_err-total-clause-refused g c = grind (arith, common_steps)
+
+pub ranked_hunks-requires-clause-counted : goal.ranked_hunks-requires-clause-counted
+ranked_hunks-requires-clause-counted g c = grind (arith, common_steps)
+
+pub ranked_hunks-requires-clause-total : goal.ranked_hunks-requires-clause-total
+ranked_hunks-requires-clause-total g c = grind (arith, common_steps)
+
+pub moved_hunks-requires-clause-total : goal.moved_hunks-requires-clause-total
+moved_hunks-requires-clause-total g c = grind (arith, common_steps)
+
+pub moved_hunks-requires-clause-few : goal.moved_hunks-requires-clause-few
+moved_hunks-requires-clause-few g c = grind (arith, common_steps)
+
+pub returns-in_err-carried-clause-refused : goal.returns-in_err-carried-clause-refused
+returns-in_err-carried-clause-refused g c = grind (arith, common_steps)
+
+pub returns-clause-short : goal.returns-clause-short
+returns-clause-short g c = grind (arith, common_steps)

@@ -1,6 +1,7 @@
 use Rattle.std.proofs.Common.{◌∙◌, ap, arith, length, subst, sym}
-use Rattle.std.specs.List.{All}
+use Rattle.std.proofs.lemmas.Grind.{common_steps}
 use Rattle.std.proofs.lemmas.List.Sums.{sum_by-drop_more}
+use Rattle.std.specs.List.{All}
 use Rattle.hunk_objects.specs.ProgramUnit.{hunk_count}
 use Rattle.hunk_link.specs.Ranks.{IsRanked, hunks_of}
 use Rattle.hunk_link.proofs.RanksLemmas.{IsRanked-hunks_of, hunks_of-hunk_made, hunks_of-made, hunks_of-unit_begun, hunks_of-unit_made, length-hunks_of}
@@ -59,3 +60,16 @@ returns-clause-ranks g c =
     let units = c.args.units.now in
     let all = hunks_of-made c.loop-unit.ranked.items (hunks_of units) c.loop-unit.unit _ units c.loop-unit-test.false c.loop-unit.invariant.value in
     subst (All IsRanked) (sym all) (IsRanked-hunks_of units c.requires.counted)
+
+-- `grind` at once: `search`, which Rattle tries before it, is slow here
+pub bounds-hunk-items-number : goal.bounds-hunk-items-number
+bounds-hunk-items-number g c = grind (arith, common_steps)
+
+pub overflow_cast-number : goal.overflow_cast-number
+overflow_cast-number g c = grind (arith, common_steps)
+
+pub push_reserved-requires : goal.push_reserved-requires
+push_reserved-requires g c = grind (arith, common_steps)
+
+pub returns-clause-value : goal.returns-clause-value
+returns-clause-value g c = grind (arith, common_steps)

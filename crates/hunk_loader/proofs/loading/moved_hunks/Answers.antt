@@ -1,6 +1,7 @@
 use Rattle.std.proofs.Common.{◌++◌, ℕ, List, [], ◌∷◌, length, drop, slice_index, vec_len, sym, ap, subst, ◌∙◌, arith}
-use Rattle.std.specs.List.{All}
+use Rattle.std.proofs.lemmas.Grind.{common_steps}
 use Rattle.std.proofs.lemmas.List.Elements.{All-tail}
+use Rattle.std.specs.List.{All}
 use Rattle.hunk_loadfile.specs.LoadHunk.{FileHunk}
 use Rattle.hunk_loadfile.specs.Rules.{IsLoadHunk}
 use Rattle.hunk_loader.specs.Image.{hunks_of}
@@ -32,3 +33,7 @@ pub returns : goal.returns
 returns g c =
     loaded_from-none c.args.bases.now (loaded c.args.hunks.items c.args.bases.now) c.loop-hunk.hunk-iterator.rest.items c.loop-hunk.made.items (vec_len c.loop-hunk.made)
     (omega (arith, c.loop-hunk.invariant.left, c.loop-hunk.hunk-iterator.rest.ok.0, c.in-None.ensures.steps.0)) c.loop-hunk.invariant.value
+
+-- `grind` at once: `search`, which Rattle tries before it, is slow here
+pub loop-hunk-init : goal.loop-hunk-init
+loop-hunk-init g c = grind (arith, common_steps)

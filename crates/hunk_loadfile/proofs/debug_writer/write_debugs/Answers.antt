@@ -1,5 +1,6 @@
 -- One more debug block.
 use Rattle.std.proofs.Common.{◌<◌, ap, length, take, Vec, ℕ, arith}
+use Rattle.std.proofs.lemmas.Grind.{common_steps}
 use Rattle.std.proofs.lemmas.List.{length-map}
 use Rattle.std.proofs.lemmas.List.Sums.{sum_by_more_le}
 use Rattle.std.proofs.lemmas.Result.{err_from_is_err_and}
@@ -55,3 +56,10 @@ loop-debug-preserved g c =
     record {
       wrote = parts-more g.W.Sink.taken g.W.Sink.failed c.args.writer.now c.loop-debug.writer c.write_debug.new.writer debug_words debugs i c.deref.result.now c.args.written c.loop-debug.written c.in_ok-written.written within here c.loop-debug.invariant.wrote c.in_ok-written.ensures.wrote;
     }
+
+-- `grind` at once: `search`, which Rattle tries before it, is slow here
+pub loop-debug-init : goal.loop-debug-init
+loop-debug-init g c = grind (arith, common_steps)
+
+pub returns : goal.returns
+returns g c = grind (arith, common_steps)

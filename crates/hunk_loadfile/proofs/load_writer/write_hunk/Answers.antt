@@ -1,7 +1,8 @@
 -- The parts of a hunk, one after another.
 use Rattle.std.proofs.Common.{◌≡◌, ◌<◌, ◌^◌, ◌∙◌, ◌++◌, ◌∷◌, [], ℕ, List, Err, ap, refl, subst, sym, arith}
-use Rattle.std.proofs.lemmas.Result.{err_from_is_err_and}
+use Rattle.std.proofs.lemmas.Grind.{common_steps}
 use Rattle.std.proofs.lemmas.List.Elements.{All-weaker}
+use Rattle.std.proofs.lemmas.Result.{err_from_is_err_and}
 use Rattle.std.specs.List.{All, flat_map}
 use Rattle.hunk_base.specs.Longwords.{longwords}
 use Rattle.hunk_words.specs.DebugInfo.{lists_of}
@@ -172,3 +173,13 @@ returns g c = record {
       let later = numbers-then Longword taken failed c.write_content.new.writer c.write_sites.new.writer new (listed ++ (named ++ (blocks ++ end))) listed (named ++ (blocks ++ end)) c.in_ok-written.written c.in_ok-written-2.written c.write_longwords.result refl (c.in_ok-written-2.ensures.wrote count (subst (Below count) (sym sites) targets)) last in
       numbers-then Longword taken failed c.args.writer.now c.write_content.new.writer new (hunk_words c.args.form count h) content (listed ++ (named ++ (blocks ++ end))) c.args.written c.in_ok-written.written c.write_longwords.result (hunk_words-parts c.args.form count h c.hunk.inside.sites.entries c.deref.result.now (lists_of c.deref-2.result.now) sites symbols debugs) c.in_ok-written.ensures.wrote later;
 }
+
+-- `grind` at once: `search`, which Rattle tries before it, is slow here
+pub returns-in_err-written : goal.returns-in_err-written
+returns-in_err-written g c = grind (arith, common_steps)
+
+pub write_symbols-requires-clause-names : goal.write_symbols-requires-clause-names
+write_symbols-requires-clause-names g c = grind (arith, common_steps)
+
+pub write_debugs-requires-clause-carries : goal.write_debugs-requires-clause-carries
+write_debugs-requires-clause-carries g c = grind (arith, common_steps)

@@ -1,5 +1,6 @@
 -- Each group is the next one of the block.
 use Rattle.std.proofs.Common.{◌≡◌, ◌<◌, ◌∙◌, ◌++◌, ℕ, List, [], length, Ok, refl, sym, ap, subst, append_assoc, append-nil, arith, rules, tests}
+use Rattle.std.proofs.lemmas.Grind.{common_steps}
 use Rattle.std.proofs.lemmas.List.{nil_from_length}
 use Rattle.std.proofs.lemmas.Result.{err_from_is_err_and}
 use Rattle.hunk_base.specs.Streams.{Wrote}
@@ -42,3 +43,16 @@ returns-clause-wrote g c = λ count all.
     let none : rest ≡ [] = nil_from_length rest count_left in
     let whole : inv.words ≡ groups_words count c.args.pairs.now = sym (append-nil inv.words) ∙ ap (λ (ws : List ℕ). inv.words ++ ws) (sym (ap (groups_words count) none ∙ groups_words-nil count)) ∙ inv.whole count all in
     subst (λ (ws : List ℕ). Wrote g.W.Sink.taken g.W.Sink.failed c.args.writer.now c.groups.writer (bytes_in c.args.width ws) c.args.written (Ok c.groups.written)) whole inv.wrote
+
+-- `grind` at once: `search`, which Rattle tries before it, is slow here
+pub split_group-requires-clause-rise : goal.split_group-requires-clause-rise
+split_group-requires-clause-rise g c = grind (arith, common_steps)
+
+pub write_group-requires-clause-few : goal.write_group-requires-clause-few
+write_group-requires-clause-few g c = grind (arith, common_steps)
+
+pub write_group-requires-clause-room : goal.write_group-requires-clause-room
+write_group-requires-clause-room g c = grind (arith, common_steps)
+
+pub groups-smaller : goal.groups-smaller
+groups-smaller g c = grind (arith, common_steps)

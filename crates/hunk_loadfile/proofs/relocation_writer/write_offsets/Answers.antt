@@ -1,5 +1,6 @@
 -- The offsets of each chunk are the next ones.
 use Rattle.std.proofs.Common.{◌∙◌, ◌++◌, map, Ok, refl, sym, arith}
+use Rattle.std.proofs.lemmas.Grind.{common_steps}
 use Rattle.std.proofs.lemmas.Result.{err_from_is_err_and}
 use Rattle.std.specs.Slice.Iter.{chunks_rest}
 use Rattle.hunk_loadfile.proofs.LongwordWriterLemmas.{chunk-around, chunk-more, chunk-room, numbers-inside, numbers-then}
@@ -36,3 +37,16 @@ loop-chunk-preserved g c =
       whole = chunk-more offset_of inv.words chunk (chunks_rest c.next.new.self) c.args.group.now (chunks_rest c.loop-chunk.chunk-iterator) steps.1.0 inv.whole;
       wrote = numbers-then c.args.width g.W.Sink.taken g.W.Sink.failed c.args.writer.now c.loop-chunk.writer c.write_numbers.new.writer (inv.words ++ map offset_of chunk) inv.words (map offset_of chunk) c.args.written c.loop-chunk.written (Ok c.in_ok-written.written) refl inv.wrote (rw c.fill_offsets.ensures at c.in_ok-written.ensures.wrote);
     }
+
+-- `grind` at once: `search`, which Rattle tries before it, is slow here
+pub loop-chunk-init : goal.loop-chunk-init
+loop-chunk-init g c = grind (arith, common_steps)
+
+pub slice_bounds-offsets-end : goal.slice_bounds-offsets-end
+slice_bounds-offsets-end g c = grind (arith, common_steps)
+
+pub fill_offsets-requires : goal.fill_offsets-requires
+fill_offsets-requires g c = grind (arith, common_steps)
+
+pub returns : goal.returns
+returns g c = grind (arith, common_steps)

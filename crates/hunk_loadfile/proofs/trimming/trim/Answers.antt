@@ -29,3 +29,6 @@ trim_hunk-requires g c =
 -- `grind` at once: `search`, which Rattle tries before it, is slow here
 pub returns : goal.returns
 returns g c = grind (arith, common_steps)
+
+pub offset_bounds-hunks-hunk-index : goal.offset_bounds-hunks-hunk-index
+offset_bounds-hunks-hunk-index g c = grind (arith, common_steps)

@@ -1,7 +1,8 @@
 -- The bytes of one more read follow those before.
-use Rattle.std.proofs.Common.{◌++◌}
-use Rattle.std.proofs.KnownBytes.{Consumes-trans}
+use Rattle.std.proofs.Common.{◌++◌, arith}
+use Rattle.std.proofs.lemmas.Grind.{common_steps}
 use Rattle.std.proofs.lemmas.Result.{err_from_is_err_and}
+use Rattle.std.proofs.KnownBytes.{Consumes-trans}
 use Rattle.hunk_memory.proofs.BasesFileLemmas.{read-ended}
 use Rattle.hunk_memory.proofs.bases_file.read_bases.Goals as goal
 
@@ -32,3 +33,13 @@ reads-preserved g c =
       consumed = Consumes-trans _ _ _ read.bytes _ read.consumed c.in_ok-count.ensures.bytes;
       stands = c.in_ok-feed.ensures.stands read.bytes read.stands;
     }
+
+-- `grind` at once: `search`, which Rattle tries before it, is slow here
+pub returns-in_err-finish-clause-refused : goal.returns-in_err-finish-clause-refused
+returns-in_err-finish-clause-refused g c = grind (arith, common_steps)
+
+pub returns-then-count-eq0-clause-ended : goal.returns-then-count-eq0-clause-ended
+returns-then-count-eq0-clause-ended g c = grind (arith, common_steps)
+
+pub slice_bounds-feed-end : goal.slice_bounds-feed-end
+slice_bounds-feed-end g c = grind (arith, common_steps)

@@ -1,5 +1,6 @@
 -- One more hunk.
 use Rattle.std.proofs.Common.{◌+◌, Ok, subst, arith}
+use Rattle.std.proofs.lemmas.Grind.{common_steps}
 use Rattle.std.proofs.lemmas.Result.{err_from_is_err_and}
 use Rattle.hunk_base.specs.Streams.{Wrote}
 use Rattle.hunk_base.proofs.StreamsWritingLemmas.{Wrote-inside, Wrote-then}
@@ -50,3 +51,7 @@ pub returns-clause-wrote : goal.returns-clause-wrote
 returns-clause-wrote g c =
     let all = first_hunk_lines-all c.args.form (hunks_of c.args.hunks.now) c.loop-number.number (omega (arith, length-hunks_of c.args.hunks.now)) in
     subst (λ lines. Wrote g.W.Sink.taken g.W.Sink.failed c.args.writer.now c.loop-number.writer lines c.args.written (Ok c.loop-number.written)) all c.loop-number.invariant.wrote
+
+-- `grind` at once: `search`, which Rattle tries before it, is slow here
+pub loop-number-init : goal.loop-number-init
+loop-number-init g c = grind (arith, common_steps)

@@ -1,5 +1,6 @@
 -- What comes before the hunks was written, then the hunks, and then what comes after them.
 use Rattle.std.proofs.Common.{◌<◌, ◌^◌, ◌++◌, Ok, [], length, refl, sym, ap, ◌∙◌, append-nil, append_assoc, arith}
+use Rattle.std.proofs.lemmas.Grind.{common_steps}
 use Rattle.std.proofs.lemmas.Result.{err_from_is_err_and}
 use Rattle.hunk_base.proofs.StreamsWritingLemmas.{Wrote-inside, Wrote-then}
 use Rattle.hunk_loader.specs.Image.{hunks_of}
@@ -42,3 +43,13 @@ returns-in_err-write_all-clause-wrote g c =
     let parts = sym (append_assoc (opening form) lines (closing form)) ∙ ap (λ last. front ++ last) (sym (append-nil (closing form))) in
     let before = Wrote-then g.W.Sink.taken g.W.Sink.failed c.args.writer.now c.write_all.new.writer c.write_hunks.new.writer front (opening form) lines 0 c.in_ok-written.written (Ok c.in_ok-written-2.written) refl opened c.in_ok-written-2.ensures.wrote in
     rw (p.1, p.2) (Wrote-inside g.W.Sink.taken g.W.Sink.failed c.args.writer.now c.write_hunks.new.writer c.write_all-2.new.writer (opening form ++ (lines ++ closing form)) front (closing form) [] 0 c.in_ok-written-2.written _ parts before closed)
+
+-- `grind` at once: `search`, which Rattle tries before it, is slow here
+pub returns-in_err-written-clause-wrote : goal.returns-in_err-written-clause-wrote
+returns-in_err-written-clause-wrote g c = grind (arith, common_steps)
+
+pub write_hunks-requires-clause-inside : goal.write_hunks-requires-clause-inside
+write_hunks-requires-clause-inside g c = grind (arith, common_steps)
+
+pub returns-clause-wrote : goal.returns-clause-wrote
+returns-clause-wrote g c = grind (arith, common_steps)

@@ -1,5 +1,6 @@
 -- One more row.
 use Rattle.std.proofs.Common.{ℕ, ◌+◌, ◌-◌, ◌<◌, ◌≤◌, ◌*◌, ◌++◌, length, sym, ap, ◌∙◌, arith}
+use Rattle.std.proofs.lemmas.Grind.{common_steps}
 use Rattle.std.proofs.lemmas.Slice.{take-put_mid}
 use Rattle.std.specs.Int.{div_ceil}
 use Rattle.hunk_memory.specs.Rows.{first_row_lines, longest_line, row_count}
@@ -27,3 +28,37 @@ loop-index-preserved c =
           ∙ ap (λ last. first_row_lines form c.args.address block index ++ last) (c.put_row.ensures ∙ line)
           ∙ sym (first_row_lines-more form c.args.address block index);
     }
+
+-- `grind` at once: `search`, which Rattle tries before it, is slow here
+pub overflow_mul-start : goal.overflow_mul-start
+overflow_mul-start c = grind (arith, common_steps)
+
+pub overflow_add-start : goal.overflow_add-start
+overflow_add-start c = grind (arith, common_steps)
+
+pub overflow_add-next : goal.overflow_add-next
+overflow_add-next c = grind (arith, common_steps)
+
+pub overflow_sub-next : goal.overflow_sub-next
+overflow_sub-next c = grind (arith, common_steps)
+
+pub overflow_add-next-in-loop-index : goal.overflow_add-next-in-loop-index
+overflow_add-next-in-loop-index c = grind (arith, common_steps)
+
+pub slice_bounds-put_row-end : goal.slice_bounds-put_row-end
+slice_bounds-put_row-end c = grind (arith, common_steps)
+
+pub overflow_cast-start : goal.overflow_cast-start
+overflow_cast-start c = grind (arith, common_steps)
+
+pub overflow_add-address : goal.overflow_add-address
+overflow_add-address c = grind (arith, common_steps)
+
+pub slice_bounds-put_row-count-in-loop-index : goal.slice_bounds-put_row-count-in-loop-index
+slice_bounds-put_row-count-in-loop-index c = grind (arith, common_steps)
+
+pub slice_bounds-put_row-start-in-loop-index : goal.slice_bounds-put_row-start-in-loop-index
+slice_bounds-put_row-start-in-loop-index c = grind (arith, common_steps)
+
+pub returns-clause-within : goal.returns-clause-within
+returns-clause-within c = grind (arith, common_steps)

@@ -1,4 +1,6 @@
 -- One more symbol.
+use Rattle.std.proofs.Common.{arith}
+use Rattle.std.proofs.lemmas.Grind.{common_steps}
 use Rattle.std.proofs.lemmas.Result.{err_from_is_err_and}
 use Rattle.hunk_base.proofs.StreamsWritingLemmas.{Wrote-more, Wrote-part}
 use Rattle.hunk_text.specs.Listing.{symbol_line}
@@ -25,3 +27,10 @@ loop-symbol-preserved g c =
           Wrote-more g.W.Sink.taken g.W.Sink.failed symbol_line c.args.symbols.now c.loop-symbol.symbol-index symbol symbol c.args.writer.now c.loop-symbol.writer c.write_symbol.new.writer c.args.written c.loop-symbol.written c.in_ok-written.written
           c.loop-symbol-test.true c.symbol-item.is c.loop-symbol.invariant.wrote c.in_ok-written.ensures.wrote;
     }
+
+-- `grind` at once: `search`, which Rattle tries before it, is slow here
+pub loop-symbol-init : goal.loop-symbol-init
+loop-symbol-init g c = grind (arith, common_steps)
+
+pub returns-clause-wrote : goal.returns-clause-wrote
+returns-clause-wrote g c = grind (arith, common_steps)

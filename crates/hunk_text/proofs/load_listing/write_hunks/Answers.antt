@@ -1,5 +1,6 @@
 -- One more hunk.
 use Rattle.std.proofs.Common.{Ok, subst, arith}
+use Rattle.std.proofs.lemmas.Grind.{common_steps}
 use Rattle.std.proofs.lemmas.Result.{err_from_is_err_and}
 use Rattle.std.specs.List.{flat_map}
 use Rattle.hunk_base.specs.Streams.{Wrote}
@@ -30,3 +31,7 @@ pub returns-clause-wrote : goal.returns-clause-wrote
 returns-clause-wrote g c =
     subst (λ numbered. Wrote g.W.Sink.taken g.W.Sink.failed c.args.writer.now c.loop-number.writer (flat_map load_hunk_lines numbered) c.args.written (Ok c.loop-number.written))
     (numbered-all c.args.hunks.now c.loop-number.number (omega arith)) c.loop-number.invariant.wrote
+
+-- `grind` at once: `search`, which Rattle tries before it, is slow here
+pub loop-number-init : goal.loop-number-init
+loop-number-init g c = grind (arith, common_steps)

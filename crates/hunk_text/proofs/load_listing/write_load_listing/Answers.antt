@@ -1,5 +1,6 @@
 -- The line of the file is written, and then its hunks.
-use Rattle.std.proofs.Common.{◌++◌, Err, length, refl}
+use Rattle.std.proofs.Common.{◌++◌, Err, length, refl, arith}
+use Rattle.std.proofs.lemmas.Grind.{common_steps}
 use Rattle.std.proofs.lemmas.Result.{err_from_is_err_and}
 use Rattle.std.specs.List.{enumerate_from, flat_map}
 use Rattle.hunk_base.proofs.StreamsWritingLemmas.{Wrote-stop, Wrote-then}
@@ -21,3 +22,10 @@ returns-in_err-write_hunks-clause-wrote g c =
     rw (p.1, p.2)
     (Wrote-then g.W.Sink.taken g.W.Sink.failed c.args.writer.now c.write_load_line.new.writer c.write_hunks.new.writer (first ++ rest) first rest 0 c.in_ok-written.written (Err c.in_err-write_hunks.field-0.0)
     refl c.in_ok-written.ensures.wrote c.in_err-write_hunks.ensures.wrote)
+
+-- `grind` at once: `search`, which Rattle tries before it, is slow here
+pub write_hunks-requires : goal.write_hunks-requires
+write_hunks-requires g c = grind (arith, common_steps)
+
+pub returns-clause-wrote : goal.returns-clause-wrote
+returns-clause-wrote g c = grind (arith, common_steps)

@@ -1,4 +1,6 @@
 -- One more definition.
+use Rattle.std.proofs.Common.{arith}
+use Rattle.std.proofs.lemmas.Grind.{common_steps}
 use Rattle.std.proofs.lemmas.Result.{err_from_is_err_and}
 use Rattle.hunk_base.proofs.StreamsWritingLemmas.{Wrote-more, Wrote-part}
 use Rattle.hunk_text.specs.Listing.{definition_line}
@@ -25,3 +27,10 @@ loop-definition-preserved g c =
           Wrote-more g.W.Sink.taken g.W.Sink.failed definition_line c.args.definitions.now c.loop-definition.definition-index definition definition c.args.writer.now c.loop-definition.writer c.write_definition.new.writer c.args.written c.loop-definition.written c.in_ok-written.written
           c.loop-definition-test.true c.definition-item.is c.loop-definition.invariant.wrote c.in_ok-written.ensures.wrote;
     }
+
+-- `grind` at once: `search`, which Rattle tries before it, is slow here
+pub loop-definition-init : goal.loop-definition-init
+loop-definition-init g c = grind (arith, common_steps)
+
+pub returns-clause-wrote : goal.returns-clause-wrote
+returns-clause-wrote g c = grind (arith, common_steps)

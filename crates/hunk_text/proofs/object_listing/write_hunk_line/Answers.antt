@@ -1,5 +1,6 @@
 -- The line begins as that of any hunk, and then the name is written.
-use Rattle.std.proofs.Common.{◌≡◌, ◌∙◌, ◌++◌, List, ℕ, append_assoc, subst}
+use Rattle.std.proofs.Common.{◌≡◌, ◌∙◌, ◌++◌, List, ℕ, append_assoc, subst, arith}
+use Rattle.std.proofs.lemmas.Grind.{common_steps}
 use Rattle.std.proofs.lemmas.Result.{err_from_is_err_and}
 use Rattle.std.specs.Prelude.{codes}
 use Rattle.hunk_objects.specs.UnitHunk.{ObjectHunk}
@@ -37,3 +38,10 @@ returns-clause-wrote g c =
     (c.bytes.ensures.value ∙ c.name.ensures) c.write_around_name.ensures.wrote in
     Wrote-then g.W.Sink.taken g.W.Sink.failed c.args.writer.now c.write_hunk_front.new.writer c.write_around_name.new.writer (unit_hunk_line c.args.number hunk) front (named hunk.name) c.args.written c.in_ok-written.written c.write_around_name.result
     (parts c.args.number hunk) (rw (c.kind.ensures, c.memory.ensures, c.size.ensures) at c.in_ok-written.ensures.wrote) last
+
+-- `grind` at once: `search`, which Rattle tries before it, is slow here
+pub write_hunk_front-requires : goal.write_hunk_front-requires
+write_hunk_front-requires g c = grind (arith, common_steps)
+
+pub write_around_name-requires : goal.write_around_name-requires
+write_around_name-requires g c = grind (arith, common_steps)

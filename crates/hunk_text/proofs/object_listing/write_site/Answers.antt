@@ -1,5 +1,6 @@
 -- The pieces around the name of a reference are the line.
-use Rattle.std.proofs.Common.{◌≡◌, ◌∙◌, ◌++◌, List, [], ℕ, ap₂, append_assoc, get_or, subst}
+use Rattle.std.proofs.Common.{◌≡◌, ◌∙◌, ◌++◌, List, [], ℕ, ap₂, append_assoc, get_or, subst, arith}
+use Rattle.std.proofs.lemmas.Grind.{common_steps}
 use Rattle.std.specs.Prelude.{codes}
 use Rattle.hunk_base.specs.Streams.{Wrote}
 use Rattle.hunk_text.specs.Digits.{eight_digits}
@@ -20,3 +21,10 @@ returns-in-Reference-clause-wrote g c =
     rw c.in-Reference.is
     (subst (λ text. Wrote g.W.Sink.taken g.W.Sink.failed c.args.writer.now c.write_around_name.new.writer text c.args.written c.write_around_name.result)
     (joined ∙ pieces (codes "  ") (eight_digits offset) (codes " adds ") (quoted name) (codes "\n")) c.write_around_name.ensures.wrote)
+
+-- `grind` at once: `search`, which Rattle tries before it, is slow here
+pub write_hunk_site-requires : goal.write_hunk_site-requires
+write_hunk_site-requires g c = grind (arith, common_steps)
+
+pub write_around_name-requires : goal.write_around_name-requires
+write_around_name-requires g c = grind (arith, common_steps)

@@ -1,5 +1,6 @@
 -- The line of the unit is written, and then its hunks.
-use Rattle.std.proofs.Common.{◌++◌, ◌∙◌, Ok, Err, refl, subst}
+use Rattle.std.proofs.Common.{◌++◌, ◌∙◌, Ok, Err, refl, subst, arith}
+use Rattle.std.proofs.lemmas.Grind.{common_steps}
 use Rattle.std.proofs.lemmas.Result.{err_from_is_err_and}
 use Rattle.std.specs.List.{enumerate_from, flat_map}
 use Rattle.hunk_base.specs.Streams.{Wrote}
@@ -28,3 +29,10 @@ returns-clause-wrote g c =
     subst (λ hunks. Wrote g.W.Sink.taken g.W.Sink.failed c.write_unit_line.new.writer c.write_hunks.new.writer (flat_map unit_hunk_lines (enumerate_from 0 hunks)) c.in_ok-written.written c.write_hunks.result)
     c.hunks.ensures.value c.write_hunks.ensures.wrote in
     Wrote-then g.W.Sink.taken g.W.Sink.failed c.args.writer.now c.write_unit_line.new.writer c.write_hunks.new.writer (first ++ hunks) first hunks c.args.written c.in_ok-written.written c.write_hunks.result refl line rest
+
+-- `grind` at once: `search`, which Rattle tries before it, is slow here
+pub write_unit_line-requires : goal.write_unit_line-requires
+write_unit_line-requires g c = grind (arith, common_steps)
+
+pub write_hunks-requires : goal.write_hunks-requires
+write_hunks-requires g c = grind (arith, common_steps)

@@ -1,5 +1,6 @@
 -- The pieces before the name are written, then the name, and then the pieces after it.
-use Rattle.std.proofs.Common.{◌++◌, Ok, refl, append_assoc}
+use Rattle.std.proofs.Common.{◌++◌, Ok, refl, append_assoc, arith}
+use Rattle.std.proofs.lemmas.Grind.{common_steps}
 use Rattle.std.proofs.lemmas.Result.{err_from_is_err_and}
 use Rattle.hunk_base.proofs.StreamsWritingLemmas.{Wrote-inside, Wrote-stop, Wrote-then}
 use Rattle.hunk_text.specs.Printing.{joined}
@@ -34,3 +35,13 @@ returns-clause-wrote g c =
     refl c.in_ok-written.ensures.wrote c.in_ok-written-2.ensures.wrote in
     Wrote-then g.W.Sink.taken g.W.Sink.failed c.args.writer.now c.write_quoted.new.writer c.write_pieces-2.new.writer (first ++ name ++ last) (first ++ name) last c.args.written c.in_ok-written-2.written c.write_pieces-2.result
     refl named c.write_pieces-2.ensures.wrote
+
+-- `grind` at once: `search`, which Rattle tries before it, is slow here
+pub write_pieces-requires : goal.write_pieces-requires
+write_pieces-requires g c = grind (arith, common_steps)
+
+pub write_quoted-requires : goal.write_quoted-requires
+write_quoted-requires g c = grind (arith, common_steps)
+
+pub write_pieces-requires-2 : goal.write_pieces-requires-2
+write_pieces-requires-2 g c = grind (arith, common_steps)

@@ -1,5 +1,6 @@
 -- Each exit, and the load file of the units.
-use Rattle.std.proofs.Common.{length, arith}
+use Rattle.std.proofs.Common.{length, arith, rules}
+use Rattle.std.proofs.lemmas.Grind.{common_steps}
 use Rattle.std.proofs.lemmas.Result.{err_from_is_err_and}
 use Rattle.hunk_tool.specs.Inputs.{inputs_of}
 use Rattle.hunk_tool.proofs.InputsLemmas.{length-inputs_of}
@@ -32,3 +33,7 @@ returns-in_err-link_units-clause-writable g c =
 pub returns-clause-linked : goal.returns-clause-linked
 returns-clause-linked g c =
     HaveRead-link_to _ c.args.strip c.in_ok-units.units.items c.in_ok-link_units.field-0 c.in_ok-units.ensures.read c.in_ok-link_units.ensures.typed c.in_ok-link_units.ensures.linkable c.in_ok-link_units.ensures.file
+
+-- `grind` at once: `search`, which Rattle tries before it, is slow here
+pub returns-clause-short : goal.returns-clause-short
+returns-clause-short g c = grind (rules, arith, common_steps)

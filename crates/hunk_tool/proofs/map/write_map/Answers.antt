@@ -1,8 +1,9 @@
 -- One more unit.
 use Rattle.std.proofs.Common.{◌≡◌, ◌+◌, ◌≤◌, List, Ok, Err, ap, drop, get_or, length, map, refl, subst, arith}
-use Rattle.std.specs.String.{string_bytes}
+use Rattle.std.proofs.lemmas.Grind.{common_steps}
 use Rattle.std.proofs.lemmas.List.{length-drop}
 use Rattle.std.proofs.lemmas.Result.{err_from_is_err_and}
+use Rattle.std.specs.String.{string_bytes}
 use Rattle.hunk_loadfile.specs.LoadHunk.{FileHunk}
 use Rattle.hunk_tool.specs.Map.{map_from, map_text}
 use Rattle.hunk_text.specs.WrittenText.{WroteText}
@@ -79,3 +80,25 @@ loop-index-preserved g c =
           (map_from names loop.first hunks (unit_origins (place, unit))) (units_rest names (loop.first + count) (loop.index + 1) file units)
           (units_rest-more names loop.first loop.index count file hunks units (place, unit) left refl count_is room) loop.invariant.begun wrote;
     }
+
+-- `grind` at once: `search`, which Rattle tries before it, is slow here
+pub offset_bounds-hunks-first : goal.offset_bounds-hunks-first
+offset_bounds-hunks-first g c = grind (arith, common_steps)
+
+pub slice_bounds-write_unit-count : goal.slice_bounds-write_unit-count
+slice_bounds-write_unit-count g c = grind (arith, common_steps)
+
+pub slice_bounds-write_unit-start : goal.slice_bounds-write_unit-start
+slice_bounds-write_unit-start g c = grind (arith, common_steps)
+
+pub bounds-places-index : goal.bounds-places-index
+bounds-places-index g c = grind (arith, common_steps)
+
+pub write_unit-requires-clause-short : goal.write_unit-requires-clause-short
+write_unit-requires-clause-short g c = grind (arith, common_steps)
+
+pub overflow_add-first : goal.overflow_add-first
+overflow_add-first g c = grind (arith, common_steps)
+
+pub returns : goal.returns
+returns g c = grind (arith, common_steps)

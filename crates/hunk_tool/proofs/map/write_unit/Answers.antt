@@ -1,8 +1,9 @@
 -- One more hunk.
 use Rattle.std.proofs.Common.{◌∙◌, ◌+◌, ◌<◌, List, ap, get_or, length, map, sym, subst, arith}
-use Rattle.std.specs.String.{string_bytes}
+use Rattle.std.proofs.lemmas.Grind.{common_steps}
 use Rattle.std.proofs.lemmas.List.Elements.{All-get_or}
 use Rattle.std.proofs.lemmas.Result.{err_from_is_err_and}
+use Rattle.std.specs.String.{string_bytes}
 use Rattle.hunk_objects.specs.UnitHunk.{ObjectHunk}
 use Rattle.hunk_tool.specs.Map.{map_from, map_lines}
 use Rattle.hunk_tool.specs.ObjectFiles.{IsShortHunk}
@@ -68,3 +69,19 @@ returns g c =
     let hunks = c.args.hunks.now in
     TextBegun-done g.W.Sink.taken g.W.Sink.failed c.args.writer.now c.loop-number.writer (map_from names first hunks (unit_origins (c.args.place, c.args.unit.now))) (unit_rest names first number hunks (c.args.place, c.args.unit.now))
     (unit_rest-none names first number hunks (c.args.place, c.args.unit.now) (omega (arith, c.loop-number-test.false, ap length c.hunks-hunk-items.ensures.value))) c.loop-number.invariant
+
+-- `grind` at once: `search`, which Rattle tries before it, is slow here
+pub offset_bounds-hunk-items-number : goal.offset_bounds-hunk-items-number
+offset_bounds-hunk-items-number g c = grind (arith, common_steps)
+
+pub bounds-hunk-items-number : goal.bounds-hunk-items-number
+bounds-hunk-items-number g c = grind (arith, common_steps)
+
+pub overflow_add-rank : goal.overflow_add-rank
+overflow_add-rank g c = grind (arith, common_steps)
+
+pub offset_bounds-hunks-number : goal.offset_bounds-hunks-number
+offset_bounds-hunks-number g c = grind (arith, common_steps)
+
+pub bounds-hunks-number : goal.bounds-hunks-number
+bounds-hunks-number g c = grind (arith, common_steps)

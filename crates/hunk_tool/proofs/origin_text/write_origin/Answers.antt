@@ -1,5 +1,6 @@
 -- What comes before, and then the file, the unit and the hunk.
-use Rattle.std.proofs.Common.{◌∙◌, [], List, ℕ, ap, map, refl, subst}
+use Rattle.std.proofs.Common.{◌∙◌, [], List, ℕ, ap, map, refl, subst, arith}
+use Rattle.std.proofs.lemmas.Grind.{common_steps}
 use Rattle.std.specs.Prelude.{slice_index_or}
 use Rattle.std.specs.Fmt.{decimal}
 use Rattle.std.specs.String.{string_bytes}
@@ -26,3 +27,10 @@ returns g c =
     (c.name-4.ensures ∙ ap quoted (c.bytes-2.ensures.value ∙ c.name-3.ensures ∙ ap (λ (o : Origin). o.hunk.name) c.origin.view_is)) in
     WroteText-then g.W.Sink.taken g.W.Sink.failed c.args.writer.now c.write_all.new.writer c.write_all-2.new.writer _ before (origin_end names origin) c.write_all-2.result refl c.in_ok-write_all.ensures
     (subst (λ (text : List ℕ). WroteText g.W.Sink.taken g.W.Sink.failed c.write_all.new.writer c.write_all-2.new.writer text c.write_all-2.result) same c.write_all-2.ensures)
+
+-- `grind` at once: `search`, which Rattle tries before it, is slow here
+pub returns-in_err-write_all : goal.returns-in_err-write_all
+returns-in_err-write_all g c = grind (arith, common_steps)
+
+pub name-requires-4 : goal.name-requires-4
+name-requires-4 g c = grind (arith, common_steps)

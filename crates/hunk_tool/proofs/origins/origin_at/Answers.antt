@@ -1,5 +1,6 @@
 -- The place and the unit of the index, and the hunk of the number.
-use Rattle.std.proofs.Common.{◌∙◌, List, ◌<◌, ap, get_or, length, sym, arith}
+use Rattle.std.proofs.Common.{◌∙◌, List, ◌<◌, ap, get_or, length, sym, arith, rules}
+use Rattle.std.proofs.lemmas.Grind.{common_steps}
 use Rattle.hunk_objects.specs.ProgramUnit.{ObjectUnit}
 use Rattle.hunk_objects.specs.UnitHunk.{ObjectHunk}
 use Rattle.hunk_tool.specs.ObjectFiles.{units_of}
@@ -44,3 +45,7 @@ returns g c =
     (c.in_ok-unit.ensures.lookup.3.1 unit ∙ ap (λ (us : List ObjectUnit). get_or us index unit) c.units.ensures.value)
     c.args.hunk own (omega (arith, c.in_ok-own.ensures.lookup.3.0, ap length c.hunks.ensures.value))
     (c.in_ok-own.ensures.lookup.3.1 own ∙ ap (λ (hs : List ObjectHunk). get_or hs c.args.hunk own) c.hunks.ensures.value))
+
+-- `grind` at once: `search`, which Rattle tries before it, is slow here
+pub returns-in_err-unit : goal.returns-in_err-unit
+returns-in_err-unit g c = grind (rules, arith, common_steps)

@@ -1,5 +1,6 @@
 -- One more hunk.
 use Rattle.std.proofs.Common.{◌≡◌, ◌∙◌, ◌+◌, ◌≤◌, ◌++◌, ◌∷◌, [], List, ap, append-nil, append_assoc, drop, get_or, length, sym, arith}
+use Rattle.std.proofs.lemmas.Grind.{common_steps}
 use Rattle.std.proofs.lemmas.List.{drop_all, drop_more, length-map}
 use Rattle.hunk_objects.specs.ProgramUnit.{ObjectUnit}
 use Rattle.hunk_objects.specs.UnitHunk.{ObjectHunk}
@@ -67,3 +68,10 @@ returns g c =
     let all = c.loop-index.all.items in
     let ended : length files ≤ c.loop-index.index = omega (arith, c.loop-index-test.false, ap length c.units-unit-items.ensures.value, length-map files unit) in
     sym (append-nil all) ∙ sym (ap (λ (us : List FileUnit). all ++ origins us) (drop_all c.loop-index.index files ended)) ∙ c.loop-index.invariant
+
+-- `grind` at once: `search`, which Rattle tries before it, is slow here
+pub bounds-places-index : goal.bounds-places-index
+bounds-places-index g c = grind (arith, common_steps)
+
+pub bounds-hunk-items-number : goal.bounds-hunk-items-number
+bounds-hunk-items-number g c = grind (arith, common_steps)

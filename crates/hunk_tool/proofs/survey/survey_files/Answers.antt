@@ -1,5 +1,6 @@
 -- The line about one more file was written.
-use Rattle.std.proofs.Common.{[], ◌∷◌, ◌∙◌, arith}
+use Rattle.std.proofs.Common.{[], ◌∷◌, ◌∙◌, arith, rules}
+use Rattle.std.proofs.lemmas.Grind.{common_steps}
 use Rattle.std.proofs.lemmas.List.{length-append}
 use Rattle.std.proofs.lemmas.List.Elements.{All-append, All-cons, All-nil}
 use Rattle.hunk_tool.specs.Survey.{IsOfFile}
@@ -18,3 +19,7 @@ loop-name-preserved g c =
       written = written-more c.args.names.now _ before found c.loop-name.name-index _ _ _ kept.one_each c.loop-name-test.true kept.written c.in-Ok-write_finding.ensures.wrote.1;
       same_failed = c.in-Ok-write_finding.ensures.wrote.2 ∙ kept.same_failed;
     })
+
+-- `grind` at once: `search`, which Rattle tries before it, is slow here
+pub returns-clause-ok : goal.returns-clause-ok
+returns-clause-ok g c = grind (rules, arith, common_steps)

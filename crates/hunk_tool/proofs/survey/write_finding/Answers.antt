@@ -1,5 +1,6 @@
 -- The name was written, and then the rest of the line.
-use Rattle.std.proofs.Common.{◌++◌}
+use Rattle.std.proofs.Common.{◌++◌, arith}
+use Rattle.std.proofs.lemmas.Grind.{common_steps}
 use Rattle.std.proofs.lemmas.Result.{err_from_is_err_and}
 use Rattle.hunk_base.proofs.StreamsWritingLemmas.{Wrote-stop, Wrote-then}
 use Rattle.hunk_text.specs.Printing.{line}
@@ -23,3 +24,7 @@ returns-clause-wrote g c =
     let whole = finding_line-split name rest c.args.finding c.phrases-first.ensures in
     Wrote-then g.W.Sink.taken g.W.Sink.failed c.args.writer.now c.write_all.new.writer c.write_line_end.new.writer (finding_line name c.args.finding) name rest 0 c.in_ok-written.written c.write_line_end.result whole
     (rw c.as_bytes.ensures.value at c.in_ok-written.ensures.wrote) c.write_line_end.ensures.wrote
+
+-- `grind` at once: `search`, which Rattle tries before it, is slow here
+pub write_line_end-requires : goal.write_line_end-requires
+write_line_end-requires g c = grind (arith, common_steps)

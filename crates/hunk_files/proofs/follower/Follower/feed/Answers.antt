@@ -1,5 +1,6 @@
 -- One more byte; an error stands for what follows.
 use Rattle.std.proofs.Common.{◌∙◌, ◌+◌, ◌++◌, take, drop, sym, subst, arith}
+use Rattle.std.proofs.lemmas.Grind.{common_steps}
 use Rattle.hunk_words.proofs.DecoderLemmas.{append-next, append-rest}
 use Rattle.hunk_files.specs.Follower.{StandsFor}
 use Rattle.hunk_files.proofs.FollowerLemmas.{StandsFor-append, StandsFor-bounded, StandsFor-refused}
@@ -31,3 +32,10 @@ returns-in-Some-clause-refused g c = λ bytes stands. StandsFor-refused _ _ c.ar
 
 pub returns-in-Err-clause-refused : goal.returns-in-Err-clause-refused
 returns-in-Err-clause-refused g c = λ bytes stands. StandsFor-refused _ _ c.push.new.self bytes c.in-Err.refusal c.in-Err.ensures.kept stands
+
+-- `grind` at once: `search`, which Rattle tries before it, is slow here
+pub loop-byte-init : goal.loop-byte-init
+loop-byte-init g c = grind (arith, common_steps)
+
+pub returns-clause-stands : goal.returns-clause-stands
+returns-clause-stands g c = grind (arith, common_steps)

@@ -1,4 +1,5 @@
-use Rattle.std.proofs.Common.{◌≡◌, ◌≢◌, ℕ, ◌+◌, ◌<◌, List, [], ◌∷◌, ◌++◌, length, get_or, take, drop, None, Ok, ap, sym, subst, ◌∙◌, append_assoc}
+use Rattle.std.proofs.Common.{◌≡◌, ◌≢◌, ℕ, ◌+◌, ◌<◌, List, [], ◌∷◌, ◌++◌, length, get_or, take, drop, None, Ok, ap, sym, subst, ◌∙◌, append_assoc, rules, arith}
+use Rattle.std.proofs.lemmas.Grind.{common_steps}
 use Rattle.std.proofs.lemmas.List.{append-nil, take_all}
 use Rattle.hunk_objects.specs.declared.unit_hunk.Definition.{Definition as UnitDefinition}
 use Rattle.hunk_link.specs.FirstToBreak.{IsFirstToBreak}
@@ -57,3 +58,7 @@ returns-clause-added g c = λ before is once.
     take_all _ _ c.loop-name-test.false ∙ c.definitions-name-items.ensures ∙ ap (λ (r : RankedHunk). r.hunk.definitions) c.ranked.view_is in
     let done = subst (λ own. IsTableOf (before ++ items_of (λ _. own) ranked) c.loop-name.self) all (c.loop-name.invariant before (record { entries_are = is; once = once })) in
     (done.entries_are, done.once)
+
+-- `grind` at once: `search`, which Rattle tries before it, is slow here
+pub overflow_add-defined : goal.overflow_add-defined
+overflow_add-defined g c = grind (rules, arith, common_steps)

@@ -1,5 +1,6 @@
 -- The hunk is kept if the hunks are placed.
-use Rattle.std.proofs.Common.{◌≡◌, ap, sym, subst, ◌+◌, None, Some, refl}
+use Rattle.std.proofs.Common.{◌≡◌, ap, sym, subst, ◌+◌, None, Some, refl, rules, arith}
+use Rattle.std.proofs.lemmas.Grind.{common_steps}
 use Rattle.hunk_loader.specs.ImageBuilder.{BuilderState}
 use Rattle.hunk_loader.specs.declared.placing.Placing.TheVariants.{Placed}
 use Rattle.hunk_loader.proofs.ImageBuilderHunkLemmas.{Closes, TakesEvent-end}
@@ -15,3 +16,7 @@ returns g c =
     ] in
     TakesEvent-end c.args.self.now c.match-self-2.self _ _ (subst (λ (m : BuilderState). m.current ≡ Some c.in-Some.field-0) c.self.view_is c.in-Some.is) closes
     (ap (λ (q : BuilderState). record q { current = None; ended = q.ended + 1 }) c.self-2.view_is)
+
+-- `grind` at once: `search`, which Rattle tries before it, is slow here
+pub returns-in-Err : goal.returns-in-Err
+returns-in-Err g c = grind (rules, arith, common_steps)

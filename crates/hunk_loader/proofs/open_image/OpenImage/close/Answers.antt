@@ -1,5 +1,6 @@
 -- The content, padded with zeros and patched.
-use Rattle.std.proofs.Common.{◌≡◌, ◌-◌, ◌++◌, List, ℕ, ap, drop, length, replicate, slice_index, subst, ◌∙◌}
+use Rattle.std.proofs.Common.{◌≡◌, ◌-◌, ◌++◌, List, ℕ, ap, drop, length, replicate, slice_index, subst, ◌∙◌, arith}
+use Rattle.std.proofs.lemmas.Grind.{common_steps}
 use Rattle.std.proofs.lemmas.List.{take_at}
 use Rattle.hunk_words.specs.PartialHunk.{HunkSoFar, filled_hunk}
 use Rattle.hunk_base.specs.Sites.{SiteMap}
@@ -22,3 +23,13 @@ returns-clause-loaded g c =
     take_at patched (drop (length patched) parts.result.0.items) parts.result.0.len (c.patch.auto.bytes ∙ c.deref_mut.ensures.len)
     ∙ subst (λ (hunk : CountedHunk). patched ≡ patched_bytes hunk.partial.sites.limit hunk.partial.content hunk.partial.sites.entries (slice_index bases)) c.self.view_is
     (patched_bytes-size bases partial.content buffer patched partial.sites.limit partial.sites.limit partial.sites.entries c.fill.ensures.fits c.fill.ensures.apart bytes at_sites)
+
+-- `grind` at once: `search`, which Rattle tries before it, is slow here
+pub invariant_of-self : goal.invariant_of-self
+invariant_of-self g c = grind (arith, common_steps)
+
+pub patch-requires-clause-inside : goal.patch-requires-clause-inside
+patch-requires-clause-inside g c = grind (arith, common_steps)
+
+pub invariant_of-self-2 : goal.invariant_of-self-2
+invariant_of-self-2 g c = grind (arith, common_steps)

@@ -1,4 +1,5 @@
 use Rattle.std.proofs.Common.{◌∙◌, ◌∷◌, ◌++◌, [], Some, ap, arith, subst, sym}
+use Rattle.std.proofs.lemmas.Grind.{common_steps}
 use Rattle.std.proofs.lemmas.Result.{IfOk-weaker}
 use Rattle.hunk_memory.specs.BasesFile.{StandsFor}
 use Rattle.hunk_memory.proofs.BasesFileLemmas.{no_digits, rejected, stands-separator}
@@ -16,3 +17,10 @@ pub returns-in_default-clause-rejected : goal.returns-in_default-clause-rejected
 returns-in_default-clause-rejected g c bytes stands rest =
     rejected c.args.self.now.bases.items c.args.self.now.digits bytes c.args.byte rest (sym c.is_separator.ensures ∙ c.if-is_separator.false) stands c.in_default.ensures
     ∙ ap Some (omega (arith, c.len.ensures))
+
+-- `grind` at once: `search`, which Rattle tries before it, is slow here
+pub returns-then-is_separator-clause-rejected : goal.returns-then-is_separator-clause-rejected
+returns-then-is_separator-clause-rejected g c = grind (arith, common_steps)
+
+pub returns-clause-stands : goal.returns-clause-stands
+returns-clause-stands g c = grind (arith, common_steps)

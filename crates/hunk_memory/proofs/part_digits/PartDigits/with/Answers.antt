@@ -1,4 +1,5 @@
 use Rattle.std.proofs.Common.{◌≡◌, ◌∙◌, ◌≤◌, ◌<◌, ◌^◌, ◌+◌, ◌*◌, ap, arith, refl, subst}
+use Rattle.std.proofs.lemmas.Grind.{common_steps}
 use Rattle.std.specs.Char.{digit_value}
 use Rattle.std.proofs.Math.Nat.{pow-le-pow_right}
 use Rattle.hunk_memory.proofs.PartDigitsLemmas.{AreDigits-push}
@@ -24,3 +25,13 @@ returns c = λ part are.
     let value : c.args.self.value * 16 + c.in_ok-digit.digit ≡ c.args.self.value * 16 + digit_value c.args.byte =
     ap (λ n. c.args.self.value * 16 + n) (c.in_ok-digit.ensures.value.1 ∙ ap digit_value c.from.ensures) in
     AreDigits-push c.args.self _ part c.args.byte small refl value are
+
+-- `grind` at once: `search`, which Rattle tries before it, is slow here
+pub returns-in_err-digit : goal.returns-in_err-digit
+returns-in_err-digit c = grind (arith, common_steps)
+
+pub returns-then-self-eq-MOST_DIGITS : goal.returns-then-self-eq-MOST_DIGITS
+returns-then-self-eq-MOST_DIGITS c = grind (arith, common_steps)
+
+pub invariant_of-result : goal.invariant_of-result
+invariant_of-result c = grind (arith, common_steps)

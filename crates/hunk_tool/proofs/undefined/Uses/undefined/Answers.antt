@@ -1,5 +1,6 @@
 -- One more hunk.
-use Rattle.std.proofs.Common.{◌∙◌, ap, not, sym, take}
+use Rattle.std.proofs.Common.{◌∙◌, ap, not, sym, take, arith}
+use Rattle.std.proofs.lemmas.Grind.{common_steps}
 use Rattle.std.proofs.lemmas.List.Elements.{filter-append}
 use Rattle.hunk_link.proofs.ItemsLemmas.{flat_map-more}
 use Rattle.hunk_tool.specs.DefinedNames.{is_defined}
@@ -14,3 +15,7 @@ loop-origin-preserved g c =
     let earlier = references (take index hunks) in
     c.in_ok-add_hunk.ensures (undefined hunks earlier) hunks c.loop-origin.invariant c.in_ok-defined.ensures
     ∙ ap uses_of (sym (ap (undefined hunks) (flat_map-more references_of hunks index origin c.loop-origin-test.true c.origin-item.is) ∙ filter-append (λ (r : Reference). not (is_defined r.0 hunks)) earlier (references_of origin)))
+
+-- `grind` at once: `search`, which Rattle tries before it, is slow here
+pub returns : goal.returns
+returns g c = grind (arith, common_steps)
