@@ -2,6 +2,7 @@
 //!
 //! - `answers`: what units link to is compared with what it is to be.
 //! - `asserts`: assertions as functions.
+//! - `callers`: the programs of `hunk_uses`, which link and load.
 //! - `cases`: files that link, by every call.
 //! - `choices`: how files may be linked.
 //! - `devices`: readers and writers that fail.
@@ -28,6 +29,7 @@
 
 mod answers;
 mod asserts;
+mod callers;
 mod cases;
 mod choices;
 mod devices;

@@ -1,6 +1,6 @@
-//! Tests of load files: from bytes to values and memory, and back.
+//! Tests of the format: names and sites, program units, and load files from bytes to values and memory, and back.
 //!
-//! - `tests`: files that are decoded, built, written and loaded, and the errors that they cause.
+//! - `tests`: what is read, built, written and loaded, and the errors that it causes.
 #![tactic(auto)]
 
 #[cfg(test)]

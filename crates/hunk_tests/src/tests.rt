@@ -1,4 +1,4 @@
-//! Load files from bytes to values and memory, by public calls only.
+//! The parts of files, object files and load files, by public calls only.
 //!
 //! - `asserts`: assertions as functions.
 //! - `builds`: hunks that make a load file, and hunks that don't.
@@ -7,10 +7,16 @@
 //! - `loaded`: load files in memory.
 //! - `loading`: load files that are made of hunks, in memory.
 //! - `made`: load files that are made of plain values.
+//! - `names`: names from longwords and as longwords.
+//! - `partial_hunks`: content and sites of a hunk as they come.
 //! - `parts`: each part of a load file, as it is written.
 //! - `places`: addresses of hunks.
 //! - `short_form`: load files with relocations in 16-bit words, as they are written.
+//! - `site_allocations`: sites that are added while allocations fail.
+//! - `sites`: sites that touch, overlap and stand outside.
 //! - `trimmed`: load files without the zeros at the end of contents.
+//! - `unit_values`: the expected units of an object file.
+//! - `units`: program units, as they are read.
 //! - `values`: the expected hunks of a load file.
 //! - `written`: load files that are written.
 
@@ -21,9 +27,15 @@ mod growths;
 mod loaded;
 mod loading;
 mod made;
+mod names;
+mod partial_hunks;
 mod parts;
 mod places;
 mod short_form;
+mod site_allocations;
+mod sites;
 mod trimmed;
+mod unit_values;
+mod units;
 mod values;
 mod written;

@@ -8,5 +8,3 @@
 pub mod assembler;
 pub mod debugger;
 pub mod emulator;
-#[cfg(test)]
-mod tests;

@@ -27,22 +27,25 @@ fn is_told(
 }
 
 #[test]
-fn tells_each_failure_in_a_line(rt: HostRuntime) -> Result<(), Fail> {
+fn tells_which_part_is_no_address(rt: HostRuntime) -> Result<(), Fail> {
     let alloc = rt.alloc();
     let part = "amihunk: --at: part 1 is not 1 to 8 hexadecimal digits\n";
-    let addresses = Addresses::List("0,x");
     let rejected = Failure::BadNumber {
-        addresses,
+        addresses: Addresses::List("0,x"),
         index: 1,
     };
     is_told(&rt, alloc, &rejected, part, 2)?;
     let part = "amihunk: y: part 20 is not 1 to 8 hexadecimal digits\n";
-    let addresses = Addresses::File("y");
     let rejected = Failure::BadNumber {
-        addresses,
+        addresses: Addresses::File("y"),
         index: 20,
     };
-    is_told(&rt, alloc, &rejected, part, 2)?;
+    is_told(&rt, alloc, &rejected, part, 2)
+}
+
+#[test]
+fn names_the_file_that_failed(rt: HostRuntime) -> Result<(), Fail> {
+    let alloc = rt.alloc();
     let opening = "amihunk: x: cannot be opened\n";
     is_told(&rt, alloc, &Failure::Opening("x"), opening, 3)?;
     let reading = "amihunk: y: read failed\n";
@@ -50,7 +53,12 @@ fn tells_each_failure_in_a_line(rt: HostRuntime) -> Result<(), Fail> {
     let writing = "amihunk: y: write failed\n";
     is_told(&rt, alloc, &Failure::Writing("y"), writing, 3)?;
     let one_file = "amihunk: y: given for both --out and --map\n";
-    is_told(&rt, alloc, &Failure::SameFile("y"), one_file, 2)?;
+    is_told(&rt, alloc, &Failure::SameFile("y"), one_file, 2)
+}
+
+#[test]
+fn tells_the_failures_of_output_input_and_memory(rt: HostRuntime) -> Result<(), Fail> {
+    let alloc = rt.alloc();
     let printing = "amihunk: output: write failed\n";
     is_told(&rt, alloc, &Failure::Printing, printing, 3)?;
     let unread = Failure::Tool(ToolFault::InputDevice { file: 0 });

@@ -98,12 +98,17 @@ fn inputs_of(alloc: Global, row: &Row) -> Result<[Pieces; 2], AllocError> {
     ])
 }
 
-// The files of a row.
-fn files_of(rt: &impl Abort, alloc: Global, row: &Row) -> Result<ObjectFiles, Fail> {
-    match read_object_files(alloc, &mut inputs_of(alloc, row)?) {
-        Ok(files) => Ok(files),
+// What is read of these files.
+fn read(rt: &impl Abort, alloc: Global, inputs: &mut [Pieces]) -> ObjectFiles {
+    match read_object_files(alloc, inputs) {
+        Ok(files) => files,
         Err(fault) => panic!(rt; "{fault:?}"),
     }
+}
+
+// The files of a row.
+fn files_of(rt: &impl Abort, alloc: Global, row: &Row) -> Result<ObjectFiles, Fail> {
+    Ok(read(rt, alloc, &mut inputs_of(alloc, row)?))
 }
 
 // Why the units of these files do not link.
@@ -114,8 +119,25 @@ fn refusal_of(rt: &impl Abort, alloc: Global, files: &ObjectFiles) -> LinkRefusa
     }
 }
 
-// Whether this is told of the files of a row, to a writer with this room that takes at most `most`
-// bytes per write.
+// What is told of files whose units do not link, to a writer with this room that takes at most `most`
+// bytes per write, and what the call returns.
+fn told_of(
+    rt: &impl Abort,
+    alloc: Global,
+    files: &ObjectFiles,
+    names: &[String],
+    room: usize,
+    most: usize,
+) -> Result<(Room, Result<(), DeviceFault>), Fail> {
+    assert!(rt; 1 <= most);
+    let refusal = refusal_of(rt, alloc, files);
+    let explanation = explain_link(alloc, files, &refusal)?;
+    let mut writer = Room::new(alloc, most, room, false)?;
+    let got = write_link_explanation(&explanation, names, &mut writer);
+    Ok((writer, got))
+}
+
+// Whether this is told of the files of a row, to such a writer.
 fn is_told(
     rt: &impl Abort,
     alloc: Global,
@@ -124,21 +146,12 @@ fn is_told(
     most: usize,
     wanted: Result<(), DeviceFault>,
 ) -> Result<(), Fail> {
-    assert!(rt; 1 <= most);
     let files = files_of(rt, alloc, row)?;
-    let refusal = refusal_of(rt, alloc, &files);
-    let explanation = explain_link(alloc, &files, &refusal)?;
-    let mut writer = Room::new(alloc, most, room, false)?;
-    let got = write_link_explanation(&explanation, &names_of(alloc, row)?, &mut writer);
-    let text = row.6;
-    let length = room.min(text.len());
-    equals_at(rt, &(text, room, most), got, wanted);
-    equals_at(
-        rt,
-        &(text, room, most),
-        writer.bytes(),
-        &text.as_bytes()[..length],
-    );
+    let (writer, got) = told_of(rt, alloc, &files, &names_of(alloc, row)?, room, most)?;
+    let told = row.6.as_bytes();
+    let length = room.min(told.len());
+    equals_at(rt, &(row.6, room, most), got, wanted);
+    equals_at(rt, &(row.6, room, most), writer.bytes(), &told[..length]);
     Ok(())
 }
 
@@ -248,21 +261,19 @@ static MANY: [(u32, u32, &str); 4] = [
     (112, 100, "  and 12 more\n"),
 ];
 
+// The file of such a unit.
+fn file_of(rt: &impl Abort, alloc: Global, count: u32) -> Result<ObjectFiles, Fail> {
+    let bytes = bytes_of(alloc, &refers_to(alloc, count)?, &[])?;
+    Ok(read(rt, alloc, &mut [Pieces::new(bytes, 64, None)]))
+}
+
 #[test]
 fn tells_at_most_a_hundred_names(rt: HostRuntime) -> Result<(), Fail> {
     let alloc = rt.alloc();
+    let names = [String::from_str(alloc, "many.o")?];
     for (count, told, rest) in &MANY {
-        let bytes = bytes_of(alloc, &refers_to(alloc, *count)?, &[])?;
-        let mut inputs = [Pieces::new(bytes, 64, None)];
-        let files = match read_object_files(alloc, &mut inputs) {
-            Ok(files) => files,
-            Err(fault) => panic!(rt; "{fault:?}"),
-        };
-        let refusal = refusal_of(&rt, alloc, &files);
-        let explanation = explain_link(alloc, &files, &refusal)?;
-        let names = [String::from_str(alloc, "many.o")?];
-        let mut writer = Room::new(alloc, 64, 16384, false)?;
-        let got = write_link_explanation(&explanation, &names, &mut writer);
+        let files = file_of(&rt, alloc, *count)?;
+        let (writer, got) = told_of(&rt, alloc, &files, &names, 16384, 64)?;
         let text = text_of(alloc, *told, rest)?;
         equals_at(&rt, count, got, Ok(()));
         equals_at(&rt, count, writer.bytes(), text.as_slice());

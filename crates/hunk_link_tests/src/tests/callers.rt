@@ -1,11 +1,12 @@
-//! Each caller on files whose bytes are written by hand.
+//! An emulator, an assembler and a debugger, on files whose bytes are written by hand.
 
-use crate::assembler::link_objects;
-use crate::debugger::{dump, longword_at};
-use crate::emulator::load_program;
+use super::asserts::{equals, equals_at};
 use hunk_link::LinkRefusal;
 use hunk_loader::{ImageFault, LoadRefusal, PlaceFault};
 use hunk_tool::ToolFault;
+use hunk_uses::assembler::link_objects;
+use hunk_uses::debugger::{dump, longword_at};
+use hunk_uses::emulator::load_program;
 use hunk_words::{Fault, Pieces, Reason};
 use linked_list_allocator::LocalHeap;
 use std::alloc::Global;
@@ -23,6 +24,12 @@ const DEFINES: &[u8] =
 /// The load file of the two: two hunks of two longwords each.
 const PROGRAM: &[u8] =
     b"\x00\x00\x03\xF3\x00\x00\x00\x00\x00\x00\x00\x02\x00\x00\x00\x00\x00\x00\x00\x01\x00\x00\x00\x02\x00\x00\x00\x02\x00\x00\x03\xE9\x00\x00\x00\x02\x4E\xB9\x00\x00\x00\x04\x4E\x75\x00\x00\x03\xEC\x00\x00\x00\x01\x00\x00\x00\x01\x00\x00\x00\x02\x00\x00\x00\x00\x00\x00\x03\xF2\x00\x00\x03\xE9\x00\x00\x00\x02\x4E\x71\x4E\x71\x4E\x75\x4E\x71\x00\x00\x03\xF2";
+
+/// The memory of its hunks from address 1000 on, in hexadecimal: their bases and bytes.
+static MEMORY: [(u32, &[u8]); 2] = [
+    (0x1000, b"\x4E\xB9\x00\x00\x10\x0C\x4E\x75"),
+    (0x1008, b"\x4E\x71\x4E\x71\x4E\x75\x4E\x71"),
+];
 
 /// An object file whose hunk has a symbol, `foo`.
 const LABELLED: &[u8] =
@@ -44,21 +51,15 @@ fn a_program_is_loaded_from_a_disk(rt: HostRuntime) -> Result<(), Fail> {
     let mut disk = Pieces::new(PROGRAM.to_vec(rt.alloc())?, SECTOR, None);
     let image = load_program(&budget, &mut disk, 0x1000)?;
     let hunks = image.hunks();
-    assert_eq!(rt; hunks.len(), 2);
-    assert_eq!(rt; hunks[0].0, 0x1000);
-    assert_eq!(rt;
-        hunks[0].1.as_slice(),
-        b"\x4E\xB9\x00\x00\x10\x0C\x4E\x75".as_slice()
-    );
-    assert_eq!(rt; hunks[1].0, 0x1008);
-    assert_eq!(rt;
-        hunks[1].1.as_slice(),
-        b"\x4E\x71\x4E\x71\x4E\x75\x4E\x71".as_slice()
-    );
+    equals(&rt, hunks.len(), MEMORY.len());
+    for ((base, bytes), (wanted, content)) in hunks.iter().zip(&MEMORY) {
+        equals(&rt, *base, *wanted);
+        equals_at(&rt, base, bytes.as_slice(), *content);
+    }
     Ok(())
 }
 
-/// Checks that a disk with these bytes, whose read with the number `fails_at` fails, is refused.
+/// Checks that a disk with these bytes, whose read with the number beside them fails, is refused.
 fn is_refused(
     rt: &impl Abort,
     alloc: Global,
@@ -69,7 +70,11 @@ fn is_refused(
 ) -> Result<(), Fail> {
     let budget = LocalHeap::new(alloc, budget)?;
     let mut disk = Pieces::new(disk.0.to_vec(alloc)?, SECTOR, disk.1);
-    assert_eq!(rt; load_program(&budget, &mut disk, first).err(), Some(fault));
+    equals(
+        rt,
+        load_program(&budget, &mut disk, first).err(),
+        Some(fault),
+    );
     Ok(())
 }
 
@@ -99,7 +104,7 @@ fn a_refusal_says_what_is_wrong(rt: HostRuntime) -> Result<(), Fail> {
 fn two_object_files_are_linked_in_memory(rt: HostRuntime) -> Result<(), Fail> {
     let alloc = rt.alloc();
     let objects = [CALLS.to_vec(alloc)?, DEFINES.to_vec(alloc)?];
-    assert_eq!(rt; link_objects(alloc, &objects)?.as_slice(), PROGRAM);
+    equals(&rt, link_objects(alloc, &objects)?.as_slice(), PROGRAM);
     Ok(())
 }
 
@@ -107,7 +112,11 @@ fn two_object_files_are_linked_in_memory(rt: HostRuntime) -> Result<(), Fail> {
 fn symbols_are_linked_too(rt: HostRuntime) -> Result<(), Fail> {
     let alloc = rt.alloc();
     let objects = [LABELLED.to_vec(alloc)?];
-    assert_eq!(rt; link_objects(alloc, &objects)?.as_slice(), LABELLED_PROGRAM);
+    equals(
+        &rt,
+        link_objects(alloc, &objects)?.as_slice(),
+        LABELLED_PROGRAM,
+    );
     Ok(())
 }
 
@@ -117,8 +126,8 @@ fn files_that_do_not_link_are_told(rt: HostRuntime) -> Result<(), Fail> {
     let undefined = [CALLS.to_vec(alloc)?];
     match link_objects(alloc, &undefined) {
         Err(ToolFault::Link(LinkRefusal::UndefinedName { unit, hunk, name })) => {
-            assert_eq!(rt; (unit, hunk), (0, 0));
-            assert_eq!(rt; name.bytes(), b"foo".as_slice());
+            equals(&rt, (unit, hunk), (0, 0));
+            equals(&rt, name.bytes(), b"foo");
         }
         _ => return Err(Fail::from("linked")),
     }
@@ -127,13 +136,11 @@ fn files_that_do_not_link_are_told(rt: HostRuntime) -> Result<(), Fail> {
         reason: Reason::WrongStart,
     };
     let mixed = [CALLS.to_vec(alloc)?, PROGRAM.to_vec(alloc)?];
-    assert_eq!(rt;
-        link_objects(alloc, &mixed),
-        Err(ToolFault::Input {
-            file: 1,
-            fault: wrong
-        })
-    );
+    let refused = ToolFault::Input {
+        file: 1,
+        fault: wrong,
+    };
+    equals(&rt, link_objects(alloc, &mixed).err(), Some(refused));
     Ok(())
 }
 
@@ -143,11 +150,12 @@ fn memory_is_shown_where_hunks_lie(rt: HostRuntime) -> Result<(), Fail> {
     let budget = LocalHeap::new(alloc, BUDGET)?;
     let mut disk = Pieces::new(PROGRAM.to_vec(alloc)?, SECTOR, None);
     let image = load_program(&budget, &mut disk, 0x1000)?;
-    assert_eq!(rt; longword_at(&image, 0x1002), Some(0x0000_100C));
-    assert_eq!(rt; longword_at(&image, 0x1006), Some(0x4E75_4E71));
-    assert_eq!(rt; longword_at(&image, 0x100D), None);
-    assert_eq!(rt; longword_at(&image, 0xFFFF_FFFE), None);
+    equals(&rt, longword_at(&image, 0x1002), Some(0x0000_100C));
+    equals(&rt, longword_at(&image, 0x1006), Some(0x4E75_4E71));
+    equals(&rt, longword_at(&image, 0x100D), None);
+    equals(&rt, longword_at(&image, 0xFFFF_FFFE), None);
     let shown = dump(alloc, &image, 0x100E..0x1011)?;
-    assert_eq!(rt; shown.as_slice(), [Some(0x4E), Some(0x71), None].as_slice());
+    let wanted = [Some(0x4E), Some(0x71), None];
+    equals(&rt, shown.as_slice(), wanted.as_slice());
     Ok(())
 }
