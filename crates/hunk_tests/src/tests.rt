@@ -3,6 +3,7 @@
 //! - `asserts`: assertions as functions.
 //! - `builds`: hunks that make a load file, and hunks that don't.
 //! - `decoded`: load files as values.
+//! - `failed_reads`: reads of object files and load files that fail.
 //! - `growths`: allocations that fail in the calls on load files.
 //! - `loaded`: load files in memory.
 //! - `loading`: load files that are made of hunks, in memory.
@@ -23,6 +24,7 @@
 mod asserts;
 mod builds;
 mod decoded;
+mod failed_reads;
 mod growths;
 mod loaded;
 mod loading;

@@ -1,12 +1,12 @@
 //! Load files as values, as they are read.
 
-use super::asserts::{equals, equals_at};
+use super::asserts::equals;
 use super::values::{EMPTY, Hunk, SCATTERED_HUNKS, has_hunks};
 use hunk_loadfile::{HunkKind, LoadDecoder, LoadFile, Memory, read_load};
 use hunk_test_support::load_words::{THREE_HUNKS, TWO_HUNKS, ZEROS};
 use hunk_test_support::words::{SCATTERED, SHORT, WRITTEN};
 use hunk_test_support::{CHUNKS, FILE, bytes_of};
-use hunk_words::{Pieces, ReadFault, Refusal, Source};
+use hunk_words::{Pieces, Refusal};
 use std::alloc::{AllocError, Global};
 use std::process::Abort;
 use std::test::Fail;
@@ -154,32 +154,4 @@ fn reads_each_kind_and_memory(rt: HostRuntime) -> Result<(), Fail> {
     is_decoded(&rt, rt.alloc(), &fast, &[DATA_HUNK])?;
     is_decoded(&rt, rt.alloc(), &ZEROS, &[ZEROS_HUNK])?;
     is_decoded(&rt, rt.alloc(), &THREE_HUNKS, &THREE)
-}
-
-// Reads the file, at most `chunk` bytes per read. The read with this number fails, if it comes.
-fn fails_to_read(
-    rt: &impl Abort,
-    alloc: Global,
-    chunk: usize,
-    number: u64,
-    fails: bool,
-) -> Result<(), Fail> {
-    assert!(rt; 1 <= chunk);
-    let mut reader = Pieces::new(bytes_of(alloc, &FILE, &[])?, chunk, Some(number));
-    let fault = read_load(alloc, &mut reader).err();
-    let got = (fault, Source::failed(&reader), Source::ended(&reader));
-    let wanted = (fails.then_some(ReadFault::Device), fails, !fails);
-    equals_at(rt, &("read", number, "of", chunk), got, wanted);
-    Ok(())
-}
-
-// Each read fails in turn, including the one that would report the end.
-#[test]
-fn tells_a_read_of_a_load_file_that_failed(rt: HostRuntime) -> Result<(), Fail> {
-    for (chunk, reads) in [(64, 2), (1, 41), (3, 15), (5, 9)] {
-        for number in 0..=reads {
-            fails_to_read(&rt, rt.alloc(), chunk, number, number < reads)?;
-        }
-    }
-    Ok(())
 }

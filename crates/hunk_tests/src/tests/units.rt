@@ -7,7 +7,7 @@ use hunk_test_support::words::{
     ADDRESS, ASSEMBLED, CHIP, DEFINES, DEFINES_LONGER, REFERS, TWO_NAMES,
 };
 use hunk_test_support::{CHUNKS, LATER_PIECES, ROOM, Refusing, bytes_of};
-use hunk_words::{Fault, Pieces, ReadFault, Reason, Refusal, Source};
+use hunk_words::{Fault, Pieces, ReadFault, Reason, Refusal};
 use linked_list_allocator::LocalHeap;
 use std::alloc::{Allocator, Global};
 use std::process::Abort;
@@ -336,34 +336,6 @@ fn refuses_each_growth_of_an_object_file(rt: HostRuntime) -> Result<(), Fail> {
     refuses_each_growth_of(&rt, rt.alloc(), &ASSEMBLED, &[ASSEMBLED_UNIT], 10)?;
     // units, hunks, content, sites, references, and a name
     refuses_each_growth_of(&rt, rt.alloc(), &REFERS, &[REFERS_UNIT], 6)
-}
-
-// Reads the file, at most `chunk` bytes per read. The read with this number fails, if it comes.
-fn fails_to_read(
-    rt: &impl Abort,
-    alloc: Global,
-    chunk: usize,
-    number: u64,
-    fails: bool,
-) -> Result<(), Fail> {
-    assert!(rt; 1 <= chunk);
-    let mut reader = Pieces::new(bytes_of(alloc, &REFERS, &[])?, chunk, Some(number));
-    let fault = read_object(alloc, &mut reader).err();
-    let got = (fault, Source::failed(&reader), Source::ended(&reader));
-    let wanted = (fails.then_some(ReadFault::Device), fails, !fails);
-    equals_at(rt, &("read", number, "of", chunk), got, wanted);
-    Ok(())
-}
-
-// Each read fails in turn, including the one that would report the end.
-#[test]
-fn tells_a_read_of_an_object_file_that_failed(rt: HostRuntime) -> Result<(), Fail> {
-    for (chunk, reads) in [(64, 2), (1, 53), (3, 19), (5, 12)] {
-        for number in 0..=reads {
-            fails_to_read(&rt, rt.alloc(), chunk, number, number < reads)?;
-        }
-    }
-    Ok(())
 }
 
 // A number in the file reserves no memory.
