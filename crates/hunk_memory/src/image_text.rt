@@ -14,8 +14,13 @@ use hunk_words::{Sink, WriteFault, write_all};
 use std::alloc::Allocator;
 
 /// Writes an image with these hunks in this form: each is a base, which is an address, and bytes,
-/// the last of which has an address too. A report has every hunk, even an empty one. Does not
-/// allocate.
+/// the last of which has an address too. A report has every hunk, even an empty one. It does not
+/// allocate, and does not flush.
+///
+/// # Errors
+///
+/// [`WriteFault::Device`] if a write failed or took no byte, with the number of bytes of the text
+/// that were written.
 pub fn write_image<A: Allocator, W: Sink>(
     form: ImageForm,
     hunks: &[(u32, Vec<u8, A>)],

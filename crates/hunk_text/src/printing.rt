@@ -9,7 +9,12 @@ use crate::phrase::Phrase;
 use hunk_words::{Sink, WriteFault, write_all};
 
 /// Writes these pieces, one after another, of a text of which `written` bytes have been written,
-/// and returns the number of bytes written after that.
+/// and returns the number of bytes written after that. It does not allocate.
+///
+/// # Errors
+///
+/// [`WriteFault::Device`] if a write failed or took no byte, with the number of bytes of the text
+/// that were written.
 pub fn write_pieces<W: Sink>(
     writer: &mut W,
     written: u64,

@@ -47,7 +47,14 @@ pub fn write_quoted<W: Sink>(writer: &mut W, written: u64, name: &[u8]) -> Resul
     write_all(writer, written, block.as_slice())
 }
 
-/// Writes these pieces of a text, then a name between double quotes, then the pieces after it.
+/// Writes these pieces of a text, then a name between double quotes as [`write_quoted`] does, then
+/// the pieces after it. `written` bytes of the text have been written before; returns the number of
+/// bytes written after that. It does not allocate.
+///
+/// # Errors
+///
+/// [`WriteFault::Device`] if a write failed or took no byte, with the number of bytes of the text
+/// that were written.
 pub fn write_around_name<W: Sink>(
     writer: &mut W,
     written: u64,

@@ -60,7 +60,7 @@ pub use hunk_files::{
 };
 pub use hunk_loader::PlaceFault;
 pub use hunk_memory::{
-    BasesFault, BasesFileFault, ImageForm, parse_bases, read_bases, write_places,
+    BasesFault, BasesFileFault, ImageForm, parse_bases, read_bases, write_image, write_places,
 };
 pub use hunk_text::Phrase;
 pub use image::{image_run, image_run_with};
