@@ -1,6 +1,6 @@
 //! The command line that the program accepts, as `clap` is told of it.
 ghost use Rattle.std.specs.Prelude.{◌≡◌, IfOk, codes, false};
-ghost use Rattle.clap.specs.Words.{app_of, rule_of, shape_of};
+ghost use Rattle.clap.specs.Words.{Shape, app_of, rule_of, shape_of, with_subcommand};
 ghost use Rattle.clap.specs.declared.builder.command.Command.TheViews.{out-Command};
 ghost use Rattle.amihunk.specs.Syntax.{check_shape, explain_rule, file_rule, files_rule, flag_rule, given_addresses, image_shape, line_of};
 ghost use Rattle.amihunk.specs.Syntax.{link_shape, load_shape, option_rule, out_rule, show_shape, survey_shape, with_new_rule};
@@ -34,17 +34,28 @@ pub const PRESENT: Edition = Edition {
 pub fn command<'a>(alloc: Global, edition: Edition) -> Result<Command<'a>, AllocError>
     ensures { IfOk result (λ c. app_of c ≡ line_of edition) }
 {
-    Command::new(alloc, "amihunk")
+    let bare = Command::new(alloc, "amihunk")
         .about("An Amiga hunk linker and loader")
         .version(VERSION)
         .disable_help_subcommand(true)
-        .subcommand_required(true)
-        .subcommand(link_command(alloc, edition)?)?
-        .subcommand(load_command(alloc, edition)?)?
-        .subcommand(image_command(alloc, edition)?)?
-        .subcommand(check_command(alloc, edition)?)?
-        .subcommand(show_command(alloc, edition)?)?
-        .subcommand(survey_command(alloc)?)
+        .subcommand_required(true);
+    let links = with_subcommand(bare, link_command(alloc, edition))?;
+    let loads = with_subcommand(links, load_command(alloc, edition))?;
+    let images = with_subcommand(loads, image_command(alloc, edition))?;
+    let checks = with_subcommand(images, check_command(alloc, edition))?;
+    let shows = with_subcommand(checks, show_command(alloc, edition))?;
+    with_subcommand(shows, survey_command(alloc))
+}
+
+/// A command with a subcommand, if that could be made.
+fn with_subcommand<'a>(
+    command: Command<'a>,
+    subcommand: Result<Command<'a>, AllocError>,
+) -> Result<Command<'a>, AllocError>
+    requires { IfOk subcommand (λ s. (out-Command s).has_globals ≡ false) }
+    ensures { (shape : Shape) → IfOk subcommand.entry (λ s. shape_of s ≡ shape) → IfOk result (λ c. app_of c ≡ with_subcommand (app_of command.entry) shape) }
+{
+    command.subcommand(subcommand?)
 }
 
 /// The subcommand `link --out OUT [--map MAP] [--strip] [--short] [--trim] [--explain] FILE...`, where

@@ -4,7 +4,7 @@ ghost use Rattle.amihunk_c.specs.Loading.{FeedsLoader, FinishesLoader};
 use crate::answer::Answer;
 use crate::codes::Status;
 use crate::refused::Refused;
-use crate::session::{Session, keep, refuse};
+use crate::session::{Session, keep, refuse, set};
 use core::mem::replace;
 
 /// Feeds the next bytes of a load file.
@@ -33,7 +33,7 @@ pub(crate) fn finish_loader(session: &mut Session) -> Answer
         },
         Session::Stopped(refused) => refuse(session, refused),
         other => {
-            *session = other;
+            set(session, other);
             Answer::plain(Status::WrongState)
         }
     }

@@ -24,12 +24,19 @@ pub enum Session {
     Stopped(Refused),
 }
 
+/// Puts a session in the place of another.
+pub(crate) fn set(session: &mut Session, next: Session)
+    ensures { session.new ≡ next }
+{
+    *session = next;
+}
+
 /// Goes on to the next stage.
 pub(crate) fn keep(session: &mut Session, next: Session) -> Answer
     ensures session { session.new ≡ next }
     ensures answer { result ≡ plain_answer Status.Ok }
 {
-    *session = next;
+    set(session, next);
     Answer::plain(Status::Ok)
 }
 
@@ -39,6 +46,6 @@ pub(crate) fn refuse(session: &mut Session, refused: Refused) -> Answer
     ensures answer { result ≡ refused.answer }
 {
     let answer = refused.answer;
-    *session = Session::Stopped(refused);
+    set(session, Session::Stopped(refused));
     answer
 }
