@@ -55,6 +55,7 @@ fn with_subcommand<'a>(
     requires { IfOk subcommand (λ s. (out-Command s).has_globals ≡ false) }
     ensures { (shape : Shape) → IfOk subcommand.entry (λ s. shape_of s ≡ shape) → IfOk result (λ c. app_of c ≡ with_subcommand (app_of command.entry) shape) }
 {
+    // A call of its own, so that it is proved once that the command is dropped where there is no subcommand.
     command.subcommand(subcommand?)
 }
 

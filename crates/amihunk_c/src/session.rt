@@ -28,6 +28,7 @@ pub enum Session {
 pub(crate) fn set(session: &mut Session, next: Session)
     ensures { session.new ≡ next }
 {
+    // A call of its own, so that it is proved once that the session before is dropped.
     *session = next;
 }
 
