@@ -6,6 +6,8 @@
 //! - `failures`: the line of each failure, and its status.
 //! - `images`: the report of object files.
 //! - `inputs`: files that are open at once.
+//! - `json_load`, `json_object`: load files and object files as JSON values and texts.
+//! - `json_runs`: files of either kind as JSON, from readers to writers.
 //! - `links`: the load file of object files.
 //! - `loads`: the report and the symbols of a load file.
 //! - `maps`: the load file of object files, and its map.
@@ -20,6 +22,9 @@ mod explanations;
 mod failures;
 mod images;
 mod inputs;
+mod json_load;
+mod json_object;
+mod json_runs;
 mod links;
 mod loads;
 mod maps;

@@ -1,7 +1,7 @@
-//! Files of either kind, from readers to writers.
+//! Files of either kind as JSON, from readers to writers.
 
-use super::asserts::ends_at;
-use super::{load, object};
+use super::asserts::equals_at;
+use super::{json_load, json_object};
 use hunk_json::json_run;
 use hunk_test_support::{CHUNKS, bytes_of};
 use hunk_tool::ToolFault;
@@ -50,7 +50,8 @@ fn is_run(
     let mut reader = Pieces::new(bytes, devices.chunk, devices.failing);
     let mut writer = Room::new(alloc, devices.chunk, devices.room, false)?;
     let got = json_run(alloc, &mut reader, &mut writer);
-    ends_at(rt, words.len(), got, wanted, writer.bytes(), text);
+    equals_at(rt, &words.len(), got, wanted);
+    equals_at(rt, &words.len(), writer.bytes(), text);
     Ok(())
 }
 
@@ -67,10 +68,10 @@ fn is_written(rt: &impl Abort, alloc: Global, words: &[u32], text: &str) -> Resu
 
 #[test]
 fn writes_files_of_either_kind(rt: HostRuntime) -> Result<(), Fail> {
-    for (words, text) in &load::FILES {
+    for (words, text) in &json_load::FILES {
         is_written(&rt, rt.alloc(), words, text)?;
     }
-    for (words, text) in &object::FILES {
+    for (words, text) in &json_object::FILES {
         is_written(&rt, rt.alloc(), words, text)?;
     }
     is_run(&rt, rt.alloc(), WHOLE, &NAMED, Ok(()), LINE)

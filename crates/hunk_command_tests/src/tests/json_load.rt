@@ -1,4 +1,4 @@
-//! Load files: their texts, written by hand.
+//! Load files as JSON values and texts, written by hand.
 
 use super::asserts::equals_at;
 use hunk_json::{load_json, load_json_text};
@@ -51,7 +51,7 @@ fn writes_load_files(rt: HostRuntime) -> Result<(), Fail> {
     for (row, (words, wanted)) in FILES.iter().enumerate() {
         let file = file_of(rt.alloc(), words)?;
         let text = text_of(rt.alloc(), &file)?;
-        equals_at(&rt, row, text.as_str(), wanted);
+        equals_at(&rt, &row, text.as_str(), *wanted);
     }
     Ok(())
 }
@@ -61,7 +61,7 @@ fn gives_load_files_as_values(rt: HostRuntime) -> Result<(), Fail> {
     for (row, (words, wanted)) in FILES.iter().enumerate() {
         let value = load_json(rt.alloc(), &file_of(rt.alloc(), words)?)?;
         let text = value.to_string(rt.alloc())?;
-        equals_at(&rt, row, text.as_str(), wanted);
+        equals_at(&rt, &row, text.as_str(), *wanted);
     }
     Ok(())
 }

@@ -1,4 +1,4 @@
-//! Object files: their texts, written by hand.
+//! Object files as JSON values and texts, written by hand.
 
 use super::asserts::equals_at;
 use hunk_json::{object_json, object_json_text};
@@ -79,7 +79,7 @@ fn writes_object_files(rt: HostRuntime) -> Result<(), Fail> {
     for (row, (words, wanted)) in FILES.iter().enumerate() {
         let units = units_of(rt.alloc(), words)?;
         let text = text_of(rt.alloc(), &units)?;
-        equals_at(&rt, row, text.as_str(), wanted);
+        equals_at(&rt, &row, text.as_str(), *wanted);
     }
     Ok(())
 }
@@ -89,7 +89,7 @@ fn gives_object_files_as_values(rt: HostRuntime) -> Result<(), Fail> {
     for (row, (words, wanted)) in FILES.iter().enumerate() {
         let value = object_json(rt.alloc(), &units_of(rt.alloc(), words)?)?;
         let text = value.to_string(rt.alloc())?;
-        equals_at(&rt, row, text.as_str(), wanted);
+        equals_at(&rt, &row, text.as_str(), *wanted);
     }
     Ok(())
 }
