@@ -1,9 +1,8 @@
 //! What the scripts in bench/ measure. The first argument says what:
 //!
 //! - `decode`: the decoder compared with a plain sum of the same longwords.
-//! - `read-file FILE`, `decode-file FILE`, `decode-object FILE`, `load-file FILE`: a file read to
-//!   its end by nothing else, by the decoder of load files, by that of object files, by
-//!   `ImageLoader`.
+//! - `decode-file FILE`, `decode-object FILE`, `load-file FILE`: a file read to its end by the
+//!   decoder of load files, by that of object files, by `ImageLoader`.
 //! - `descending`: the most hunks that a load file may have, at descending bases.
 //!
 //! The modules:
@@ -31,7 +30,6 @@ fn main(rt: HostRuntime) -> io::Result<()> {
     match (what.as_str(), name) {
         ("decode", _) => words::measure(&rt),
         ("descending", _) => descending::measure(&rt),
-        ("read-file", Some(name)) => files::read_file(&rt, name.as_str()),
         ("decode-file", Some(name)) => files::decode_file(&rt, name.as_str()),
         ("decode-object", Some(name)) => files::decode_object(&rt, name.as_str()),
         ("load-file", Some(name)) => files::load_file(&rt, name.as_str()),
