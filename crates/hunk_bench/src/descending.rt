@@ -1,6 +1,7 @@
 //! The most hunks that a load file may have, at descending bases.
 
-use hunk_loader::{ImageLoader, LoadRefusal, check_places};
+use hunk_loader::{check_places, read_image};
+use hunk_words::Pieces;
 use std::alloc::{AllocError, Global};
 use std::io;
 use std::time::Instant;
@@ -10,16 +11,19 @@ const HUNKS: u32 = 65_535;
 // The greatest number of a hunk; the least is 0.
 const LAST: u32 = HUNKS - 1;
 
+// Bytes per read.
+const PIECE: usize = 16384;
+
 /// Checks the bases, and makes the image of a load file at them.
 pub fn measure(rt: &HostRuntime) -> io::Result<()> {
     let sizes = vec![in rt.alloc(); 1u32; HUNKS as usize]?;
     let bases = descending_bases(rt.alloc())?;
-    let file = file_of_hunks(rt.alloc())?;
+    let mut file = Pieces::new(file_of_hunks(rt.alloc())?, PIECE, None);
     let start = Instant::now(rt)?;
     let placed = check_places(&sizes, &bases).is_ok();
     let check_time = start.elapsed(rt)?.as_nanos();
     let start = Instant::now(rt)?;
-    let loaded = load_all(rt.alloc(), &bases, &file).is_ok();
+    let loaded = read_image(rt.alloc(), &mut file, &bases).is_ok();
     let load_time = start.elapsed(rt)?.as_nanos();
     rt.println(format_args!(
         "check_places, {placed}: {check_time} ns; ImageLoader, {loaded}: {load_time} ns"
@@ -50,17 +54,4 @@ fn file_of_hunks(alloc: Global) -> Result<Vec<u8>, AllocError> {
         }
     }
     Ok(file)
-}
-
-// The number of hunks in the image.
-fn load_all(alloc: Global, bases: &[u32], file: &[u8]) -> Result<usize, LoadRefusal> {
-    let mut loader = match ImageLoader::new(alloc, bases) {
-        Ok(loader) => loader,
-        Err(_) => return Err(LoadRefusal::OutOfMemory),
-    };
-    for piece in file.chunks(16384) {
-        loader.feed(piece)?;
-    }
-    let image = loader.finish()?;
-    Ok(image.hunks().len())
 }
