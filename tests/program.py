@@ -15,6 +15,7 @@ import command_line  # (the tests of a module register themselves)
 import explanations
 import json_documents
 import maps
+import readme
 import runs
 from harness import TESTS, Program
 

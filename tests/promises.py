@@ -1,0 +1,302 @@
+#!/usr/bin/env python3
+"""Checks what docs/PROMISES.md and README.md say of the sources, without building anything.
+
+Each crate, call, clause, law, test, must-fail edit and file that they name exists where they say, and each public call of the
+libraries, each of its clauses, each law and each edit stands in docs/PROMISES.md. The last line is 'N passed, M failed', and the
+status is 0 if M is 0. With a folder as its argument it checks the copy of the repository there.
+"""
+import os
+import re
+import sys
+
+sys.dont_write_bytecode = True
+import sources
+from sources import Crate, is_there, text_of
+
+LIBRARIES = ("hunk_base hunk_words hunk_objects hunk_loadfile hunk_link hunk_loader hunk_text hunk_files hunk_memory hunk_tool"
+             " hunk_json hunk_commands hunk_uses").split()
+# Their calls are named by claims alone: nothing in Rattle can call a program, and capi/amihunk.h tells of the exports for C.
+OTHERS = ["amihunk", "amihunk_c"]
+PAGE, README = "docs/PROMISES.md", "README.md"
+README_LINES, ROW_LENGTH = 150, 340
+IN_TESTS = re.compile(r"\b(hunk_\w*tests) (`\w+`(?:: `\w+`)?(?:(?:[,;]| and) `\w+`(?::(?= `))?(?: `\w+`)?)*)")
+QUOTED = re.compile(r"`([^`]+)`")
+passed, complaints = 0, []
+
+
+def check(holds, complaint):
+    global passed
+    if holds:
+        passed += 1
+    else:
+        complaints.append(complaint)
+
+
+def quoted(cell):
+    return QUOTED.findall(cell)
+
+
+class Row:
+    """A row of a table, the heading and the columns that it stands under."""
+
+    def __init__(self, line, heading, columns):
+        self.line, self.heading, self.columns = line, heading, columns
+        self.cells = cells_of(line)
+
+    def cell(self, column):
+        return self.cells[self.columns.index(column)]
+
+    def __str__(self):
+        return f"{PAGE}, {self.heading}: {self.cells[0]:.80}"
+
+
+def cells_of(line):
+    return [cell.strip() for cell in re.split(r"(?<!\\)\|", line)[1:-1]]
+
+
+def rows_of(text):
+    heading, columns = "", None
+    lines = text.split("\n")
+    for number, line in enumerate(lines):
+        if found := re.match(r"^#+ (.*)", line):
+            heading, columns = found[1], None
+        elif not line.startswith("|"):
+            columns = None
+        elif columns is None:
+            columns = cells_of(line)
+        elif not line.startswith("|---"):
+            yield Row(line, heading, columns)
+
+
+def paragraphs_of(text):
+    """The paragraphs, each with the heading that it stands under; a row of a table is one of its own."""
+    heading = ""
+    for block in re.split(r"\n\n|\n(?=[|])|\n(?=- )", text):
+        if found := re.match(r"^#+ (.*)", block):
+            heading = found[1]
+        yield heading, " ".join(block.split())
+
+
+class Sources:
+    def __init__(self):
+        self.crates = {name: Crate(name) for name in LIBRARIES + OTHERS}
+        self.tests = {}
+
+    def clauses_of(self, name):
+        """The clauses of a call or a law; of a call that is named without its module, if there is only one of that name."""
+        for kind in ("calls", "laws"):
+            for crate in self.crates.values():
+                if name in (known := getattr(crate, kind)):
+                    return known[name] if kind == "laws" else known[name].clauses
+        ends = [call for it in self.crates.values() for path, call in it.every.items() if path.split("::")[-1] == name]
+        return ends[0].clauses if len(ends) == 1 else None
+
+    def test_stands(self, crate, module, name):
+        found = self.tests.setdefault(crate, sources.tests_in(crate) if is_there("crates", crate) else {})
+        return name in found.get(module, ()) if name else bool(found.get(module))
+
+
+def names_of(clauses):
+    return {it or "ensures" for it in clauses}
+
+
+# ---- what is proved
+
+
+def check_claim(row, known):
+    check(len(row.line) <= ROW_LENGTH, f"{row}: longer than {ROW_LENGTH} characters")
+    told = set(quoted(row.cell("Clauses")))
+    there = set()
+    for name in quoted(row.cell("Calls")):
+        clauses = known.clauses_of(name)
+        check(clauses is not None, f"{row}: no call `{name}`")
+        check(clauses is None or names_of(clauses) & told, f"{row}: none of these is a clause of `{name}`")
+        there |= names_of(clauses or ())
+    for clause in told - there:
+        check(False, f"{row}: no clause `{clause}`")
+
+
+def check_call(row, rows, known):
+    """A row of a library's table: its clauses, and nothing that looks like one."""
+    name, crate = quoted(row.cells[0])[0], known.crates[row.heading]
+    if name not in crate.calls:
+        check(False, f"{row}: no such public call")
+        return
+    clauses = crate.calls[name].clauses
+    told = [it for column in ("Result", "Errors", "After an error") for it in quoted(row.cell(column))]
+    for other in re.findall(r"as of `([^`]+)`", row.line):
+        told += [it for column in ("Errors", "After an error") for it in quoted(rows[other].cell(column))]
+    for clause in names_of(clauses) - set(told):
+        check(False, f"{row}: its clause `{clause}` is not told")
+    traits = [it for path in quoted(row.cell("Result")) for it in of_trait(path, known)]
+    allowed = names_of(clauses) | getattr(crate.calls[name], "ghosts", set()) | set(traits)
+    for word in quoted(row.cell("Result")):
+        check(word in allowed or of_trait(word, known), f"{row}: no clause `{word}`")
+    for column in ("Errors", "After an error"):
+        for word in quoted(row.cell(column)):
+            if word[0].islower():
+                check(word in allowed | trait_clauses(name, known) or known.clauses_of(word) is not None,
+                      f"{row}: no clause `{word}`")
+
+
+def of_trait(word, known):
+    return {clause for crate in known.crates.values() for clause in crate.traits.get(word, ())}
+
+
+def trait_clauses(name, known):
+    return names_of(of_trait(sources.without_generics(name.split(" for ")[0]), known))
+
+
+def check_laws(heading, paragraph, known):
+    told = {}
+    for name, clauses in re.findall(r"`(\w+)`: ((?:`\w+`(?:, )?)+)", paragraph):
+        told[name] = set(quoted(clauses))
+    there = {name: names_of(clauses) for name, clauses in known.crates[heading].laws.items()}
+    for name in told.keys() | there.keys():
+        check(told.get(name) == there.get(name), f"{PAGE}, {heading}: of the law `{name}` it tells {sorted(told.get(name, []))}"
+              f", and the crate has {sorted(there.get(name, []))}")
+
+
+# ---- tests and edits
+
+
+def check_tests(where, paragraph, known):
+    """Each test that is named after its crate, its module and a colon, and each module of tests."""
+    for crate, names in IN_TESTS.findall(paragraph):
+        module = None
+        for name, colon in re.findall(r"`(\w+)`(:)?", names):
+            if colon:
+                module = name
+            elif module is None:
+                check(known.test_stands(crate, name, None), f"{where}: no tests in {crate} `{name}`")
+            else:
+                check(known.test_stands(crate, module, name), f"{where}: no test {crate} `{module}`: `{name}`")
+    for file, names in re.findall(r"tests/(\w+\.py)((?:,? `\w+`)*)", paragraph):
+        check(is_there("tests", file), f"{where}: no tests/{file}")
+        for name in quoted(names) if is_there("tests", file) else ():
+            check(name in sources.python_tests(file), f"{where}: no test tests/{file} `{name}`")
+    for file, names in re.findall(r"(?<![\w/])(\w+\.(?:cpp|c))\b((?:,? `\w+`)*)", paragraph):
+        check(is_there("capi", "tests", file), f"{where}: no capi/tests/{file}")
+        for name in quoted(names) if is_there("capi", "tests", file) else ():
+            check(name in sources.c_tests(file), f"{where}: no test {file} `{name}`")
+
+
+def check_edits(text, known):
+    """Each edit that a row or a paragraph names exists, and each edit is named."""
+    named = {}
+    for heading, paragraph in paragraphs_of(text):
+        for crate, edit in re.findall(r"`(hunk_\w+|amihunk\w*)/(\w+)`", paragraph):
+            named.setdefault(crate, set()).add(edit)
+        if heading in known.crates and (found := re.search(r"[Ee]dits are ([^.]*)\.", paragraph)):
+            named.setdefault(heading, set()).update(quoted(found[1].split(":")[-1]))
+    for row in rows_of(text):
+        if "Edit" in row.columns and not row.cell("Edit").startswith("by that of"):
+            named.setdefault(row.heading, set()).update(quoted(row.cell("Edit")))
+    for name, crate in known.crates.items():
+        for edit in named.get(name, set()) | crate.edits:
+            check(edit in crate.edits, f"{PAGE}, {name}: no edit `{edit}`")
+            check(edit in named.get(name, set()), f"{PAGE}, {name}: its edit `{edit}` is not told")
+    for name in named.keys() - known.crates.keys():
+        check(False, f"{PAGE}: no crate {name} with edits")
+
+
+# ---- words, files and links
+
+
+def vocabulary():
+    """Every word of the sources, and of the names of their files: what may stand in back quotes."""
+    words = set()
+    for folder, folders, files in os.walk(sources.TOP):
+        folders[:] = [it for it in folders if it not in ("out", ".git", "docs", "__pycache__")]
+        for file in files:
+            words.update(re.findall(r"\w+", file))
+            if not file.endswith((".md", ".o", ".load")):
+                words.update(re.findall(r"\w+", text_of(folder, file)))
+        words.update(folders)
+    return words
+
+
+# Commands of the toolchain that no source here names.
+FOREIGN = set("plant version".split())
+
+
+def without_code(text):
+    """The text without its blocks of code."""
+    return re.sub(r"^    .*$", "", re.sub(r"^```.*?^```$", "", text, flags=re.M | re.S), flags=re.M)
+
+
+def check_words(file, text, words):
+    for word in sorted({word for it in quoted(text) for word in re.findall(r"[A-Za-z_]\w+", it)} - words - FOREIGN):
+        check(False, f"{file}: `{word}` is nowhere in the sources")
+
+
+def check_links(file, text):
+    folder = os.path.dirname(file)
+    for to in re.findall(r"\]\(([^)]*)\)", text):
+        path, _, anchor = to.partition("#")
+        if path.startswith("http"):
+            continue
+        target = os.path.normpath(os.path.join(folder, path)) if path else file
+        check(is_there(target), f"{file}: no file {to}")
+        if anchor and is_there(target):
+            heads = {re.sub(r"[^\w -]", "", it.lower()).replace(" ", "-") for it in re.findall(r"^#+ (.*)", text_of(target), re.M)}
+            check(anchor in heads, f"{file}: no heading {to}")
+    for path in set(re.findall(r"(?<![\w/.-])((?:crates|docs|tests|capi|examples|bench|completions)/[\w./-]*\w)", text)):
+        check(is_there(path) or "/out" in path, f"{file}: no file {path}")
+
+
+# ---- the README
+
+
+def check_readme(text):
+    check(len(text.split("\n")) - 1 <= README_LINES, f"{README}: more than {README_LINES} lines")
+    headline = " ".join(text_of("crates/hunk_tool/specs/Headline.antt").split())
+    quotation = re.search(r"^    LinkedIsReported =\n((?:        .*\n)+)", text, re.M)
+    check(quotation and " ".join(quotation[0].split()) in headline, f"{README}: the headline is not that of Headline.antt")
+    words = re.search(r"\*(whenever [^*]*)\*", text)
+    check(words and " ".join(words[1].split()).lower() in headline.replace("-- ", "").lower(),
+          f"{README}: the headline in words is not that of Headline.antt")
+    listed = set(re.findall(r"^(\w+)[: ]", text_of("crates.txt"), re.M))
+    check(all(it in listed for it in LIBRARIES), "crates.txt does not have all libraries that this script knows")
+
+
+def main():
+    if len(sys.argv) > 1:
+        sources.TOP = os.path.abspath(sys.argv[1])
+    known, page, readme = Sources(), text_of(PAGE), text_of(README)
+    rows = list(rows_of(page))
+    for row in rows:
+        if row.columns == ["Claim", "Calls", "Clauses"]:
+            check_claim(row, known)
+        elif row.columns == ["What", "Where"]:
+            check(len(row.line) <= ROW_LENGTH, f"{row}: longer than {ROW_LENGTH} characters")
+    for name in LIBRARIES:
+        calls = {quoted(row.cells[0])[0]: row for row in rows if row.heading == name and row.columns[0] == "Call"}
+        for row in calls.values():
+            check_call(row, calls, known)
+        for call in known.crates[name].calls:
+            check(call in calls, f"{PAGE}, {name}: the public call `{call}` has no row")
+    told = [(heading, it) for heading, it in paragraphs_of(page) if it.startswith("Laws: ")]
+    for name in LIBRARIES:
+        check(bool(known.crates[name].laws) == (name in dict(told)), f"{PAGE}, {name}: are there laws?")
+    for heading, paragraph in told:
+        check_laws(heading, paragraph, known)
+    check_edits(page, known)
+    words = vocabulary()
+    for file, text in ((PAGE, page), (README, readme)):
+        for heading, paragraph in paragraphs_of(text):
+            check_tests(f"{file}, {heading}", paragraph, known)
+        check_words(file, without_code(text), words)
+        check_links(file, text)
+    for file in ["CONTRIBUTING.md", "bench/README.md"] + [f"docs/{it}" for it in sorted(os.listdir(os.path.join(sources.TOP, "docs")))]:
+        if file.endswith(".md") and file != PAGE and is_there(file):
+            check_links(file, text_of(file))
+    check_readme(readme)
+    for complaint in complaints:
+        print(f"FAILED: {complaint}")
+    print(f"{passed} passed, {len(complaints)} failed")
+    return 1 if complaints or not passed else 0
+
+
+if __name__ == "__main__":
+    sys.exit(main())
