@@ -2,9 +2,11 @@
 """Checks what docs/PROMISES.md and README.md say of the sources, without building anything.
 
 Each crate, call, clause, law, test, must-fail edit and file that they name exists where they say, and each public call of the
-libraries, each of its clauses, each law and each edit stands in docs/PROMISES.md. The last line is 'N passed, M failed', and the
-status is 0 if M is 0. With a folder as its argument it checks the copy of the repository there.
+libraries, each of its clauses, each law and each edit stands in docs/PROMISES.md. A row counts as one test, and so does a page.
+The last line is 'N passed, M failed', and the status is 0 if M is 0. With a folder as its argument it checks the copy of the
+repository there.
 """
+import contextlib
 import os
 import re
 import sys
@@ -25,11 +27,17 @@ passed, complaints = 0, []
 
 
 def check(holds, complaint):
-    global passed
-    if holds:
-        passed += 1
-    else:
+    if not holds:
         complaints.append(complaint)
+
+
+@contextlib.contextmanager
+def counted():
+    """Counts what is checked in it as one test: a row, a paragraph, a page."""
+    global passed
+    before = len(complaints)
+    yield
+    passed += len(complaints) == before
 
 
 def quoted(cell):
@@ -239,10 +247,16 @@ def check_links(file, text):
         target = os.path.normpath(os.path.join(folder, path)) if path else file
         check(is_there(target), f"{file}: no file {to}")
         if anchor and is_there(target):
-            heads = {re.sub(r"[^\w -]", "", it.lower()).replace(" ", "-") for it in re.findall(r"^#+ (.*)", text_of(target), re.M)}
-            check(anchor in heads, f"{file}: no heading {to}")
+            heads = re.findall(r"^#+ (.*)", text_of(target), re.M)
+            check(anchor in {re.sub(r"[^\w -]", "", it.lower()).replace(" ", "-") for it in heads}, f"{file}: no heading {to}")
     for path in set(re.findall(r"(?<![\w/.-])((?:crates|docs|tests|capi|examples|bench|completions)/[\w./-]*\w)", text)):
         check(is_there(path) or "/out" in path, f"{file}: no file {path}")
+
+
+def pages():
+    """The pages whose links are followed."""
+    docs = sorted(os.listdir(os.path.join(sources.TOP, "docs")))
+    return [README, "CHANGELOG.md", "CONTRIBUTING.md", "bench/README.md"] + [f"docs/{it}" for it in docs if it.endswith(".md")]
 
 
 # ---- the README
@@ -266,32 +280,36 @@ def main():
     known, page, readme = Sources(), text_of(PAGE), text_of(README)
     rows = list(rows_of(page))
     for row in rows:
-        if row.columns == ["Claim", "Calls", "Clauses"]:
-            check_claim(row, known)
-        elif row.columns == ["What", "Where"]:
-            check(len(row.line) <= ROW_LENGTH, f"{row}: longer than {ROW_LENGTH} characters")
+        with counted():
+            if row.columns == ["Claim", "Calls", "Clauses"]:
+                check_claim(row, known)
+            elif row.columns == ["What", "Where"]:
+                check(len(row.line) <= ROW_LENGTH, f"{row}: longer than {ROW_LENGTH} characters")
     for name in LIBRARIES:
         calls = {quoted(row.cells[0])[0]: row for row in rows if row.heading == name and row.columns[0] == "Call"}
         for row in calls.values():
-            check_call(row, calls, known)
+            with counted():
+                check_call(row, calls, known)
         for call in known.crates[name].calls:
             check(call in calls, f"{PAGE}, {name}: the public call `{call}` has no row")
-    told = [(heading, it) for heading, it in paragraphs_of(page) if it.startswith("Laws: ")]
-    for name in LIBRARIES:
-        check(bool(known.crates[name].laws) == (name in dict(told)), f"{PAGE}, {name}: are there laws?")
-    for heading, paragraph in told:
-        check_laws(heading, paragraph, known)
-    check_edits(page, known)
+    with counted():
+        told = {heading: it for heading, it in paragraphs_of(page) if it.startswith("Laws: ")}
+        for name in LIBRARIES:
+            check_laws(name, told.get(name, ""), known)
+    with counted():
+        check_edits(page, known)
     words = vocabulary()
     for file, text in ((PAGE, page), (README, readme)):
-        for heading, paragraph in paragraphs_of(text):
-            check_tests(f"{file}, {heading}", paragraph, known)
-        check_words(file, without_code(text), words)
-        check_links(file, text)
-    for file in ["CONTRIBUTING.md", "bench/README.md"] + [f"docs/{it}" for it in sorted(os.listdir(os.path.join(sources.TOP, "docs")))]:
-        if file.endswith(".md") and file != PAGE and is_there(file):
+        with counted():
+            for heading, paragraph in paragraphs_of(text):
+                check_tests(f"{file}, {heading}", paragraph, known)
+        with counted():
+            check_words(file, without_code(text), words)
+    for file in pages():
+        with counted():
             check_links(file, text_of(file))
-    check_readme(readme)
+    with counted():
+        check_readme(readme)
     for complaint in complaints:
         print(f"FAILED: {complaint}")
     print(f"{passed} passed, {len(complaints)} failed")
