@@ -15,9 +15,7 @@ sys.dont_write_bytecode = True
 import sources
 from sources import Crate, is_there, text_of
 
-LIBRARIES = ("hunk_base hunk_words hunk_objects hunk_loadfile hunk_link hunk_loader hunk_text hunk_files hunk_memory hunk_tool"
-             " hunk_json hunk_commands hunk_uses").split()
-# Their calls are named by claims alone: nothing in Rattle can call a program, and capi/amihunk.h tells of the exports for C.
+# Claims alone name their calls: nothing in Rattle can call a program, and capi/amihunk.h tells of the exports for C.
 OTHERS = ["amihunk", "amihunk_c"]
 PAGE, README = "docs/PROMISES.md", "README.md"
 README_LINES, ROW_LENGTH = 150, 340
@@ -86,8 +84,14 @@ def paragraphs_of(text):
 
 
 class Sources:
+    """The crates that the page tells of. `libraries` are those whose public calls have rows: all that are no programs, no
+    libraries for C and no tests."""
+
     def __init__(self):
-        self.crates = {name: Crate(name) for name in LIBRARIES + OTHERS}
+        listed = re.findall(r"^(\w+):", text_of("crates.txt"), re.M)
+        self.libraries = [name for name in listed if is_there("crates", name, "src", "lib.rt")
+                          and not name.endswith("tests") and name != "hunk_test_support"]
+        self.crates = {name: Crate(name) for name in self.libraries + OTHERS}
         self.tests = {}
 
     def clauses_of(self, name):
@@ -122,6 +126,18 @@ def check_claim(row, known):
         there |= names_of(clauses or ())
     for clause in told - there:
         check(False, f"{row}: no clause `{clause}`")
+
+
+def check_mistake(row, known):
+    """The calls and clauses that refuse a known mistake: `CALL`: `CLAUSE`, and so on, apart by semicolons."""
+    for part in row.cell("Refused by").split(";"):
+        names = quoted(part)
+        if not names:
+            continue
+        clauses = known.clauses_of(names[0])
+        check(clauses is not None, f"{row}: no call `{names[0]}`")
+        for clause in names[1:]:
+            check(clause in names_of(clauses or ()), f"{row}: no clause `{clause}` of `{names[0]}`")
 
 
 def check_call(row, rows, known):
@@ -270,8 +286,6 @@ def check_readme(text):
     words = re.search(r"\*(whenever [^*]*)\*", text)
     check(words and " ".join(words[1].split()).lower() in headline.replace("-- ", "").lower(),
           f"{README}: the headline in words is not that of Headline.antt")
-    listed = set(re.findall(r"^(\w+)[: ]", text_of("crates.txt"), re.M))
-    check(all(it in listed for it in LIBRARIES), "crates.txt does not have all libraries that this script knows")
 
 
 def main():
@@ -283,9 +297,11 @@ def main():
         with counted():
             if row.columns == ["Claim", "Calls", "Clauses"]:
                 check_claim(row, known)
+            elif "Refused by" in row.columns:
+                check_mistake(row, known)
             elif row.columns == ["What", "Where"]:
                 check(len(row.line) <= ROW_LENGTH, f"{row}: longer than {ROW_LENGTH} characters")
-    for name in LIBRARIES:
+    for name in known.libraries:
         calls = {quoted(row.cells[0])[0]: row for row in rows if row.heading == name and row.columns[0] == "Call"}
         for row in calls.values():
             with counted():
@@ -294,7 +310,7 @@ def main():
             check(call in calls, f"{PAGE}, {name}: the public call `{call}` has no row")
     with counted():
         told = {heading: it for heading, it in paragraphs_of(page) if it.startswith("Laws: ")}
-        for name in LIBRARIES:
+        for name in known.libraries:
             check_laws(name, told.get(name, ""), known)
     with counted():
         check_edits(page, known)

@@ -7,6 +7,7 @@ import shutil
 from harness import DONE, Program, equals, test
 from sources import TOP, text_of
 
+BUILT = "crates/amihunk/out/amihunk"
 # What `rt try` adds to what the program prints, where it ended well.
 TRIED = ["checked: ended status=0", "run=ended status=0 runners=1 proved=no"]
 
@@ -26,11 +27,10 @@ def quotations(text):
 
 
 def in_a_checkout(program):
-    """The program in its crate's folder of something like a checkout, where only the examples are there."""
-    folder = program.at("crates/amihunk")
-    os.makedirs(os.path.join(folder, "out"))
+    """The program in the folder of its crate, and in that of the examples, of something like a checkout."""
+    os.makedirs(program.at("crates/amihunk/out"))
     shutil.copytree(os.path.join(TOP, "examples"), program.at("examples"))
-    return Program(program.path, folder), Program(program.path, program.at("examples"))
+    return Program(program.path, program.at("crates/amihunk")), Program(program.path, program.at("examples"))
 
 
 @test
@@ -42,19 +42,19 @@ def the_readme_quotes_what_is_printed(program):
     told = []
     for command, lines in quotations(text):
         command, _, cut = command.partition(" | head -n ")
-        if command.startswith("rt try "):
+        if command.startswith("(cd crates/amihunk && rt try "):
             equals(lines[-len(TRIED):], TRIED, command)
-            lines, words, where = lines[:-len(TRIED)], command.split(" -- ")[1], examples
-        elif command.startswith("out/amihunk "):
-            words, where = command.removeprefix("out/amihunk "), crate
+            lines, words, where = lines[:-len(TRIED)], command.rstrip(")").split(" -- ")[1], examples
         else:
-            continue
+            path, _, words = command.partition(" ")
+            equals(path, BUILT, command)
+            where = program
         status, out, errors = where.run(*shlex.split(words))
         equals((status, errors), (DONE, ""), command)
         printed = out.splitlines()
         equals(lines, printed[:int(cut)] if cut else printed, command)
         told.append(command.split()[0])
-    equals(sorted(set(told)), ["out/amihunk", "rt"], "what the README quotes")
+    equals(told, ["(cd", BUILT, BUILT], "what the README quotes")
 
 
 @test
