@@ -1,0 +1,221 @@
+#!/usr/bin/env bash
+# Tests ./install.sh and ./dist.sh: installs, uses and uninstalls what has been built, and runs the program of the archive in
+# an empty root file system with a C library alone. What needs root is left out where it is not there, and so told.
+#
+# The last line is 'N passed, M failed', and the status is 0 if M is 0. It needs what was built by rt ci and capi/check.sh, a C
+# compiler ($CC, or cc), GNU tar and binutils.
+set -u
+export LC_ALL=C
+top="$(cd "$(dirname "$0")/.." && pwd)"
+cc="${CC:-cc}"
+version="$(sed -n 's/^## \([0-9.]*\).*/\1/p' "$top/CHANGELOG.md" | sed -n 1p)"
+name="amihunk-$version-x86_64-linux"
+work="$(mktemp -d)"
+trap 'rm -rf "$work"' EXIT
+chmod 755 "$work"
+passed=0
+failed=0
+
+# Counts what was tried, and shows why it failed: NAME FUNCTION. The function runs in a shell of its own, since in a
+# condition bash would not stop at the first command that fails.
+attempt() {
+    local what="$1"
+    if bash -c 'set -eu -o pipefail; '"$2" > "$work/log" 2>&1; then
+        passed=$((passed + 1))
+        return 0
+    fi
+    failed=$((failed + 1))
+    echo "FAILED: $what"
+    tail -n 20 "$work/log"
+    return 1
+}
+
+# Whether a command ends with a status: STATUS COMMAND..
+ends() {
+    local wanted="$1" status=0
+    shift
+    "$@" || status=$?
+    [ "$status" -eq "$wanted" ]
+}
+
+# Everything in a folder but the folder itself: the paths, with their modes and sums.
+tree_of() {
+    (cd "$1" && find . -mindepth 1 -printf '%P %y %m\n' | sort && find . -type f -exec sha256sum {} + | sort)
+}
+
+# Whether the program, the page, the completions and the library that are installed in a folder can be used: FOLDER
+is_usable() {
+    local there="$1" flags
+    [ "$("$there/bin/amihunk" --version)" = "amihunk $version" ]
+    "$there/bin/amihunk" image --at 10000,20000,30000,40000 "$top/examples/main.o" "$top/examples/library.o" > "$work/printed"
+    grep -qx '00010000 41f9000200004eb9000300084e754e71' "$work/printed"
+    grep -q '^\.TH AMIHUNK 1 ' "$there/share/man/man1/amihunk.1"
+    bash -n "$there/share/bash-completion/completions/amihunk"
+    grep -qx '#compdef amihunk' "$there/share/zsh/site-functions/_amihunk"
+    grep -q AMIHUNK_H "$there/include/amihunk.h"
+    if command -v pkg-config > /dev/null; then
+        [ "$(PKG_CONFIG_PATH="$there/lib/pkgconfig" pkg-config --modversion amihunk)" = "$version" ]
+        flags="$(PKG_CONFIG_PATH="$there/lib/pkgconfig" pkg-config --cflags --libs amihunk)"
+        eval "\"$cc\" \"$top/examples/c/emulator.c\" -o \"$work/emulator\" $flags"
+    else
+        "$cc" -I"$there/include" "$top/examples/c/emulator.c" -o "$work/emulator" "$there/lib/libamihunk.a"
+    fi
+    "$work/emulator" "$top/examples/two-hunks.load" 10000 20000 | grep -qx 'the machine starts at 00010000: 207c'
+}
+
+install_twice() {
+    local there="$work/a path with spaces/usr"
+    "$top/install.sh" --prefix "$there"
+    tree_of "$there" > "$work/first"
+    "$top/install.sh" --prefix="$there"
+    tree_of "$there" | diff "$work/first" -
+    is_usable "$there"
+}
+
+# The tree of install_twice, at another place.
+move() {
+    mv "$work/a path with spaces" "$work/another path"
+    is_usable "$work/another path/usr"
+}
+
+uninstall_moved() {
+    "$top/install.sh" --prefix "$work/another path/usr" --uninstall
+    [ ! -e "$work/another path/usr" ]
+    ends 1 "$top/install.sh" --prefix "$work/another path/usr" --uninstall
+}
+
+uninstall_leaves_nothing() {
+    "$top/install.sh" --prefix "$work/new/deep/folder"
+    "$top/install.sh" --prefix "$work/new/deep/folder"
+    "$top/install.sh" --prefix "$work/new/deep/folder" --uninstall
+    [ ! -e "$work/new" ]
+}
+
+uninstall_leaves_what_is_not_ours() {
+    local there="$work/shared"
+    mkdir -p "$there/bin" "$there/share/man" "$there/lib"
+    echo mine > "$there/lib/mine"
+    tree_of "$there" > "$work/before"
+    "$top/install.sh" --prefix "$there"
+    echo later > "$there/include/later.h"
+    "$top/install.sh" --prefix "$there" --uninstall
+    [ "$(cat "$there/include/later.h")" = later ]
+    rm -r "$there/include"
+    tree_of "$there" | diff "$work/before" -
+}
+
+destdir_is_not_named() {
+    "$top/install.sh" --destdir "$work/dest dir" --prefix /opt/amihunk
+    is_usable "$work/dest dir/opt/amihunk"
+    ends 1 grep -rlF "dest dir" "$work/dest dir/opt/amihunk/lib/pkgconfig" "$work/dest dir/opt/amihunk/bin"
+    "$top/install.sh" --destdir "$work/dest dir" --prefix /opt/amihunk --uninstall
+    [ ! -e "$work/dest dir" ]
+}
+
+wrong_arguments() {
+    cd "$work"
+    ends 2 "$top/install.sh" --prefix
+    ends 2 "$top/install.sh" --prefix relative
+    ends 2 "$top/install.sh" --destination x
+    ends 1 "$top/install.sh" --prefix "$work/nothing" --uninstall
+    [ ! -e relative ]
+    [ ! -e nothing ]
+}
+
+# What is not built cannot be built without the toolchain.
+nothing_is_built() {
+    mkdir "$work/checkout"
+    cp "$top/install.sh" "$work/checkout"
+    ends 1 env PATH=/usr/bin:/bin "$work/checkout/install.sh" --prefix "$work/nothing"
+    [ ! -e "$work/nothing" ]
+}
+
+# What root may do and others may not, as nobody.
+as_nobody() {
+    mkdir "$work/locked" "$work/nobody folder"
+    chown 65534:65534 "$work/nobody folder"
+    run=(setpriv --reuid=65534 --regid=65534 --clear-groups env TMPDIR="$work/nobody folder")
+    ends 1 "${run[@]}" "$top/install.sh" --prefix "$work/locked/usr"
+    [ -z "$(ls -A "$work/locked")" ]
+    "${run[@]}" "$top/install.sh" --prefix "$work/nobody folder/usr"
+    is_usable "$work/nobody folder/usr"
+    "${run[@]}" "$top/install.sh" --prefix "$work/nobody folder/usr" --uninstall
+    [ -z "$(ls -A "$work/nobody folder")" ]
+}
+
+archives_are_the_same() {
+    "$top/dist.sh" "$work/one"
+    sleep 1.1
+    "$top/dist.sh" "$work/two dist"
+    cmp "$work/one/$name.tar.gz" "$work/two dist/$name.tar.gz"
+    (cd "$work/two dist" && sha256sum -c "$name.tar.gz.sha256")
+    [ "$(ls "$work/one" | wc -l)" -eq 2 ]
+}
+
+archive_is_whole() {
+    mkdir "$work/unpacked"
+    tar -xzf "$work/one/$name.tar.gz" -C "$work/unpacked"
+    is_usable "$work/unpacked/$name"
+    [ "$(wc -l < "$work/unpacked/$name/README")" -eq 2 ]
+    "$top/install.sh" --prefix "$work/installed"
+    rm -r "$work/installed/share/amihunk"
+    diff -r -x README "$work/installed" "$work/unpacked/$name"
+}
+
+# Whether the program asks for no library but C's, and for no newer one than the archive says.
+needs_the_c_library_alone() {
+    local program="$work/unpacked/$name/bin/amihunk" told
+    objdump -p "$program" | sed -n 's/^ *NEEDED *//p' > "$work/needed"
+    ends 1 grep -vxE 'lib(c|m|pthread|dl|rt)\.so\.[0-9]+|ld-linux-x86-64\.so\.2' "$work/needed"
+    told="$(sed -n 's/.*GNU C library \([0-9.]*\) or newer.*/\1/p' "$work/unpacked/$name/README")"
+    objdump -T "$program" | grep -oE 'GLIBC_[0-9.]+' | sed 's/GLIBC_//' | sort -uV | tail -n 1 | grep -qxF "$told"
+    grep -qF "GNU C library $told or newer" "$top/README.md"
+}
+
+# An empty root file system with the files of the C library that the program names, and the archive.
+empty_root() {
+    local root="$work/root" library
+    mkdir -p "$root/lib64" "$root/examples"
+    tar -xzf "$work/one/$name.tar.gz" -C "$root"
+    cp "$top"/examples/*.o "$top"/examples/*.load "$root/examples"
+    ldd "$root/$name/bin/amihunk" | grep -oE '/[^ ]+' | while read -r library; do
+        mkdir -p "$root$(dirname "$library")"
+        cp -L "$library" "$root$library"
+    done
+    [ "$(chroot "$root" "/$name/bin/amihunk" --version)" = "amihunk $version" ]
+    chroot "$root" "/$name/bin/amihunk" link --out /hello /examples/main.o /examples/library.o
+    chroot "$root" "/$name/bin/amihunk" load --at 10000,20000,30000,40000 /hello > "$work/loaded"
+    chroot "$root" "/$name/bin/amihunk" image --at 10000,20000,30000,40000 /examples/main.o /examples/library.o \
+        | diff "$work/loaded" -
+    [ -s "$work/loaded" ]
+}
+
+export top cc version name work
+export -f ends tree_of is_usable install_twice move uninstall_moved uninstall_leaves_nothing uninstall_leaves_what_is_not_ours \
+    destdir_is_not_named wrong_arguments nothing_is_built as_nobody archives_are_the_same archive_is_whole needs_the_c_library_alone empty_root
+if attempt "a tree in a path with spaces, installed twice, is used" install_twice; then
+    attempt "a tree that was moved is used" move
+    attempt "a tree that was moved is uninstalled" uninstall_moved
+fi
+attempt "uninstalling leaves nothing" uninstall_leaves_nothing
+attempt "uninstalling leaves what is not ours" uninstall_leaves_what_is_not_ours
+attempt "a destination is not named in what is installed" destdir_is_not_named
+attempt "wrong arguments are refused" wrong_arguments
+if ! env PATH=/usr/bin:/bin sh -c 'command -v rt' > /dev/null; then
+    attempt "nothing is installed where nothing is built" nothing_is_built
+fi
+if attempt "two archives are the same" archives_are_the_same && attempt "the archive is whole" archive_is_whole; then
+    attempt "the program needs the C library alone" needs_the_c_library_alone
+    if [ "$(id -u)" -eq 0 ] && chroot / true 2> /dev/null; then
+        attempt "the archive runs in an empty root" empty_root
+    else
+        echo "The empty root was left out: it needs root."
+    fi
+fi
+if [ "$(id -u)" -eq 0 ] && setpriv --reuid=65534 --regid=65534 --clear-groups test -r "$top/install.sh" 2> /dev/null; then
+    attempt "it is installed without root" as_nobody
+else
+    echo "Installing as nobody was left out: it needs root, and a checkout that nobody can read."
+fi
+echo "$passed passed, $failed failed"
+[ "$failed" -eq 0 ]
