@@ -149,7 +149,8 @@ def check_call(row, rows, known):
     clauses = crate.calls[name].clauses
     told = [it for column in ("Result", "Errors", "After an error") for it in quoted(row.cell(column))]
     for other in re.findall(r"as of `([^`]+)`", row.line):
-        told += [it for column in ("Errors", "After an error") for it in quoted(rows[other].cell(column))]
+        check(other in rows, f"{row}: no row of `{other}`")
+        told += [it for column in ("Errors", "After an error") if other in rows for it in quoted(rows[other].cell(column))]
     for clause in names_of(clauses) - set(told):
         check(False, f"{row}: its clause `{clause}` is not told")
     traits = [it for path in quoted(row.cell("Result")) for it in of_trait(path, known)]
@@ -301,13 +302,14 @@ def main():
                 check_mistake(row, known)
             elif row.columns == ["What", "Where"]:
                 check(len(row.line) <= ROW_LENGTH, f"{row}: longer than {ROW_LENGTH} characters")
+    told = [row for row in rows if row.columns[0] == "Call" and row.heading in known.libraries]
+    by_name = {quoted(row.cells[0])[0]: row for row in told}
+    for row in told:
+        with counted():
+            check_call(row, by_name, known)
     for name in known.libraries:
-        calls = {quoted(row.cells[0])[0]: row for row in rows if row.heading == name and row.columns[0] == "Call"}
-        for row in calls.values():
-            with counted():
-                check_call(row, calls, known)
-        for call in known.crates[name].calls:
-            check(call in calls, f"{PAGE}, {name}: the public call `{call}` has no row")
+        for call in known.crates[name].calls.keys() - {quoted(row.cells[0])[0] for row in told if row.heading == name}:
+            check(False, f"{PAGE}, {name}: the public call `{call}` has no row")
     with counted():
         told = {heading: it for heading, it in paragraphs_of(page) if it.startswith("Laws: ")}
         for name in known.libraries:

@@ -80,7 +80,9 @@ class Module:
     def __init__(self, crate, path):
         self.children, self.exports, self.types, self.private = {}, {}, set(), set()
         self.traits, self.calls = {}, []
-        self.lines = text_of("crates", crate, "src", path).split("\n")
+        # A module without its file is the compiler's to tell.
+        there = is_there("crates", crate, "src", path)
+        self.lines = text_of("crates", crate, "src", path).split("\n") if there else []
         self.read_exports()
         self.read_items()
         folder = "" if path in ("lib.rt", "main.rt") else path.removesuffix(".rt") + "/"
