@@ -1,29 +1,54 @@
 #!/usr/bin/env bash
-# Measures loading through the C library, compared with `ImageLoader`, by which `amihunk load` decodes: 60 MB with a
-# million relocations, from memory, and from a file in the same pieces. It makes its own input, and prints for each
-# figure what is allowed and what was reached. Times are the least of five rounds, in which the programs take turns. It
-# ends with status 1 where a figure is missed. It needs the toolchain, a C compiler ($CC, or cc), binutils and python3 on
-# the PATH, and 200 MB for temporary files.
+# Measures the C library. Loading is compared with `ImageLoader`, by which `amihunk load` decodes: 60 MB with a million
+# relocations, from memory, and from a file in the same pieces. Loading and linking in one buffer are compared with the same
+# by malloc: that file, 16,384 small units, and 60 MB in as many. It makes its own inputs, and prints for each figure what is
+# allowed and what was reached. Times are the least of five rounds, in which the programs take turns. It ends with status 1
+# where a figure is missed. It needs the toolchain, a C compiler ($CC, or cc), binutils and python3 on the PATH, 400 MB for
+# temporary files, and 500 MB of memory.
 set -eu
 . "$(dirname "$0")/common.sh"
 capi="$(cd "$benches/../capi" && pwd)"
+units=16384
 "$capi/build.sh"
 "${CC:-cc}" -std=c11 -O2 -I"$capi/out" "$capi/bench.c" -o "$folder/capi" "$capi/out/libamihunk.a"
 make_file rising --longwords 15728640 --sites 1000000
 cd "$folder"
+for kind in small many; do
+    python3 "$benches/object_files.py" "$kind" "$kind" "$units"
+    cat "$kind"/* > "$kind.o" # the units of an object file follow one another
+    rm -r "$kind"
+done
 
 keep() { # NAME TIME: in `least`, if it is less
     if [ "$2" -lt "${least[$1]:-$(($2 + 1))}" ]; then least[$1]="$2"; fi
 }
 
-./capi load rising # ends this script where it fails
+keep_both() { # WHAT FILE: the least times of that by malloc, and in a buffer
+    local memory
+    for memory in malloc buffer; do
+        keep "$2.$memory" "$(./capi "$1" "$memory" "$2")"
+    done
+}
+
+in_buffer() { # NAME FILE
+    figure "$1 in a buffer (${least[$2.buffer]} us) by malloc (${least[$2.malloc]} us)" 1.3 \
+        "$(ratio "${least[$2.buffer]}" "${least[$2.malloc]}")" times
+}
+
+./capi read malloc rising # ends this script where it fails
 declare -A least
 for _ in 1 2 3 4 5; do
-    keep memory "$(./capi memory rising)"
-    keep handle "$(took /dev/null ./capi load rising)"
+    keep handle "$(took /dev/null ./capi read malloc rising)"
     keep loader "$(took /dev/null "$bench" load-file rising)"
+    keep_both load rising
+    keep_both link small.o
+    keep_both link many.o
 done
 echo "60 MB with 1000000 relocations; ImageLoader takes ${least[loader]} us with reading"
-figure "from memory through the handle (${least[memory]} us) by that" 1.1 "$(ratio "${least[memory]}" "${least[loader]}")" times
+figure "from memory through the handle (${least[rising.malloc]} us) by that" 1.1 "$(ratio "${least[rising.malloc]}" "${least[loader]}")" times
 figure "with reading through the handle (${least[handle]} us) by that" 1.1 "$(ratio "${least[handle]}" "${least[loader]}")" times
+in_buffer "the same from memory" rising
+echo "$units units: small ones, of $(wc -c < small.o) bytes; and $(wc -c < many.o) bytes of larger ones"
+in_buffer "link of small ones" small.o
+in_buffer "link of larger ones" many.o
 exit "$missed"

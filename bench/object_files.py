@@ -3,6 +3,8 @@
 
 `many` is COUNT files of three hunks each. A file defines eight names, refers 24 times to names of others,
 mostly of the files that follow it, and relocates 32 longwords.
+`small` is COUNT files of one hunk of two longwords each. A file defines a name and refers to the name of
+another.
 `symbols` is COUNT files of one hunk each. A file defines 2,000 names and refers to 2,000 of others.
 `big` is a file of one hunk of DATA with COUNT longwords and a relocation for every 62 bytes, and a small file
 that refers to it.
@@ -94,6 +96,16 @@ def symbols(dice, count):
         ])
 
 
+def small(dice, count):
+    for number in range(count):
+        other = "name%d" % dice.randrange(count)
+        yield b"".join([
+            longwords([UNIT, 0]),
+            content(CODE, dice.randbytes(8)),
+            externals([("name%d" % number, 4)], {other: [2]}), longwords([END]),
+        ])
+
+
 def big(dice, count):
     sites = range(0, 4 * count - 3, 62)
     yield b"".join([
@@ -109,7 +121,7 @@ def big(dice, count):
 
 def main():
     folder, kind, count = sys.argv[1:]
-    makers = {"many": many, "symbols": symbols, "big": big}
+    makers = {"many": many, "small": small, "symbols": symbols, "big": big}
     path = pathlib.Path(folder)
     path.mkdir(parents=True)
     for number, file in enumerate(makers[kind](random.Random(7), int(count))):

@@ -115,8 +115,11 @@ static size_t end_text(char *into, size_t size, uint64_t length)
     return length;
 }
 
-/* Writes the line of a refusal. It is made in a buffer here, and where that is too small, in the
-   memory of the handle. */
+/*
+ * Writes the line of a refusal. It is made in a buffer here, and where that is too small, in the
+ * memory of the handle. The buffer is an array of bytes, and buffer.c uses it as such; the exports,
+ * which keep other types in its blocks, are not C, and C's rules on types do not bind them.
+ */
 static size_t write_line(void **session, const amihunk_memory *memory, const char *file, char *into,
                          size_t size)
 {

@@ -44,6 +44,12 @@
  *   The pointers in an amihunk_hunk and in an amihunk_bytes lead into the memory of the handle, and
  *   hold until it is closed. Do not write there: what is read later would be what you wrote.
  *
+ * Time
+ *
+ *   Each call says what its time grows with, whatever it is passed. The functions of its memory
+ *   take time of their own. A call that refuses releases what the handle has, which takes the time
+ *   of a close.
+ *
  * What it needs
  *
  *   An x86-64 processor of level 2 (SSE4.2 and POPCNT; this is not checked), 64-bit pointers,
@@ -88,16 +94,25 @@ typedef struct amihunk_memory {
     void *context;
 } amihunk_memory;
 
-/* The heap of the C library: malloc, realloc and free. */
+/* The heap of the C library: malloc, realloc and free. The time of the call is constant. */
 amihunk_memory amihunk_from_malloc(void);
 
 /*
  * The `size` bytes at `buffer`, and none beside them. They are yours again once each handle that
  * takes its memory there is closed. Several handles may share them, on one thread.
  *
- * Up to 31 bytes are taken at once. A block takes 16 bytes more than its length, rounded up to a
- * multiple of 16; what was released is used again. If there is too little room, or `buffer` is
- * NULL, each allocation fails. The time of an allocation grows with the number of gaps.
+ * They may be at any address, and declared as an array of any type, for they are read and written
+ * as bytes. At once, at most 32 of them are taken for each doubling from 4 to `size`: 320 of 4,096,
+ * 448 of 65,536. In 168 bytes there is room for a block, in fewer there may be none. A block takes
+ * 8 bytes more than its length, rounded up to a multiple of 16, and at least 32; and 16 more where
+ * these would be left over. What is released is joined with what is free beside it, and used again.
+ *
+ * An allocation fails if `buffer` is NULL, or no gap is as long as what the block takes; it may
+ * fail if none is a quarter longer. A block is resized in its place where there is room for it.
+ *
+ * The time of this call, of an allocation and of a release is constant: it grows neither with the
+ * number of blocks nor with that of gaps. So is that of a resize, unless it moves the block: then
+ * it grows with the bytes that are kept.
  */
 amihunk_memory amihunk_in_buffer(void *buffer, size_t size);
 
@@ -219,7 +234,7 @@ typedef struct amihunk_hunk {
 /*
  * Opens a closed loader for a load file whose hunk number i is to be at address bases[i]. Each
  * address may be a base, also an odd one. The bases are copied. Whether the hunks can be placed at
- * them is told by amihunk_loader_finish.
+ * them is told by amihunk_loader_finish. The time grows with `count`.
  *
  * AMIHUNK_OK: the loader is loading.
  * AMIHUNK_OUT_OF_MEMORY: it is still closed.
@@ -229,7 +244,9 @@ amihunk_status amihunk_loader_open(amihunk_loader *loader, amihunk_memory memory
                                    const uint32_t *bases, size_t count);
 
 /*
- * Takes the next `size` bytes of the file.
+ * Takes the next `size` bytes of the file. The time of all these calls together grows with the
+ * bytes of the file and of its hunks in memory; one of them also takes the time of
+ * amihunk_check_places.
  *
  * AMIHUNK_OK: the bytes so far may be the beginning of a load file.
  * AMIHUNK_BAD_FILE: they are not. This comes with the last byte of the longword at the place.
@@ -243,7 +260,7 @@ amihunk_status amihunk_loader_feed(amihunk_loader *loader, const void *piece, si
                                    amihunk_answer *answer);
 
 /*
- * Ends the file, and makes its hunks known. No memory is needed for that.
+ * Ends the file, and makes its hunks known. No memory is needed for that. The time is constant.
  *
  * AMIHUNK_OK: the loader is loaded.
  * AMIHUNK_BAD_FILE: the file ends too early.
@@ -256,11 +273,11 @@ amihunk_status amihunk_loader_feed(amihunk_loader *loader, const void *piece, si
  */
 amihunk_status amihunk_loader_finish(amihunk_loader *loader, amihunk_answer *answer);
 
-/* The number of hunks of a loaded loader, 1 to 65,535; else 0. */
+/* The number of hunks of a loaded loader, 1 to 65,535; else 0. The time is constant. */
 size_t amihunk_loader_hunk_count(amihunk_loader *loader);
 
 /*
- * Tells where the bytes of a hunk are, how many they are, and the base.
+ * Tells where the bytes of a hunk are, how many they are, and the base. The time is constant.
  *
  * AMIHUNK_OK: `told` is the hunk. The pointer is not NULL, also if there are no bytes.
  * AMIHUNK_OUT_OF_RANGE: there is no such hunk.
@@ -273,7 +290,7 @@ amihunk_status amihunk_loader_get_hunk(amihunk_loader *loader, size_t hunk, amih
 /*
  * Copies the bytes of a hunk from `offset` on, as many as there are and at most `size`, and returns
  * how many. 0 if the loader is not loaded, or there is no such hunk, or nothing at that offset. The
- * rest of `into` is as it was.
+ * rest of `into` is as it was. The time grows with the bytes that are copied.
  */
 size_t amihunk_loader_read(amihunk_loader *loader, size_t hunk, uint64_t offset, void *into,
                            size_t size);
@@ -290,15 +307,22 @@ size_t amihunk_loader_read(amihunk_loader *loader, size_t hunk, uint64_t offset,
  * byte after it. Returns the length of the whole line, as snprintf does, so that something is
  * missing if that is `size` or more. The line is empty if the loader is not refused. One of up to
  * 500 bytes needs no memory; a longer one is empty too if the loader's memory has no room for it.
+ * The time grows with the length of the line.
  */
 size_t amihunk_loader_line(amihunk_loader *loader, const char *file, char *into, size_t size);
 
-/* Closes a loader, whatever it is doing, and releases its memory. */
+/*
+ * Closes a loader, whatever it is doing, and releases its memory. The time grows with the number of
+ * its blocks.
+ */
 void amihunk_loader_close(amihunk_loader *loader);
 
 /*
  * Checks whether hunks of these sizes, in longwords, can be placed at these bases. No memory is
  * needed for that. A hunk of no longwords takes no address.
+ *
+ * If the others stand in ascending or in descending order, and share no address, the time grows
+ * with the number of hunks; else with its square.
  *
  * AMIHUNK_OK: they can.
  * AMIHUNK_WRONG_COUNT, AMIHUNK_PAST_END, AMIHUNK_OVERLAP: they cannot.
@@ -331,7 +355,7 @@ typedef struct amihunk_options {
 } amihunk_options;
 
 /*
- * Opens a closed linker.
+ * Opens a closed linker. The time is constant.
  *
  * AMIHUNK_OK: the linker is linking, and waits for its first object file.
  * AMIHUNK_OUT_OF_MEMORY: it is still closed.
@@ -342,7 +366,8 @@ amihunk_status amihunk_linker_open(amihunk_linker *linker, amihunk_memory memory
 
 /*
  * Takes the next `size` bytes of an object file. The first call begins the first object file, and
- * the first one after an amihunk_linker_end_input the next.
+ * the first one after an amihunk_linker_end_input the next. The time of all these calls for an
+ * object file together grows with its bytes.
  *
  * AMIHUNK_OK: the bytes so far may be the beginning of an object file.
  * AMIHUNK_BAD_FILE: they are not. This comes with the last byte of the longword at the place.
@@ -356,7 +381,8 @@ amihunk_status amihunk_linker_feed(amihunk_linker *linker, const void *piece, si
                                    amihunk_answer *answer);
 
 /*
- * Ends the object file. One that was never fed is empty, and is refused.
+ * Ends the object file. One that was never fed is empty, and is refused. The time of all these
+ * calls together grows with the number of object files and of their units.
  *
  * AMIHUNK_OK: it is an object file.
  * AMIHUNK_BAD_FILE: it ends too early.
@@ -369,6 +395,10 @@ amihunk_status amihunk_linker_end_input(amihunk_linker *linker, amihunk_answer *
 /*
  * Links the units of all object files, in the order in which they came.
  *
+ * The time grows with the bytes of the object files and of the load file, and as n log n with the
+ * number of relocations of one hunk. The names are in a hash table, whose hash has no secret key:
+ * with names that were made to collide, the time grows with the square of their number.
+ *
  * AMIHUNK_OK: the linker is linked, and has the load file.
  * AMIHUNK_NO_HUNKS to AMIHUNK_UNDEFINED_NAME: the units do not link.
  * AMIHUNK_OUT_OF_MEMORY: an allocation failed.
@@ -380,7 +410,7 @@ amihunk_status amihunk_linker_end_input(amihunk_linker *linker, amihunk_answer *
 amihunk_status amihunk_linker_finish(amihunk_linker *linker, amihunk_answer *answer);
 
 /*
- * Tells where the bytes of the load file are, and how many they are.
+ * Tells where the bytes of the load file are, and how many they are. The time is constant.
  *
  * AMIHUNK_OK: `told` is the load file.
  * AMIHUNK_WRONG_STATE: the linker is not linked, and `told` is all zeros.
@@ -390,27 +420,31 @@ amihunk_status amihunk_linker_get_file(amihunk_linker *linker, amihunk_bytes *to
 /*
  * Copies the bytes of the load file from `offset` on, as many as there are and at most `size`, and
  * returns how many. 0 if the linker is not linked, or there is nothing at that offset. The rest of
- * `into` is as it was.
+ * `into` is as it was. The time grows with the bytes that are copied.
  */
 size_t amihunk_linker_read(amihunk_linker *linker, uint64_t offset, void *into, size_t size);
 
 /*
  * Writes the name that AMIHUNK_DUPLICATE_NAME or AMIHUNK_UNDEFINED_NAME is about, and returns its
  * length; `into` and `size` are as in amihunk_loader_line. It has no zero byte, and may be empty;
- * it is empty if the linker is not refused with one of these.
+ * it is empty if the linker is not refused with one of these. The time grows with the bytes that
+ * are written.
  */
 size_t amihunk_linker_name(amihunk_linker *linker, char *into, size_t size);
 
 /*
  * Writes why the linker is refused, as amihunk_loader_line does. `file` is what the object file is
- * called that is refused: number `input` of the answer.
+ * called that is refused: number `input` of the answer. The time grows with the length of the line.
  *
  *     amihunk: main.o: longword 15: site 00000004 overlaps another
  *     amihunk: link: unit 0 hunk 0: "foo" not defined
  */
 size_t amihunk_linker_line(amihunk_linker *linker, const char *file, char *into, size_t size);
 
-/* Closes a linker, whatever it is doing, and releases its memory. */
+/*
+ * Closes a linker, whatever it is doing, and releases its memory. The time grows with the number of
+ * its blocks.
+ */
 void amihunk_linker_close(amihunk_linker *linker);
 
 #ifdef __cplusplus

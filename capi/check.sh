@@ -12,7 +12,9 @@ export LC_ALL=C
 cc="${CC:-cc}"
 cxx="${CXX:-c++}"
 warnings=(-Wall -Wextra -Werror -pedantic)
-tests=(loading reasons linking memory calls mutated)
+tests=(loading reasons linking memory handles calls mutated buffer blocks)
+# Of the library the sanitizers see nothing, so what these tests are about is built with them.
+declare -A sources=([buffer]=buffer.c [blocks]=buffer.c)
 work="$(mktemp -d)" || exit 1
 trap 'rm -rf "$work"' EXIT
 passed=0
@@ -53,7 +55,7 @@ run_tests() {
 # Builds and runs all test programs in one way over the library in a folder:
 # WAY FOLDER FLAGS.. -- WORDS.. (those that run a program)
 run_way() {
-    local way="$1" library="$2" flags=() test
+    local way="$1" library="$2" flags=() test files
     shift 2
     while [ "$1" != -- ]; do
         flags+=("$1")
@@ -61,7 +63,8 @@ run_way() {
     done
     shift
     for test in "${tests[@]}"; do
-        if attempt "build of $test, $way" "$cc" -std=c11 "${warnings[@]}" "-I$library" "${flags[@]}" "tests/$test.c" \
+        files=("tests/$test.c" ${sources[$test]+"${sources[$test]}"})
+        if attempt "build of $test, $way" "$cc" -std=c11 "${warnings[@]}" "-I$library" "${flags[@]}" "${files[@]}" \
             -o "$work/$test" "$library/libamihunk.a" -pthread; then
             run_tests "$test, $way" "$@" "$work/$test"
         fi

@@ -1,0 +1,99 @@
+/*
+ * Runs of a handle that may run out of memory, and check what there is to check of a whole one: the
+ * tests of memories make them.
+ */
+#ifndef RUNS_H
+#define RUNS_H
+
+#include "files.h"
+
+static const uint32_t bases[] = {0x10000, 0x20000};
+
+/* Loads the file of two hunks, and checks what there is to check of a whole run. */
+static inline amihunk_status load(amihunk_memory memory, size_t piece)
+{
+    struct file file = two_hunks();
+    amihunk_loader loader = {0};
+    amihunk_answer answer = {.status = amihunk_loader_open(&loader, memory, bases, 2)};
+    if (answer.status == AMIHUNK_OK) {
+        answer = load_pieces(&loader, file, piece);
+    } else {
+        CHECK(loader.session == NULL);
+    }
+    if (answer.status == AMIHUNK_OK) {
+        uint8_t bytes[16];
+        CHECK(amihunk_loader_read(&loader, 0, 0, bytes, 16) == 16);
+        CHECK(memcmp(bytes, two_hunks_first, 16) == 0);
+        CHECK(amihunk_loader_read(&loader, 1, 0, bytes, 16) == 8);
+        CHECK(memcmp(bytes, two_hunks_second, 8) == 0);
+    } else {
+        CHECK(same_answer(&answer, &(amihunk_answer){.status = AMIHUNK_OUT_OF_MEMORY}));
+        CHECK(amihunk_loader_hunk_count(&loader) == 0);
+        if (loader.session != NULL) {
+            char line[80];
+            amihunk_answer again = load_pieces(&loader, file, 0);
+            CHECK(same_answer(&answer, &again));
+            CHECK(amihunk_loader_line(&loader, "x", line, sizeof(line)) == 23);
+            CHECK(strcmp(line, "amihunk: out of memory\n") == 0);
+        }
+    }
+    amihunk_loader_close(&loader);
+    free(file.bytes);
+    return (amihunk_status)answer.status;
+}
+
+/* Links the caller and the definer. */
+static inline amihunk_status link_two(amihunk_memory memory, size_t piece)
+{
+    const struct file files[] = {caller(), definer()};
+    struct file expected = caller_and_definer();
+    amihunk_linker linker = {0};
+    amihunk_answer answer = {.status = amihunk_linker_open(&linker, memory, (amihunk_options){0})};
+    if (answer.status == AMIHUNK_OK) {
+        answer = link_pieces(&linker, files, 2, piece);
+    } else {
+        CHECK(linker.session == NULL);
+    }
+    amihunk_bytes told;
+    if (answer.status == AMIHUNK_OK) {
+        CHECK(amihunk_linker_get_file(&linker, &told) == AMIHUNK_OK);
+        CHECK(same(expected, told.bytes, told.size));
+    } else {
+        CHECK(same_answer(&answer, &(amihunk_answer){.status = AMIHUNK_OUT_OF_MEMORY}));
+        CHECK(amihunk_linker_get_file(&linker, &told) == AMIHUNK_WRONG_STATE);
+        if (linker.session != NULL) {
+            char line[80];
+            amihunk_answer again = link_pieces(&linker, files, 2, 0);
+            CHECK(same_answer(&answer, &again));
+            CHECK(amihunk_linker_line(&linker, "x", line, sizeof(line)) == 23);
+            CHECK(strcmp(line, "amihunk: out of memory\n") == 0);
+        }
+    }
+    amihunk_linker_close(&linker);
+    free(expected.bytes);
+    free(files[0].bytes);
+    free(files[1].bytes);
+    return (amihunk_status)answer.status;
+}
+
+/* Links two files whose names clash: what is refused has a name of its own. */
+static inline amihunk_status link_clash(amihunk_memory memory, size_t piece)
+{
+    const struct file files[] = {definer(), definer()};
+    amihunk_linker linker = {0};
+    amihunk_answer answer = {.status = amihunk_linker_open(&linker, memory, (amihunk_options){0})};
+    if (answer.status == AMIHUNK_OK) {
+        answer = link_pieces(&linker, files, 2, piece);
+    }
+    CHECK(answer.status == AMIHUNK_DUPLICATE_NAME || answer.status == AMIHUNK_OUT_OF_MEMORY);
+    char name[8];
+    size_t length = amihunk_linker_name(&linker, name, sizeof(name));
+    CHECK(length == (answer.status == AMIHUNK_DUPLICATE_NAME ? 3 : 0));
+    CHECK(strcmp(name, length != 0 ? "foo" : "") == 0);
+    amihunk_linker_close(&linker);
+    free(files[0].bytes);
+    free(files[1].bytes);
+    return (amihunk_status)answer.status;
+}
+
+#endif
