@@ -2,4 +2,3 @@ pub mod CountersLemmas
 pub mod FileDecoderLemmas
 pub mod PathLemmas
 pub mod FollowerLemmas
-pub mod CountingLemmas

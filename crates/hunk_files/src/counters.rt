@@ -8,9 +8,9 @@ ghost use Rattle.hunk_words.specs.Taker.{JudgesNone};
 ghost use Rattle.hunk_words.specs.Kinds.{hunk_kind_of};
 ghost use Rattle.hunk_words.specs.declared.event.Event.{Event};
 ghost use Rattle.hunk_words.specs.declared.event.FileKind.TheVariants.{Object, Load};
-ghost use Rattle.hunk_files.specs.Counters.{LoadStandsFor, ObjectStandsFor, header_hunks, hunks_of, units_of};
+ghost use Rattle.hunk_files.specs.Counters.{CountsLoad, CountsObject, LoadStandsFor, ObjectStandsFor, header_hunks, hunks_of, units_of};
 
-use hunk_words::{Event, FileKind, HunkKind, PartialHunk, SiteRefusal, Taker};
+use hunk_words::{Builder, Event, FileKind, HunkKind, PartialHunk, SiteRefusal, Taker};
 use std::alloc::{AllocError, Allocator, Global};
 
 // The content begins: the sites must lie in this many bytes. In a file no site comes before.
@@ -132,6 +132,22 @@ impl<A: Allocator + Copy> Taker for ObjectCounter<A> {
     }
 }
 
+impl<A: Allocator + Copy> Builder for ObjectCounter<A> {
+    ghost is_value = { λ counter bytes. CountsObject counter bytes };
+
+    type Alloc = A;
+
+    type Value = ObjectCounter<A>;
+
+    fn new(alloc: A) -> Self {
+        ObjectCounter::new(alloc)
+    }
+
+    fn into_value(self) -> ObjectCounter<A> {
+        self
+    }
+}
+
 /// Checks the sites of a load file, and keeps the sizes in its header, one for each hunk.
 ///
 /// It keeps the sites of the current hunk, and no content.
@@ -211,5 +227,21 @@ impl<A: Allocator + Copy> Taker for LoadCounter<A> {
             Some(size) => *size,
             None => 0,
         }
+    }
+}
+
+impl<A: Allocator + Copy> Builder for LoadCounter<A> {
+    ghost is_value = { λ counter bytes. CountsLoad counter bytes };
+
+    type Alloc = A;
+
+    type Value = LoadCounter<A>;
+
+    fn new(alloc: A) -> Self {
+        LoadCounter::new(alloc)
+    }
+
+    fn into_value(self) -> LoadCounter<A> {
+        self
     }
 }

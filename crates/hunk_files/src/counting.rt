@@ -2,15 +2,13 @@
 
 ghost use Rattle.std.specs.Prelude.{IsTrue, IfOk, IfErr, OnOk};
 ghost use Rattle.hunk_base.specs.Streams.{HasRead};
-ghost use Rattle.hunk_words.specs.Decoder.{StandsFor};
-ghost use Rattle.hunk_words.specs.declared.event.FileKind.TheVariants.{Object, Load};
-ghost use Rattle.hunk_files.specs.Counters.{CountsLoad, CountsObject, LoadStandsFor, ObjectStandsFor};
+ghost use Rattle.hunk_files.specs.Counters.{CountsLoad, CountsObject};
 ghost use Rattle.hunk_files.specs.FileDecoder.{IsFileOf, IsReadFault};
 ghost use Rattle.hunk_files.specs.FileValue.{kind_of_bytes};
 
 use crate::counters::{LoadCounter, ObjectCounter};
-use crate::file_decoder::{File, KindDecoder, read_file};
-use hunk_words::{Decoder, ReadFault, Refusal, Source};
+use crate::file_decoder::{File, read_file};
+use hunk_words::{ReadFault, Source, ValueDecoder};
 use std::alloc::{Allocator, Global};
 
 /// What a file of either kind has, counted.
@@ -36,43 +34,7 @@ pub fn count_file<A: Allocator + Copy, R: Source>(
     ensures ended { OnOk result (IsTrue (R.ended reader.new)) }
     ensures refused { IfErr result (IsReadFault (R.left reader.old) (R.left reader.new) (R.failed reader.new) (R.ended reader.new)) }
 {
-    let object = Decoder::new(ObjectCounter::new(alloc));
-    let load = Decoder::new(LoadCounter::new(alloc));
+    let object: ValueDecoder<ObjectCounter<A>> = ValueDecoder::new(alloc);
+    let load: ValueDecoder<LoadCounter<A>> = ValueDecoder::new(alloc);
     read_file(reader, object, load)
-}
-
-impl<A: Allocator + Copy> KindDecoder for Decoder<ObjectCounter<A>> {
-    ghost stands_for = { λ decoder bytes. StandsFor Object ObjectStandsFor decoder bytes };
-
-    ghost KIND = { Object };
-
-    ghost is_value = { λ counter bytes. CountsObject counter bytes };
-
-    type Value = ObjectCounter<A>;
-
-    fn feed(&mut self, piece: &[u8]) -> Result<(), Refusal> {
-        self.feed(piece)
-    }
-
-    fn finish(self) -> Result<ObjectCounter<A>, Refusal> {
-        self.finish()
-    }
-}
-
-impl<A: Allocator + Copy> KindDecoder for Decoder<LoadCounter<A>> {
-    ghost stands_for = { λ decoder bytes. StandsFor Load LoadStandsFor decoder bytes };
-
-    ghost KIND = { Load };
-
-    ghost is_value = { λ counter bytes. CountsLoad counter bytes };
-
-    type Value = LoadCounter<A>;
-
-    fn feed(&mut self, piece: &[u8]) -> Result<(), Refusal> {
-        self.feed(piece)
-    }
-
-    fn finish(self) -> Result<LoadCounter<A>, Refusal> {
-        self.finish()
-    }
 }

@@ -1,7 +1,7 @@
 //! Reads a file of either kind: its first four bytes tell which.
 
 ghost use Rattle.std.specs.Prelude.{◌≡◌, ℕ, ◌+◌, ◌<◌, ◌^◌, List, [], ◌++◌, length, IfOk, IfErr, OnOk, IsTrue};
-ghost use Rattle.hunk_words.specs.Decoder.{RefusesBytes, RefusesInput};
+ghost use Rattle.hunk_words.specs.Decoder.{RefusesBytes, RefusesInput, StandsFor as DecoderStandsFor};
 ghost use Rattle.hunk_base.specs.Streams.{HasRead};
 ghost use Rattle.hunk_words.specs.declared.event.FileKind.{FileKind};
 ghost use Rattle.hunk_words.specs.declared.event.FileKind.TheVariants.{Object, Load};
@@ -12,7 +12,7 @@ ghost use Rattle.hunk_files.specs.FileValue.{kind_of_bytes};
 use crate::first_bytes::{FirstBytes, LONGWORD};
 use byteorder::{BigEndian, ByteOrder};
 use hunk_words::doshunks::HUNK_HEADER;
-use hunk_words::{Feed, FileKind, ReadFault, Refusal, Source, read_all};
+use hunk_words::{Builder, Feed, FileKind, ReadFault, Refusal, Source, ValueDecoder, read_all};
 
 /// Block types are the numbers below this one: they have 30 bits.
 const TYPES: u32 = 0x4000_0000;
@@ -48,6 +48,24 @@ pub(crate) trait KindDecoder: Drop {
     fn finish(self) -> Result<Self::Value, Refusal>
         ensures value { IfOk result (λ value. (bytes : List ℕ) → stands_for self bytes → is_value value bytes) }
         ensures refused { IfErr result (λ refusal. (bytes : List ℕ) → stands_for self bytes → RefusesInput KIND bytes refusal) };
+}
+
+impl<B: Builder> KindDecoder for ValueDecoder<B> {
+    ghost stands_for = { λ d bytes. DecoderStandsFor B.KIND B.stands_for d bytes };
+
+    ghost KIND = { B.KIND };
+
+    ghost is_value = { B.is_value };
+
+    type Value = B::Value;
+
+    fn feed(&mut self, piece: &[u8]) -> Result<(), Refusal> {
+        self.feed(piece)
+    }
+
+    fn finish(self) -> Result<B::Value, Refusal> {
+        self.finish()
+    }
 }
 
 /// What was made of a file of either kind.

@@ -2,17 +2,14 @@
 
 ghost use Rattle.std.specs.Prelude.{IsTrue, OnOk, IfOk, IfErr};
 ghost use Rattle.hunk_base.specs.Streams.{HasRead};
-ghost use Rattle.hunk_words.specs.declared.event.FileKind.TheVariants.{Load, Object};
-ghost use Rattle.hunk_objects.specs.ProgramUnit.{IsObjectOf};
-ghost use Rattle.hunk_loadfile.specs.LoadFile.{IsLoadOf};
 ghost use Rattle.hunk_files.specs.FileDecoder.{IsReadFault};
 ghost use Rattle.hunk_files.specs.FileValue.{IsOfItsKind};
 ghost use Rattle.hunk_files.specs.HunkFile.{value_of};
 
-use crate::file_decoder::{File, KindDecoder, read_file};
+use crate::file_decoder::{File, read_file};
 use hunk_loadfile::{LoadDecoder, LoadFile};
 use hunk_objects::{ObjectDecoder, ProgramUnit};
-use hunk_words::{ReadFault, Refusal, Source};
+use hunk_words::{ReadFault, Source};
 use std::alloc::{Allocator, Global};
 
 /// What is in a hunk file: the units of an object file, or a load file.
@@ -38,44 +35,4 @@ pub fn read_hunk_file<A: Allocator + Copy, R: Source>(
     ensures refused { IfErr result (IsReadFault (R.left reader.old) (R.left reader.new) (R.failed reader.new) (R.ended reader.new)) }
 {
     read_file(reader, ObjectDecoder::new(alloc), LoadDecoder::new(alloc))
-}
-
-impl<A: Allocator + Copy> KindDecoder for ObjectDecoder<A> {
-    ghost use Rattle.hunk_objects.specs.ObjectDecoder.{StandsFor};
-
-    ghost stands_for = { StandsFor };
-
-    ghost KIND = { Object };
-
-    ghost is_value = { λ units bytes. IsObjectOf units.items bytes };
-
-    type Value = Vec<ProgramUnit<A>, A>;
-
-    fn feed(&mut self, piece: &[u8]) -> Result<(), Refusal> {
-        self.feed(piece)
-    }
-
-    fn finish(self) -> Result<Vec<ProgramUnit<A>, A>, Refusal> {
-        self.finish()
-    }
-}
-
-impl<A: Allocator + Copy> KindDecoder for LoadDecoder<A> {
-    ghost use Rattle.hunk_loadfile.specs.LoadDecoder.{StandsFor};
-
-    ghost stands_for = { StandsFor };
-
-    ghost KIND = { Load };
-
-    ghost is_value = { λ file bytes. IsLoadOf file bytes };
-
-    type Value = LoadFile<A>;
-
-    fn feed(&mut self, piece: &[u8]) -> Result<(), Refusal> {
-        self.feed(piece)
-    }
-
-    fn finish(self) -> Result<LoadFile<A>, Refusal> {
-        self.finish()
-    }
 }

@@ -9,7 +9,3 @@ use Rattle.hunk_loadfile.specs.declared.load_builder.LoadBuilder.{LoadBuilder}
 -- the bytes that it was fed
 abbrev pub StandsFor : {A : Type 0} → Decoder (LoadBuilder A) → List ℕ → Type 0
 StandsFor decoder bytes = DecoderStandsFor Load BuilderStandsFor decoder bytes
-
--- it was fed some bytes, possibly none
-abbrev pub WasFed : {A : Type 0} → Decoder (LoadBuilder A) → Type 0
-WasFed decoder = (bytes : List ℕ) × StandsFor decoder bytes

@@ -3,9 +3,10 @@ ghost use Rattle.std.specs.Prelude.{◌≡◌, ℕ, List, [], ◌∷◌, ◌*◌
 ghost use Rattle.hunk_words.specs.declared.event.Event.{Event};
 ghost use Rattle.hunk_words.specs.declared.event.FileKind.TheVariants.{Load};
 
+use crate::load_file::LoadFile;
 use crate::load_hunk::LoadHunk;
 use crate::open_hunk::OpenHunk;
-use hunk_words::{Event, FileKind, HunkKind, Memory, OpenName, SiteRefusal, Taker};
+use hunk_words::{Builder, Event, FileKind, HunkKind, Memory, OpenName, SiteRefusal, Taker};
 use std::alloc::{AllocError, Allocator, Global};
 use std::mem;
 
@@ -21,7 +22,7 @@ enum Receiver<A: Allocator + Copy> {
 /// Builds a load file from the events of its longwords: the hunks that have ended, and the current
 /// one. An error leaves it as it was.
 #[derive(Drop)]
-pub(crate) struct LoadBuilder<A: Allocator + Copy = Global> {
+pub struct LoadBuilder<A: Allocator + Copy = Global> {
     alloc: A,
     // the memory bits and the sizes in the header
     sizes: Vec<(u8, u32), A>,
@@ -38,27 +39,7 @@ fn bytes_in(longwords: u32) -> u64
 }
 
 impl<A: Allocator + Copy> LoadBuilder<A> {
-    ghost use Rattle.hunk_loadfile.specs.LoadBuilder.{StandsFor, Steps};
-
-    /// A builder that has taken no event. Does not allocate.
-    pub(crate) fn new(alloc: A) -> Self
-        ensures { StandsFor result [] }
-    {
-        LoadBuilder {
-            alloc,
-            sizes: Vec::new(alloc),
-            hunks: Vec::new(alloc),
-            hunk: OpenHunk::new(alloc, 0),
-            receiver: Receiver::Hunk,
-        }
-    }
-
-    /// The hunks that have ended.
-    pub(crate) fn into_hunks(self) -> Vec<LoadHunk<A>, A>
-        ensures { result.items ≡ self.hunks.items }
-    {
-        self.hunks
-    }
+    ghost use Rattle.hunk_loadfile.specs.LoadBuilder.{Steps};
 
     fn add_size(&mut self, bits: u8, size: u32) -> Result<(), AllocError>
         ensures { Steps self.old self.new result (Event.HunkSize bits size) }
@@ -243,5 +224,29 @@ impl<A: Allocator + Copy> Taker for LoadBuilder<A> {
 
     fn size_of(&self, hunk: u32) -> u32 {
         self.size(hunk as usize)
+    }
+}
+
+impl<A: Allocator + Copy> Builder for LoadBuilder<A> {
+    ghost use Rattle.hunk_loadfile.specs.LoadFile.{IsLoadOf};
+
+    ghost is_value = { λ file bytes. IsLoadOf file bytes };
+
+    type Alloc = A;
+
+    type Value = LoadFile<A>;
+
+    fn new(alloc: A) -> Self {
+        LoadBuilder {
+            alloc,
+            sizes: Vec::new(alloc),
+            hunks: Vec::new(alloc),
+            hunk: OpenHunk::new(alloc, 0),
+            receiver: Receiver::Hunk,
+        }
+    }
+
+    fn into_value(self) -> LoadFile<A> {
+        LoadFile::of_hunks(self.hunks)
     }
 }

@@ -9,7 +9,3 @@ use Rattle.hunk_objects.specs.declared.unit_builder.UnitBuilder.{UnitBuilder}
 -- the bytes that it was fed
 abbrev pub StandsFor : {A : Type 0} → Decoder (UnitBuilder A) → List ℕ → Type 0
 StandsFor decoder bytes = DecoderStandsFor Object BuilderStandsFor decoder bytes
-
--- it was fed some bytes, possibly none
-abbrev pub WasFed : {A : Type 0} → Decoder (UnitBuilder A) → Type 0
-WasFed decoder = (bytes : List ℕ) × StandsFor decoder bytes

@@ -9,7 +9,7 @@ use crate::open_hunk::{Named, OpenHunk};
 use crate::open_unit::OpenUnit;
 use crate::program_unit::ProgramUnit;
 use hunk_words::doshunks::{EXT_ABS, EXT_DEF, EXT_REF32};
-use hunk_words::{Event, FileKind, HunkKind, Memory, OpenName, SiteRefusal, Taker};
+use hunk_words::{Builder, Event, FileKind, HunkKind, Memory, OpenName, SiteRefusal, Taker};
 use std::alloc::{AllocError, Allocator, Global};
 
 // What takes the next word.
@@ -29,7 +29,7 @@ enum Receiver<A: Allocator + Copy> {
 /// Builds the units of an object file from the events of their longwords: the units that have ended,
 /// the current one, and the current hunk. An error leaves it as it was.
 #[derive(Drop)]
-pub(crate) struct UnitBuilder<A: Allocator + Copy = Global> {
+pub struct UnitBuilder<A: Allocator + Copy = Global> {
     alloc: A,
     // with room for the current unit
     units: Vec<ProgramUnit<A>, A>,
@@ -40,34 +40,7 @@ pub(crate) struct UnitBuilder<A: Allocator + Copy = Global> {
 
 impl<A: Allocator + Copy> UnitBuilder<A> {
     ghost use Rattle.hunk_objects.specs.OpenHunk.{receiver_of};
-    ghost use Rattle.hunk_objects.specs.UnitBuilder.{HasRoom, Holds, StandsFor, Steps, units_so_far};
-
-    /// A builder that has taken no event. Does not allocate.
-    pub(crate) fn new(alloc: A) -> Self
-        ensures { StandsFor result [] }
-    {
-        UnitBuilder {
-            alloc,
-            units: Vec::new(alloc),
-            unit: None,
-            hunk: OpenHunk::new(alloc, 0),
-            receiver: Receiver::Hunk,
-        }
-    }
-
-    /// The units, with the current one as the last. Does not allocate.
-    pub(crate) fn into_units(self) -> Vec<ProgramUnit<A>, A>
-        requires { HasRoom self.units self.unit }
-        ensures { result.items ≡ units_so_far self.units.items self.unit }
-    {
-        let mut units = self.units;
-        let unit = self.unit;
-        match unit {
-            Some(unit) => units.push_reserved(unit.close()),
-            None => {}
-        }
-        units
-    }
+    ghost use Rattle.hunk_objects.specs.UnitBuilder.{Holds, Steps};
 
     fn begin_unit(&mut self) -> Result<(), AllocError>
         ensures { Steps self.old self.new result Event.Unit }
@@ -275,5 +248,36 @@ impl<A: Allocator + Copy> Taker for UnitBuilder<A> {
 
     fn size_of(&self, _hunk: u32) -> u32 {
         0
+    }
+}
+
+impl<A: Allocator + Copy> Builder for UnitBuilder<A> {
+    ghost use Rattle.hunk_objects.specs.ProgramUnit.{IsObjectOf};
+
+    ghost is_value = { λ units bytes. IsObjectOf units.items bytes };
+
+    type Alloc = A;
+
+    type Value = Vec<ProgramUnit<A>, A>;
+
+    fn new(alloc: A) -> Self {
+        UnitBuilder {
+            alloc,
+            units: Vec::new(alloc),
+            unit: None,
+            hunk: OpenHunk::new(alloc, 0),
+            receiver: Receiver::Hunk,
+        }
+    }
+
+    // The current unit is the last one.
+    fn into_value(self) -> Vec<ProgramUnit<A>, A> {
+        let mut units = self.units;
+        let unit = self.unit;
+        match unit {
+            Some(unit) => units.push_reserved(unit.close()),
+            None => {}
+        }
+        units
     }
 }

@@ -18,6 +18,7 @@ pub mod Numbers
 pub mod Due
 pub mod DecoderCore
 pub mod Decoder
+pub mod ValueDecoder
 pub mod Examples
 pub mod Laws
 pub mod EventLaws

@@ -11,6 +11,7 @@
 //! - `taker`: what takes the events of a file.
 //! - `decoder_core`, `decoder`: decode the longwords and the bytes of a file, and send its events
 //!   to a taker.
+//! - `value_decoder`: decodes the bytes of a file to the value that a builder makes of them.
 //! - `state`: what is expected next in a file; `due`: the same, as it is told to a person.
 //! - `step`: judges a number by the function for what is expected, which is in one of the next four.
 //! - `type_steps`, `header_steps`, `block_steps`, `short_steps`: numbers of type longwords, headers,
@@ -35,6 +36,7 @@ mod state;
 mod step;
 pub mod taker;
 mod type_steps;
+pub mod value_decoder;
 
 pub use debug_info::DebugInfo;
 pub use decoder::Decoder;
@@ -48,3 +50,4 @@ pub use hunk_base::{
 pub use kinds::{BlockType, EntryType, Half, HunkKind, Memory};
 pub use partial_hunk::PartialHunk;
 pub use taker::Taker;
+pub use value_decoder::{Builder, ValueDecoder, read_value};
