@@ -21,16 +21,6 @@ WereRead-more [] (file ∷ files) input bytes were was = absurd were
 WereRead-more (first ∷ inputs) [] input bytes were was = absurd were
 WereRead-more (first ∷ inputs) (file ∷ files) input bytes were was = (were.0, WereRead-more inputs files input bytes were.1 was)
 
-AreObjects-more : (files : List (List ℕ)) (bytes : List ℕ) (units more : List ObjectUnit) → AreObjects files units → IsObjectOf more bytes → AreObjects (files ++ bytes ∷ []) (units ++ more)
-AreObjects-more [] bytes units more none is = (more, [], is, refl, ap (λ (first : List ObjectUnit). first ++ more) none ∙ sym (append-nil more))
-AreObjects-more (file ∷ files) bytes units more are is = (
-  are.0,
-  are.1 ++ more,
-  are.2,
-  AreObjects-more files bytes are.1 more are.3 is,
-  ap (λ (all : List ObjectUnit). all ++ more) are.4 ∙ append_assoc are.0 are.1 more,
-)
-
 length-WereRead : (inputs : List Input) (files : List (List ℕ)) → WereRead inputs files → length files ≡ length inputs
 length-WereRead [] [] were = refl
 length-WereRead [] (file ∷ files) were = absurd were
@@ -93,15 +83,6 @@ HaveRead-next {R = R} left failed ended olds nows count reader new P Q Holds mor
     omega (arith, length-inputs_of left failed ended (take count olds) (take count nows), length-take count olds, length-take count nows) in
     rw (old_is, take_more_set nows count new (omega arith), inputs_are)
     (HaveRead-more (inputs_of left failed ended (take count olds) (take count nows)) input P Q Holds (λ files bytes all. more files bytes (all ∙ counted)) have has at_end)
-
--- It is an object file.
-pub HaveRead-first : {R : Type 0} (left : R → Option (List ℕ)) (failed ended : R → Bool) (olds nows : List R) (count : ℕ) (reader new : R) (units more : List ObjectUnit)
-    → count < length olds → length nows ≡ length olds → drop count nows ≡ drop count olds
-    → HaveRead (inputs_of left failed ended (take count olds) (take count nows)) (λ files. AreObjects files units) → HasRead (left (get_or nows count reader)) (left new) (IsObjectOf more) → IsTrue (ended new)
-    → HaveRead (inputs_of left failed ended (take (count + 1) olds) (take (count + 1) (set nows count new))) (λ files. AreObjects files (units ++ more))
-HaveRead-first left failed ended olds nows count reader new units more =
-    HaveRead-next left failed ended olds nows count reader new (λ files. AreObjects files units) (λ files. AreObjects files (units ++ more)) (IsObjectOf more)
-    (λ files bytes counted are is. AreObjects-more files bytes units more are is)
 
 -- ---- the first that is not read
 

@@ -14,9 +14,10 @@ use Rattle.hunk_text.specs.Listing.{definition_line, definition_text}
 use Rattle.hunk_text.proofs.ListingSizeLemmas.{HasShortName, length-eight_digits, length-escaped_all-le, length-lines-le, most_line}
 use Rattle.hunk_text.proofs.ListingSizeObjectLemmas.{IsPrintable, hunk_weight, unit_weight}
 use Rattle.hunk_text.proofs.ListingSizeUnitsLemmas.{printable-object}
-use Rattle.hunk_tool.specs.Inputs.{AreObjects}
-use Rattle.hunk_tool.specs.ObjectFiles.{AreUnitsFrom, FileUnit, IsShortHunk, IsShortUnit, placed, places_of, units_of}
+use Rattle.hunk_tool.specs.Inputs.{AreObjects, HaveRead, Input}
+use Rattle.hunk_tool.specs.ObjectFiles.{AreFileUnits, AreUnitsFrom, FileUnit, IsShortHunk, IsShortUnit, placed, places_of, units_of}
 use Rattle.hunk_tool.specs.declared.object_files.UnitPlace.{UnitPlace}
+use Rattle.hunk_tool.proofs.InputsLemmas.{HaveRead-weaker}
 use Rattle.hunk_tool.proofs.NameLengthLemmas.{HasShortNames, short_names-object}
 
 -- ---- one more file
@@ -66,6 +67,11 @@ AreObjects-units number (bytes ∷ files) units are =
       AreObjects-units (number + 1) files are.1 are.3,
       ap units_of are.4 ∙ map-append unit (placed number are.0) are.1 ∙ ap (λ (us : List ObjectUnit). us ++ units_of are.1) (units_of-placed number are.0),
     )
+
+-- The files have these units.
+pub HaveRead-objects : (inputs : List Input) (files : List FileUnit) (units : List ObjectUnit) → units ≡ units_of files → HaveRead inputs (AreFileUnits files) → HaveRead inputs (λ all. AreObjects all units)
+HaveRead-objects inputs files units are read =
+    HaveRead-weaker inputs (AreFileUnits files) (λ all. AreObjects all units) (λ all is. subst (AreObjects all) (sym are) (AreObjects-units 0 all files is)) read
 
 -- ---- names
 

@@ -7,10 +7,9 @@
 //! - `check`: checks a file of either kind and writes what it is.
 //! - `show`: reads a file of either kind and writes its listing.
 //! - `survey`: what files are, the line about each, and their numbers; `file_system`: what opens them.
-//! - `inputs`: the object files that an operation reads.
 //! - `link`: links object files and writes the load file.
 //! - `link_options`: how object files are linked, and how their load file is written.
-//! - `object_files`: the units of object files, with their places.
+//! - `object_files`: the object files that an operation reads: their units, with their places.
 //! - `origins`: where the hunks of a link are from; `origin_text`: the text of that.
 //! - `map`: the map of a link: where each hunk is from.
 //! - `image`: writes the memory that object files define.
@@ -31,7 +30,6 @@ mod defined_names;
 pub mod fault_line;
 pub mod file_system;
 pub mod image;
-mod inputs;
 pub mod laws;
 pub mod link;
 pub mod link_explanation;

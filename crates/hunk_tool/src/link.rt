@@ -6,8 +6,8 @@ ghost use Rattle.hunk_tool.specs.FaultLine.{IsOfInputs};
 ghost use Rattle.hunk_tool.specs.Inputs.{HaveRead, inputs_of};
 ghost use Rattle.hunk_tool.specs.Link.{IsLinkFault, IsLinked, IsUnlinked, LinkTo};
 
-use crate::inputs::read_inputs;
 use crate::link_options::LinkOptions;
+use crate::object_files::read_object_files;
 use crate::tool_fault::ToolFault;
 use hunk_link::link_units;
 use hunk_loadfile::{LoadFile, write_load_with, written_bytes};
@@ -83,6 +83,7 @@ pub fn link_inputs<A: Allocator + Copy, R: Source>(
     ensures unlinked { IfErr result (IsUnlinked strip (inputs_of R.left R.failed R.ended inputs.old inputs.new)) }
     ensures writable { IfErr result (IsOfInputs (length inputs.old)) }
 {
-    let units = read_inputs(alloc, inputs)?;
+    let files = read_object_files(alloc, inputs)?;
+    let units = files.into_units();
     Ok(link_units(alloc, units, strip)?)
 }

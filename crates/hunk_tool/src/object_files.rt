@@ -47,6 +47,13 @@ impl<A: Allocator + Copy> ObjectFiles<A> {
         &self.units
     }
 
+    /// The units, in order, moved out of it. Does not allocate.
+    pub(crate) fn into_units(self) -> Vec<ProgramUnit<A>, A>
+        ensures { result.items ≡ units_of self }
+    {
+        self.units
+    }
+
     /// The places of the units.
     pub(crate) fn places(&self) -> &[UnitPlace]
         ensures { result.now ≡ map (λ unit. unit.0) self.now }

@@ -1,5 +1,5 @@
 -- Each exit, and the load file of the units.
-use Rattle.std.proofs.Common.{◌≡◌, ◌∙◌, Bool, List, ap, length, subst, sum_by, sym, arith, rules}
+use Rattle.std.proofs.Common.{◌≡◌, ◌∙◌, Bool, List, ap, length, subst, sum_by, arith, rules}
 use Rattle.std.proofs.lemmas.Grind.{common_steps}
 use Rattle.std.specs.List.{All}
 use Rattle.std.proofs.lemmas.List.{length-map}
@@ -11,20 +11,15 @@ use Rattle.hunk_link.specs.Linkable.{Linkable}
 use Rattle.hunk_link.specs.Ranks.{IsUnit, RankedHunk, hunks_of}
 use Rattle.hunk_link.specs.SymbolTable.{table_of}
 use Rattle.hunk_link.proofs.RanksLemmas.{length-hunks_of}
-use Rattle.hunk_tool.specs.Inputs.{AreObjects, HaveRead, Input, inputs_of}
+use Rattle.hunk_tool.specs.Inputs.{inputs_of}
 use Rattle.hunk_tool.specs.Map.{LinkFiles}
-use Rattle.hunk_tool.specs.ObjectFiles.{AreFileUnits, FileUnit, units_of}
+use Rattle.hunk_tool.specs.ObjectFiles.{AreFileUnits}
 use Rattle.hunk_tool.proofs.InputsLemmas.{HaveRead-weaker, length-inputs_of}
 use Rattle.hunk_tool.proofs.IsOfInputsLemmas.{IsOfInputs-link, IsOfInputs-read}
 use Rattle.hunk_tool.proofs.LinkLemmas.{IsUnlinked-link}
 use Rattle.hunk_tool.proofs.MapLemmas.{length-origins}
-use Rattle.hunk_tool.proofs.ObjectFilesLemmas.{AreObjects-units}
+use Rattle.hunk_tool.proofs.ObjectFilesLemmas.{AreObjects-units, HaveRead-objects}
 use Rattle.hunk_tool.proofs.map.link_files.Goals as goal
-
--- The files have these units.
-objects : (inputs : List Input) (files : List FileUnit) (units : List ObjectUnit) → units ≡ units_of files → HaveRead inputs (AreFileUnits files) → HaveRead inputs (λ all. AreObjects all units)
-objects inputs files units are read =
-    HaveRead-weaker inputs (AreFileUnits files) (λ all. AreObjects all units) (λ all is. subst (AreObjects all) (sym are) (AreObjects-units 0 all files is)) read
 
 length-carried : (units : List ObjectUnit) (strip : Bool) → length (carried units strip) ≡ sum_by hunk_count units
 length-carried units strip =
@@ -41,13 +36,13 @@ returns-in_err-files-clause-writable g c =
 pub returns-in_err-file-clause-unlinked : goal.returns-in_err-file-clause-unlinked
 returns-in_err-file-clause-unlinked g c =
     let p = err_from_is_err_and c.from_residual-in_err-file.result c.from_residual-in_err-file.ensures.1 in
-    let read = objects _ c.in_ok-files.files c.units.result.now c.units.ensures.value c.in_ok-files.ensures.read in
+    let read = HaveRead-objects _ c.in_ok-files.files c.units.result.now c.units.ensures.value c.in_ok-files.ensures.read in
     rw (p.1, p.2) (IsUnlinked-link c.args.strip _ c.units.result.now c.in_err-file.field-0.0 read c.in_err-file.ensures.refused)
 
 pub returns-in_err-file-clause-writable : goal.returns-in_err-file-clause-writable
 returns-in_err-file-clause-writable g c =
     let p = err_from_is_err_and c.from_residual-in_err-file.result c.from_residual-in_err-file.ensures.1 in
-    let read = objects _ c.in_ok-files.files c.units.result.now c.units.ensures.value c.in_ok-files.ensures.read in
+    let read = HaveRead-objects _ c.in_ok-files.files c.units.result.now c.units.ensures.value c.in_ok-files.ensures.read in
     rw (p.1, p.2) (IsOfInputs-link _ (length c.args.inputs.now) c.units.result.now c.args.strip c.in_err-file.field-0.0 read c.in_err-file.ensures.refused)
 
 pub returns-clause-linked : goal.returns-clause-linked

@@ -1,9 +1,0 @@
-use Rattle.std.proofs.Common.{◌≡◌, drop, take}
-use Rattle.hunk_tool.specs.Inputs.{AreObjects, HaveRead, inputs_of}
-use Rattle.hunk_tool.proofs.inputs.read_inputs.Given as goal
-
-abbrev pub invariant-loop-file : goal.invariant-loop-file
-invariant-loop-file g l = record {
-  rest : drop l.file l.inputs ≡ drop l.file l.fn.inputs;
-  read : HaveRead (inputs_of g.R.Source.left g.R.Source.failed g.R.Source.ended (take l.file l.fn.inputs) (take l.file l.inputs)) (λ files. AreObjects files l.units.items);
-}
