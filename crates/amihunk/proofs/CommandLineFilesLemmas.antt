@@ -1,19 +1,67 @@
--- The walk over `FILE...`, and a subcommand whose words end with it.
-use Rattle.std.proofs.Common.{◌≡◌, ◌∙◌, ◌≤◌, All, ap, append-nil, append_assoc, arith, refl, sym, false, Bool, ℕ, List, [], ◌∷◌, ◌++◌, codes, le-ltb, length, Option, Some, suc}
-use Rattle.std.specs.Prelude.{◌==◌, fold, nat_lt}
+-- The walk over FILE or FILE..., and a subcommand whose words end with them.
+use Rattle.std.proofs.Common.{◌≡◌, ◌∙◌, ◌≤◌, ◌<◌, All, ap, append-nil, append_assoc, arith, refl, subst, sym, false, Bool, ℕ, List, [], ◌∷◌, ◌++◌, codes, le-ltb, length, Option, Some, suc}
+use Rattle.std.specs.Prelude.{◌==◌, nat_lt}
 use Rattle.std.specs.Option.{option_map_or}
 use Rattle.std.proofs.lemmas.Bool.{ne_eqb}
+use Rattle.std.proofs.lemmas.List.{length-append}
 use Rattle.std.proofs.lemmas.List.Elements.{All-tail}
 use Rattle.clap.specs.Lexer.{usize_max}
 use Rattle.clap.specs.Words.{Row, Rule, Shape, Text}
-use Rattle.clap.specs.Walk.{Held, Walk, arg_by_id, arg_by_index, finished, is_pending, nothing_held, positional, rows_after, settled, walk, walk_from, walked}
+use Rattle.clap.specs.Walk.{Held, Walk, arg_by_id, arg_by_index, finished, is_pending, nothing_held, positional, settled, walk_from, walked}
 use Rattle.clap.specs.Simple.{filled, with_index}
-use Rattle.clap.specs.Faults.{level_fault, settle_fault, turn_fault, use_fault, values_fault, walk_fault}
+use Rattle.clap.specs.Faults.{settle_fault, turn_fault, use_fault, values_fault}
 use Rattle.clap.specs.Kinds.{or_else, range_kinds}
-use Rattle.amihunk.proofs.CommandLineFlagsLemmas.{IsFront}
-use Rattle.amihunk.proofs.CommandLineWalkLemmas.{end_fault, late_fault, level_fault-nil, walk_fault-cons, walk_fault-nil}
-use Rattle.amihunk.specs.Syntax.{files_rule}
-use Rattle.amihunk.specs.CommandLine.{IsNoFlag}
+use Rattle.amihunk.proofs.CommandLineSubcommandLemmas.{IsSubcommand, calls-line}
+use Rattle.amihunk.proofs.CommandLineWalkLemmas.{Passes, end_fault, late_fault, passes-append, passes-cons, passes-nil}
+use Rattle.amihunk.specs.Syntax.{file_rule, files_rule}
+use Rattle.amihunk.specs.CommandLine.{Call, Calls, IsNoFlag, call_of}
+
+-- ---- FILE
+
+-- the argument as `clap` builds it
+abbrev pub built_one : Rule
+built_one = with_index 1 (filled file_rule)
+
+-- the walk after this file
+abbrev pub after_file : Held → Text → Walk
+after_file h file = record (walk_from (record h { pending = Some (codes "file", file ∷ []) })) { position = 2 }
+
+-- FILE may come after what is held
+pub record AwaitsFile (s : Shape) (held : Held) : Type 0 where
+  pub by_index : arg_by_index s.rules 1 ≡ Some built_one
+  pub other : is_pending built_one held.pending ≡ false
+  pub quiet : settle_fault s.rules s.args_override_self held ≡ []
+  pub late : (file : Text) → end_fault s (after_file (settled s.rules held) file).held ≡ []
+
+walked-file : (s : Shape) (held : Held) (file : Text) → AwaitsFile s held → IsNoFlag file → walked s.rules [] (walk_from held) file ≡ after_file (settled s.rules held) file
+unfolding walked
+walked-file s held [] awaits plain = rw (awaits.by_index, awaits.other) refl
+walked-file s held (c ∷ rest) awaits plain = rw (ne_eqb c 45 plain, ne_eqb c 45 plain, awaits.by_index, awaits.other) refl
+
+turn_fault-file : (s : Shape) (held : Held) (file : Text) → AwaitsFile s held → IsNoFlag file → turn_fault s [] (walk_from held) file ≡ []
+turn_fault-file s held [] awaits plain = rw (awaits.by_index, awaits.other, awaits.quiet) refl
+turn_fault-file s held (c ∷ rest) awaits plain = rw (ne_eqb c 45 plain, ne_eqb c 45 plain, awaits.by_index, awaits.other, awaits.quiet) refl
+
+-- the rows after the file
+abbrev pub file_rows : Shape → Held → Text → List Row
+file_rows s held file = finished s.rules (after_file (settled s.rules held) file).held
+
+-- and what they ask for with each file
+abbrev pub TakesFile : Shape → Held → (Text → Call) → Type 0
+TakesFile s held call = AwaitsFile s held × ((file : Text) → call_of (Some (s.name, file_rows s held file)) ≡ Some (call file))
+
+-- words that take a FILE, and the FILE, are this call
+pub calls-file : (program : Text) (s : Shape) (words : List Text) (held : Held) (call : Text → Call) → IsSubcommand s
+    → Passes s (walk_from nothing_held) words (walk_from held) → TakesFile s held call
+    → (file : Text) → IsNoFlag file → Calls (program ∷ s.name ∷ (words ++ file ∷ [])) (call file)
+calls-file program s words held call is front takes file plain =
+    let end = after_file (settled s.rules held) file in
+    calls-line program s (words ++ file ∷ []) end (call file) is
+    (passes-append s (walk_from nothing_held) (walk_from held) end words (file ∷ []) front
+    (passes-cons s (walk_from held) end end file [] (walked-file s held file takes.0 plain) (turn_fault-file s held file takes.0 plain) (passes-nil s end)))
+    (takes.0.late file) (takes.1 file)
+
+-- ---- FILE...
 
 -- the argument as `clap` builds it
 abbrev pub built_files : Rule
@@ -43,21 +91,6 @@ walked-more c h seen (x ∷ rest) has plain = rw (ne_eqb x 45 plain, ne_eqb x 45
 first_plain : (file : Text) (rest : List Text) → All IsNoFlag (file ∷ rest) → IsNoFlag file
 first_plain file rest plain = plain 0 file (omega arith)
 
-walk-more : (c : List Rule) (h : Held) (seen files : List Text) → HasFiles c → All IsNoFlag files
-    → fold (walked c []) (after_files h seen) files ≡ after_files h (seen ++ files)
-walk-more c h seen [] has plain = ap (after_files h) (sym (append-nil seen))
-walk-more c h seen (file ∷ rest) has plain =
-    ap (λ w. fold (walked c []) w rest) (walked-more c h seen file has (first_plain file rest plain))
-    ∙ (walk-more c h (seen ++ file ∷ []) rest has (All-tail IsNoFlag file rest plain) ∙ ap (after_files h) (append_assoc seen (file ∷ []) rest))
-
-walk-files : (c : List Rule) (h : Held) (file : Text) (rest : List Text) → HasFiles c → is_pending built_files h.pending ≡ false
-    → All IsNoFlag (file ∷ rest) → fold (walked c []) (walk_from h) (file ∷ rest) ≡ after_files (settled c h) (file ∷ rest)
-walk-files c h file rest has other plain =
-    ap (λ w. fold (walked c []) w rest) (walked-first c h file has other (first_plain file rest plain))
-    ∙ walk-more c (settled c h) (file ∷ []) rest has (All-tail IsNoFlag file rest plain)
-
--- ---- nothing is wrong with it
-
 turn_fault-first : (s : Shape) (h : Held) (file : Text) → HasFiles s.rules → is_pending built_files h.pending ≡ false
     → settle_fault s.rules s.args_override_self h ≡ [] → IsNoFlag file → turn_fault s [] (walk_from h) file ≡ []
 turn_fault-first s h [] has other quiet plain = rw (has.by_index, other, quiet) refl
@@ -67,19 +100,14 @@ turn_fault-more : (s : Shape) (h : Held) (seen : List Text) (file : Text) → Ha
 turn_fault-more s h seen [] has plain = rw has.by_index refl
 turn_fault-more s h seen (x ∷ rest) has plain = rw (ne_eqb x 45 plain, ne_eqb x 45 plain, has.by_index) refl
 
-walk_fault-more : (s : Shape) (h : Held) (seen files : List Text) → HasFiles s.rules → All IsNoFlag files → walk_fault s [] (after_files h seen) files ≡ []
-walk_fault-more s h seen [] has plain = walk_fault-nil s [] (after_files h seen)
-walk_fault-more s h seen (file ∷ rest) has plain =
+passes-more : (s : Shape) (h : Held) (seen files : List Text) → HasFiles s.rules → All IsNoFlag files → Passes s (after_files h seen) files (after_files h (seen ++ files))
+passes-more s h seen [] has plain = subst (λ fs. Passes s (after_files h seen) [] (after_files h fs)) (sym (append-nil seen)) (passes-nil s (after_files h seen))
+passes-more s h seen (file ∷ rest) has plain =
     let first = first_plain file rest plain in
-    walk_fault-cons s [] (after_files h seen) (after_files h (seen ++ file ∷ [])) file rest (turn_fault-more s h seen file has first)
-    (walked-more s.rules h seen file has first) (walk_fault-more s h (seen ++ file ∷ []) rest has (All-tail IsNoFlag file rest plain))
-
-walk_fault-files : (s : Shape) (h : Held) (file : Text) (rest : List Text) → HasFiles s.rules → is_pending built_files h.pending ≡ false
-    → settle_fault s.rules s.args_override_self h ≡ [] → All IsNoFlag (file ∷ rest) → walk_fault s [] (walk_from h) (file ∷ rest) ≡ []
-walk_fault-files s h file rest has other quiet plain =
-    let first = first_plain file rest plain in
-    walk_fault-cons s [] (walk_from h) (after_files (settled s.rules h) (file ∷ [])) file rest (turn_fault-first s h file has other quiet first)
-    (walked-first s.rules h file has other first) (walk_fault-more s (settled s.rules h) (file ∷ []) rest has (All-tail IsNoFlag file rest plain))
+    passes-cons s (after_files h seen) (after_files h (seen ++ file ∷ [])) (after_files h (seen ++ file ∷ rest)) file rest
+    (walked-more s.rules h seen file has first) (turn_fault-more s h seen file has first)
+    (subst (λ fs. Passes s (after_files h (seen ++ file ∷ [])) rest (after_files h fs)) (append_assoc seen (file ∷ []) rest)
+    (passes-more s h (seen ++ file ∷ []) rest has (All-tail IsNoFlag file rest plain)))
 
 -- the number of files is one that a use may have
 range_kinds-files : (n : ℕ) → suc n ≤ usize_max → range_kinds 1 usize_max (suc n) ≡ []
@@ -99,22 +127,15 @@ use_fault-files : (again : Bool) (file : Text) (rest : List Text) (rows : List R
 use_fault-files again file rest rows fits =
     ap (λ kinds. or_else kinds (values_fault built_files (file ∷ rest))) (range_kinds-files (length rest) fits) ∙ values_fault-files (file ∷ rest)
 
-settle_fault-files : (s : Shape) (h : Held) (file : Text) (rest : List Text) → HasFiles s.rules → length (file ∷ rest) ≤ usize_max
-    → settle_fault s.rules s.args_override_self (after_files h (file ∷ rest)).held ≡ []
-settle_fault-files s h file rest has fits =
-    ap (λ (o : Option Rule). option_map_or (λ a. use_fault s.args_override_self a (file ∷ rest) h.rows) o []) has.by_id
-    ∙ use_fault-files s.args_override_self file rest h.rows fits
-
 end_fault-files : (s : Shape) (h : Held) (file : Text) (rest : List Text) → HasFiles s.rules → length (file ∷ rest) ≤ usize_max
     → late_fault s (after_files h (file ∷ rest)).held ≡ [] → end_fault s (after_files h (file ∷ rest)).held ≡ []
 end_fault-files s h file rest has fits quiet =
-    ap (λ kinds. or_else kinds (late_fault s (after_files h (file ∷ rest)).held)) (settle_fault-files s h file rest has fits) ∙ quiet
-
--- ---- the whole level
+    ap (λ kinds. or_else kinds (late_fault s (after_files h (file ∷ rest)).held))
+    (ap (λ (o : Option Rule). option_map_or (λ a. use_fault s.args_override_self a (file ∷ rest) h.rows) o []) has.by_id
+    ∙ use_fault-files s.args_override_self file rest h.rows fits) ∙ quiet
 
 -- FILE... may come after what is held
 pub record AwaitsFiles (s : Shape) (held : Held) : Type 0 where
-  pub has : HasFiles s.rules
   pub other : is_pending built_files held.pending ≡ false
   pub quiet : settle_fault s.rules s.args_override_self held ≡ []
   pub late : (file : Text) (rest : List Text) → late_fault s (after_files (settled s.rules held) (file ∷ rest)).held ≡ []
@@ -123,16 +144,25 @@ pub record AwaitsFiles (s : Shape) (held : Held) : Type 0 where
 abbrev pub files_rows : Shape → Held → List Text → List Row
 files_rows s held files = finished s.rules (after_files (settled s.rules held) files).held
 
-module _ (s : Shape) (words : List Text) (held : Held) (front : IsFront s nothing_held words held) (awaits : AwaitsFiles s held)
-    (file : Text) (rest : List Text) (plain : All IsNoFlag (file ∷ rest)) where
-  walk-level : walk s.rules [] nothing_held (words ++ file ∷ rest) ≡ after_files (settled s.rules held) (file ∷ rest)
-  walk-level = front.walks (file ∷ rest) ∙ walk-files s.rules held file rest awaits.has awaits.other plain
+-- and what they ask for with all files
+abbrev pub TakesFiles : Shape → Held → (List Text → Call) → Type 0
+TakesFiles s held call = AwaitsFiles s held × ((file : Text) (rest : List Text) → call_of (Some (s.name, files_rows s held (file ∷ rest))) ≡ Some (call (file ∷ rest)))
 
-  pub rows_after-files : rows_after s.rules [] (words ++ file ∷ rest) ≡ files_rows s held (file ∷ rest)
-  rows_after-files = ap (λ (w : Walk). finished s.rules w.held) walk-level
-
-  pub level_fault-files : length (file ∷ rest) ≤ usize_max → level_fault s [] nothing_held (words ++ file ∷ rest) false [] ≡ []
-  level_fault-files fits =
-      level_fault-nil s (words ++ file ∷ rest) (after_files (settled s.rules held) (file ∷ rest)) walk-level
-      (front.quiet (file ∷ rest) (walk_fault-files s held file rest awaits.has awaits.other awaits.quiet plain))
-      (end_fault-files s (settled s.rules held) file rest awaits.has fits (awaits.late file rest))
+-- words that take FILE..., and at least one file, are this call; there are at most 2 ^ 64 - 1 words
+pub calls-files : (program : Text) (s : Shape) (words : List Text) (held : Held) (call : List Text → Call) → IsSubcommand s → HasFiles s.rules
+    → Passes s (walk_from nothing_held) words (walk_from held) → TakesFiles s held call
+    → (files : List Text) → 0 < length files → All IsNoFlag files → length (words ++ files) ≤ usize_max → Calls (program ∷ s.name ∷ (words ++ files)) (call files)
+calls-files program s words held call is has front takes [] some plain fits = absurd (omega arith)
+calls-files program s words held call is has front takes (file ∷ rest) some plain fits =
+    let awaits = takes.0 in
+    let first = first_plain file rest plain in
+    let few : length (file ∷ rest) ≤ usize_max = omega (arith, fits, length-append words (file ∷ rest)) in
+    let start = settled s.rules held in
+    let end = after_files start (file ∷ rest) in
+    calls-line program s (words ++ file ∷ rest) end (call (file ∷ rest)) is
+    (passes-append s (walk_from nothing_held) (walk_from held) end words (file ∷ rest) front
+    (passes-cons s (walk_from held) (after_files start (file ∷ [])) end file rest (walked-first s.rules held file has awaits.other first)
+    (turn_fault-first s held file has awaits.other awaits.quiet first)
+    (passes-more s start (file ∷ []) rest has (All-tail IsNoFlag file rest plain))))
+    (end_fault-files s start file rest has few (awaits.late file rest))
+    (takes.1 file rest)

@@ -1,307 +1,113 @@
 -- Arguments with which nothing is wrong name a subcommand of the program, with its required values.
-use Rattle.std.proofs.Common.{◌≡◌, ◌||◌, ℕ, Bool, true, false, not, cond, refl, inl, inr, arith, List, [], ◌∷◌, codes, drop, Option, Some, None, is_some}
-use Rattle.std.specs.Prelude.{⊤, find}
-use Rattle.std.specs.Option.{option_map, option_map_or}
-use Rattle.clap.specs.Words.{App, Row, Text, built, fault_of, subcommand_of, with_subcommand}
-use Rattle.clap.specs.Walk.{answers_to, finished, first_of, has_row, nothing_held, rows_after, settled, walk, walk_from}
-use Rattle.clap.specs.Simple.{Shape, entered, filled, label_of, names_of, rows_at}
+use Rattle.std.proofs.Common.{◌≡◌, ◌⊎◌, ◌&&◌, ◌||◌, ap, ℕ, Bool, true, false, not, cond, refl, sym, inl, inr, subst, arith, List, [], ◌∷◌, codes, drop, Option, Some, None, is_some}
+use Rattle.std.specs.Prelude.{⊤, find, option_map}
+use Rattle.std.specs.List.{list_any}
+use Rattle.std.specs.Option.{option_map_or}
+use Rattle.std.specs.Str.{bytes_eq}
+use Rattle.std.proofs.lemmas.Slice.Eq.{bytes_eq-Decides}
+use Rattle.clap.specs.Words.{App, Row, Rule, Text, built, fault_of, subcommand_of}
+use Rattle.clap.specs.Walk.{action_of, answers_to, finished, nothing_held, rows_after, settled, walk, walk_from}
+use Rattle.clap.specs.Simple.{Shape, built_leaf, entered, filled, inherited, label_of, names_of, rows_at}
 use Rattle.clap.specs.Takes.{is_given}
 use Rattle.clap.specs.Faults.{check_fault, defaults_fault, entered_fault, level_fault, settle_fault, walk_fault}
 use Rattle.clap.specs.Kinds.{check_kinds}
-use Rattle.amihunk.proofs.CommandLineUseLemmas.{AllDefaulting, Filled, HasDefault, IsDefaulted, IsFilling, filled-defaults, flag_read, has_row-defaults, is_flag, or_else-nil, value_given, values_given}
-use Rattle.amihunk.proofs.CommandLineRowLemmas.{AllFilling, filled-settled, filled-walk}
-use Rattle.amihunk.specs.Syntax.{bare_shape, check_shape, command_line, flag_rule, image_shape, letter_s, link_shape, load_shape, option_rule, present, show_shape, survey_shape}
-use Rattle.amihunk.specs.CommandLine.{AddressValues, IsFlag, IsWhole, is_srec}
-use Rattle.hunk_memory.specs.declared.image_form.ImageForm.{ImageForm}
-use Rattle.hunk_memory.specs.declared.image_form.ImageForm.TheVariants.{Report, SRecords}
-use Rattle.amihunk.specs.CommandLine.IsWhole.{link, load, image, check, show, survey}
+use Rattle.amihunk.proofs.CommandLineUseLemmas.{AllRegular, AreDefaulted, Each, Filled, IsRegular, defaulted, filled-defaults, find-each, flag_read, is_flag, or_else-nil, value_given}
+use Rattle.amihunk.proofs.CommandLineUseLemmas.IsRegular.{asks_help, is_switched, is_valued}
+use Rattle.amihunk.proofs.CommandLineRowLemmas.{filled-settled, filled-walk}
+use Rattle.amihunk.specs.Syntax.{bare_app, check_shape, command_line, flag_rule, image_shape, letter_s, link_shape, load_shape, option_rule, show_shape, survey_shape}
+use Rattle.amihunk.specs.CommandLine.{AreWhole, AreWholeFor, IsFlag, IsWhole, Met, Where, is_switch}
 
 -- ---- one level
 
--- a level without subcommands with which nothing is wrong has filled rows
-record IsRight (s : Shape) (words : List Text) : Type 0 where
-  filled : Filled (rows_after s.rules [] words)
-  checked : check_fault s (rows_after s.rules [] words) false ≡ []
+or_false : (a b : Bool) → (a || b) ≡ false → (a ≡ false) × (b ≡ false)
+or_false true b e = cc
+or_false false b e = (refl, e)
 
-right_where_faultless : (s : Shape) (words : List Text) → AllFilling s.args_override_self s.rules → AllDefaulting s.rules
-    → level_fault s [] nothing_held words false [] ≡ [] → IsRight s words
-right_where_faultless s words all defaults e =
+-- a required argument was given
+given_where : (required given : Bool) {Fact : Type 0} → (given ≡ true → Fact) → (required && not given) ≡ false → Where required Fact
+given_where true true fact e = fact refl
+given_where true false fact e = cc
+given_where false given fact e = tt
+
+whole_flag : (a : Rule) (rows : List Row) → IsRegular false a → Filled rows → AreDefaulted (a ∷ []) rows → Where (is_switch (action_of a)) (IsFlag rows a.id)
+whole_flag a rows (asks_help help none optional) full has = rw help tt
+whole_flag a rows (is_valued (inl set) least other none) full has = rw set tt
+whole_flag a rows (is_valued (inr append) least other none) full has = rw append tt
+whole_flag a rows (is_switched flag once) full has = rw flag.action_is (flag_read a.id rows flag.named full (has.0 (rw flag.defaults_are refl)))
+
+whole_rules : (c : List Rule) (rows : List Row) → AllRegular false c → Filled rows → AreDefaulted c rows
+    → list_any (λ a. a.required && not (is_given a.id rows)) c ≡ false → AreWhole c rows
+whole_rules [] rows all full has given = tt
+whole_rules (a ∷ rest) rows all full has given =
+    let parts = or_false (a.required && not (is_given a.id rows)) _ given in (
+      given_where a.required (is_given a.id rows) (value_given a.id rows full) parts.0,
+      whole_flag a rows all.0 full (has.0, tt),
+      whole_rules rest rows all.1 full has.1 parts.1,
+    )
+
+-- nothing that is required is missing
+none_missing : (wants_help wants_subcommand negates missing : Bool) → check_kinds wants_help wants_subcommand (not (negates && false) && missing) ≡ [] → missing ≡ false
+none_missing true wants_subcommand negates missing e = cc
+none_missing false true negates missing e = cc
+none_missing false false true true e = cc
+none_missing false false false true e = cc
+none_missing false false negates false e = refl
+
+-- a level without subcommands with which nothing is wrong is whole
+sound : (s : Shape) → s.args_override_self ≡ false → AllRegular false s.rules → (words : List Text)
+    → level_fault s [] nothing_held words false [] ≡ [] → AreWhole s.rules (rows_after s.rules [] words)
+sound s once regular words e =
     let end = (walk s.rules [] nothing_held words).held in
+    let all : AllRegular s.args_override_self s.rules = rw once regular in
     let walked_well = or_else-nil (walk_fault s [] (walk_from nothing_held) words) _ e in
     let settled_well = or_else-nil (settle_fault s.rules s.args_override_self end) _ walked_well.1 in
     let checked_well = or_else-nil (defaults_fault (settled s.rules end).rows s.rules) _ settled_well.1 in
-    let held : Filled end.rows = filled-walk s [] words (walk_from nothing_held) all walked_well.0 tt in
-    record {
-      filled = filled-defaults s.rules (settled s.rules end).rows defaults
-          (filled-settled s.rules s.args_override_self end all settled_well.0 held);
-      checked = checked_well.1;
-    }
+    let held : Filled end.rows = filled-walk s [] all words (walk_from nothing_held) walked_well.0 tt in
+    let full = filled-defaults false s.rules (settled s.rules end).rows regular (filled-settled s.rules s.args_override_self all end settled_well.0 held) in
+    whole_rules s.rules (rows_after s.rules [] words) regular full (defaulted s.rules (settled s.rules end).rows)
+    (none_missing _ _ s.subcommand_negates_reqs _ checked_well.1)
 
 -- ---- the subcommands
 
-abbrev pub first_shape : List Shape → Shape
-first_shape [] = survey_shape
-first_shape (s ∷ rest) = s
-
 -- a subcommand of the program as `clap` builds it
 abbrev pub built_below : Shape → Shape
-built_below s = first_shape (built (with_subcommand (record { top = bare_shape; subs = [] }) s)).subs
+built_below s = built_leaf (inherited bare_app.top s)
 
-abbrev pub built_link : Shape
-built_link = built_below (link_shape present)
+-- an option takes a value, and so does a file
+option_regular : (name : Text) → is_flag name ≡ false → IsRegular false (filled (option_rule name))
+option_regular name other = is_valued (inl refl) (omega arith) other refl
 
-abbrev pub built_load : Shape
-built_load = built_below (load_shape present)
+flag_regular : (letter : Option ℕ) (name : Text) → is_flag name ≡ true → IsRegular false (filled (record (flag_rule name) { short = letter }))
+flag_regular letter name named =
+    is_switched (record { action_is = refl; range_is = refl; missing_is = refl; reading_is = refl; defaults_are = refl; named = named; optional = refl }) refl
 
-abbrev pub built_image : Shape
-built_image = built_below (image_shape present)
+-- what each of these subcommands ends with: `[--explain] FILE`, or `[--explain] FILE...`
+check_regular : AllRegular false (built_below check_shape).rules
+check_regular = (flag_regular None (codes "explain") refl, (is_valued (inl refl) (omega arith) refl refl, (asks_help refl refl refl, tt)))
 
-abbrev pub built_show : Shape
-built_show = built_below (show_shape present)
+files_regular : AllRegular false (drop 3 (built_below image_shape).rules)
+files_regular = (flag_regular None (codes "explain") refl, (is_valued (inr refl) (omega arith) refl refl, (asks_help refl refl refl, tt)))
 
-abbrev pub built_check : Shape
-built_check = built_below (check_shape present)
+link_flags : AllRegular false (drop 2 (built_below link_shape).rules)
+link_flags = (flag_regular (Some letter_s) (codes "strip") refl, (flag_regular None (codes "short") refl, (flag_regular None (codes "trim") refl, files_regular)))
 
-abbrev pub built_survey : Shape
-built_survey = built_below survey_shape
+link_regular : AllRegular false (built_below link_shape).rules
+link_regular = (is_valued (inl refl) (omega arith) refl refl, (option_regular (codes "map") refl, link_flags))
 
--- where nothing is wrong with the arguments of the subcommand, it is whole
-abbrev IsSound : Shape → Type 0
-IsSound s = (words : List Text) → level_fault s [] nothing_held words false [] ≡ [] → IsWhole (Some (rows_at s words))
+load_flags : AllRegular false (drop 2 (built_below load_shape).rules)
+load_flags = (flag_regular None (codes "srec") refl, (flag_regular None (codes "symbols") refl, check_regular))
 
-abbrev AllSound : List Shape → Type 0
-AllSound [] = ⊤
-AllSound (s ∷ rest) = IsSound s × AllSound rest
+load_regular : AllRegular false (built_below load_shape).rules
+load_regular = (option_regular (codes "at") refl, (option_regular (codes "at-file") refl, load_flags))
 
--- the required arguments of a subcommand, of which there are one or two
+image_regular : AllRegular false (built_below image_shape).rules
+image_regular = (option_regular (codes "at") refl, (option_regular (codes "at-file") refl, (flag_regular None (codes "srec") refl, files_regular)))
 
-one_given : (of : Bool) → check_kinds false false (not of || false) ≡ [] → of ≡ true
-one_given true e = refl
-one_given false e = cc
+show_regular : AllRegular false (built_below show_shape).rules
+show_regular = (flag_regular None (codes "json") refl, check_regular)
 
-both_given : (a b : Bool) → check_kinds false false (not a || (not b || false)) ≡ [] → (a ≡ true) × (b ≡ true)
-both_given true true e = (refl, refl)
-both_given true false e = cc
-both_given false b e = cc
-
--- `link`
-
-flag_filling : (letter : Option ℕ) (name : Text) → IsFilling false (filled (record (flag_rule name) { short = letter }))
-flag_filling letter name = inr (inr (record { action_is = refl; range_is = refl; missing_is = refl; reading_is = refl }, refl))
-
--- an option takes a value
-option_filling : (name : Text) → is_flag name ≡ false → IsFilling false (filled (option_rule name))
-option_filling name other = inr (inl (inl refl, (omega arith, other)))
-
-link_filling : AllFilling false built_link.rules
-link_filling = (
-  inr (inl (inl refl, (omega arith, refl))),
-  (
-    option_filling (codes "map") refl,
-    (
-      flag_filling (Some letter_s) (codes "strip"),
-      (
-        flag_filling None (codes "short"),
-        (flag_filling None (codes "trim"), (flag_filling None (codes "explain"), (inr (inl (inr refl, (omega arith, refl))), (inl refl, tt)))),
-      ),
-    ),
-  ),
-)
-
-link_defaults : AllDefaulting built_link.rules
-link_defaults = (inl refl, (inl refl, (inr (refl, refl), (inr (refl, refl), (inr (refl, refl), (inr (refl, refl), (inl refl, (inl refl, tt))))))))
-
--- a flag has a row, by its default
-flag_default : (letter : Option ℕ) (name : Text) → HasDefault name (filled (record (flag_rule name) { short = letter }))
-flag_default letter name = record { id_is = refl; first = codes "false"; others = []; defaults_are = refl }
-
-strip_defaulted : IsDefaulted (codes "strip") built_link.rules
-strip_defaulted = inr (inr (inl (flag_default (Some letter_s) (codes "strip"))))
-
-short_defaulted : IsDefaulted (codes "short") built_link.rules
-short_defaulted = inr (inr (inr (inl (flag_default None (codes "short")))))
-
-trim_defaulted : IsDefaulted (codes "trim") built_link.rules
-trim_defaulted = inr (inr (inr (inr (inl (flag_default None (codes "trim"))))))
-
-link_explain : IsDefaulted (codes "explain") built_link.rules
-link_explain = inr (inr (inr (inr (inr (inl (flag_default None (codes "explain")))))))
-
-sound_link : IsSound built_link
-sound_link words e =
-    let rows = rows_after built_link.rules [] words in
-    let right = right_where_faultless built_link words link_filling link_defaults e in
-    let given = both_given (is_given (codes "out") rows) (is_given (codes "file") rows) right.checked in
-    let out = value_given (codes "out") rows right.filled given.0 in
-    let files = values_given (codes "file") rows right.filled given.1 in
-    let end = (walk built_link.rules [] nothing_held words).held in
-    let settled_rows = (settled built_link.rules end).rows in
-    let read : (name : Text) → is_flag name ≡ true → IsDefaulted name built_link.rules → (given : Bool) × IsFlag rows name given =
-    λ name is defaulted. flag_read name rows is right.filled (has_row-defaults name built_link.rules settled_rows defaulted) in
-    let strip = read (codes "strip") refl strip_defaulted in
-    let short = read (codes "short") refl short_defaulted in
-    let trim = read (codes "trim") refl trim_defaulted in
-    let explain = read (codes "explain") refl link_explain in
-    link out.0 (first_of (codes "map") rows) (record { strip = strip.0; short = short.0; trim = trim.0 }) explain.0 files.0 (record {
-      of_files = record { rows = rows; called = refl; files_are = files.2; some = files.1 };
-      out_is = out.1;
-      map_is = refl;
-      strip_is = strip.1;
-      short_is = short.1;
-      trim_is = trim.1;
-      explain_is = explain.1;
-    })
-
--- `load`
-
-load_filling : AllFilling false built_load.rules
-load_filling = (
-  option_filling (codes "at") refl,
-  (
-    option_filling (codes "at-file") refl,
-    (
-      flag_filling None (codes "srec"),
-      (flag_filling None (codes "symbols"), (flag_filling None (codes "explain"), (inr (inl (inl refl, (omega arith, refl))), (inl refl, tt)))),
-    ),
-  ),
-)
-
-load_defaults : AllDefaulting built_load.rules
-load_defaults = (inl refl, (inl refl, (inr (refl, refl), (inr (refl, refl), (inr (refl, refl), (inl refl, (inl refl, tt)))))))
-
-load_srec : IsDefaulted (codes "srec") built_load.rules
-load_srec = inr (inr (inl (flag_default None (codes "srec"))))
-
-load_symbols : IsDefaulted (codes "symbols") built_load.rules
-load_symbols = inr (inr (inr (inl (flag_default None (codes "symbols")))))
-
-load_explain : IsDefaulted (codes "explain") built_load.rules
-load_explain = inr (inr (inr (inr (inl (flag_default None (codes "explain"))))))
-
--- the values of the two options, if they are given
-values_in : List Row → AddressValues
-values_in rows = record { list = first_of (codes "at") rows; file = first_of (codes "at-file") rows }
-
-sound_load : IsSound built_load
-unfolding values_in
-sound_load words e =
-    let rows = rows_after built_load.rules [] words in
-    let right = right_where_faultless built_load words load_filling load_defaults e in
-    let file = value_given (codes "file") rows right.filled (one_given (is_given (codes "file") rows) right.checked) in
-    let settled_rows = (settled built_load.rules (walk built_load.rules [] nothing_held words).held).rows in
-    let srec = flag_read (codes "srec") rows refl right.filled (has_row-defaults (codes "srec") built_load.rules settled_rows load_srec) in
-    let symbols = flag_read (codes "symbols") rows refl right.filled (has_row-defaults (codes "symbols") built_load.rules settled_rows load_symbols) in
-    let explain = flag_read (codes "explain") rows refl right.filled (has_row-defaults (codes "explain") built_load.rules settled_rows load_explain) in
-    load (values_in rows) srec.0 symbols.0 explain.0 file.0 (record {
-      of_file = record { rows = rows; called = refl; file_is = file.1 };
-      values_are = (refl, refl);
-      srec_is = srec.1;
-      symbols_is = symbols.1;
-      explain_is = explain.1;
-    })
-
--- `image`
-
--- the form that `--srec` asks for, or not
-form_read : (rows : List Row) → Filled rows → has_row (codes "srec") rows ≡ true → (form : ImageForm) × IsFlag rows (codes "srec") (is_srec form)
-form_read rows full has = go (flag_read (codes "srec") rows refl full has)
-  where
-    go : (given : Bool) × IsFlag rows (codes "srec") given → (form : ImageForm) × IsFlag rows (codes "srec") (is_srec form)
-    go (true, is) = (SRecords, is)
-    go (false, is) = (Report, is)
-
-image_filling : AllFilling false built_image.rules
-image_filling = (
-  option_filling (codes "at") refl,
-  (
-    option_filling (codes "at-file") refl,
-    (flag_filling None (codes "srec"), (flag_filling None (codes "explain"), (inr (inl (inr refl, (omega arith, refl))), (inl refl, tt)))),
-  ),
-)
-
-image_defaults : AllDefaulting built_image.rules
-image_defaults = (inl refl, (inl refl, (inr (refl, refl), (inr (refl, refl), (inl refl, (inl refl, tt))))))
-
-image_srec : IsDefaulted (codes "srec") built_image.rules
-image_srec = inr (inr (inl (flag_default None (codes "srec"))))
-
-image_explain : IsDefaulted (codes "explain") built_image.rules
-image_explain = inr (inr (inr (inl (flag_default None (codes "explain")))))
-
-sound_image : IsSound built_image
-unfolding values_in
-sound_image words e =
-    let rows = rows_after built_image.rules [] words in
-    let right = right_where_faultless built_image words image_filling image_defaults e in
-    let files = values_given (codes "file") rows right.filled (one_given (is_given (codes "file") rows) right.checked) in
-    let settled_rows = (settled built_image.rules (walk built_image.rules [] nothing_held words).held).rows in
-    let form = form_read rows right.filled (has_row-defaults (codes "srec") built_image.rules settled_rows image_srec) in
-    let explain = flag_read (codes "explain") rows refl right.filled (has_row-defaults (codes "explain") built_image.rules settled_rows image_explain) in
-    image (values_in rows) form.0 explain.0 files.0 (record {
-      of_files = record { rows = rows; called = refl; files_are = files.2; some = files.1 };
-      values_are = (refl, refl);
-      form_is = form.1;
-      explain_is = explain.1;
-    })
-
--- `check`
-
-check_filling : AllFilling false built_check.rules
-check_filling = (flag_filling None (codes "explain"), (inr (inl (inl refl, (omega arith, refl))), (inl refl, tt)))
-
-check_defaults : AllDefaulting built_check.rules
-check_defaults = (inr (refl, refl), (inl refl, (inl refl, tt)))
-
-check_explain : IsDefaulted (codes "explain") built_check.rules
-check_explain = inl (flag_default None (codes "explain"))
-
-sound_check : IsSound built_check
-sound_check words e =
-    let rows = rows_after built_check.rules [] words in
-    let right = right_where_faultless built_check words check_filling check_defaults e in
-    let file = value_given (codes "file") rows right.filled (one_given (is_given (codes "file") rows) right.checked) in
-    let settled_rows = (settled built_check.rules (walk built_check.rules [] nothing_held words).held).rows in
-    let explain = flag_read (codes "explain") rows refl right.filled (has_row-defaults (codes "explain") built_check.rules settled_rows check_explain) in
-    check explain.0 file.0 (record { of_file = record { rows = rows; called = refl; file_is = file.1 }; explain_is = explain.1 })
-
--- `show`
-
-show_filling : AllFilling false built_show.rules
-show_filling = (flag_filling None (codes "json"), (flag_filling None (codes "explain"), (inr (inl (inl refl, (omega arith, refl))), (inl refl, tt))))
-
-show_defaults : AllDefaulting built_show.rules
-show_defaults = (inr (refl, refl), (inr (refl, refl), (inl refl, (inl refl, tt))))
-
-show_json : IsDefaulted (codes "json") built_show.rules
-show_json = inl (flag_default None (codes "json"))
-
-show_explain : IsDefaulted (codes "explain") built_show.rules
-show_explain = inr (inl (flag_default None (codes "explain")))
-
-sound_show : IsSound built_show
-sound_show words e =
-    let rows = rows_after built_show.rules [] words in
-    let right = right_where_faultless built_show words show_filling show_defaults e in
-    let file = value_given (codes "file") rows right.filled (one_given (is_given (codes "file") rows) right.checked) in
-    let settled_rows = (settled built_show.rules (walk built_show.rules [] nothing_held words).held).rows in
-    let json = flag_read (codes "json") rows refl right.filled (has_row-defaults (codes "json") built_show.rules settled_rows show_json) in
-    let explain = flag_read (codes "explain") rows refl right.filled (has_row-defaults (codes "explain") built_show.rules settled_rows show_explain) in
-    show json.0 explain.0 file.0 (record { of_file = record { rows = rows; called = refl; file_is = file.1 }; json_is = json.1; explain_is = explain.1 })
-
--- `survey`
-
-survey_filling : AllFilling false built_survey.rules
-survey_filling = (inr (inl (inr refl, (omega arith, refl))), (inl refl, tt))
-
-survey_defaults : AllDefaulting built_survey.rules
-survey_defaults = (inl refl, (inl refl, tt))
-
-sound_survey : IsSound built_survey
-sound_survey words e =
-    let rows = rows_after built_survey.rules [] words in
-    let right = right_where_faultless built_survey words survey_filling survey_defaults e in
-    let files = values_given (codes "file") rows right.filled (one_given (is_given (codes "file") rows) right.checked) in
-    survey files.0 (record { rows = rows; called = refl; files_are = files.2; some = files.1 })
+survey_regular : AllRegular false (built_below survey_shape).rules
+survey_regular = (is_valued (inr refl) (omega arith) refl refl, (asks_help refl refl refl, tt))
 
 -- ---- the command line
 
@@ -309,34 +115,35 @@ sound_survey words e =
 abbrev pub line : App
 line = built command_line
 
--- a subcommand is required
-asked_for : (rows : List Row) → check_fault line.top rows false ≡ [] → ⊥
-asked_for rows e = cc
+-- where nothing is wrong with the arguments of the subcommand, it is whole
+abbrev IsSound : Shape → Type 0
+IsSound s = (words : List Text) → level_fault s [] nothing_held words false [] ≡ [] → IsWhole (Some (rows_at s words))
 
--- what is found among sound subcommands is whole
-whole_where_found : (p : Shape → Bool) (words : List Text) (rows : List Row) (subs : List Shape) → AllSound subs
-    → option_map_or (λ s. level_fault s [] nothing_held words false []) (find p subs) [] ≡ []
-    → check_fault line.top rows (is_some (option_map (λ s. rows_at s words) (find p subs))) ≡ []
-    → IsWhole (option_map (λ s. rows_at s words) (find p subs))
-whole_where_found p words rows [] sound below checked = absurd (asked_for rows checked)
-whole_where_found p words rows (s ∷ rest) sound below checked = go (p s) below checked (whole_where_found p words rows rest sound.1)
-  where
-    go : (b : Bool)
-        → option_map_or (λ s. level_fault s [] nothing_held words false []) (cond b (Some s) (find p rest)) [] ≡ []
-        → check_fault line.top rows (is_some (option_map (λ s. rows_at s words) (cond b (Some s) (find p rest)))) ≡ []
-        → (option_map_or (λ s. level_fault s [] nothing_held words false []) (find p rest) [] ≡ []
-        → check_fault line.top rows (is_some (option_map (λ s. rows_at s words) (find p rest))) ≡ []
-        → IsWhole (option_map (λ s. rows_at s words) (find p rest)))
-        → IsWhole (option_map (λ s. rows_at s words) (cond b (Some s) (find p rest)))
-    go true f c later = sound.0 words f
-    go false f c later = later f c
+all_sound : Each IsSound line.subs
+all_sound = (
+  sound (built_below link_shape) refl link_regular,
+  (
+    sound (built_below load_shape) refl load_regular,
+    (
+      sound (built_below image_shape) refl image_regular,
+      (sound (built_below check_shape) refl check_regular, (sound (built_below show_shape) refl show_regular, (sound (built_below survey_shape) refl survey_regular, tt))),
+    ),
+  ),
+)
+
+-- a subcommand is required, and a sound one is whole
+whole_where_found : (found : Option Shape) (words : List Text) (rows : List Row) → ((s : Shape) → found ≡ Some s → IsSound s)
+    → option_map_or (λ s. level_fault s [] nothing_held words false []) found [] ≡ []
+    → check_fault line.top rows (is_some (option_map (λ s. rows_at s words) found)) ≡ [] → IsWhole (option_map (λ s. rows_at s words) found)
+whole_where_found None words rows sound below checked = cc
+whole_where_found (Some s) words rows sound below checked = sound s refl words below
 
 -- what a walk that stopped there has entered
 whole_where_entered : (stop : Option (Text × List Text)) (rows : List Row) → entered_fault line stop ≡ []
     → check_fault line.top rows (is_some (entered line stop)) ≡ [] → IsWhole (entered line stop)
-whole_where_entered None rows below checked = absurd (asked_for rows checked)
+whole_where_entered None rows below checked = cc
 whole_where_entered (Some p) rows below checked =
-    whole_where_found (λ s. answers_to p.0 (label_of s)) p.1 rows line.subs (sound_link, (sound_load, (sound_image, (sound_check, (sound_show, (sound_survey, tt)))))) below checked
+    whole_where_found (find (λ s. answers_to p.0 (label_of s)) line.subs) p.1 rows (λ s found. find-each IsSound (λ (x : Shape). answers_to p.0 (label_of x)) line.subs s all_sound found) below checked
 
 pub whole_where_faultless : (words : List Text) → fault_of command_line words ≡ [] → IsWhole (subcommand_of command_line words)
 whole_where_faultless words e =
@@ -348,3 +155,28 @@ whole_where_faultless words e =
     let settled_well = or_else-nil (settle_fault line.top.rules line.top.args_override_self end) _ entered_well.1 in
     let checked_well = or_else-nil (defaults_fault (settled line.top.rules end).rows line.top.rules) _ settled_well.1 in
     whole_where_entered walked.stopped (finished line.top.rules end) entered_well.0 checked_well.1
+
+-- ---- the names of the subcommands
+
+-- the name is that of one of these subcommands
+abbrev pub IsOneOf : Option Text → List Shape → Type 0
+IsOneOf name [] = ⊥
+IsOneOf name (s ∷ rest) = (name ≡ Some s.name) ⊎ IsOneOf name rest
+
+known_among : (name : Text) (rows : List Row) (subs : List Shape) → AreWholeFor (find (λ s. bytes_eq s.name name) subs) rows → IsOneOf (Some name) subs
+known_among name rows [] whole = absurd whole
+known_among name rows (s ∷ rest) whole = go (bytes_eq s.name name) refl whole (known_among name rows rest)
+  where
+    go : (b : Bool) → bytes_eq s.name name ≡ b → AreWholeFor (cond b (Some s) (find (λ x. bytes_eq x.name name) rest)) rows
+        → (AreWholeFor (find (λ x. bytes_eq x.name name) rest) rows → IsOneOf (Some name) rest) → IsOneOf (Some name) (s ∷ rest)
+    go true same w later = inl (ap Some (sym ((bytes_eq-Decides s.name name).0 same)))
+    go false same w later = inr (later w)
+
+-- what is whole has the name of one of the program's subcommands
+pub known : (met : Met) → IsWhole met → IsOneOf (option_map (λ p. p.0) met) line.subs
+known None whole = absurd whole
+known (Some (name, rows)) whole = known_among name rows line.subs whole
+
+-- and is so at its name
+pub whole_at : (met : Met) (name : Text) (rows : List Row) → met ≡ Some (name, rows) → IsWhole met → IsWhole (Some (name, rows))
+whole_at met name rows = subst IsWhole

@@ -1,15 +1,19 @@
 -- A use of an argument with which nothing is wrong, and a default, leave a value in each row.
-use Rattle.std.proofs.Common.{◌≡◌, ◌∙◌, ◌⊎◌, ◌<◌, ◌≤◌, ◌&&◌, ◌||◌, ◌==◌, ℕ, zero, suc, Bool, true, false, cond, ap, append-nil, refl, subst, sym, inl, inr, arith, List, [], ◌∷◌, ◌++◌, codes, length, length-append, lt-ltb, Option, Some, None}
+use Rattle.std.proofs.Common.{◌≡◌, ◌∙◌, ◌⊎◌, ◌<◌, ◌≤◌, ◌&&◌, ◌||◌, ◌==◌, ℕ, zero, suc, Bool, true, false, cond, ap, append-nil, refl, subst, sym, inl, inr, arith, List, [], ◌∷◌, ◌++◌, codes, length, length-append, lt-ltb, Option, Some, None, is_some}
 use Rattle.std.specs.Prelude.{⊤, find, fold, if◌then◌else◌, slice_get}
 use Rattle.std.specs.Option.{option_and_then, option_map, option_map_or}
 use Rattle.std.specs.Str.{bytes_eq}
 use Rattle.std.proofs.lemmas.Bool.{ne_eqb}
+use Rattle.std.proofs.lemmas.List.Folds.{list_any-append}
 use Rattle.std.proofs.lemmas.Slice.Eq.{bytes_eq-Decides}
 use Rattle.clap.specs.Facts.{explicit_source, unwrap_or_range}
 use Rattle.clap.specs.Kinds.{Kinds, or_else, range_kinds}
 use Rattle.clap.specs.Values.{bool_text}
-use Rattle.clap.specs.Walk.{Row, Rule, Text, action_of, all_of, at_row, default_rows, first_of, has_row, more_values, most_values, reading_by, row_text, used, values_or_missing, with_default, with_values, without}
+use Rattle.clap.specs.Walk.{Row, Rule, Text, action_of, all_of, at_row, default_rows, first_of, has_row, is_empty, more_values, most_values, reading_by, row_text, used, values_or_missing, with_default, with_values, without}
 use Rattle.clap.specs.Takes.{is_given}
+use Rattle.clap.specs.Words.{one_text, rows_of}
+use Rattle.clap.specs.declared.parser.matches.Found.{Found}
+use Rattle.clap.proofs.WalkLemmas.{one_text-rows}
 use Rattle.clap.specs.Faults.{action_fault, repeat_fault, set_fault, use_fault, values_fault}
 use Rattle.clap.specs.declared.ArgAction.TheVariants.{Append, Help, Set, SetTrue}
 use Rattle.clap.specs.declared.builder.range.ValueRange.{ValueRange}
@@ -18,7 +22,7 @@ use Rattle.clap.specs.declared.builder.value_parser.Reading.TheVariants.{AsWritt
 use Rattle.clap.specs.declared.parser.matches.ValueSource.{ValueSource}
 use Rattle.clap.specs.declared.parser.matches.ValueSource.TheVariants.{CommandLine, DefaultValue}
 use Rattle.clap.specs.declared.error.ErrorKind.TheVariants.{ArgumentConflict}
-use Rattle.amihunk.specs.CommandLine.{IsFlag}
+use Rattle.amihunk.specs.CommandLine.{HasValue, IsFlag}
 
 -- the row of a flag that was given, or that has its default
 pub record IsFlagRow (r : Row) (given : Bool) : Type 0 where
@@ -34,32 +38,42 @@ is_flag id = bytes_eq id (codes "strip") || (bytes_eq id (codes "short") || (byt
 abbrev pub IsFilledRow : Row → Type 0
 IsFilledRow r = (1 ≤ length r.values) × (is_flag r.id ≡ true → (given : Bool) × IsFlagRow r given)
 
-abbrev pub Filled : List Row → Type 0
-Filled [] = ⊤
-Filled (r ∷ rs) = IsFilledRow r × Filled rs
-
--- the argument takes at least one value, and is no flag
-abbrev pub IsValued : Rule → Type 0
-IsValued a = (1 ≤ (unwrap_or_range a.range).start_inclusive) × (is_flag a.id ≡ false)
-
 -- the argument is a flag, which takes no value
 pub record IsSwitch (a : Rule) : Type 0 where
   pub action_is : action_of a ≡ SetTrue
   pub range_is : unwrap_or_range a.range ≡ record { start_inclusive = 0; end_inclusive = 0 }
   pub missing_is : a.missing ≡ codes "true" ∷ []
   pub reading_is : reading_by a ≡ AsWritten
+  pub defaults_are : a.defaults ≡ codes "false" ∷ []
+  pub named : is_flag a.id ≡ true
+  pub optional : a.required ≡ false
 
--- a use of the argument asks for help, or leaves a value; a flag may not be used again
-abbrev pub IsFilling : Bool → Rule → Type 0
-IsFilling again a = (action_of a ≡ Help) ⊎ ((((action_of a ≡ Set) ⊎ (action_of a ≡ Append)) × IsValued a) ⊎ (IsSwitch a × (again ≡ false)))
+-- a use of the argument asks for help, or gives it at least one value, or sets a flag, which may not be used
+-- again and is unset by default
+pub data IsRegular (again : Bool) (a : Rule) : Type 0 where
+  asks_help : action_of a ≡ Help → a.defaults ≡ [] → a.required ≡ false → IsRegular again a
+  is_valued : (action_of a ≡ Set) ⊎ (action_of a ≡ Append) → 1 ≤ (unwrap_or_range a.range).start_inclusive → is_flag a.id ≡ false → a.defaults ≡ [] → IsRegular again a
+  is_switched : IsSwitch a → again ≡ false → IsRegular again a
 
--- the argument has no default, or is a flag whose default is `false`
-abbrev pub IsDefaulting : Rule → Type 0
-IsDefaulting a = (a.defaults ≡ []) ⊎ ((a.defaults ≡ codes "false" ∷ []) × (reading_by a ≡ AsWritten))
+-- each of them is so
+abbrev pub Each : {A : Type 0} → (A → Type 0) → List A → Type 0
+Each P [] = ⊤
+Each P (x ∷ xs) = P x × Each P xs
 
-abbrev pub AllDefaulting : List Rule → Type 0
-AllDefaulting [] = ⊤
-AllDefaulting (a ∷ rest) = IsDefaulting a × AllDefaulting rest
+-- and so what is found among them
+pub find-each : {A : Type 0} (P : A → Type 0) (p : A → Bool) (xs : List A) (a : A) → Each P xs → find p xs ≡ Some a → P a
+find-each P p [] a all found = cc
+find-each P p (x ∷ xs) a all found = go (p x) found (find-each P p xs a all.1)
+  where
+    go : (b : Bool) → cond b (Some x) (find p xs) ≡ Some a → (find p xs ≡ Some a → P a) → P a
+    go true e rest = let same : x ≡ a = cc in subst P same all.0
+    go false e rest = rest e
+
+abbrev pub Filled : List Row → Type 0
+Filled = Each IsFilledRow
+
+abbrev pub AllRegular : Bool → List Rule → Type 0
+AllRegular again = Each (IsRegular again)
 
 pub or_else-nil : (xs ys : Kinds) → or_else xs ys ≡ [] → (xs ≡ []) × (ys ≡ [])
 or_else-nil [] ys e = (refl, e)
@@ -82,24 +96,14 @@ filled-at_row id change missing changed none (r ∷ rs) h = go (bytes_eq r.id id
     go true same rest = filled-append (change r) rs (changed r same h.0.0) h.1
     go false same rest = (h.0, rest)
 
--- a row that the id names is no row of a flag, if the id is that of none
-no_flag : (id r : Text) → is_flag id ≡ false → bytes_eq r id ≡ true → is_flag r ≡ true → ⊥
-no_flag id r other same flag =
-    let at : r ≡ id = (bytes_eq-Decides r id).0 same in
-    let both : true ≡ false = sym (subst (λ x. is_flag x ≡ true) at flag) ∙ other in
-    cc
-
 filled-with_values : (id : Text) (how : Reading) (source : ValueSource) (values : List Text) (rows : List Row) → is_flag id ≡ false
     → 1 ≤ length values → Filled rows → Filled (with_values id how source values rows)
 filled-with_values id how source values rows other some h =
     let first : Row = record { id = id; values = values; count = None; source = Some source; reading = how } in
     let named : is_flag id ≡ true → (given : Bool) × IsFlagRow first given = λ e. let both : true ≡ false = sym e ∙ other in cc in
     let more : (r : Row) → bytes_eq r.id id ≡ true → 1 ≤ length r.values → Filled (more_values source values r) =
-    λ r same full. ((rw length-append (omega arith), λ e. absurd (no_flag id r.id other same e)), tt) in
+    λ r same full. ((rw length-append (omega arith), λ e. let both : true ≡ false = sym e ∙ (ap is_flag ((bytes_eq-Decides r.id id).0 same) ∙ other) in cc), tt) in
     filled-at_row id (more_values source values) (first ∷ []) more ((some, named), tt) rows h
-
-filled-without : (id : Text) (rows : List Row) → Filled rows → Filled (without id rows)
-filled-without id rows h = filled-at_row id (λ _. []) [] (λ r same full. tt) tt rows h
 
 -- an id that has no row
 at_row-missing : (id : Text) (change : Row → List Row) (missing : List Row) (rows : List Row) → has_row id rows ≡ false
@@ -147,166 +151,138 @@ not_repeated id rows = go (has_row id rows)
     go true e = cc
     go false e = refl
 
-pub filled-used : (again : Bool) (a : Rule) (values : List Text) (rows : List Row) → IsFilling again a → use_fault again a values rows ≡ []
+pub filled-used : (again : Bool) (a : Rule) (values : List Text) (rows : List Row) → IsRegular again a → use_fault again a values rows ≡ []
     → Filled rows → Filled (used a values rows)
-filled-used again a values rows (inl help) e h = rw help h
-filled-used again a values rows (inr (inl valued)) e h = go valued.0
-  where
-    some : 1 ≤ length (values_or_missing a values)
-    some = values_needed a values (value_needed (unwrap_or_range a.range).start_inclusive (most_values a) (length values) valued.1.0 (or_else-nil _ _ e).0)
-
-    go : (action_of a ≡ Set) ⊎ (action_of a ≡ Append) → Filled (used a values rows)
-    go (inl set) = rw set
-        (filled-with_values a.id (reading_by a) CommandLine (values_or_missing a values) (without a.id rows) valued.1.1 some (filled-without a.id rows h))
-    go (inr append) = rw append (filled-with_values a.id (reading_by a) CommandLine (values_or_missing a values) rows valued.1.1 some h)
-filled-used again a values rows (inr (inr switch)) e h =
-    let flag = switch.0 in
+filled-used again a values rows (asks_help help none optional) e h = rw help h
+filled-used again a values rows (is_valued action least other none) e h =
+    let some = values_needed a values (value_needed (unwrap_or_range a.range).start_inclusive (most_values a) (length values) least (or_else-nil _ _ e).0) in
+    elim action [
+      | inl set ↦ rw set (filled-with_values a.id (reading_by a) CommandLine (values_or_missing a values) (without a.id rows) other some (filled-at_row a.id (λ _. []) [] (λ r same full. tt) tt rows h))
+      | inr append ↦ rw append (filled-with_values a.id (reading_by a) CommandLine (values_or_missing a values) rows other some h)
+    ]
+filled-used again a values rows (is_switched flag once) e h =
     let parts = or_else-nil (range_kinds (unwrap_or_range a.range).start_inclusive (most_values a) (length values)) (action_fault (action_of a) again a (values_or_missing a values) rows) e in
     let no_value : values ≡ [] =
     values_unwanted values (subst (λ (r : ValueRange). range_kinds r.start_inclusive r.end_inclusive (length values) ≡ []) flag.range_is parts.0) in
     let acted : set_fault again a (values_or_missing a values) rows ≡ [] =
     subst (λ x. action_fault x again a (values_or_missing a values) rows ≡ []) flag.action_is parts.1 in
     let unused : has_row a.id rows ≡ false =
-    not_repeated a.id rows (subst (λ b. repeat_fault b a.id rows ≡ []) switch.1 (or_else-nil (repeat_fault again a.id rows) (values_fault a (values_or_missing a values)) acted).0) in
+    not_repeated a.id rows (subst (λ b. repeat_fault b a.id rows ≡ []) once (or_else-nil (repeat_fault again a.id rows) (values_fault a (values_or_missing a values)) acted).0) in
     let bare : without a.id rows ≡ rows = at_row-missing a.id (λ _. []) [] rows unused ∙ append-nil rows in
     rw (flag.action_is, no_value, flag.missing_is, flag.reading_is, bare) (filled-flag a.id CommandLine true rows refl unused h)
 
 -- ---- defaults
 
-pub filled-with_default : (rows : List Row) (a : Rule) → IsDefaulting a → Filled rows → Filled (with_default rows a)
-filled-with_default rows a defaulting h = go (has_row a.id rows) refl
+filled-with_default : (again : Bool) (rows : List Row) (a : Rule) → IsRegular again a → Filled rows → Filled (with_default rows a)
+filled-with_default again rows a regular h = go (has_row a.id rows) refl
   where
-    added : IsDefaulting a → has_row a.id rows ≡ false → Filled (default_rows a.id (reading_by a) a.defaults rows)
-    added (inl none) unused = rw none h
-    added (inr flag) unused = rw (flag.0, flag.1) (filled-flag a.id DefaultValue false rows refl unused h)
+    added : IsRegular again a → has_row a.id rows ≡ false → Filled (default_rows a.id (reading_by a) a.defaults rows)
+    added (asks_help help none optional) unused = rw none h
+    added (is_valued action least other none) unused = rw none h
+    added (is_switched flag once) unused = rw (flag.defaults_are, flag.reading_is) (filled-flag a.id DefaultValue false rows refl unused h)
 
     go : (b : Bool) → has_row a.id rows ≡ b → Filled (cond b rows (default_rows a.id (reading_by a) a.defaults rows))
     go true is = h
-    go false is = added defaulting is
+    go false is = added regular is
 
-pub filled-defaults : (c : List Rule) (rows : List Row) → AllDefaulting c → Filled rows → Filled (fold with_default rows c)
-filled-defaults [] rows all h = h
-filled-defaults (a ∷ rest) rows all h = filled-defaults rest (with_default rows a) all.1 (filled-with_default rows a all.0 h)
+pub filled-defaults : (again : Bool) (c : List Rule) (rows : List Row) → AllRegular again c → Filled rows → Filled (fold with_default rows c)
+filled-defaults again [] rows all h = h
+filled-defaults again (a ∷ rest) rows all h = filled-defaults again rest (with_default rows a) all.1 (filled-with_default again rows a all.0 h)
 
-has_row-append : (id : Text) (rows more : List Row) → (has_row id rows ≡ true) ⊎ (has_row id more ≡ true) → has_row id (rows ++ more) ≡ true
-has_row-append id [] more (inl has) = cc
-has_row-append id [] more (inr has) = has
-has_row-append id (r ∷ rs) more has = go (bytes_eq r.id id) has (has_row-append id rs more)
-  where
-    go : (b : Bool) → ((b || has_row id rs) ≡ true) ⊎ (has_row id more ≡ true)
-        → ((has_row id rs ≡ true) ⊎ (has_row id more ≡ true) → has_row id (rs ++ more) ≡ true) → (b || has_row id (rs ++ more)) ≡ true
-    go true e rest = refl
-    go false e rest = rest e
-
--- the argument's id is this, and it has a default
-pub record HasDefault (id : Text) (a : Rule) : Type 0 where
-  pub id_is : a.id ≡ id
-  pub first : Text
-  pub others : List Text
-  pub defaults_are : a.defaults ≡ first ∷ others
+or_true : (b : Bool) → (b || true) ≡ true
+or_true true = refl
+or_true false = refl
 
 -- what had a row still has one, and so has an argument with a default
-has_row-with_default : (id : Text) (rows : List Row) (a : Rule) → (has_row id rows ≡ true) ⊎ HasDefault id a → has_row id (with_default rows a) ≡ true
+has_row-with_default : (id : Text) (rows : List Row) (a : Rule) → (has_row id rows ≡ true) ⊎ ((a.id ≡ id) × (is_empty a.defaults ≡ false)) → has_row id (with_default rows a) ≡ true
 has_row-with_default id rows a reason = go (has_row a.id rows) refl
   where
     added : (values : List Text) → a.defaults ≡ values → has_row a.id rows ≡ false → has_row id (default_rows a.id (reading_by a) values rows) ≡ true
     added [] are unused = elim reason [
       | inl has ↦ has
-      | inr default ↦ let none : [] ≡ default.first ∷ default.others = sym are ∙ default.defaults_are in cc
+      | inr default ↦ let some : true ≡ false = sym (ap is_empty are) ∙ default.1 in cc
     ]
     added (v ∷ vs) are unused =
         let row : Row = record { id = a.id; values = v ∷ vs; count = None; source = Some DefaultValue; reading = reading_by a } in
-        let here : (has_row id rows ≡ true) ⊎ (has_row id (row ∷ []) ≡ true) = elim reason [
-          | inl has ↦ inl has
-          | inr default ↦ inr (rw ((bytes_eq-Decides a.id id).1 default.id_is) refl)
-        ] in
-        rw (at_row-missing a.id (more_values DefaultValue (v ∷ vs)) (row ∷ []) rows unused) (has_row-append id rows (row ∷ []) here)
+        rw (at_row-missing a.id (more_values DefaultValue (v ∷ vs)) (row ∷ []) rows unused, list_any-append (λ (r : Row). bytes_eq r.id id) rows (row ∷ []))
+        (elim reason [
+          | inl has ↦ rw has refl
+          | inr default ↦ rw ((bytes_eq-Decides a.id id).1 default.0) (or_true (has_row id rows))
+        ])
 
     go : (b : Bool) → has_row a.id rows ≡ b → has_row id (cond b rows (default_rows a.id (reading_by a) a.defaults rows)) ≡ true
     go true is = elim reason [
       | inl has ↦ has
-      | inr default ↦ subst (λ x. has_row x rows ≡ true) default.id_is is
+      | inr default ↦ subst (λ x. has_row x rows ≡ true) default.0 is
     ]
     go false is = added a.defaults refl is
-
--- one of the arguments has this id and a default
-abbrev pub IsDefaulted : Text → List Rule → Type 0
-IsDefaulted id [] = ⊥
-IsDefaulted id (a ∷ rest) = HasDefault id a ⊎ IsDefaulted id rest
 
 has_row-kept : (id : Text) (c : List Rule) (rows : List Row) → has_row id rows ≡ true → has_row id (fold with_default rows c) ≡ true
 has_row-kept id [] rows has = has
 has_row-kept id (a ∷ rest) rows has = has_row-kept id rest (with_default rows a) (has_row-with_default id rows a (inl has))
 
-pub has_row-defaults : (id : Text) (c : List Rule) (rows : List Row) → IsDefaulted id c → has_row id (fold with_default rows c) ≡ true
-has_row-defaults id [] rows defaulted = absurd defaulted
-has_row-defaults id (a ∷ rest) rows (inl default) = has_row-kept id rest (with_default rows a) (has_row-with_default id rows a (inr default))
-has_row-defaults id (a ∷ rest) rows (inr later) = has_row-defaults id rest (with_default rows a) later
+-- each argument with a default has a row
+abbrev pub AreDefaulted : List Rule → List Row → Type 0
+AreDefaulted [] rows = ⊤
+AreDefaulted (a ∷ rest) rows = (is_empty a.defaults ≡ false → has_row a.id rows ≡ true) × AreDefaulted rest rows
+
+pub defaulted : (c : List Rule) (rows : List Row) → AreDefaulted c (fold with_default rows c)
+defaulted [] rows = tt
+defaulted (a ∷ rest) rows =
+    (λ some. has_row-kept a.id rest (with_default rows a) (has_row-with_default a.id rows a (inr (refl, some))), defaulted rest (with_default rows a))
 
 -- ---- the values of filled rows
 
--- the row that is found for an id is filled
-find-filled : (id : Text) (rows : List Row) (r : Row) → Filled rows → find (λ x. bytes_eq x.id id) rows ≡ Some r
-    → IsFilledRow r × (bytes_eq r.id id ≡ true)
-find-filled id [] r h found = cc
-find-filled id (x ∷ xs) r h found = go (bytes_eq x.id id) refl found (find-filled id xs r h.1)
+-- what is found for an id, if something is
+abbrev IsFoundRow : Text → List Row → Option Row → Type 0
+IsFoundRow id rows None = has_row id rows ≡ false
+IsFoundRow id rows (Some r) = IsFilledRow r × (bytes_eq r.id id ≡ true)
+
+find-filled : (id : Text) (rows : List Row) → Filled rows → IsFoundRow id rows (find (λ x. bytes_eq x.id id) rows)
+find-filled id [] h = refl
+find-filled id (x ∷ xs) h = go (bytes_eq x.id id) refl (find (λ y. bytes_eq y.id id) xs) (find-filled id xs h.1)
   where
-    go : (b : Bool) → bytes_eq x.id id ≡ b → cond b (Some x) (find (λ y. bytes_eq y.id id) xs) ≡ Some r
-        → (find (λ y. bytes_eq y.id id) xs ≡ Some r → IsFilledRow r × (bytes_eq r.id id ≡ true)) → IsFilledRow r × (bytes_eq r.id id ≡ true)
-    go true same e rest =
-        let is : x ≡ r = cc in
-        subst (λ y. IsFilledRow y × (bytes_eq y.id id ≡ true)) is (h.0, same)
-    go false same e rest = rest e
+    go : (b : Bool) → bytes_eq x.id id ≡ b → (o : Option Row) → IsFoundRow id xs o → IsFoundRow id (x ∷ xs) (cond b (Some x) o)
+    go true same o rest = (h.0, same)
+    go false same None rest = rw same rest
+    go false same (Some r) rest = rest
 
--- an id that was given has a row
-row_given : (id : Text) (rows : List Row) → is_given id rows ≡ true → (r : Row) × (find (λ x. bytes_eq x.id id) rows ≡ Some r)
-row_given id rows = go (find (λ x. bytes_eq x.id id) rows)
-  where
-    go : (o : Option Row) → option_map_or (λ (r : Row). explicit_source r.source) o false ≡ true → (r : Row) × (o ≡ Some r)
-    go None e = cc
-    go (Some r) e = (r, refl)
-
--- an argument that was given has at least one value
-pub values_given : (id : Text) (rows : List Row) → Filled rows → is_given id rows ≡ true
-    → (values : List Text) × (0 < length values) × (all_of id rows ≡ Some values)
-values_given id rows h given =
-    let row = row_given id rows given in
-    let filled = find-filled id rows row.0 h row.1 in
-    (row.0.values, filled.0.0, ap (option_map (λ (r : Row). r.values)) row.1)
-
-first_given : (values : List Text) → 1 ≤ length values → (value : Text) × (slice_get values 0 ≡ Some value)
+first_given : (values : List Text) → 1 ≤ length values → is_some (slice_get values 0) ≡ true
 first_given [] h = absurd (omega arith)
-first_given (v ∷ vs) h = (v, refl)
+first_given (v ∷ vs) h = refl
 
-pub value_given : (id : Text) (rows : List Row) → Filled rows → is_given id rows ≡ true → (value : Text) × (first_of id rows ≡ Some value)
-value_given id rows h given =
-    let row = row_given id rows given in
-    let filled = find-filled id rows row.0 h row.1 in
-    let value = first_given row.0.values filled.0.0 in
-    (value.0, ap (option_and_then (λ (r : Row). slice_get r.values 0)) row.1 ∙ value.1)
-
-row_found : (id : Text) (rows : List Row) → has_row id rows ≡ true → (r : Row) × (find (λ x. bytes_eq x.id id) rows ≡ Some r)
-row_found id [] has = cc
-row_found id (x ∷ xs) has = go (bytes_eq x.id id) has (row_found id xs)
+-- an argument that was given has a value
+pub value_given : (id : Text) (rows : List Row) → Filled rows → is_given id rows ≡ true → HasValue rows id
+value_given id rows h = go (find (λ x. bytes_eq x.id id) rows) (find-filled id rows h)
   where
-    go : (b : Bool) → (b || has_row id xs) ≡ true → (has_row id xs ≡ true → (r : Row) × (find (λ y. bytes_eq y.id id) xs ≡ Some r))
-        → (r : Row) × (cond b (Some x) (find (λ y. bytes_eq y.id id) xs) ≡ Some r)
-    go true e rest = (x, refl)
-    go false e rest = rest e
+    go : (o : Option Row) → IsFoundRow id rows o → option_map_or (λ (r : Row). explicit_source r.source) o false ≡ true
+        → is_some (option_and_then (λ (r : Row). slice_get r.values 0) o) ≡ true
+    go None found given = cc
+    go (Some r) found given = first_given r.values found.0.0
 
-flag_text : (r : Row) (given : Bool) → IsFlagRow r given → row_text r ≡ Some (bool_text given)
-flag_text r given flag = rw (flag.values_are, flag.reading_is) refl
+-- an argument that has a value has values
+pub files_given : (id : Text) (rows : List Row) → HasValue rows id → all_of id rows ≡ None → ⊥
+files_given id rows = go (find (λ x. bytes_eq x.id id) rows)
+  where
+    go : (o : Option Row) → is_some (option_and_then (λ (r : Row). slice_get r.values 0) o) ≡ true → option_map (λ (r : Row). r.values) o ≡ None → ⊥
+    go None has none = cc
+    go (Some r) has none = cc
 
 -- what is read of a flag says whether it was given
-pub flag_read : (name : Text) (rows : List Row) → is_flag name ≡ true → Filled rows → has_row name rows ≡ true → (given : Bool) × IsFlag rows name given
-flag_read name rows is h has =
-    let row = row_found name rows has in
-    let filled = find-filled name rows row.0 h row.1 in
-    let named : is_flag row.0.id ≡ true = ap is_flag ((bytes_eq-Decides row.0.id name).0 filled.1) ∙ is in
-    let flag = filled.0.1 named in (
-      flag.0,
-      record {
-        given_is = ap (λ (o : Option Row). option_map_or (λ (r : Row). explicit_source r.source) o false) row.1 ∙ flag.1.source_is;
-        value_is = ap (option_and_then row_text) row.1 ∙ flag_text row.0 flag.0 flag.1;
-      },
-    )
+pub flag_read : (name : Text) (rows : List Row) → is_flag name ≡ true → Filled rows → has_row name rows ≡ true → IsFlag rows name
+flag_read name rows is h has = go (find (λ x. bytes_eq x.id name) rows) (find-filled name rows h)
+  where
+    go : (o : Option Row) → IsFoundRow name rows o → option_and_then row_text o ≡ Some (bool_text (option_map_or (λ (r : Row). explicit_source r.source) o false))
+    go None found = let both : true ≡ false = sym has ∙ found in cc
+    go (Some r) found =
+        let flag = found.0.1 (ap is_flag ((bytes_eq-Decides r.id name).0 found.1) ∙ is) in
+        rw (flag.1.values_are, flag.1.reading_is, flag.1.source_is) refl
+
+-- and so is what the caller reads of it
+pub flag_value : (found : Found) (name : Text) (value : Bool) → IsFlag (rows_of found) name
+    → (one_text found name ≡ Some (codes "true") → value ≡ true) → (one_text found name ≡ Some (codes "false") → value ≡ false) → value ≡ is_given name (rows_of found)
+flag_value found name value is on off = go (is_given name (rows_of found)) (one_text-rows found name ∙ is)
+  where
+    go : (given : Bool) → one_text found name ≡ Some (bool_text given) → value ≡ given
+    go true read = on read
+    go false read = off read

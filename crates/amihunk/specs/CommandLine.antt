@@ -1,10 +1,13 @@
 -- What the arguments of a command line ask for, as `clap` reads them.
-use Rattle.std.specs.Borrow.{Bor}
-use Rattle.std.specs.Prelude.{◌≡◌, ◌≢◌, ◌<◌, ◌⊎◌, ⊤, ◌∷◌, ◌++◌, Bool, List, [], true, false, codes, if◌then◌else◌, is_some, length, option_map, Option, Some, None}
+use Rattle.std.specs.Prelude.{◌≡◌, ◌≢◌, ◌⊎◌, ⊤, ◌∷◌, ◌++◌, Bool, List, [], true, false, codes, find, if◌then◌else◌, is_some, option_map, option_and_then, unwrap_or, Option, Some, None}
+use Rattle.std.specs.Str.{bytes_eq}
 use Rattle.clap.specs.Takes.{is_given}
+use Rattle.clap.specs.Simple.{built}
 use Rattle.clap.specs.Values.{bool_text}
-use Rattle.clap.specs.Walk.{texts}
-use Rattle.clap.specs.Words.{IsAmong, Kinds, Row, Text, all_of, fault_of, first_of, one_of, subcommand_of}
+use Rattle.clap.specs.Walk.{action_of, texts}
+use Rattle.clap.specs.Words.{IsAmong, Kinds, Row, Rule, Shape, Text, all_of, fault_of, first_of, one_of, subcommand_of}
+use Rattle.clap.specs.declared.builder.action.ArgAction.{ArgAction}
+use Rattle.clap.specs.declared.builder.action.ArgAction.TheVariants.{SetTrue}
 use Rattle.clap.specs.declared.error.ErrorKind.{ErrorKind}
 use Rattle.clap.specs.declared.error.ErrorKind.TheVariants as error
 use Rattle.hunk_memory.specs.declared.image_form.ImageForm.{ImageForm}
@@ -21,145 +24,164 @@ use Rattle.amihunk.specs.Syntax.{command_line}
 use Rattle.amihunk.specs.declared.command_line.Conflict.{Conflict}
 use Rattle.amihunk.specs.declared.command_line.Conflict.TheVariants.{Texts, TwoAddresses, NoAddresses}
 
+-- ---- what was found for the arguments of a subcommand
+
 -- a subcommand's name, and what was found for its arguments
 abbrev pub Met : Type 0
 Met = Option (Text × List Row)
 
--- the subcommand has this name, and its FILE is this one
-pub record IsCalled (met : Met) (name file : Text) : Type 0 where
-  pub rows : List Row
-  pub called : met ≡ Some (name, rows)
-  pub file_is : first_of (codes "file") rows ≡ Some file
+-- the argument has a value
+abbrev pub HasValue : List Row → Text → Type 0
+HasValue rows name = is_some (first_of name rows) ≡ true
 
--- the subcommand has this name, and its files are these, of which there is at least one
-pub record IsCalledOn (met : Met) (name : Text) (files : List Text) : Type 0 where
-  pub rows : List Row
-  pub called : met ≡ Some (name, rows)
-  pub files_are : all_of (codes "file") rows ≡ Some files
-  pub some : 0 < length files
+-- what `clap` reads of the flag is whether it was given
+abbrev pub IsFlag : List Row → Text → Type 0
+IsFlag rows name = one_of name rows ≡ Some (bool_text (is_given name rows))
 
--- whether the flag `--NAME` was given, which is also what `clap` reads of it
-pub record IsFlag (rows : List Row) (name : Text) (given : Bool) : Type 0 where
-  pub given_is : is_given name rows ≡ given
-  pub value_is : one_of name rows ≡ Some (bool_text given)
+abbrev pub is_switch : ArgAction → Bool
+is_switch SetTrue = true
+is_switch _ = false
 
--- the subcommand is `link`, with this OUT, this MAP if one is given, these flags and these files
-pub record IsLink (met : Met) (out : Text) (map : Option Text) (options : LinkOptions) (explain : Bool) (files : List Text) : Type 0 where
-  pub of_files : IsCalledOn met (codes "link") files
-  pub out_is : first_of (codes "out") of_files.rows ≡ Some out
-  pub map_is : first_of (codes "map") of_files.rows ≡ map
-  pub strip_is : IsFlag of_files.rows (codes "strip") options.strip
-  pub short_is : IsFlag of_files.rows (codes "short") options.short
-  pub trim_is : IsFlag of_files.rows (codes "trim") options.trim
-  pub explain_is : IsFlag of_files.rows (codes "explain") explain
+-- the fact, where the test holds
+abbrev pub Where : Bool → Type 0 → Type 0
+Where true Fact = Fact
+Where false Fact = ⊤
 
--- whether `--srec` asks for this form
-abbrev pub is_srec : ImageForm → Bool
-is_srec Report = false
-is_srec SRecords = true
+-- each argument that is required has a value, and each flag is one
+abbrev pub AreWhole : List Rule → List Row → Type 0
+AreWhole [] rows = ⊤
+AreWhole (a ∷ rest) rows = Where a.required (HasValue rows a.id) × Where (is_switch (action_of a)) (IsFlag rows a.id) × AreWhole rest rows
 
--- whether `--srec` asks for this text
-abbrev pub asks_srec : LoadText → Bool
-asks_srec (load_text.Image form) = is_srec form
-asks_srec load_text.Symbols = false
+abbrev pub AreWholeFor : Option Shape → List Row → Type 0
+AreWholeFor None rows = ⊥
+AreWholeFor (Some s) rows = AreWhole s.rules rows
 
--- whether `--symbols` asks for it
-abbrev pub asks_symbols : LoadText → Bool
-asks_symbols (load_text.Image form) = false
-asks_symbols load_text.Symbols = true
+-- the subcommand is one of the program's, with its required values
+abbrev pub IsWhole : Met → Type 0
+IsWhole None = ⊥
+IsWhole (Some (name, rows)) = AreWholeFor (find (λ s. bytes_eq s.name name) (built command_line).subs) rows
 
--- the values of `--at` and of `--at-file`, if they are given
-pub record AddressValues : Type 0 where
-  pub list : Option Text
-  pub file : Option Text
+-- ---- what a subcommand asks for
 
-abbrev pub values_given : (list file : Option (Bor Text)) → AddressValues
-values_given list file = record { list = option_map (λ value. value.now) list; file = option_map (λ value. value.now) file }
+-- a call of a subcommand, with what its arguments say; a conflict is one where arguments exclude each
+-- other, or where there are no addresses
+pub data Call : Type 0 where
+  to_link : (out : Text) (map : Option Text) (options : LinkOptions) (explain : Bool) (files : List Text) → Call
+  to_load : (origin : Origin) (text : LoadText) (explain : Bool) (file : Text) → Call
+  to_image : (origin : Origin) (form : ImageForm) (explain : Bool) (files : List Text) → Call
+  to_check : (explain : Bool) (file : Text) → Call
+  to_show : (json explain : Bool) (file : Text) → Call
+  to_survey : (files : List Text) → Call
+  conflict : Call
 
--- the values by which these addresses are given
-abbrev pub values_of : Origin → AddressValues
-values_of (in_list list) = record { list = Some list; file = None }
-values_of (in_file name) = record { list = None; file = Some name }
+-- the value of an argument that has one, and the files
+abbrev pub value_in : Text → List Row → Text
+value_in name rows = unwrap_or (first_of name rows) []
 
--- the addresses are given twice, or not at all
-abbrev pub AreUnclear : AddressValues → Type 0
-AreUnclear values = is_some values.list ≡ is_some values.file
+abbrev pub files_in : List Row → List Text
+files_in rows = unwrap_or (all_of (codes "file") rows) []
 
--- these are the values of the two options
-abbrev pub AreValues : List Row → AddressValues → Type 0
-AreValues rows values = (first_of (codes "at") rows ≡ values.list) × (first_of (codes "at-file") rows ≡ values.file)
+-- where the addresses are, by the values of `--at` and `--at-file`, of which there must be one
+abbrev pub origin_by : Option Text → Option Text → Option Origin
+origin_by (Some list) None = Some (in_list list)
+origin_by None (Some name) = Some (in_file name)
+origin_by _ _ = None
 
--- the subcommand is `load`, with these addresses, these flags and this FILE
-pub record IsLoad (met : Met) (values : AddressValues) (srec symbols explain : Bool) (file : Text) : Type 0 where
-  pub of_file : IsCalled met (codes "load") file
-  pub values_are : AreValues of_file.rows values
-  pub srec_is : IsFlag of_file.rows (codes "srec") srec
-  pub symbols_is : IsFlag of_file.rows (codes "symbols") symbols
-  pub explain_is : IsFlag of_file.rows (codes "explain") explain
+-- the form that is asked for, with `--srec` or without
+abbrev pub form_by : Bool → ImageForm
+form_by true = SRecords
+form_by false = Report
 
--- the subcommand is `image`, with these addresses, this form, this flag and these files
-pub record IsImage (met : Met) (values : AddressValues) (form : ImageForm) (explain : Bool) (files : List Text) : Type 0 where
-  pub of_files : IsCalledOn met (codes "image") files
-  pub values_are : AreValues of_files.rows values
-  pub form_is : IsFlag of_files.rows (codes "srec") (is_srec form)
-  pub explain_is : IsFlag of_files.rows (codes "explain") explain
+-- the text that is asked for, by `--srec` and `--symbols`, which exclude each other
+abbrev pub text_by : (srec symbols : Bool) → Option LoadText
+text_by true true = None
+text_by false true = Some load_text.Symbols
+text_by srec false = Some (load_text.Image (form_by srec))
 
--- the subcommand is `check`, with this flag and this FILE
-pub record IsCheck (met : Met) (explain : Bool) (file : Text) : Type 0 where
-  pub of_file : IsCalled met (codes "check") file
-  pub explain_is : IsFlag of_file.rows (codes "explain") explain
+abbrev pub load_call : Option Origin → Option LoadText → Bool → Text → Call
+load_call (Some origin) (Some text) explain file = to_load origin text explain file
+load_call _ _ explain file = conflict
 
--- the subcommand is `show`, with these flags and this FILE
-pub record IsShow (met : Met) (json explain : Bool) (file : Text) : Type 0 where
-  pub of_file : IsCalled met (codes "show") file
-  pub json_is : IsFlag of_file.rows (codes "json") json
-  pub explain_is : IsFlag of_file.rows (codes "explain") explain
+abbrev pub image_call : Option Origin → ImageForm → Bool → List Text → Call
+image_call (Some origin) form explain files = to_image origin form explain files
+image_call None form explain files = conflict
 
--- the subcommand has arguments that exclude each other, or no addresses
-pub data IsConflict (met : Met) : Type 0 where
-  two_texts : (values : AddressValues) (explain : Bool) (file : Text) → IsLoad met values true true explain file → IsConflict met
-  no_load : (values : AddressValues) (srec symbols explain : Bool) (file : Text) → IsLoad met values srec symbols explain file → AreUnclear values → IsConflict met
-  no_image : (values : AddressValues) (form : ImageForm) (explain : Bool) (files : List Text) → IsImage met values form explain files → AreUnclear values → IsConflict met
+-- the addresses that the options give
+abbrev pub origin_in : List Row → Option Origin
+origin_in rows = origin_by (first_of (codes "at") rows) (first_of (codes "at-file") rows)
 
--- the kind of error with which `clap` rejects such arguments
+abbrev pub link_in : List Row → Call
+link_in rows = to_link (value_in (codes "out") rows) (first_of (codes "map") rows)
+    (record { strip = is_given (codes "strip") rows; short = is_given (codes "short") rows; trim = is_given (codes "trim") rows })
+    (is_given (codes "explain") rows) (files_in rows)
+
+abbrev pub load_in : List Row → Call
+load_in rows = load_call (origin_in rows) (text_by (is_given (codes "srec") rows) (is_given (codes "symbols") rows))
+    (is_given (codes "explain") rows) (value_in (codes "file") rows)
+
+abbrev pub image_in : List Row → Call
+image_in rows = image_call (origin_in rows) (form_by (is_given (codes "srec") rows)) (is_given (codes "explain") rows) (files_in rows)
+
+abbrev pub show_in : List Row → Call
+show_in rows = to_show (is_given (codes "json") rows) (is_given (codes "explain") rows) (value_in (codes "file") rows)
+
+-- the names of the subcommands, and what each asks for by what was found for its arguments
+abbrev pub subcommands : List (Text × (List Row → Call))
+subcommands = (codes "link", link_in) ∷ (codes "load", load_in) ∷ (codes "image", image_in)
+    ∷ (codes "check", λ rows. to_check (is_given (codes "explain") rows) (value_in (codes "file") rows))
+    ∷ (codes "show", show_in) ∷ (codes "survey", λ rows. to_survey (files_in rows)) ∷ []
+
+abbrev pub call_of : Met → Option Call
+call_of = option_and_then (λ met. option_map (λ s. s.1 met.1) (find (λ s. bytes_eq s.0 met.0) subcommands))
+
+-- ---- what a request is made of
+
+-- what a request asks for: a call, the version, help or a rejection; or nothing, as memory ran out
+pub data Meaning : Type 0 where
+  calls : Call → Meaning
+  version : Meaning
+  help : Meaning
+  rejection : Meaning
+  nothing : Meaning
+
+abbrev pub meaning : Request → Meaning
+meaning (Link out map options explain files) = calls (to_link out.now (given_text map) options explain (texts files.items))
+meaning (Load addresses text explain file) = calls (to_load (origin_of addresses) text explain file.now)
+meaning (Image addresses form explain files) = calls (to_image (origin_of addresses) form explain (texts files.items))
+meaning (Check explain file) = calls (to_check explain file.now)
+meaning (Show json explain file) = calls (to_show json explain file.now)
+meaning (Survey files) = calls (to_survey (texts files.items))
+meaning Version = version
+meaning (Help text) = help
+meaning (Refused text) = rejection
+meaning OutOfMemory = nothing
+
+-- the kind of error with which `clap` rejects a conflict
 abbrev pub conflict_kind : Conflict → ErrorKind
 conflict_kind Texts = error.ArgumentConflict
 conflict_kind TwoAddresses = error.ArgumentConflict
 conflict_kind NoAddresses = error.MissingRequiredArgument
 
--- the subcommand is one of the program's, with its required values
-pub data IsWhole (met : Met) : Type 0 where
-  link : (out : Text) (map : Option Text) (options : LinkOptions) (explain : Bool) (files : List Text) → IsLink met out map options explain files → IsWhole met
-  load : (values : AddressValues) (srec symbols explain : Bool) (file : Text) → IsLoad met values srec symbols explain file → IsWhole met
-  image : (values : AddressValues) (form : ImageForm) (explain : Bool) (files : List Text) → IsImage met values form explain files → IsWhole met
-  check : (explain : Bool) (file : Text) → IsCheck met explain file → IsWhole met
-  show : (json explain : Bool) (file : Text) → IsShow met json explain file → IsWhole met
-  survey : (files : List Text) → IsCalledOn met (codes "survey") files → IsWhole met
+-- the request is the call that was found, or rejects a conflict; nothing is said if memory runs out
+abbrev pub IsFound : Met → Meaning → Type 0
+IsFound met (calls call) = call_of met ≡ Some call
+IsFound met rejection = call_of met ≡ Some conflict
+IsFound met nothing = ⊤
+IsFound met _ = ⊥
 
--- the request matches what was found, or rejects a conflict; nothing is said if memory runs out
 abbrev pub Says : Met → Request → Type 0
-Says met (Link out map options explain files) = IsLink met out.now (given_text map) options explain (texts files.items)
-Says met (Load addresses text explain file) = IsLoad met (values_of (origin_of addresses)) (asks_srec text) (asks_symbols text) explain file.now
-Says met (Image addresses form explain files) = IsImage met (values_of (origin_of addresses)) form explain (texts files.items)
-Says met (Check explain file) = IsCheck met explain file.now
-Says met (Show json explain file) = IsShow met json explain file.now
-Says met (Survey files) = IsCalledOn met (codes "survey") (texts files.items)
-Says met (Refused text) = IsConflict met
-Says met OutOfMemory = ⊤
-Says met _ = ⊥
+Says met request = IsFound met (meaning request)
 
 -- the request for arguments that `clap` rejects with this kind of error
+abbrev pub IsAnswer : ErrorKind → Meaning → Type 0
+IsAnswer k (calls call) = ⊥
+IsAnswer k version = k ≡ error.DisplayVersion
+IsAnswer k help = k ≡ error.DisplayHelp
+IsAnswer k rejection = (k ≢ error.DisplayHelp) × (k ≢ error.DisplayVersion) × (k ≢ error.OutOfMemory)
+IsAnswer k nothing = ⊤
+
 abbrev pub Answers : ErrorKind → Request → Type 0
-Answers k (Link out map options explain files) = ⊥
-Answers k (Load addresses text explain file) = ⊥
-Answers k (Image addresses form explain files) = ⊥
-Answers k (Check explain file) = ⊥
-Answers k (Show json explain file) = ⊥
-Answers k (Survey files) = ⊥
-Answers k Version = k ≡ error.DisplayVersion
-Answers k (Help text) = k ≡ error.DisplayHelp
-Answers k (Refused text) = (k ≢ error.DisplayHelp) × (k ≢ error.DisplayVersion) × (k ≢ error.OutOfMemory)
-Answers k OutOfMemory = ⊤
+Answers k request = IsAnswer k (meaning request)
 
 -- the arguments are rejected with one of the kinds, and ask for neither help nor the version
 pub record IsRefusedBy (kinds : Kinds) : Type 0 where
@@ -168,38 +190,24 @@ pub record IsRefusedBy (kinds : Kinds) : Type 0 where
   pub no_help : kind ≢ error.DisplayHelp
   pub no_version : kind ≢ error.DisplayVersion
 
+-- nothing is wrong with the arguments, and this is the call of the subcommand that they name
+pub record Calls (words : List Text) (call : Call) : Type 0 where
+  pub quiet : fault_of command_line words ≡ []
+  pub whole : IsWhole (subcommand_of command_line words)
+  pub call_is : call_of (subcommand_of command_line words) ≡ Some call
+
 -- what the arguments ask for: the subcommand that they name if nothing is wrong with them, help or the
 -- version if they ask for it, a rejection if something is wrong or there is a conflict; nothing is said if
 -- memory runs out
+abbrev pub IsMeant : List Text → Meaning → Type 0
+IsMeant words (calls call) = Calls words call
+IsMeant words version = IsAmong error.DisplayVersion (fault_of command_line words)
+IsMeant words help = IsAmong error.DisplayHelp (fault_of command_line words)
+IsMeant words rejection = IsRefusedBy (fault_of command_line words) ⊎ Calls words conflict
+IsMeant words nothing = ⊤
+
 abbrev pub IsAskedBy : List Text → Request → Type 0
-IsAskedBy words (Link out map options explain files) = (fault_of command_line words ≡ [])
-    × IsLink (subcommand_of command_line words) out.now (given_text map) options explain (texts files.items)
-IsAskedBy words (Load addresses text explain file) = (fault_of command_line words ≡ [])
-    × IsLoad (subcommand_of command_line words) (values_of (origin_of addresses)) (asks_srec text) (asks_symbols text) explain file.now
-IsAskedBy words (Image addresses form explain files) = (fault_of command_line words ≡ [])
-    × IsImage (subcommand_of command_line words) (values_of (origin_of addresses)) form explain (texts files.items)
-IsAskedBy words (Check explain file) = (fault_of command_line words ≡ [])
-    × IsCheck (subcommand_of command_line words) explain file.now
-IsAskedBy words (Show json explain file) = (fault_of command_line words ≡ [])
-    × IsShow (subcommand_of command_line words) json explain file.now
-IsAskedBy words (Survey files) = (fault_of command_line words ≡ [])
-    × IsCalledOn (subcommand_of command_line words) (codes "survey") (texts files.items)
-IsAskedBy words Version = IsAmong error.DisplayVersion (fault_of command_line words)
-IsAskedBy words (Help text) = IsAmong error.DisplayHelp (fault_of command_line words)
-IsAskedBy words (Refused text) = IsRefusedBy (fault_of command_line words)
-    ⊎ ((fault_of command_line words ≡ []) × IsConflict (subcommand_of command_line words))
-IsAskedBy words OutOfMemory = ⊤
-
--- the arguments are rejected, or memory ran out
-abbrev pub IsRefusal : Request → Type 0
-IsRefusal (Refused text) = ⊤
-IsRefusal OutOfMemory = ⊤
-IsRefusal _ = ⊥
-
--- the request is the same, or both are rejections, whose texts may differ
-abbrev pub IsRetold : Request → Request → Type 0
-IsRetold (Refused text) (Refused other) = ⊤
-IsRetold request other = request ≡ other
+IsAskedBy words request = IsMeant words (meaning request)
 
 -- ---- the plain forms, which do not ask for explanations
 
@@ -250,7 +258,8 @@ version_line program word = program ∷ word ∷ []
 
 -- the word `--srec`, if this form is asked for by it
 abbrev pub form_words : ImageForm → List Text
-form_words form = word_if (is_srec form) (codes "--srec")
+form_words SRecords = codes "--srec" ∷ []
+form_words Report = []
 
 -- the word that asks for this text, if there is one
 abbrev pub text_words : LoadText → List Text
@@ -295,47 +304,13 @@ show_line program json file = program ∷ codes "show" ∷ (json_words json ++ f
 abbrev pub survey_line : Text → List Text → List Text
 survey_line program files = program ∷ codes "survey" ∷ files
 
--- the request is `link` without `--explain`, with this OUT, this MAP if one is given, these options, and
--- these files in this order; or memory ran out
-abbrev pub AsksLink : Text → Option Text → LinkOptions → List Text → Request → Type 0
-AsksLink out map options files (Link o m s e fs) = (o.now ≡ out) × (given_text m ≡ map) × (s ≡ options) × (e ≡ false) × (texts fs.items ≡ files)
-AsksLink out map options files OutOfMemory = ⊤
-AsksLink out map options files _ = ⊥
+-- the request means this, or memory ran out
+abbrev pub IsOrNothing : Meaning → Meaning → Type 0
+IsOrNothing wanted nothing = ⊤
+IsOrNothing wanted other = other ≡ wanted
 
--- the request is `load` without `--explain`, with these addresses, for this text of this FILE, or memory
--- ran out
-abbrev pub AsksLoad : Origin → LoadText → Text → Request → Type 0
-AsksLoad origin text file (Load addresses asked e f) = (origin_of addresses ≡ origin) × (asked ≡ text) × (e ≡ false) × (f.now ≡ file)
-AsksLoad origin text file OutOfMemory = ⊤
-AsksLoad origin text file _ = ⊥
+abbrev pub Means : Meaning → Request → Type 0
+Means wanted request = IsOrNothing wanted (meaning request)
 
--- the request is `image` without `--explain`, with these addresses, this form and these files in this
--- order, or memory ran out
-abbrev pub AsksImage : Origin → ImageForm → List Text → Request → Type 0
-AsksImage origin form files (Image addresses asked e fs) = (origin_of addresses ≡ origin) × (asked ≡ form) × (e ≡ false) × (texts fs.items ≡ files)
-AsksImage origin form files OutOfMemory = ⊤
-AsksImage origin form files _ = ⊥
-
--- the request is `check` without `--explain`, with this FILE, or memory ran out
-abbrev pub AsksCheck : Text → Request → Type 0
-AsksCheck file (Check e f) = (e ≡ false) × (f.now ≡ file)
-AsksCheck file OutOfMemory = ⊤
-AsksCheck file _ = ⊥
-
--- the request is `show` without `--explain`, with `--json` or without, with this FILE, or memory ran out
-abbrev pub AsksShow : Bool → Text → Request → Type 0
-AsksShow json file (Show j e f) = (j ≡ json) × (e ≡ false) × (f.now ≡ file)
-AsksShow json file OutOfMemory = ⊤
-AsksShow json file _ = ⊥
-
--- the request is `survey` with these files in this order, or memory ran out
-abbrev pub AsksSurvey : List Text → Request → Type 0
-AsksSurvey files (Survey fs) = texts fs.items ≡ files
-AsksSurvey files OutOfMemory = ⊤
-AsksSurvey files _ = ⊥
-
--- the request is for the version, or memory ran out
-abbrev pub AsksVersion : Request → Type 0
-AsksVersion Version = ⊤
-AsksVersion OutOfMemory = ⊤
-AsksVersion _ = ⊥
+abbrev pub Asks : Call → Request → Type 0
+Asks call = Means (calls call)

@@ -1,18 +1,21 @@
 //! The arguments of the command line, as `clap` reads them.
-ghost use Rattle.std.specs.Prelude.{◌≡◌, ◌<◌, ℕ, All, Bool, IfErr, IfOk, List, MatchOption, Option, Some, codes, is_some, length, map, option_map, true};
+ghost use Rattle.std.specs.Prelude.{◌≡◌, ◌<◌, ℕ, All, Bool, IfOk, List, MatchResult, None, Option, Some, codes, is_some, false, length, map, option_map, true};
+ghost use Rattle.clap.specs.Takes.{is_given};
 ghost use Rattle.clap.specs.Walk.{texts};
-ghost use Rattle.clap.specs.Words.{FailsBy, all_of, fault_of, first_of, found_of, kind_of, rows_of, subcommand_of, subcommand_rows_of};
+ghost use Rattle.clap.specs.Words.{FailsBy, fault_of, first_of, found_of, kind_of, rows_of, subcommand_of, subcommand_rows_of};
 ghost use Rattle.amihunk.specs.Syntax.{command_line};
-ghost use Rattle.amihunk.specs.CommandLine.{Answers, AsksCheck, AsksImage, AsksLink, AsksLoad, AsksShow, AsksSurvey, AsksVersion};
-ghost use Rattle.amihunk.specs.CommandLine.{AreUnclear, IsAskedBy, IsNoFlag, IsNoFlagIn, IsRefusal, IsRetold, IsVersionWord, IsWhole, Says};
-ghost use Rattle.amihunk.specs.CommandLine.{asks_srec, asks_symbols, brief_link_line, conflict_kind, file_line, image_line, is_srec};
-ghost use Rattle.amihunk.specs.CommandLine.{link_line, load_line, show_line, survey_line, text_in, values_given, values_of, version_line};
+ghost use Rattle.amihunk.specs.CommandLine.{Answers, Asks, HasValue, IsAskedBy, IsFlag, IsNoFlag, IsNoFlagIn, IsVersionWord, IsWhole, Means};
+ghost use Rattle.amihunk.specs.CommandLine.{Says, brief_link_line, conflict_kind, file_line, files_in, form_by, image_line, link_line, load_line};
+ghost use Rattle.amihunk.specs.CommandLine.{origin_in, show_line, survey_line, text_by, text_in, value_in, version_line};
+ghost use Rattle.amihunk.specs.CommandLine.Meaning.{rejection, version};
+ghost use Rattle.amihunk.specs.CommandLine.Call.{to_check, to_image, to_link, to_load, to_show, to_survey};
 ghost use Rattle.hunk_commands.specs.Addresses.{Origin, origin_of};
+ghost use Rattle.hunk_commands.specs.Request.{given_text};
 ghost use Rattle.hunk_commands.specs.declared.load.LoadText.{LoadText};
 ghost use Rattle.hunk_memory.specs.declared.image_form.ImageForm.{ImageForm};
 ghost use Rattle.hunk_tool.specs.declared.link_options.LinkOptions.{LinkOptions};
 
-use crate::syntax::{Edition, PRESENT, command, image_command, load_command};
+use crate::syntax::{command, image_command, load_command};
 use clap::error::ErrorKind;
 use clap::{ArgMatches, Command, Error};
 use hunk_commands::{Addresses, LoadText, Request};
@@ -25,100 +28,45 @@ pub fn read_words<'a, S: AsStr>(alloc: Global, words: &'a [S]) -> Request<'a>
     ensures answer { IsAskedBy (map S.text words.entry.now) result }
     ensures link { (program : List ℕ) (options : LinkOptions) (out : List ℕ) (map_file : Option (List ℕ)) (files : List (List ℕ))
         → map S.text words.entry.now ≡ link_line program options out map_file files
-        → IsNoFlag out → IsNoFlagIn map_file → 0 < length files → All IsNoFlag files → AsksLink out map_file options files result }
+        → IsNoFlag out → IsNoFlagIn map_file → 0 < length files → All IsNoFlag files → Asks (to_link out map_file options false files) result }
     ensures brief { (program : List ℕ) (options : LinkOptions) (out : List ℕ) (map_file : Option (List ℕ)) (files : List (List ℕ))
         → map S.text words.entry.now ≡ brief_link_line program options out map_file files
-        → IsNoFlag out → IsNoFlagIn map_file → 0 < length files → All IsNoFlag files → AsksLink out map_file options files result }
+        → IsNoFlag out → IsNoFlagIn map_file → 0 < length files → All IsNoFlag files → Asks (to_link out map_file options false files) result }
     ensures load { (program : List ℕ) (origin : Origin) (text : LoadText) (file : List ℕ)
         → map S.text words.entry.now ≡ load_line program origin text file
-        → IsNoFlag (text_in origin) → IsNoFlag file → AsksLoad origin text file result }
+        → IsNoFlag (text_in origin) → IsNoFlag file → Asks (to_load origin text false file) result }
     ensures image { (program : List ℕ) (origin : Origin) (form : ImageForm) (files : List (List ℕ))
         → map S.text words.entry.now ≡ image_line program origin form files
-        → IsNoFlag (text_in origin) → 0 < length files → All IsNoFlag files → AsksImage origin form files result }
+        → IsNoFlag (text_in origin) → 0 < length files → All IsNoFlag files → Asks (to_image origin form false files) result }
     ensures check { (program file : List ℕ)
         → map S.text words.entry.now ≡ file_line program (codes "check") file
-        → IsNoFlag file → AsksCheck file result }
+        → IsNoFlag file → Asks (to_check false file) result }
     ensures show { (program : List ℕ) (json : Bool) (file : List ℕ)
         → map S.text words.entry.now ≡ show_line program json file
-        → IsNoFlag file → AsksShow json file result }
+        → IsNoFlag file → Asks (to_show json false file) result }
     ensures survey { (program : List ℕ) (files : List (List ℕ))
         → map S.text words.entry.now ≡ survey_line program files
-        → 0 < length files → All IsNoFlag files → AsksSurvey files result }
+        → 0 < length files → All IsNoFlag files → Asks (to_survey files) result }
     ensures version { (program word : List ℕ)
-        → map S.text words.entry.now ≡ version_line program word → IsVersionWord word → AsksVersion result }
+        → map S.text words.entry.now ≡ version_line program word → IsVersionWord word → Means version result }
 {
-    let edition = edition_given(words);
-    retold(alloc, words, edition, request_for(alloc, words, edition))
+    // A call of its own, so that the plain forms are proved once, for both arms of its `match`.
+    request_for(alloc, words)
 }
 
-/// The edition that has just those of the newer options that are among these arguments.
-fn edition_given<S: AsStr>(words: &[S]) -> Edition {
-    Edition {
-        at_file: is_given(words, "--at-file"),
-        map: is_given(words, "--map"),
-        json: is_given(words, "--json"),
-        explain: is_given(words, "--explain"),
-    }
-}
-
-/// Whether this option is among these arguments, with a value or without. What comes after `--` is no
-/// option.
-fn is_given<S: AsStr>(words: &[S], option: &str) -> bool {
-    words
-        .iter()
-        .skip(1)
-        .map(|word| word.as_str())
-        .take_while(|word| *word != "--")
-        .filter_map(|word| word.strip_prefix(option))
-        .any(|rest| rest.is_empty() || rest.starts_with('='))
-}
-
-/// What these arguments ask for. What the program itself rejects has the text that it has in this
-/// edition.
-fn request_for<'a, S: AsStr>(alloc: Global, words: &'a [S], edition: Edition) -> Request<'a>
+/// What these arguments ask for.
+fn request_for<'a, S: AsStr>(alloc: Global, words: &'a [S]) -> Request<'a>
     ensures { IsAskedBy (map S.text words.entry.now) result }
 {
     match matches_of(alloc, words) {
-        Ok(matches) => request_of(alloc, &matches, edition).unwrap_or(Request::OutOfMemory),
+        Ok(matches) => request_of(alloc, &matches).unwrap_or(Request::OutOfMemory),
         Err(error) => answer_to(alloc, &error),
     }
 }
 
-/// The same request; but a rejection has the text that it has in this edition, so that no option changes
-/// what is told of arguments that it is not among.
-fn retold<'a, S: AsStr>(
-    alloc: Global,
-    words: &[S],
-    edition: Edition,
-    request: Request<'a>,
-) -> Request<'a>
-    ensures { IsRetold request.entry result }
-{
-    match request {
-        Request::Refused(text) => {
-            Request::Refused(rejection(alloc, words, edition).unwrap_or(text))
-        }
-        request => request,
-    }
-}
-
-/// The text with which `clap` rejects these arguments in this edition.
-///
-/// `None` if it does not reject them, or if memory runs out.
-fn rejection<S: AsStr>(alloc: Global, words: &[S], edition: Edition) -> Option<String> {
-    let command = command(alloc, edition).ok()?;
-    let Err(error) = command.try_get_matches_from(words) else {
-        return None;
-    };
-    if error.kind() == ErrorKind::OutOfMemory {
-        return None;
-    }
-    error.to_string(alloc).ok()
-}
-
 /// Rejects arguments that are not UTF-8, as `clap` does.
 pub fn refuse_bytes<'a>(alloc: Global) -> Request<'a>
-    ensures { IsRefusal result }
+    ensures { Means rejection result }
 {
     let text = "invalid UTF-8 was detected in one or more arguments";
     match error_of(alloc, ErrorKind::ValueValidation, text) {
@@ -131,7 +79,7 @@ pub fn refuse_bytes<'a>(alloc: Global) -> Request<'a>
 fn error_of(alloc: Global, kind: ErrorKind, text: &str) -> Result<Error, AllocError>
     ensures { IfOk result (λ e. kind_of e ≡ kind) }
 {
-    command(alloc, PRESENT)?.error(kind, text)
+    command(alloc)?.error(kind, text)
 }
 
 /// What `clap` makes of the arguments.
@@ -140,112 +88,121 @@ fn matches_of<'a, S: AsStr>(alloc: Global, words: &'a [S]) -> Result<ArgMatches<
     ensures rows { IfOk result (λ m. subcommand_rows_of m
         ≡ subcommand_of command_line (map S.text words.entry.now)) }
 {
-    command(alloc, PRESENT)?.try_get_matches_from(words)
+    command(alloc)?.try_get_matches_from(words)
 }
 
 /// The request of a parse that found a subcommand.
-fn request_of<'a>(
-    alloc: Global,
-    matches: &ArgMatches<'a>,
-    edition: Edition,
-) -> Result<Request<'a>, AllocError>
+fn request_of<'a>(alloc: Global, matches: &ArgMatches<'a>) -> Result<Request<'a>, AllocError>
     requires { IsWhole (subcommand_rows_of matches.now) }
     ensures { IfOk result (Says (subcommand_rows_of matches.now)) }
 {
     match matches.subcommand() {
-        Some(("link", values)) => Ok(Request::Link {
-            out: value_of(values, "out"),
-            map: optional_value(values, "map"),
-            options: LinkOptions {
-                strip: values.get_flag("strip"),
-                short: values.get_flag("short"),
-                trim: values.get_flag("trim"),
-            },
-            explain: values.get_flag("explain"),
-            files: files_of(alloc, values)?,
-        }),
-        Some(("load", values)) => load_request(alloc, values, edition),
-        Some(("image", values)) => image_request(alloc, values, edition),
-        Some(("check", values)) => Ok(Request::Check {
-            explain: values.get_flag("explain"),
-            file: value_of(values, "file"),
-        }),
-        Some(("show", values)) => Ok(Request::Show {
-            json: values.get_flag("json"),
-            explain: values.get_flag("explain"),
-            file: value_of(values, "file"),
-        }),
-        Some(("survey", values)) => Ok(Request::Survey {
-            files: files_of(alloc, values)?,
-        }),
+        Some(("link", values)) => link_request(alloc, values),
+        Some(("load", values)) => load_request(alloc, values),
+        Some(("image", values)) => image_request(alloc, values),
+        Some(("check", values)) => Ok(check_request(values)),
+        Some(("show", values)) => Ok(show_request(values)),
+        Some(("survey", values)) => survey_request(alloc, values),
         _ => unreachable!(),
     }
 }
 
+/// The request of a parse that found the subcommand `link`.
+fn link_request<'a>(alloc: Global, values: &ArgMatches<'a>) -> Result<Request<'a>, AllocError>
+    requires { IsWhole (Some (codes "link", rows_of (found_of values.now))) }
+    ensures { IfOk result (Says (Some (codes "link", rows_of (found_of values.now)))) }
+{
+    Ok(Request::Link {
+        out: value_of(values, "out"),
+        map: optional_value(values, "map"),
+        options: LinkOptions {
+            strip: is_set(values, "strip"),
+            short: is_set(values, "short"),
+            trim: is_set(values, "trim"),
+        },
+        explain: is_set(values, "explain"),
+        files: files_of(alloc, values)?,
+    })
+}
+
 /// The request of a parse that found the subcommand `load`.
-fn load_request<'a>(
-    alloc: Global,
-    values: &ArgMatches<'a>,
-    edition: Edition,
-) -> Result<Request<'a>, AllocError>
+fn load_request<'a>(alloc: Global, values: &ArgMatches<'a>) -> Result<Request<'a>, AllocError>
     requires { IsWhole (Some (codes "load", rows_of (found_of values.now))) }
     ensures { IfOk result (Says (Some (codes "load", rows_of (found_of values.now)))) }
 {
-    let addresses = match addresses_given(
-        optional_value(values, "at"),
-        optional_value(values, "at-file"),
-    ) {
+    let addresses = match addresses_in(values) {
         Ok(addresses) => addresses,
-        Err(conflict) => return refuse_load(alloc, conflict, edition),
+        Err(conflict) => return refuse_load(alloc, conflict),
     };
-    let explain = values.get_flag("explain");
-    match text_of(values.get_flag("srec"), values.get_flag("symbols")) {
+    match text_of(is_set(values, "srec"), is_set(values, "symbols")) {
         Some(text) => Ok(Request::Load {
             addresses,
             text,
-            explain,
+            explain: is_set(values, "explain"),
             file: value_of(values, "file"),
         }),
-        None => refuse_load(alloc, Conflict::Texts, edition),
+        None => refuse_load(alloc, Conflict::Texts),
     }
 }
 
 /// Rejects such arguments of `load`.
-fn refuse_load<'a>(
-    alloc: Global,
-    conflict: Conflict,
-    edition: Edition,
-) -> Result<Request<'a>, AllocError>
+fn refuse_load<'a>(alloc: Global, conflict: Conflict) -> Result<Request<'a>, AllocError>
     ensures { IfOk result (Answers (conflict_kind conflict)) }
 {
-    let load = load_command(alloc, edition)?.bin_name("amihunk load")?;
+    let load = load_command(alloc)?.bin_name("amihunk load")?;
     refuse(alloc, load, conflict)
 }
 
 /// The request of a parse that found the subcommand `image`.
-fn image_request<'a>(
-    alloc: Global,
-    values: &ArgMatches<'a>,
-    edition: Edition,
-) -> Result<Request<'a>, AllocError>
+fn image_request<'a>(alloc: Global, values: &ArgMatches<'a>) -> Result<Request<'a>, AllocError>
     requires { IsWhole (Some (codes "image", rows_of (found_of values.now))) }
     ensures { IfOk result (Says (Some (codes "image", rows_of (found_of values.now)))) }
 {
-    match addresses_given(
-        optional_value(values, "at"),
-        optional_value(values, "at-file"),
-    ) {
+    match addresses_in(values) {
         Ok(addresses) => Ok(Request::Image {
             addresses,
-            form: form_of(values.get_flag("srec")),
-            explain: values.get_flag("explain"),
+            form: form_of(is_set(values, "srec")),
+            explain: is_set(values, "explain"),
             files: files_of(alloc, values)?,
         }),
         Err(conflict) => {
-            let image = image_command(alloc, edition)?.bin_name("amihunk image")?;
+            let image = image_command(alloc)?.bin_name("amihunk image")?;
             refuse(alloc, image, conflict)
         }
     }
+}
+
+/// The request of a parse that found the subcommand `check`.
+fn check_request<'a>(values: &ArgMatches<'a>) -> Request<'a>
+    requires { IsWhole (Some (codes "check", rows_of (found_of values.now))) }
+    ensures { Says (Some (codes "check", rows_of (found_of values.now))) result }
+{
+    Request::Check {
+        explain: is_set(values, "explain"),
+        file: value_of(values, "file"),
+    }
+}
+
+/// The request of a parse that found the subcommand `show`.
+fn show_request<'a>(values: &ArgMatches<'a>) -> Request<'a>
+    requires { IsWhole (Some (codes "show", rows_of (found_of values.now))) }
+    ensures { Says (Some (codes "show", rows_of (found_of values.now))) result }
+{
+    Request::Show {
+        json: is_set(values, "json"),
+        explain: is_set(values, "explain"),
+        file: value_of(values, "file"),
+    }
+}
+
+/// The request of a parse that found the subcommand `survey`.
+fn survey_request<'a>(alloc: Global, values: &ArgMatches<'a>) -> Result<Request<'a>, AllocError>
+    requires { IsWhole (Some (codes "survey", rows_of (found_of values.now))) }
+    ensures { IfOk result (Says (Some (codes "survey", rows_of (found_of values.now)))) }
+{
+    Ok(Request::Survey {
+        files: files_of(alloc, values)?,
+    })
 }
 
 /// Arguments that exclude each other, or of which one is missing.
@@ -297,14 +254,15 @@ fn refuse<'a>(
 }
 
 /// The addresses that are asked for, of which there is one list, or one file.
-fn addresses_given<'a>(
-    list: Option<&'a str>,
-    file: Option<&'a str>,
-) -> Result<Addresses<'a>, Conflict>
-    ensures ok { IfOk result (λ addresses. values_given list.entry file.entry ≡ values_of (origin_of addresses)) }
-    ensures err { IfErr result (λ _. AreUnclear (values_given list.entry file.entry)) }
+fn addresses_in<'a>(values: &ArgMatches<'a>) -> Result<Addresses<'a>, Conflict>
+    ensures { MatchResult result
+        (λ addresses. origin_in (rows_of (found_of values.now)) ≡ Some (origin_of addresses))
+        (λ _. origin_in (rows_of (found_of values.now)) ≡ None) }
 {
-    match (list, file) {
+    match (
+        optional_value(values, "at"),
+        optional_value(values, "at-file"),
+    ) {
         (Some(list), None) => Ok(Addresses::List(list)),
         (None, Some(name)) => Ok(Addresses::File(name)),
         (Some(_), Some(_)) => Err(Conflict::TwoAddresses),
@@ -314,8 +272,7 @@ fn addresses_given<'a>(
 
 /// What is printed of a load file, unless both flags are given.
 fn text_of(srec: bool, symbols: bool) -> Option<LoadText>
-    ensures { MatchOption result ((srec ≡ true) × (symbols ≡ true))
-        (λ text. (asks_srec text ≡ srec) × (asks_symbols text ≡ symbols)) }
+    ensures { result ≡ text_by srec symbols }
 {
     match (srec, symbols) {
         (true, true) => None,
@@ -326,7 +283,7 @@ fn text_of(srec: bool, symbols: bool) -> Option<LoadText>
 
 /// The form in which an image is printed.
 fn form_of(srec: bool) -> ImageForm
-    ensures { is_srec result ≡ srec }
+    ensures { result ≡ form_by srec }
 {
     if srec {
         ImageForm::SRecords
@@ -337,15 +294,15 @@ fn form_of(srec: bool) -> ImageForm
 
 /// The value of an argument, if it is given.
 fn optional_value<'a>(values: &ArgMatches<'a>, id: &str) -> Option<&'a str>
-    ensures { option_map (λ v. v.now) result ≡ first_of id.now (rows_of (found_of values.now)) }
+    ensures { given_text result ≡ first_of id.now (rows_of (found_of values.now)) }
 {
     values.get_str(id)
 }
 
 /// The value of an argument that has one.
 fn value_of<'a>(values: &ArgMatches<'a>, id: &str) -> &'a str
-    requires { is_some (first_of id.now (rows_of (found_of values.now))) ≡ true }
-    ensures { first_of id.now (rows_of (found_of values.now)) ≡ Some result.now }
+    requires { HasValue (rows_of (found_of values.now)) id.now }
+    ensures { result.now ≡ value_in id.now (rows_of (found_of values.now)) }
 {
     match values.get_str(id) {
         Some(value) => value,
@@ -353,11 +310,18 @@ fn value_of<'a>(values: &ArgMatches<'a>, id: &str) -> &'a str
     }
 }
 
+/// Whether a flag is given.
+fn is_set(values: &ArgMatches<'_>, id: &str) -> bool
+    requires { IsFlag (rows_of (found_of values.now)) id.now }
+    ensures { result ≡ is_given id.now (rows_of (found_of values.now)) }
+{
+    values.get_flag(id)
+}
+
 /// The arguments FILE..., in the order given.
 fn files_of<'a>(alloc: Global, values: &ArgMatches<'a>) -> Result<Vec<&'a str>, AllocError>
-    requires { is_some (all_of (codes "file") (rows_of (found_of values.now))) ≡ true }
-    ensures { IfOk result (λ files.
-        all_of (codes "file") (rows_of (found_of values.now)) ≡ Some (texts files.items)) }
+    requires { HasValue (rows_of (found_of values.now)) (codes "file") }
+    ensures { IfOk result (λ files. texts files.items ≡ files_in (rows_of (found_of values.now))) }
 {
     match values.get_strs("file") {
         Some(files) => files.to_vec(alloc),

@@ -2,49 +2,34 @@
 ghost use Rattle.std.specs.Prelude.{◌≡◌, IfOk, codes, false};
 ghost use Rattle.clap.specs.Words.{Shape, app_of, rule_of, shape_of, with_subcommand};
 ghost use Rattle.clap.specs.declared.builder.command.Command.TheViews.{out-Command};
-ghost use Rattle.amihunk.specs.Syntax.{check_shape, explain_rule, file_rule, files_rule, flag_rule, given_addresses, image_shape, line_of};
-ghost use Rattle.amihunk.specs.Syntax.{link_shape, load_shape, option_rule, out_rule, show_shape, survey_shape, with_new_rule};
+ghost use Rattle.amihunk.specs.Syntax.{bare_app, check_shape, command_line, explain_rule, file_rule, files_rule, flag_rule, given_addresses, given_flags, given_outputs, given_texts, image_shape, letter_s};
+ghost use Rattle.amihunk.specs.Syntax.{link_shape, load_shape, option_rule, out_rule, show_shape, survey_shape, with_letter};
 
 use clap::{Arg, ArgAction, Command};
 use hunk_commands::VERSION;
 use std::alloc::{AllocError, Global};
 
-/// An edition of the command line: which of the newer options it has.
-#[derive(Clone, Copy)]
-pub struct Edition {
-    /// `--at-file`, without which `--at` is required.
-    pub at_file: bool,
-    /// `--map`.
-    pub map: bool,
-    /// `--json`.
-    pub json: bool,
-    /// `--explain`.
-    pub explain: bool,
+/// The command line that the program accepts.
+pub fn command<'a>(alloc: Global) -> Result<Command<'a>, AllocError>
+    ensures { IfOk result (λ c. app_of c ≡ command_line) }
+{
+    let links = with_subcommand(bare_command(alloc), link_command(alloc))?;
+    let loads = with_subcommand(links, load_command(alloc))?;
+    let images = with_subcommand(loads, image_command(alloc))?;
+    let checks = with_subcommand(images, check_command(alloc))?;
+    let shows = with_subcommand(checks, show_command(alloc))?;
+    with_subcommand(shows, survey_command(alloc))
 }
 
-/// The edition that the program accepts, which has all of them.
-pub const PRESENT: Edition = Edition {
-    at_file: true,
-    map: true,
-    json: true,
-    explain: true,
-};
-
-/// The command line in this edition.
-pub fn command<'a>(alloc: Global, edition: Edition) -> Result<Command<'a>, AllocError>
-    ensures { IfOk result (λ c. app_of c ≡ line_of edition) }
+/// The program without its subcommands.
+fn bare_command<'a>(alloc: Global) -> Command<'a>
+    ensures { app_of result ≡ bare_app }
 {
-    let bare = Command::new(alloc, "amihunk")
+    Command::new(alloc, "amihunk")
         .about("An Amiga hunk linker and loader")
         .version(VERSION)
         .disable_help_subcommand(true)
-        .subcommand_required(true);
-    let links = with_subcommand(bare, link_command(alloc, edition))?;
-    let loads = with_subcommand(links, load_command(alloc, edition))?;
-    let images = with_subcommand(loads, image_command(alloc, edition))?;
-    let checks = with_subcommand(images, check_command(alloc, edition))?;
-    let shows = with_subcommand(checks, show_command(alloc, edition))?;
-    with_subcommand(shows, survey_command(alloc))
+        .subcommand_required(true)
 }
 
 /// A command with a subcommand, if that could be made.
@@ -61,16 +46,33 @@ fn with_subcommand<'a>(
 
 /// The subcommand `link --out OUT [--map MAP] [--strip] [--short] [--trim] [--explain] FILE...`, where
 /// `-o` is `--out`, and `-s` is `--strip`.
-fn link_command<'a>(alloc: Global, edition: Edition) -> Result<Command<'a>, AllocError>
-    ensures shape { IfOk result (λ c. shape_of c ≡ link_shape edition) }
+fn link_command<'a>(alloc: Global) -> Result<Command<'a>, AllocError>
+    ensures shape { IfOk result (λ c. shape_of c ≡ link_shape) }
     ensures local { IfOk result (λ c. (out-Command c).has_globals ≡ false) }
 {
     let link = Command::new(alloc, "link")
         .about("Links object files, and writes the load file")
-        .after_help(help::LINK)
-        .arg(out_argument(alloc))?;
-    let flagged = with_new(link, edition.map, map_argument(alloc))?
-        .arg(flag(alloc, "strip", "Leaves out symbols and debug blocks").short('s'))?
+        .after_help(help::LINK);
+    with_flags(alloc, with_outputs(alloc, link)?)?
+        .arg(explain_flag(alloc))?
+        .arg(files_argument(alloc, "Object files, in the order of linking"))
+}
+
+/// A subcommand that is given the files to write.
+fn with_outputs<'a>(alloc: Global, command: Command<'a>) -> Result<Command<'a>, AllocError>
+    ensures shape { IfOk result (λ c. app_of c ≡ given_outputs (app_of command.entry)) }
+    ensures local { (out-Command command.entry).has_globals ≡ false → IfOk result (λ c. (out-Command c).has_globals ≡ false) }
+{
+    command.arg(out_argument(alloc))?.arg(map_argument(alloc))
+}
+
+/// A subcommand that is told how to write the load file.
+fn with_flags<'a>(alloc: Global, command: Command<'a>) -> Result<Command<'a>, AllocError>
+    ensures shape { IfOk result (λ c. app_of c ≡ given_flags (app_of command.entry)) }
+    ensures local { (out-Command command.entry).has_globals ≡ false → IfOk result (λ c. (out-Command c).has_globals ≡ false) }
+{
+    command
+        .arg(strip_flag(alloc))?
         .arg(flag(
             alloc,
             "short",
@@ -80,28 +82,7 @@ fn link_command<'a>(alloc: Global, edition: Edition) -> Result<Command<'a>, Allo
             alloc,
             "trim",
             "Leaves out zero longwords at the end of each hunk",
-        ))?;
-    with_new(flagged, edition.explain, explain_flag(alloc))?.arg(files_argument(
-        alloc,
-        "Object files, in the order of linking",
-    ))
-}
-
-/// A subcommand with an argument, if its edition has that.
-fn with_new<'a>(
-    command: Command<'a>,
-    has_it: bool,
-    argument: Arg<'a>,
-) -> Result<Command<'a>, AllocError>
-    requires { argument.global ≡ false }
-    ensures shape { IfOk result (λ c. app_of c ≡ with_new_rule has_it (app_of command.entry) (rule_of argument.entry)) }
-    ensures local { (out-Command command.entry).has_globals ≡ false → IfOk result (λ c. (out-Command c).has_globals ≡ false) }
-{
-    if has_it {
-        command.arg(argument)
-    } else {
-        Ok(command)
-    }
+        ))
 }
 
 /// The argument `--map MAP`.
@@ -134,6 +115,14 @@ fn flag<'a>(alloc: Global, name: &'a str, help: &'a str) -> Arg<'a>
         .help(help)
 }
 
+/// The flag `--strip` or `-s`.
+fn strip_flag<'a>(alloc: Global) -> Arg<'a>
+    ensures rule { rule_of result ≡ with_letter letter_s (flag_rule (codes "strip")) }
+    ensures local { result.global ≡ false }
+{
+    flag(alloc, "strip", "Leaves out symbols and debug blocks").short('s')
+}
+
 /// The flag `--explain`.
 fn explain_flag<'a>(alloc: Global) -> Arg<'a>
     ensures rule { rule_of result ≡ explain_rule }
@@ -155,91 +144,83 @@ fn srec_flag<'a>(alloc: Global) -> Arg<'a>
 /// The subcommand `load --at LIST [--srec] [--symbols] [--explain] FILE`, or with `--at-file FILE` in
 /// place of `--at LIST`. No rule of `clap` keeps the two texts apart, and none the two options: the
 /// command line is judged after the parse.
-pub fn load_command<'a>(alloc: Global, edition: Edition) -> Result<Command<'a>, AllocError>
-    ensures shape { IfOk result (λ c. shape_of c ≡ load_shape edition) }
+pub fn load_command<'a>(alloc: Global) -> Result<Command<'a>, AllocError>
+    ensures shape { IfOk result (λ c. shape_of c ≡ load_shape) }
     ensures local { IfOk result (λ c. (out-Command c).has_globals ≡ false) }
 {
     let load = Command::new(alloc, "load")
         .about("Loads a file at addresses, and prints the bytes of its hunks")
         .after_help(help::LOAD);
-    let flagged = with_addresses(alloc, load, edition.at_file, help::LOAD_USAGE)?
-        .arg(srec_flag(alloc))?
-        .arg(flag(
-            alloc,
-            "symbols",
-            "Prints the address of each symbol in place of the report",
-        ))?;
-    with_new(flagged, edition.explain, explain_flag(alloc))?.arg(file_argument(
-        alloc,
-        "A load file",
-    ))
+    with_texts(alloc, with_addresses(alloc, load, help::LOAD_USAGE)?)?
+        .arg(explain_flag(alloc))?
+        .arg(file_argument(alloc, "A load file"))
 }
 
 /// The subcommand `image --at LIST [--srec] [--explain] FILE...`, or with `--at-file FILE` in place of
 /// `--at LIST`.
-pub fn image_command<'a>(alloc: Global, edition: Edition) -> Result<Command<'a>, AllocError>
-    ensures shape { IfOk result (λ c. shape_of c ≡ image_shape edition) }
+pub fn image_command<'a>(alloc: Global) -> Result<Command<'a>, AllocError>
+    ensures shape { IfOk result (λ c. shape_of c ≡ image_shape) }
     ensures local { IfOk result (λ c. (out-Command c).has_globals ≡ false) }
 {
     let image = Command::new(alloc, "image")
         .about("Links object files at addresses, and prints the bytes of their hunks")
         .after_help(help::IMAGE);
-    let flagged = with_addresses(alloc, image, edition.at_file, help::IMAGE_USAGE)?.arg(srec_flag(
-        alloc,
-    ))?;
-    with_new(flagged, edition.explain, explain_flag(alloc))?.arg(files_argument(
-        alloc,
-        "Object files, in the order of linking",
-    ))
+    with_addresses(alloc, image, help::IMAGE_USAGE)?
+        .arg(srec_flag(alloc))?
+        .arg(explain_flag(alloc))?
+        .arg(files_argument(alloc, "Object files, in the order of linking"))
 }
 
-/// A subcommand that is given addresses, in a list or, if its edition has `--at-file`, in a file.
+/// A subcommand that is given addresses, in a list or in a file.
 fn with_addresses<'a>(
     alloc: Global,
     command: Command<'a>,
-    has_at_file: bool,
     usage: &'a str,
 ) -> Result<Command<'a>, AllocError>
-    ensures shape { IfOk result (λ c. app_of c ≡ given_addresses has_at_file (app_of command.entry)) }
+    ensures shape { IfOk result (λ c. app_of c ≡ given_addresses (app_of command.entry)) }
     ensures local { (out-Command command.entry).has_globals ≡ false → IfOk result (λ c. (out-Command c).has_globals ≡ false) }
 {
-    if has_at_file {
-        command
-            .override_usage(usage)
-            .arg(list_argument(alloc))?
-            .arg(addresses_argument(alloc))
-    } else {
-        command.arg(list_argument(alloc).required(true))
-    }
+    command
+        .override_usage(usage)
+        .arg(list_argument(alloc))?
+        .arg(addresses_argument(alloc))
+}
+
+/// A subcommand that is told what to print in place of the report.
+fn with_texts<'a>(alloc: Global, command: Command<'a>) -> Result<Command<'a>, AllocError>
+    ensures shape { IfOk result (λ c. app_of c ≡ given_texts (app_of command.entry)) }
+    ensures local { (out-Command command.entry).has_globals ≡ false → IfOk result (λ c. (out-Command c).has_globals ≡ false) }
+{
+    command.arg(srec_flag(alloc))?.arg(flag(
+        alloc,
+        "symbols",
+        "Prints the address of each symbol in place of the report",
+    ))
 }
 
 /// The subcommand `check [--explain] FILE`.
-fn check_command<'a>(alloc: Global, edition: Edition) -> Result<Command<'a>, AllocError>
-    ensures shape { IfOk result (λ c. shape_of c ≡ check_shape edition) }
+fn check_command<'a>(alloc: Global) -> Result<Command<'a>, AllocError>
+    ensures shape { IfOk result (λ c. shape_of c ≡ check_shape) }
     ensures local { IfOk result (λ c. (out-Command c).has_globals ≡ false) }
 {
-    let check = Command::new(alloc, "check")
+    Command::new(alloc, "check")
         .about("Checks a file, and prints which kind it is and how many units and hunks it has")
-        .after_help(help::CHECK);
-    with_new(check, edition.explain, explain_flag(alloc))?.arg(file_argument(
-        alloc,
-        "An object file or a load file",
-    ))
+        .after_help(help::CHECK)
+        .arg(explain_flag(alloc))?
+        .arg(file_argument(alloc, "An object file or a load file"))
 }
 
 /// The subcommand `show [--json] [--explain] FILE`.
-fn show_command<'a>(alloc: Global, edition: Edition) -> Result<Command<'a>, AllocError>
-    ensures shape { IfOk result (λ c. shape_of c ≡ show_shape edition) }
+fn show_command<'a>(alloc: Global) -> Result<Command<'a>, AllocError>
+    ensures shape { IfOk result (λ c. shape_of c ≡ show_shape) }
     ensures local { IfOk result (λ c. (out-Command c).has_globals ≡ false) }
 {
-    let show = Command::new(alloc, "show")
+    Command::new(alloc, "show")
         .about("Prints a listing of the units and hunks of a file, and of what is in them")
-        .after_help(help::SHOW);
-    let flagged = with_new(show, edition.json, json_flag(alloc))?;
-    with_new(flagged, edition.explain, explain_flag(alloc))?.arg(file_argument(
-        alloc,
-        "An object file or a load file",
-    ))
+        .after_help(help::SHOW)
+        .arg(json_flag(alloc))?
+        .arg(explain_flag(alloc))?
+        .arg(file_argument(alloc, "An object file or a load file"))
 }
 
 /// The flag `--json`.

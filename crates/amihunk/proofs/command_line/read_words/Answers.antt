@@ -1,23 +1,28 @@
 use Rattle.std.proofs.Common.{◌≤◌, arith, length, map}
 use Rattle.std.proofs.lemmas.List.{length-map}
 use Rattle.clap.specs.Lexer.{usize_max}
-use Rattle.amihunk.proofs.CommandLineAnswerLemmas.{asked_by_retold, asks_brief_where, asks_check_where, asks_image_where, asks_link_where, asks_load_where, asks_show_where, asks_survey_where, asks_version_where}
+use Rattle.amihunk.proofs.CommandLineAnswerLemmas.{asks, asks_version}
+use Rattle.amihunk.proofs.CommandLinePlainLemmas.{calls-brief, calls-check, calls-image, calls-link, calls-load, calls-show, calls-survey}
 use Rattle.amihunk.proofs.command_line.read_words.Goals as goal
 
 pub returns : goal.returns
 returns g c =
     let words = map g.S.AsStr.text c.args.words.now in
-    let request = c.retold.result in
+    let request = c.request_for.result in
     let fits : length (map g.S.AsStr.text c.args.words.now) ≤ usize_max = rw length-map (omega (arith, c.well_formed.1.0)) in
-    let answer = asked_by_retold words c.request_for.result request c.request_for.ensures c.retold.ensures in
+    let answer = c.request_for.ensures in
     record {
       answer = answer;
-      link = asks_link_where words request fits answer;
-      brief = asks_brief_where words request fits answer;
-      load = asks_load_where words request answer;
-      image = asks_image_where words request fits answer;
-      check = asks_check_where words request answer;
-      show = asks_show_where words request answer;
-      survey = asks_survey_where words request fits answer;
-      version = asks_version_where words request answer;
+      link = λ program options out map_file files is_line plain_out plain_map some plain.
+          asks words _ _ request fits answer is_line (calls-link program options out map_file files plain_out plain_map some plain) (λ e. cc);
+      brief = λ program options out map_file files is_line plain_out plain_map some plain.
+          asks words _ _ request fits answer is_line (calls-brief program options out map_file files plain_out plain_map some plain) (λ e. cc);
+      load = λ program origin text file is_line plain_value plain.
+          asks words _ _ request fits answer is_line (λ _. calls-load program origin text file plain_value plain) (λ e. cc);
+      image = λ program origin form files is_line plain_value some plain.
+          asks words _ _ request fits answer is_line (calls-image program origin form files plain_value some plain) (λ e. cc);
+      check = λ program file is_line plain. asks words _ _ request fits answer is_line (λ _. calls-check program file plain) (λ e. cc);
+      show = λ program json file is_line plain. asks words _ _ request fits answer is_line (λ _. calls-show program json file plain) (λ e. cc);
+      survey = λ program files is_line some plain. asks words _ _ request fits answer is_line (calls-survey program files some plain) (λ e. cc);
+      version = asks_version words request answer;
     }

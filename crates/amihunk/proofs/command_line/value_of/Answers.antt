@@ -1,4 +1,4 @@
-use Rattle.std.proofs.Common.{◌≡◌, ◌∙◌, None, ap, false, is_some, sym, true}
+use Rattle.std.proofs.Common.{◌≡◌, ◌∙◌, None, ap, false, is_some, refl, sym, true}
 use Rattle.clap.specs.Words.{first_of, found_of, rows_of}
 use Rattle.clap.proofs.WalkLemmas.{first_value-rows}
 use Rattle.amihunk.proofs.command_line.value_of.Goals as goal
@@ -12,4 +12,4 @@ unreachable-requires c =
     cc given
 
 pub returns : goal.returns
-returns c = sym (first_value-rows (found_of c.args.values.now) c.args.id.now) ∙ sym c.in-Some.ensures
+returns c = rw (sym (first_value-rows (found_of c.args.values.now) c.args.id.now) ∙ sym c.in-Some.ensures) refl

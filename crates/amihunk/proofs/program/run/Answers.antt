@@ -1,34 +1,27 @@
-use Rattle.amihunk.proofs.ProgramLemmas.{ends_check, ends_image, ends_link, ends_load, ends_show, ends_survey, ends_version}
+use Rattle.std.proofs.Common.{false}
+use Rattle.amihunk.specs.CommandLine.Meaning.{calls, version}
+use Rattle.amihunk.specs.CommandLine.Call.{to_check, to_image, to_link, to_load, to_show, to_survey}
+use Rattle.amihunk.proofs.ProgramLemmas.{ends_asked}
 use Rattle.amihunk.proofs.program.run.Goals as goal
 
-pub returns-clause-load : goal.returns-clause-load
-returns-clause-load g c program origin text file is_line plain_value plain_file =
-    ends_load g.W.Sink.taken g.W.Sink.failed c.args.errors.now c.answer.new.errors origin text file c.read_words.result c.answer.result (c.read_words.ensures.load program origin text file is_line plain_value plain_file) c.answer.ensures
-
-pub returns-clause-check : goal.returns-clause-check
-returns-clause-check g c program file is_line plain =
-    ends_check g.W.Sink.taken g.W.Sink.failed c.args.errors.now c.answer.new.errors file c.read_words.result c.answer.result (c.read_words.ensures.check program file is_line plain) c.answer.ensures
-
-pub returns-clause-show : goal.returns-clause-show
-returns-clause-show g c program json file is_line plain =
-    ends_show g.W.Sink.taken g.W.Sink.failed c.args.errors.now c.answer.new.errors json file c.read_words.result c.answer.result (c.read_words.ensures.show program json file is_line plain) c.answer.ensures
-
-pub returns-clause-link : goal.returns-clause-link
-returns-clause-link g c program options out map files is_line plain_out plain_map some plain_files =
-    ends_link g.W.Sink.taken g.W.Sink.failed c.args.errors.now c.answer.new.errors out map options files c.read_words.result c.answer.result (c.read_words.ensures.link program options out map files is_line plain_out plain_map some plain_files) c.answer.ensures
-
-pub returns-clause-image : goal.returns-clause-image
-returns-clause-image g c program origin form files is_line plain_value some plain_files =
-    ends_image g.W.Sink.taken g.W.Sink.failed c.args.errors.now c.answer.new.errors origin form files c.read_words.result c.answer.result (c.read_words.ensures.image program origin form files is_line plain_value some plain_files) c.answer.ensures
-
-pub returns-clause-survey : goal.returns-clause-survey
-returns-clause-survey g c program files is_line some plain_files =
-    ends_survey g.W.Sink.taken g.W.Sink.failed c.args.errors.now c.answer.new.errors files c.read_words.result c.answer.result (c.read_words.ensures.survey program files is_line some plain_files) c.answer.ensures
-
-pub returns-clause-brief : goal.returns-clause-brief
-returns-clause-brief g c program options out map files is_line plain_out plain_map some plain_files =
-    ends_link g.W.Sink.taken g.W.Sink.failed c.args.errors.now c.answer.new.errors out map options files c.read_words.result c.answer.result (c.read_words.ensures.brief program options out map files is_line plain_out plain_map some plain_files) c.answer.ensures
-
-pub returns-clause-version : goal.returns-clause-version
-returns-clause-version g c program word is_line is_word =
-    ends_version g.W.Sink.taken g.W.Sink.failed c.args.errors.now c.answer.new.errors c.read_words.result c.answer.result (c.read_words.ensures.version program word is_line is_word) c.answer.ensures
+pub returns : goal.returns
+returns g c =
+    let ends = ends_asked g.W.Sink.taken g.W.Sink.failed c.args.errors.now c.answer.new.errors in
+    let asked = c.read_words.ensures in
+    let request = c.read_words.result in
+    let status = c.answer.result in
+    record {
+      line = record { request = request; asked = asked.answer; ends = c.answer.ensures };
+      link = λ program options out map_file files is_line plain_out plain_map some plain.
+          ends (calls (to_link out map_file options false files)) request status (asked.link program options out map_file files is_line plain_out plain_map some plain) c.answer.ensures;
+      brief = λ program options out map_file files is_line plain_out plain_map some plain.
+          ends (calls (to_link out map_file options false files)) request status (asked.brief program options out map_file files is_line plain_out plain_map some plain) c.answer.ensures;
+      load = λ program origin text file is_line plain_value plain.
+          ends (calls (to_load origin text false file)) request status (asked.load program origin text file is_line plain_value plain) c.answer.ensures;
+      image = λ program origin form files is_line plain_value some plain.
+          ends (calls (to_image origin form false files)) request status (asked.image program origin form files is_line plain_value some plain) c.answer.ensures;
+      check = λ program file is_line plain. ends (calls (to_check false file)) request status (asked.check program file is_line plain) c.answer.ensures;
+      show = λ program json file is_line plain. ends (calls (to_show json false file)) request status (asked.show program json file is_line plain) c.answer.ensures;
+      survey = λ program files is_line some plain. ends (calls (to_survey files)) request status (asked.survey program files is_line some plain) c.answer.ensures;
+      version = λ program word is_line is_word. ends version request status (asked.version program word is_line is_word) c.answer.ensures;
+    }

@@ -1,0 +1,240 @@
+-- The plain forms of the subcommands, and what they ask for.
+use Rattle.std.proofs.Common.{◌≤◌, ◌<◌, All, arith, refl, Bool, true, false, List, [], ◌∷◌, ◌++◌, codes, length, None, Option, Some}
+use Rattle.clap.specs.Lexer.{usize_max}
+use Rattle.clap.specs.Words.{Shape, Text}
+use Rattle.clap.specs.Walk.{Held, nothing_held, walk_from}
+use Rattle.clap.proofs.OnLiterals.{clap_on_literals}
+use Rattle.hunk_memory.specs.declared.image_form.ImageForm.{ImageForm}
+use Rattle.hunk_memory.specs.declared.image_form.ImageForm.TheVariants.{Report, SRecords}
+use Rattle.hunk_tool.specs.declared.link_options.LinkOptions.{LinkOptions}
+use Rattle.hunk_commands.specs.Addresses.{Origin}
+use Rattle.hunk_commands.specs.Addresses.Origin.{in_file, in_list}
+use Rattle.hunk_commands.specs.declared.load.LoadText.{LoadText}
+use Rattle.hunk_commands.specs.declared.load.LoadText.TheVariants.{Image, Symbols}
+use Rattle.amihunk.proofs.CommandLineLemmas.{built_below}
+use Rattle.amihunk.proofs.CommandLineFilesLemmas.{HasFiles, TakesFile, TakesFiles, calls-file, calls-files}
+use Rattle.amihunk.proofs.CommandLineSubcommandLemmas.{IsSubcommand}
+use Rattle.amihunk.proofs.CommandLineWalkLemmas.{IsOption, Passes, passes-nil, passes-option, value_held, walk_on}
+use Rattle.amihunk.specs.Syntax.{check_shape, image_shape, letter_o, link_shape, load_shape, show_shape, survey_shape}
+use Rattle.amihunk.specs.CommandLine.{Calls, IsNoFlag, IsNoFlagIn, brief_link_line, brief_words, file_line, form_words, image_line, json_words, link_line, load_line, map_words}
+use Rattle.amihunk.specs.CommandLine.{option_name, option_word, option_words, show_line, survey_line, text_in, text_words}
+use Rattle.amihunk.specs.CommandLine.Call.{to_check, to_image, to_link, to_load, to_show, to_survey}
+
+-- ---- `link`
+
+abbrev built_link : Shape
+built_link = built_below link_shape
+
+is_link : IsSubcommand built_link
+unfolding clap_on_literals
+is_link = record { met = refl; quiet = refl; found = refl }
+
+is_out : IsOption built_link nothing_held (codes "--out") (codes "out")
+unfolding clap_on_literals
+is_out = record { letter = Some letter_o; needed = true; by_id = refl; met = refl; quiet = refl }
+
+is_brief_out : IsOption built_link nothing_held (codes "-o") (codes "out")
+unfolding clap_on_literals
+is_brief_out = record { letter = Some letter_o; needed = true; by_id = refl; met = refl; quiet = refl }
+
+-- what `--out OUT` leaves
+abbrev out_held : Text → Held
+out_held = value_held built_link.rules nothing_held (codes "out")
+
+is_map : (out : Text) → IsOption built_link (out_held out) (codes "--map") (codes "map")
+unfolding clap_on_literals
+is_map out = record { letter = None; needed = false; by_id = refl; met = refl; quiet = refl }
+
+-- and `--map MAP`, if it is given
+abbrev map_held : Text → Option Text → Held
+map_held out None = out_held out
+map_held out (Some map) = value_held built_link.rules (out_held out) (codes "map") map
+
+-- what is held before the files
+abbrev link_held : Text → Option Text → LinkOptions → Held
+link_held out map options = (walk_on built_link (walk_from (map_held out map)) (option_words options)).held
+
+-- the words for the flags pass, the brief ones too, and files may come after them
+abbrev IsPlainLink : Text → Option Text → LinkOptions → Type 0
+IsPlainLink out map options = Passes built_link (walk_from (map_held out map)) (option_words options) (walk_from (link_held out map options))
+    × Passes built_link (walk_from (map_held out map)) (brief_words options) (walk_from (link_held out map options))
+    × TakesFiles built_link (link_held out map options) (to_link out map options false)
+
+abbrev choice : Bool → Bool → Bool → LinkOptions
+choice strip short trim = record { strip = strip; short = short; trim = trim }
+
+plain-choice : (out : Text) (map : Option Text) (strip short trim : Bool) → IsPlainLink out map (choice strip short trim)
+unfolding clap_on_literals
+plain-choice out None true true true = ((refl, refl), (refl, refl), (record { other = refl; quiet = refl; late = λ file rest. refl }, λ file rest. refl))
+plain-choice out None true true false = ((refl, refl), (refl, refl), (record { other = refl; quiet = refl; late = λ file rest. refl }, λ file rest. refl))
+plain-choice out None true false true = ((refl, refl), (refl, refl), (record { other = refl; quiet = refl; late = λ file rest. refl }, λ file rest. refl))
+plain-choice out None true false false = ((refl, refl), (refl, refl), (record { other = refl; quiet = refl; late = λ file rest. refl }, λ file rest. refl))
+plain-choice out None false true true = ((refl, refl), (refl, refl), (record { other = refl; quiet = refl; late = λ file rest. refl }, λ file rest. refl))
+plain-choice out None false true false = ((refl, refl), (refl, refl), (record { other = refl; quiet = refl; late = λ file rest. refl }, λ file rest. refl))
+plain-choice out None false false true = ((refl, refl), (refl, refl), (record { other = refl; quiet = refl; late = λ file rest. refl }, λ file rest. refl))
+plain-choice out None false false false = ((refl, refl), (refl, refl), (record { other = refl; quiet = refl; late = λ file rest. refl }, λ file rest. refl))
+plain-choice out (Some map) true true true = ((refl, refl), (refl, refl), (record { other = refl; quiet = refl; late = λ file rest. refl }, λ file rest. refl))
+plain-choice out (Some map) true true false = ((refl, refl), (refl, refl), (record { other = refl; quiet = refl; late = λ file rest. refl }, λ file rest. refl))
+plain-choice out (Some map) true false true = ((refl, refl), (refl, refl), (record { other = refl; quiet = refl; late = λ file rest. refl }, λ file rest. refl))
+plain-choice out (Some map) true false false = ((refl, refl), (refl, refl), (record { other = refl; quiet = refl; late = λ file rest. refl }, λ file rest. refl))
+plain-choice out (Some map) false true true = ((refl, refl), (refl, refl), (record { other = refl; quiet = refl; late = λ file rest. refl }, λ file rest. refl))
+plain-choice out (Some map) false true false = ((refl, refl), (refl, refl), (record { other = refl; quiet = refl; late = λ file rest. refl }, λ file rest. refl))
+plain-choice out (Some map) false false true = ((refl, refl), (refl, refl), (record { other = refl; quiet = refl; late = λ file rest. refl }, λ file rest. refl))
+plain-choice out (Some map) false false false = ((refl, refl), (refl, refl), (record { other = refl; quiet = refl; late = λ file rest. refl }, λ file rest. refl))
+
+plain-link : (out : Text) (map : Option Text) (options : LinkOptions) → IsPlainLink out map options
+plain-link out map options = plain-choice out map options.strip options.short options.trim
+
+-- MAP, if it is given, and the flags
+passes-map : (out : Text) (map : Option Text) (words : List Text) (held : Held) → IsNoFlagIn map → Passes built_link (walk_from (map_held out map)) words (walk_from held)
+    → Passes built_link (walk_from (out_held out)) (map_words map ++ words) (walk_from held)
+passes-map out None words held plain passes = passes
+passes-map out (Some map) words held plain passes = passes-option built_link (out_held out) (codes "--map") (codes "map") map words (walk_from held) (is_map out) plain passes
+
+module _ (program : Text) (options : LinkOptions) (out : Text) (map : Option Text) (files : List Text)
+    (plain_out : IsNoFlag out) (plain_map : IsNoFlagIn map) (some : 0 < length files) (plain_files : All IsNoFlag files) where
+  -- an option for OUT, MAP, the flags and the files
+  calls-words : (word : Text) (words : List Text) → IsOption built_link nothing_held word (codes "out")
+      → Passes built_link (walk_from (map_held out map)) words (walk_from (link_held out map options))
+      → length ((word ∷ out ∷ (map_words map ++ words)) ++ files) ≤ usize_max
+      → Calls (program ∷ codes "link" ∷ ((word ∷ out ∷ (map_words map ++ words)) ++ files)) (to_link out map options false files)
+  calls-words word words is passes =
+      calls-files program built_link (word ∷ out ∷ (map_words map ++ words)) (link_held out map options) (to_link out map options false) is_link (record { by_index = refl; by_id = refl })
+      (passes-option built_link nothing_held word (codes "out") out (map_words map ++ words) (walk_from (link_held out map options)) is plain_out
+      (passes-map out map words (link_held out map options) plain_map passes))
+      (plain-link out map options).2 files some plain_files
+
+  pub calls-link : length (link_line program options out map files) ≤ usize_max → Calls (link_line program options out map files) (to_link out map options false files)
+  calls-link fits = calls-words (codes "--out") (option_words options) is_out (plain-link out map options).0 (omega (arith, fits))
+
+  pub calls-brief : length (brief_link_line program options out map files) ≤ usize_max → Calls (brief_link_line program options out map files) (to_link out map options false files)
+  calls-brief fits = calls-words (codes "-o") (brief_words options) is_brief_out (plain-link out map options).1 (omega (arith, fits))
+
+-- ---- `load`
+
+abbrev built_load : Shape
+built_load = built_below load_shape
+
+is_load : IsSubcommand built_load
+unfolding clap_on_literals
+is_load = record { met = refl; quiet = refl; found = refl }
+
+is_load_option : (origin : Origin) → IsOption built_load nothing_held (option_word origin) (option_name origin)
+unfolding clap_on_literals
+is_load_option (in_list list) = record { letter = None; needed = false; by_id = refl; met = refl; quiet = refl }
+is_load_option (in_file name) = record { letter = None; needed = false; by_id = refl; met = refl; quiet = refl }
+
+-- what `--at LIST` leaves, or `--at-file FILE`
+abbrev origin_held : Shape → Origin → Held
+origin_held s origin = value_held s.rules nothing_held (option_name origin) (text_in origin)
+
+-- what is held before FILE
+abbrev load_held : Origin → LoadText → Held
+load_held origin text = (walk_on built_load (walk_from (origin_held built_load origin)) (text_words text)).held
+
+-- the words for the text pass, and FILE may come after them
+abbrev IsPlainLoad : Origin → LoadText → Type 0
+IsPlainLoad origin text = Passes built_load (walk_from (origin_held built_load origin)) (text_words text) (walk_from (load_held origin text))
+    × TakesFile built_load (load_held origin text) (to_load origin text false)
+
+plain-load : (origin : Origin) (text : LoadText) → IsPlainLoad origin text
+unfolding clap_on_literals
+plain-load (in_list list) (Image Report) = ((refl, refl), (record { by_index = refl; other = refl; quiet = refl; late = λ file. refl }, λ file. refl))
+plain-load (in_list list) (Image SRecords) = ((refl, refl), (record { by_index = refl; other = refl; quiet = refl; late = λ file. refl }, λ file. refl))
+plain-load (in_list list) Symbols = ((refl, refl), (record { by_index = refl; other = refl; quiet = refl; late = λ file. refl }, λ file. refl))
+plain-load (in_file name) (Image Report) = ((refl, refl), (record { by_index = refl; other = refl; quiet = refl; late = λ file. refl }, λ file. refl))
+plain-load (in_file name) (Image SRecords) = ((refl, refl), (record { by_index = refl; other = refl; quiet = refl; late = λ file. refl }, λ file. refl))
+plain-load (in_file name) Symbols = ((refl, refl), (record { by_index = refl; other = refl; quiet = refl; late = λ file. refl }, λ file. refl))
+
+pub calls-load : (program : Text) (origin : Origin) (text : LoadText) (file : Text) → IsNoFlag (text_in origin) → IsNoFlag file
+    → Calls (load_line program origin text file) (to_load origin text false file)
+calls-load program origin text file plain_value =
+    let plain = plain-load origin text in
+    calls-file program built_load (option_word origin ∷ text_in origin ∷ text_words text) (load_held origin text) (to_load origin text false) is_load
+    (passes-option built_load nothing_held (option_word origin) (option_name origin) (text_in origin) (text_words text) (walk_from (load_held origin text)) (is_load_option origin) plain_value plain.0)
+    plain.1 file
+
+-- ---- `image`
+
+abbrev built_image : Shape
+built_image = built_below image_shape
+
+is_image : IsSubcommand built_image
+unfolding clap_on_literals
+is_image = record { met = refl; quiet = refl; found = refl }
+
+is_image_option : (origin : Origin) → IsOption built_image nothing_held (option_word origin) (option_name origin)
+unfolding clap_on_literals
+is_image_option (in_list list) = record { letter = None; needed = false; by_id = refl; met = refl; quiet = refl }
+is_image_option (in_file name) = record { letter = None; needed = false; by_id = refl; met = refl; quiet = refl }
+
+-- what is held before the files
+abbrev image_held : Origin → ImageForm → Held
+image_held origin form = (walk_on built_image (walk_from (origin_held built_image origin)) (form_words form)).held
+
+-- the words for the form pass, and files may come after them
+abbrev IsPlainImage : Origin → ImageForm → Type 0
+IsPlainImage origin form = Passes built_image (walk_from (origin_held built_image origin)) (form_words form) (walk_from (image_held origin form))
+    × TakesFiles built_image (image_held origin form) (to_image origin form false)
+
+plain-image : (origin : Origin) (form : ImageForm) → IsPlainImage origin form
+unfolding clap_on_literals
+plain-image (in_list list) Report = ((refl, refl), (record { other = refl; quiet = refl; late = λ file rest. refl }, λ file rest. refl))
+plain-image (in_list list) SRecords = ((refl, refl), (record { other = refl; quiet = refl; late = λ file rest. refl }, λ file rest. refl))
+plain-image (in_file name) Report = ((refl, refl), (record { other = refl; quiet = refl; late = λ file rest. refl }, λ file rest. refl))
+plain-image (in_file name) SRecords = ((refl, refl), (record { other = refl; quiet = refl; late = λ file rest. refl }, λ file rest. refl))
+
+pub calls-image : (program : Text) (origin : Origin) (form : ImageForm) (files : List Text) → IsNoFlag (text_in origin) → 0 < length files → All IsNoFlag files
+    → length (image_line program origin form files) ≤ usize_max → Calls (image_line program origin form files) (to_image origin form false files)
+calls-image program origin form files plain_value some plain_files fits =
+    let plain = plain-image origin form in
+    calls-files program built_image (option_word origin ∷ text_in origin ∷ form_words form) (image_held origin form) (to_image origin form false) is_image (record { by_index = refl; by_id = refl })
+    (passes-option built_image nothing_held (option_word origin) (option_name origin) (text_in origin) (form_words form) (walk_from (image_held origin form)) (is_image_option origin) plain_value plain.0)
+    plain.1 files some plain_files (omega (arith, fits))
+
+-- ---- `check`, `show` and `survey`
+
+is_check : IsSubcommand (built_below check_shape)
+unfolding clap_on_literals
+is_check = record { met = refl; quiet = refl; found = refl }
+
+takes-check : TakesFile (built_below check_shape) nothing_held (to_check false)
+unfolding clap_on_literals
+takes-check = (record { by_index = refl; other = refl; quiet = refl; late = λ file. refl }, λ file. refl)
+
+pub calls-check : (program file : Text) → IsNoFlag file → Calls (file_line program (codes "check") file) (to_check false file)
+calls-check program = calls-file program (built_below check_shape) [] nothing_held (to_check false) is_check (passes-nil (built_below check_shape) (walk_from nothing_held)) takes-check
+
+is_show : IsSubcommand (built_below show_shape)
+unfolding clap_on_literals
+is_show = record { met = refl; quiet = refl; found = refl }
+
+-- what is held before FILE
+abbrev show_held : Bool → Held
+show_held json = (walk_on (built_below show_shape) (walk_from nothing_held) (json_words json)).held
+
+passes-json : (json : Bool) → Passes (built_below show_shape) (walk_from nothing_held) (json_words json) (walk_from (show_held json))
+unfolding clap_on_literals
+passes-json true = (refl, refl)
+passes-json false = (refl, refl)
+
+takes-show : (json : Bool) → TakesFile (built_below show_shape) (show_held json) (to_show json false)
+unfolding clap_on_literals
+takes-show true = (record { by_index = refl; other = refl; quiet = refl; late = λ file. refl }, λ file. refl)
+takes-show false = (record { by_index = refl; other = refl; quiet = refl; late = λ file. refl }, λ file. refl)
+
+pub calls-show : (program : Text) (json : Bool) (file : Text) → IsNoFlag file → Calls (show_line program json file) (to_show json false file)
+calls-show program json = calls-file program (built_below show_shape) (json_words json) (show_held json) (to_show json false) is_show (passes-json json) (takes-show json)
+
+is_survey : IsSubcommand (built_below survey_shape)
+unfolding clap_on_literals
+is_survey = record { met = refl; quiet = refl; found = refl }
+
+takes-survey : TakesFiles (built_below survey_shape) nothing_held to_survey
+unfolding clap_on_literals
+takes-survey = (record { other = refl; quiet = refl; late = λ file rest. refl }, λ file rest. refl)
+
+pub calls-survey : (program : Text) (files : List Text) → 0 < length files → All IsNoFlag files → length (survey_line program files) ≤ usize_max → Calls (survey_line program files) (to_survey files)
+calls-survey program files some plain fits =
+    calls-files program (built_below survey_shape) [] nothing_held to_survey is_survey (record { by_index = refl; by_id = refl }) (passes-nil (built_below survey_shape) (walk_from nothing_held)) takes-survey files some plain
+    (omega (arith, fits))
