@@ -105,10 +105,10 @@ uninstall_leaves_what_is_not_ours() {
 }
 
 destdir_is_not_named() {
-    "$top/install.sh" --destdir "$work/dest dir" --prefix /opt/amihunk
-    is_usable "$work/dest dir/opt/amihunk"
-    ends 1 grep -rlF "dest dir" "$work/dest dir/opt/amihunk/lib/pkgconfig" "$work/dest dir/opt/amihunk/bin"
-    "$top/install.sh" --destdir "$work/dest dir" --prefix /opt/amihunk --uninstall
+    "$top/install.sh" --destdir "$work/dest dir" --prefix /srv/amihunk
+    is_usable "$work/dest dir/srv/amihunk"
+    ends 1 grep -rlF "dest dir" "$work/dest dir/srv/amihunk/lib/pkgconfig" "$work/dest dir/srv/amihunk/bin"
+    "$top/install.sh" --destdir "$work/dest dir" --prefix /srv/amihunk --uninstall
     [ ! -e "$work/dest dir" ]
 }
 

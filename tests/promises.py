@@ -2,7 +2,8 @@
 """Checks what docs/PROMISES.md and README.md say of the sources, without building anything.
 
 Each crate, call, clause, law, test, must-fail edit and file that they name exists where they say, and each public call of the
-libraries, each of its clauses, each law and each edit stands in docs/PROMISES.md. A row counts as one test, and so does a page.
+libraries, each of its clauses, each law and each edit stands in docs/PROMISES.md. Each word of the sources that
+docs/ARCHITECTURE.md names is there too. A row counts as one test, and so does a page.
 The last line is 'N passed, M failed', and the status is 0 if M is 0. With a folder as its argument it checks the copy of the
 repository there.
 """
@@ -17,7 +18,7 @@ from sources import Crate, is_there, text_of
 
 # Claims alone name their calls: nothing in Rattle can call a program, and capi/amihunk.h tells of the exports for C.
 OTHERS = ["amihunk", "amihunk_c"]
-PAGE, README = "docs/PROMISES.md", "README.md"
+PAGE, README, WORDS = "docs/PROMISES.md", "README.md", "docs/ARCHITECTURE.md"
 README_LINES, ROW_LENGTH = 150, 340
 IN_TESTS = re.compile(r"\b(hunk_\w*tests) (`\w+`(?:: `\w+`)?(?:(?:[,;]| and) `\w+`(?::(?= `))?(?: `\w+`)?)*)")
 QUOTED = re.compile(r"`([^`]+)`")
@@ -321,6 +322,7 @@ def main():
         with counted():
             for heading, paragraph in paragraphs_of(text):
                 check_tests(f"{file}, {heading}", paragraph, known)
+    for file, text in ((PAGE, page), (README, readme), (WORDS, text_of(WORDS))):
         with counted():
             check_words(file, without_code(text), words)
     for file in pages():

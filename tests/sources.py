@@ -78,26 +78,28 @@ class Module:
     """A file of a crate: its modules, what it re-exports, its types, and its calls by their names in it."""
 
     def __init__(self, crate, path):
-        self.children, self.exports, self.types, self.private = {}, {}, set(), set()
+        self.children, self.types, self.private = {}, set(), set()
         self.traits, self.calls = {}, []
         # A module without its file is the compiler's to tell.
         there = is_there("crates", crate, "src", path)
         self.lines = text_of("crates", crate, "src", path).split("\n") if there else []
-        self.read_exports()
+        self.exports, self.imports = self.names_of("pub use"), self.names_of("use")
         self.read_items()
         folder = "" if path in ("lib.rt", "main.rt") else path.removesuffix(".rt") + "/"
         for line in self.lines:
             if found := re.match(r"^(pub )?mod (\w+);", line):
                 self.children[found[2]] = bool(found[1]), Module(crate, f"{folder}{found[2]}.rt")
 
-    def read_exports(self):
-        """What `pub use` hands on: each name, and the path that it comes from."""
-        for path in re.findall(r"^pub use ([^;]*);", "\n".join(self.lines), re.M):
+    def names_of(self, keyword):
+        """What `pub use` hands on, or `use` names: each name, and the path that it comes from."""
+        found = {}
+        for path in re.findall(rf"^{keyword} ([^;]*);", "\n".join(self.lines), re.M):
             front, braces, names = path.partition("{")
             for name in names.rstrip("} \n").split(",") if braces else [path]:
                 if name := name.strip():
                     whole = (front + name if braces else name).replace("crate::", "").split("::")
-                    self.exports[whole[-1]] = whole
+                    found[whole[-1]] = whole
+        return found
 
     def read_items(self):
         """Reads the items, one after another; `owner` is what the functions further in belong to."""
@@ -159,15 +161,16 @@ class Crate:
     def __init__(self, name):
         self.name = name
         self.root = Module(name, "lib.rt" if is_there("crates", name, "src", "lib.rt") else "main.rt")
+        self.placed = {id(it[0]): it for it in self.modules()}
         self.calls, self.laws, self.every, self.types, self.traits = {}, {}, {}, set(), {}
         self.own = {it for module, _, _ in self.modules() for it in module.types | set(module.traits) | module.private}
         self.at_root = {(id(module), name) for module, name in self.exported()}
         for module, prefix, public in self.modules():
             self.types |= {it for it in module.types if public or (id(module), it) in self.at_root}
             self.traits |= module.traits
-        for module, prefix, public in self.modules():
+        for module, _, _ in self.modules():
             for call in module.calls:
-                self.collect(call, module, prefix, public)
+                self.collect(call, module)
         folder = os.path.join(TOP, "crates", name, "must-fail")
         self.edits = {it.removesuffix(".edit") for it in os.listdir(folder)} if os.path.isdir(folder) else set()
 
@@ -181,14 +184,25 @@ class Crate:
     def exported(self):
         """What the root itself re-exports: the module that it comes from, and its name."""
         for name, path in self.root.exports.items():
-            module = self.root
-            for step in path[:-1]:
-                module = module.children[step][1] if module and step in module.children else None
-            if module:
+            if module := self.module_at(path[:-1]):
                 yield module, name
 
-    def collect(self, call, module, prefix, public):
+    def module_at(self, path):
+        """The module that this path from the root leads to, or None if it leads out of the crate."""
+        module = self.root
+        for step in path:
+            module = module.children[step][1] if module and step in module.children else None
+        return module
+
+    def home_of(self, call, module):
+        """The module of the type that a call belongs to: where the type is declared, if its `impl` stands in another one."""
+        if call.of in module.imports and call.of not in module.types | module.private:
+            return self.module_at(module.imports[call.of][:-1]) or module
+        return module
+
+    def collect(self, call, module):
         """Adds a call under the shortest path: none, if the root re-exports the item that it belongs to."""
+        module, prefix, public = self.placed[id(self.home_of(call, module))]
         self.every[prefix + call.name] = call
         if isinstance(call, Implementation):
             if all(it in self.types or it not in self.own for it in (call.trait, call.of)):

@@ -1,7 +1,9 @@
 pub mod LongwordsLemmas
 pub mod SplitterLemmas
 pub mod StreamsLemmas
-pub mod StreamsWritingLemmas
+pub mod DigitsLemmas
+pub mod TextLemmas
+pub mod QuotedNameLemmas
 pub mod NameLemmas
 pub mod SitesLemmas
 pub mod PageLemmas

@@ -9,3 +9,6 @@ pub mod OpenName
 pub mod Sites
 pub mod Page
 pub mod Pages
+pub mod Digits
+pub mod QuotedName
+pub mod Text

@@ -1,5 +1,5 @@
 -- What the result of a read or a write says, and what is known after reading or writing a text.
-use Rattle.std.specs.Prelude.{◌≡◌, ℕ, zero, suc, ◌+◌, ◌≤◌, List, length, take, Bool, true, false, IsTrue, Option, Result, Ok, Err}
+use Rattle.std.specs.Prelude.{◌≡◌, ℕ, zero, suc, ◌≤◌, List, length, take, Bool, true, false, IsTrue, Option, Result, Ok, Err}
 use Rattle.std.specs.Io.KnownBytes.{Appends, Consumes}
 use Rattle.hunk_base.specs.declared.fault.ReadFault.{ReadFault}
 use Rattle.hunk_base.specs.declared.fault.ReadFault.TheVariants as read_fault
@@ -22,31 +22,27 @@ refuses (Ok n) len = false
 -- ---- writing
 
 -- Writing stopped inside this text: the writer, which held `old` and holds `new` if that is known,
--- took exactly its first bytes. Counted from `start`, they end at `written`.
-pub record TookFront (old new : Option (List ℕ)) (text : List ℕ) (start written : ℕ) : Type 0 where
-  pub front : ℕ
-  pub within : front ≤ length text
-  pub counted : written ≡ start + front
-  pub taken : Appends old new (take front text)
+-- took exactly its first `written` bytes.
+pub record TookFront (old new : Option (List ℕ)) (text : List ℕ) (written : ℕ) : Type 0 where
+  pub within : written ≤ length text
+  pub taken : Appends old new (take written text)
 
--- Writing stopped inside the text, which follows the first `start` bytes of a whole, and of which
--- the writer took exactly a prefix: because a write failed, or, if no write failed, because an
--- allocation failed. What a writer has taken, if that is known, and whether a write has failed so
--- far, are those of its `Sink`.
-abbrev pub WriteStopped : {W : Type 0} (taken : W → Option (List ℕ)) (failed : W → Bool) (old new : W) (text : List ℕ) (start : ℕ) → WriteFault → Type 0
-WriteStopped taken failed old new text start (Device written) = TookFront (taken old) (taken new) text start written × IsTrue (failed new)
-WriteStopped taken failed old new text start (OutOfMemory written) = TookFront (taken old) (taken new) text start written × (failed new ≡ failed old)
-
--- The text, which follows the first `start` bytes of a whole, was written, and no write failed; or
--- writing it stopped. The result is the number of bytes of the whole that are written after it.
-abbrev pub Wrote : {W : Type 0} (taken : W → Option (List ℕ)) (failed : W → Bool) (old new : W) (text : List ℕ) (start : ℕ) → Result ℕ WriteFault → Type 0
-Wrote taken failed old new text start (Ok written) = (written ≡ start + length text) × Appends (taken old) (taken new) text × (failed new ≡ failed old)
-Wrote taken failed old new text start (Err fault) = WriteStopped taken failed old new text start fault
+-- Writing stopped inside the text, of which the writer took exactly a prefix: because a write
+-- failed, or, if no write failed, because an allocation failed. What a writer has taken, if that is
+-- known, and whether a write has failed so far, are those of its `Sink`.
+abbrev pub WriteStopped : {W : Type 0} (taken : W → Option (List ℕ)) (failed : W → Bool) (old new : W) (text : List ℕ) → WriteFault → Type 0
+WriteStopped taken failed old new text (Device written) = TookFront (taken old) (taken new) text written × IsTrue (failed new)
+WriteStopped taken failed old new text (OutOfMemory written) = TookFront (taken old) (taken new) text written × (failed new ≡ failed old)
 
 -- The whole text was written, and no write failed; or writing it stopped.
 abbrev pub WroteAll : {W : Type 0} (taken : W → Option (List ℕ)) (failed : W → Bool) (old new : W) (text : List ℕ) → Result (Unit {0}) WriteFault → Type 0
 WroteAll taken failed old new text (Ok done) = Appends (taken old) (taken new) text × (failed new ≡ failed old)
-WroteAll taken failed old new text (Err fault) = WriteStopped taken failed old new text 0 fault
+WroteAll taken failed old new text (Err fault) = WriteStopped taken failed old new text fault
+
+-- Likewise of a text whose bytes nobody counts: it was written, or a write failed inside it.
+abbrev pub WroteText : {W E : Type 0} (taken : W → Option (List ℕ)) (failed : W → Bool) (old new : W) (text : List ℕ) → Result (Unit {0}) E → Type 0
+WroteText taken failed old new text (Ok done) = Appends (taken old) (taken new) text × (failed new ≡ failed old)
+WroteText taken failed old new text (Err fault) = (written : ℕ) × WriteStopped taken failed old new text (Device written)
 
 -- The device failed: no allocation did.
 abbrev pub IsDevice : WriteFault → Type 0

@@ -7,19 +7,23 @@
 //! - `watched`: readers and writers of std, watched.
 //! - `pieces`, `room`: a reader and a writer over memory, which fail where they should.
 //! - `name`: names in longwords, all at once or one longword at a time.
+//! - `text`: a text on its way to a writer; `digits`, `quoted_name`: the numbers and names in it.
 //! - `sites`: the sites of a hunk, no two of which share a byte; they are kept in `pages`, each a `page`.
 #![tactic(auto)]
 
+mod digits;
 pub mod fault;
 pub mod longwords;
 pub mod name;
 mod page;
 mod pages;
 pub mod pieces;
+mod quoted_name;
 pub mod room;
 pub mod sites;
 pub mod splitter;
 pub mod streams;
+pub mod text;
 pub mod watched;
 
 pub use fault::{DeviceFault, Fault, ReadFault, Reason, Refusal, WriteFault};
@@ -30,5 +34,6 @@ pub use pieces::Pieces;
 pub use room::Room;
 pub use sites::{SiteRefusal, Sites, Walk};
 pub use splitter::Splitter;
-pub use streams::{Feed, Sink, Source, read_all, write_all};
+pub use streams::{Feed, Sink, Source, read_all};
+pub use text::Text;
 pub use watched::Watched;

@@ -3,9 +3,9 @@
 ghost use Rattle.std.specs.Prelude.{◌≡◌, ◌≤◌, ◌<◌, ◌+◌, ◌^◌, ◌||◌, ◌++◌, ℕ, List, [], length, take, Bool, Option, is_err, IsTrue, IfOk, OnOk, OnErr, IfErr};
 ghost use Rattle.std.specs.Io.KnownBytes.{Consumes, Appends, Keeps};
 ghost use Rattle.hunk_base.specs.declared.fault.Refusal.{Refusal};
-ghost use Rattle.hunk_base.specs.Streams.{ends, refuses, HasRead, IsDevice, ReadStopped, Wrote};
+ghost use Rattle.hunk_base.specs.Streams.{ends, refuses, HasRead, ReadStopped};
 
-use crate::fault::{DeviceFault, ReadFault, Refusal, WriteFault};
+use crate::fault::{DeviceFault, ReadFault, Refusal};
 
 /// A reader of bytes.
 ///
@@ -113,30 +113,4 @@ pub fn read_all<R: Source, D: Feed>(reader: &mut R, decoder: &mut D) -> Result<(
         decoder.feed(&buffer[..count])?;
     }
     unreachable!()
-}
-
-/// Writes all of `text`, which follows the first `written` bytes of a longer text, and returns the
-/// number of bytes of that text written after it.
-///
-/// # Errors
-///
-/// [`WriteFault::Device`] only if a write failed or took no byte, with the exact number of bytes of
-/// the longer text that the writer has taken.
-pub fn write_all<W: Sink>(writer: &mut W, written: u64, text: &[u8]) -> Result<u64, WriteFault>
-    requires { written + length text.now < 2 ^ 64 }
-    ensures wrote { Wrote W.taken W.failed writer.old writer.new text.now written result }
-    ensures device { IfErr result IsDevice }
-{
-    let mut taken = 0;
-    while taken < text.len() {
-        match writer.write(&text[taken..]) {
-            Ok(0) | Err(_) => {
-                return Err(WriteFault::Device {
-                    written: written + taken as u64,
-                });
-            }
-            Ok(count) => taken += count,
-        }
-    }
-    Ok(written + text.len() as u64)
 }

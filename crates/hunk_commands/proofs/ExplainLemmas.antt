@@ -1,5 +1,5 @@
 -- What is told of a failure after its line.
-use Rattle.std.proofs.Common.{◌≡◌, ◌∙◌, ◌+◌, ℕ, List, [], ◌++◌, length, length-append, append-nil, arith, inl, inr, refl, sym, subst, Bool, true, Option, Some, None, Result, Ok, Err, IsTrue}
+use Rattle.std.proofs.Common.{◌≡◌, ◌∙◌, ◌+◌, ℕ, List, [], ◌++◌, length, length-append, append-nil, arith, inl, inr, refl, sym, subst, Bool, true, Option, Some, None, IsTrue}
 use Rattle.std.proofs.Math.Seq.{take-append-add}
 use Rattle.std.proofs.KnownBytes.{Appends-nil, Appends-trans}
 use Rattle.std.specs.Option.{IfSome}
@@ -11,7 +11,6 @@ use Rattle.hunk_base.specs.declared.fault.Fault.{Fault}
 use Rattle.hunk_words.proofs.FirstOffenceLemmas.{file-no-offence, first-one}
 use Rattle.hunk_loadfile.specs.LoadHunk.{FileHunk}
 use Rattle.hunk_files.specs.Explanation.{EndsWith, IsEnd, IsExplained}
-use Rattle.hunk_text.specs.WrittenText.{WroteText}
 use Rattle.hunk_memory.specs.PlacesText.{places_text}
 use Rattle.hunk_files.specs.declared.explanation.Explanation.{Explanation}
 use Rattle.hunk_commands.specs.Addresses.{HaveNumbers, Origin}
@@ -58,17 +57,11 @@ module _ {W : Type 0} (taken : W → Option (List ℕ)) (failed : W → Bool) wh
   pub tells_lines : (old new : W) (Holds : List ℕ → Type 0) (lines : List ℕ) → Holds lines → TellsLine taken failed old new lines → TellsMore taken failed old new Holds
   tells_lines old new Holds lines holds told = record { more = lines; is_more = inr holds; told = told }
 
-  -- a text that was written, or not in full
-  pub tells_text : {E : Type 0} (old new : W) (text : List ℕ) (r : Result (Unit {0}) E) → WroteText taken failed old new text r → TellsLine taken failed old new text
-  tells_text old new text (Ok done) wrote = inl wrote
-  tells_text old new text (Err fault) wrote = inr wrote
-
   -- the lines about hunks beside their addresses
-  pub tells_places : {E : Type 0} (old new : W) (origin : Origin) (AreHunks : List FileHunk → Type 0) (loaded hunks : List FileHunk) (bases : List ℕ) (r : Result (Unit {0}) E)
-      → hunks ≡ loaded → AreHunks loaded → HaveNumbers origin bases → WroteText taken failed old new (places_text (sizes_of hunks) bases) r → TellsMore taken failed old new (ArePlaceLines origin AreHunks)
-  tells_places old new origin AreHunks loaded hunks bases r same are numbers_are wrote =
-      let lines = places_text (sizes_of hunks) bases in
-      tells_lines old new (ArePlaceLines origin AreHunks) lines (place_lines origin AreHunks loaded hunks bases same are numbers_are) (tells_text old new lines r wrote)
+  pub tells_places : (old new : W) (origin : Origin) (AreHunks : List FileHunk → Type 0) (loaded hunks : List FileHunk) (bases : List ℕ)
+      → hunks ≡ loaded → AreHunks loaded → HaveNumbers origin bases → TellsLine taken failed old new (places_text (sizes_of hunks) bases) → TellsMore taken failed old new (ArePlaceLines origin AreHunks)
+  tells_places old new origin AreHunks loaded hunks bases same are numbers_are told =
+      tells_lines old new (ArePlaceLines origin AreHunks) (places_text (sizes_of hunks) bases) (place_lines origin AreHunks loaded hunks bases same are numbers_are) told
 
   -- a line, and nothing after it
   pub tells_line_alone : (old new : W) (line : List ℕ) → TellsLine taken failed old new line → TellsLine taken failed old new (line ++ [])
@@ -79,20 +72,16 @@ module _ {W : Type 0} (taken : W → Option (List ℕ)) (failed : W → Bool) wh
       → TellsLine taken failed between new more → TellsLine taken failed old new (line ++ more)
   tells_both old between new line more whole (inl told) = inl (Appends-trans (taken old) (taken between) (taken new) line more whole.0 told.0, told.1 ∙ whole.1)
   tells_both old between new line more whole (inr (written, stopped)) =
-      let front = stopped.0.front in (
       inr (
-        0 + (length line + front),
+        length line + written,
         (
           record {
-            front = length line + front;
             within = omega (arith, stopped.0.within, length-append line more);
-            counted = refl;
-            taken = subst (Appends (taken old) (taken new)) (sym (take-append-add line more front))
+            taken = subst (Appends (taken old) (taken new)) (sym (take-append-add line more written))
                 (Appends-trans (taken old) (taken between) (taken new) line _ whole.0 stopped.0.taken);
           },
           stopped.1,
         ),
-      )
       )
 
   -- this was told after a line, and nothing if a write of the line failed

@@ -3,6 +3,7 @@ use Rattle.std.specs.declared.alloc.Global.{Global}
 use Rattle.std.specs.Prelude.{◌≡◌, ◌⊎◌, ◌++◌, ℕ, List, Bool, Option, ⊤, codes, decimal}
 use Rattle.std.specs.Io.KnownBytes.{Appends}
 use Rattle.hunk_base.specs.Streams.{WriteStopped}
+use Rattle.hunk_base.specs.Text.{line}
 use Rattle.hunk_base.specs.declared.fault.WriteFault.TheVariants.{Device}
 use Rattle.hunk_tool.specs.FaultLine.{fault_line, IsOfInputs}
 use Rattle.hunk_tool.specs.declared.tool_fault.ToolFault.TheVariants.{Output}
@@ -37,11 +38,11 @@ origin_name (in_file name) = name
 -- the line for a part of the addresses that is not a number
 abbrev pub bad_number_line : Origin → ℕ → List ℕ
 bad_number_line origin index =
-    codes "amihunk: " ++ origin_name origin ++ codes ": part " ++ decimal index ++ codes " is not 1 to 8 hexadecimal digits\n"
+    line (codes "amihunk: " ++ origin_name origin ++ codes ": part " ++ decimal index ++ codes " is not 1 to 8 hexadecimal digits")
 
 -- the line that tells this about a file
 abbrev pub about_line : (file told : List ℕ) → List ℕ
-about_line file told = codes "amihunk: " ++ file ++ codes ": " ++ told ++ codes "\n"
+about_line file told = line (codes "amihunk: " ++ file ++ codes ": " ++ told)
 
 -- the line that reports the failure, if the files have these names
 abbrev pub failure_line : List (List ℕ) → Failure → List ℕ
@@ -56,4 +57,4 @@ failure_line names (Tool fault) = fault_line names fault
 -- The line was appended, and no write failed; or a write failed, and exactly the first bytes of the line were appended.
 abbrev pub TellsLine : {W : Type 0} (taken : W → Option (List ℕ)) (failed : W → Bool) (old new : W) (line : List ℕ) → Type 0
 TellsLine taken failed old new line =
-    (Appends (taken old) (taken new) line × (failed new ≡ failed old)) ⊎ ((written : ℕ) × WriteStopped taken failed old new line 0 (Device written))
+    (Appends (taken old) (taken new) line × (failed new ≡ failed old)) ⊎ ((written : ℕ) × WriteStopped taken failed old new line (Device written))

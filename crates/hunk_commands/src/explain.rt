@@ -3,9 +3,11 @@
 ghost use Rattle.std.specs.Prelude.{◌≡◌, true, IfErr, IfOk, IfSome, IsTrue};
 ghost use Rattle.hunk_base.specs.Streams.{HasRead};
 ghost use Rattle.hunk_files.specs.Explanation.{IsEnd, IsExplained, IsUnexplained};
+ghost use Rattle.hunk_memory.specs.PlacesText.{places_text};
 ghost use Rattle.hunk_tool.specs.Inputs.{file_names};
 ghost use Rattle.hunk_commands.specs.Addresses.{HaveNumbers, origin_of};
-ghost use Rattle.hunk_commands.specs.Explain.{AreLinesOf, AreOffenceLines, ArePlaceLines, ArePlaceLinesOf, AreRefusalLines, HaveUnits, IsGiven, IsLoadFile, TellsMore, kind_read};
+ghost use Rattle.hunk_commands.specs.Explain.{AreLinesOf, AreOffenceLines, ArePlaceLines, ArePlaceLinesOf, AreRefusalLines, HaveUnits, IsGiven, IsLoadFile, TellsMore, kind_read, sizes_of};
+ghost use Rattle.hunk_commands.specs.Failure.{TellsLine};
 ghost use Rattle.hunk_commands.specs.Link.{DoLinkTo};
 
 use crate::addresses::{Addresses, addresses_of};
@@ -14,12 +16,12 @@ use crate::failure::Failure;
 use crate::inputs::{names_of, open_inputs};
 use crate::link::linked;
 use hunk_link::LinkRefusal;
-use hunk_loadfile::{LoadFile, read_load};
+use hunk_loadfile::{LoadFile, LoadHunk, read_load};
 use hunk_tool::{
     Explanation, ObjectFiles, ToolFault, explain_file, explain_link, explain_load, explain_object,
     read_object_files, write_explanation, write_link_explanation, write_places,
 };
-use hunk_words::{Fault, ReadFault, Sink, Source, Watched};
+use hunk_words::{Fault, ReadFault, Sink, Source, Text, Watched};
 use std::alloc::Global;
 use std::fs;
 use std::rt::Files;
@@ -86,7 +88,9 @@ fn explain_offence<R: Files + AllocGlobal, W: Sink>(
     let Ok(Some(explanation)) = explanation_of(rt.alloc(), command, fault, &mut reader) else {
         return;
     };
-    let _ = write_explanation(&explanation, errors);
+    let mut text = Text::new(errors);
+    write_explanation(&mut text, &explanation);
+    let _ = text.finish();
 }
 
 /// Reads a file as this command does, to its first offence, and returns what is there if that is
@@ -152,7 +156,9 @@ fn explain_refusal<R: Files + AllocGlobal, W: Sink>(
     let Ok(explanation) = explain_link(rt.alloc(), &units, refusal) else {
         return;
     };
-    let _ = write_link_explanation(&explanation, names.as_slice(), errors);
+    let mut text = Text::new(errors);
+    write_link_explanation(&mut text, names.as_slice(), &explanation);
+    let _ = text.finish();
 }
 
 /// Tells of hunks that cannot be placed at the addresses of this command, if it has addresses.
@@ -193,7 +199,7 @@ fn explain_loaded_places<R: Files + AllocGlobal, W: Sink>(
     let Ok(loaded) = read_load(rt.alloc(), &mut reader) else {
         return;
     };
-    let _ = write_places(loaded.hunks(), bases.as_slice(), errors);
+    tell_places(errors, loaded.hunks(), bases.as_slice());
 }
 
 /// Tells of the hunks of the load file of the object files named `files`, beside these addresses.
@@ -211,7 +217,16 @@ fn explain_linked_places<R: Files + AllocGlobal, W: Sink>(
     let Some(loaded) = linked_again(rt, files) else {
         return;
     };
-    let _ = write_places(loaded.hunks(), bases.as_slice(), errors);
+    tell_places(errors, loaded.hunks(), bases.as_slice());
+}
+
+/// Tells of these hunks, beside the numbers of these addresses.
+fn tell_places<W: Sink>(errors: &mut W, hunks: &[LoadHunk], bases: &[u32])
+    ensures { TellsLine W.taken W.failed errors.old errors.new (places_text (sizes_of hunks.now) bases.now) }
+{
+    let mut text = Text::new(errors);
+    write_places(&mut text, hunks, bases);
+    let _ = text.finish();
 }
 
 /// The addresses, unless they are in a file that cannot be read again.

@@ -1,14 +1,14 @@
 //! Why a request failed: the line that reports it, and the exit status.
-ghost use Rattle.std.specs.Prelude.{◌≡◌, ◌≤◌, length, map, IfErr};
+ghost use Rattle.std.specs.Prelude.{◌≡◌, length, map};
 ghost use Rattle.std.specs.String.{string_bytes};
-ghost use Rattle.hunk_base.specs.Streams.{IsDevice, WroteAll};
+ghost use Rattle.hunk_tool.specs.FaultLine.{fault_line, IsOfInputs};
 ghost use Rattle.hunk_commands.specs.Addresses.{origin_of};
 ghost use Rattle.hunk_commands.specs.Failure.{about_line, bad_number_line, failure_line, origin_name};
 ghost use Rattle.hunk_commands.specs.Failure.{status_of, IsOfFiles, TellsLine};
 
 use crate::addresses::Addresses;
-use hunk_tool::{Phrase, ToolFault, status_of, write_fault, write_line};
-use hunk_words::{Sink, WriteFault};
+use hunk_tool::{ToolFault, status_of, write_fault};
+use hunk_words::{Sink, Text};
 
 /// The exit status of a request that was done, or of help that was asked for.
 pub const DONE: u8 = 0;
@@ -84,47 +84,55 @@ pub fn report_failure<W: Sink>(errors: &mut W, files: &[String], failure: &Failu
     ensures status { result ≡ status_of failure.now }
     ensures line { TellsLine W.taken W.failed errors.old errors.new (failure_line (map string_bytes files.now) failure.now) }
 {
-    let _ = write_failure(files, failure, errors);
+    tell_failure(errors, files, failure);
     failure.status()
 }
 
+/// Writes to `errors` why `clap` rejects the arguments, and returns the exit status.
+///
+/// The text is appended to `errors`, or a write failed: then it has taken the first bytes of the
+/// text, and nothing more is written.
+pub(crate) fn report_refusal<W: Sink>(errors: &mut W, told: &str) -> u8
+    ensures status { result ≡ 2 }
+    ensures line { TellsLine W.taken W.failed errors.old errors.new told.now }
+{
+    let mut text = Text::new(errors);
+    text.put(told.as_bytes());
+    let _ = text.finish();
+    COMMAND_LINE
+}
+
 /// Writes the line of a failure.
-fn write_failure<W: Sink>(
-    files: &[String],
-    failure: &Failure<'_>,
-    errors: &mut W,
-) -> Result<(), WriteFault>
+fn tell_failure<W: Sink>(errors: &mut W, files: &[String], failure: &Failure<'_>)
     requires { IsOfFiles (length files.now) failure.now }
-    ensures wrote { WroteAll W.taken W.failed errors.old errors.new (failure_line (map string_bytes files.now) failure.now) result }
-    ensures device { IfErr result IsDevice }
+    ensures { TellsLine W.taken W.failed errors.old errors.new (failure_line (map string_bytes files.now) failure.now) }
 {
     match failure {
-        Failure::BadNumber { addresses, index } => write_bad_number(*addresses, *index, errors),
-        Failure::Opening(file) => write_about(file, "cannot be opened", errors),
-        Failure::Reading(file) => write_about(file, "read failed", errors),
-        Failure::Writing(file) => write_about(file, "write failed", errors),
-        Failure::SameFile(file) => write_about(file, "given for both --out and --map", errors),
+        Failure::BadNumber { addresses, index } => tell_bad_number(errors, *addresses, *index),
+        Failure::Opening(file) => tell_about(errors, file, b"cannot be opened"),
+        Failure::Reading(file) => tell_about(errors, file, b"read failed"),
+        Failure::Writing(file) => tell_about(errors, file, b"write failed"),
+        Failure::SameFile(file) => tell_about(errors, file, b"given for both --out and --map"),
         Failure::Printing => {
             let output: ToolFault = ToolFault::Output { written: 0 };
-            write_fault(files, &output, errors)
+            tell_fault(errors, files, &output);
         }
-        Failure::Tool(fault) => write_fault(files, fault, errors),
+        Failure::Tool(fault) => tell_fault(errors, files, fault),
     }
 }
 
 /// Writes the line for a part of the addresses that is no number.
-fn write_bad_number<W: Sink>(
-    addresses: Addresses<'_>,
-    index: usize,
-    errors: &mut W,
-) -> Result<(), WriteFault>
-    ensures wrote { WroteAll W.taken W.failed errors.old errors.new (bad_number_line (origin_of addresses.entry) index) result }
-    ensures device { IfErr result IsDevice }
+fn tell_bad_number<W: Sink>(errors: &mut W, addresses: Addresses<'_>, index: usize)
+    ensures { TellsLine W.taken W.failed errors.old errors.new (bad_number_line (origin_of addresses.entry) index) }
 {
-    let after = " is not 1 to 8 hexadecimal digits";
-    let part = Phrase::decimal(": part ", index as u64, after);
-    let origin = origin_name(addresses);
-    write_line(origin.as_bytes(), &part, &Phrase::plain(""), errors)
+    let mut text = Text::new(errors);
+    text.put(b"amihunk: ");
+    text.put(origin_name(addresses).as_bytes());
+    text.put(b": part ");
+    text.put_decimal(index as u64);
+    text.put(b" is not 1 to 8 hexadecimal digits");
+    text.end_line();
+    let _ = text.finish();
 }
 
 /// What the line about bad addresses names.
@@ -138,11 +146,22 @@ fn origin_name<'a>(addresses: Addresses<'a>) -> &'a str
 }
 
 /// Writes the line that tells this about a file.
-fn write_about<W: Sink>(file: &str, told: &'static str, errors: &mut W) -> Result<(), WriteFault>
-    requires { length told.now ≤ 64 }
-    ensures wrote { WroteAll W.taken W.failed errors.old errors.new (about_line file.now told.now) result }
-    ensures device { IfErr result IsDevice }
+fn tell_about<W: Sink>(errors: &mut W, file: &str, told: &[u8])
+    ensures { TellsLine W.taken W.failed errors.old errors.new (about_line file.now told.now) }
 {
-    let told = Phrase::plain(told);
-    write_line(file.as_bytes(), &Phrase::plain(": "), &told, errors)
+    let mut text = Text::new(errors);
+    text.put(b"amihunk: ");
+    text.put(file.as_bytes());
+    text.put(b": ");
+    text.put(told);
+    text.end_line();
+    let _ = text.finish();
+}
+
+/// Writes the line for what `hunk_tool` returned.
+fn tell_fault<W: Sink>(errors: &mut W, files: &[String], fault: &ToolFault)
+    requires { IsOfInputs (length files.now) fault.now }
+    ensures { TellsLine W.taken W.failed errors.old errors.new (fault_line (map string_bytes files.now) fault.now) }
+{
+    let _ = write_fault(files, fault, errors);
 }

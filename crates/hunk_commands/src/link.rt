@@ -2,6 +2,7 @@
 ghost use Rattle.std.specs.Prelude.{◌≡◌, Err, IfOk, IfErr, OnOk, length, map};
 ghost use Rattle.std.specs.Io.KnownBytes.{Appends};
 ghost use Rattle.std.specs.String.{string_bytes};
+ghost use Rattle.hunk_base.specs.Streams.{WroteText};
 ghost use Rattle.hunk_loadfile.specs.WrittenForm.{IsShortEnough};
 ghost use Rattle.hunk_tool.specs.Inputs.{file_names};
 ghost use Rattle.hunk_tool.specs.Map.{map_text};
@@ -15,6 +16,7 @@ use crate::failure::Failure;
 use crate::inputs::open_inputs;
 use hunk_loadfile::LoadFile;
 use hunk_tool::{LinkOptions, ObjectFiles, link_files, link_inputs, write_map};
+use hunk_words::{Sink, Text, WriteFault};
 use std::alloc::Global;
 use std::io::Write;
 use std::rt::Files;
@@ -168,8 +170,23 @@ pub fn write_map_to<'a, O: Write + Drop>(
     ensures err { IfErr result IsCutShort }
 {
     let mut writer = buffered(alloc, output)?;
-    match write_map(units, names, file, &mut writer) {
+    match write_whole_map(units, names, file, &mut writer) {
         Ok(()) => flushed(writer),
         Err(_) => Err(Failure::Printing),
     }
+}
+
+/// Writes that map.
+fn write_whole_map<W: Sink>(
+    units: &ObjectFiles,
+    names: &[String],
+    file: &LoadFile,
+    writer: &mut W,
+) -> Result<(), WriteFault>
+    requires { length (origins units.now) ≡ length file.now }
+    ensures { WroteText W.taken W.failed writer.old writer.new (map_text (map string_bytes names.now) file.now units.now) result }
+{
+    let mut text = Text::new(writer);
+    write_map(&mut text, units, names, file);
+    text.finish()
 }

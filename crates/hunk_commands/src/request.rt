@@ -9,7 +9,7 @@ ghost use Rattle.hunk_commands.specs.Request.{Ends, EndsImage, EndsLink, EndsLoa
 
 use crate::addresses::Addresses;
 use crate::explain::{Command, explain_failure};
-use crate::failure::{COMMAND_LINE, DONE, Failure, report_failure};
+use crate::failure::{DONE, Failure, report_failure, report_refusal};
 use crate::image::image;
 use crate::inputs::names_of;
 use crate::link::{link, link_with_map};
@@ -18,7 +18,7 @@ use crate::survey::survey;
 use crate::text::{Text, print_text};
 use crate::version::print_version;
 use hunk_tool::{ImageForm, LinkOptions};
-use hunk_words::{Sink, write_all};
+use hunk_words::Sink;
 use std::rt::Files;
 
 /// What the arguments of a command line ask for.
@@ -136,10 +136,7 @@ pub fn answer<R: Files + Print + AllocGlobal, W: Sink>(
             Ok(()) => DONE,
             Err(_) => report_failure(errors, &[], &Failure::Printing),
         },
-        Request::Refused(text) => {
-            let _ = write_all(errors, 0, text.as_bytes());
-            COMMAND_LINE
-        }
+        Request::Refused(text) => report_refusal(errors, &text),
         Request::OutOfMemory => report_failure(errors, &[], &Failure::out_of_memory()),
     }
 }

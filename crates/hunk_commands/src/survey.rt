@@ -1,13 +1,15 @@
 //! The request `survey`: what each of some files is.
 ghost use Rattle.std.specs.Prelude.{IfOk, IfErr};
+ghost use Rattle.hunk_base.specs.Streams.{WroteText};
 ghost use Rattle.hunk_tool.specs.Inputs.{file_names};
+ghost use Rattle.hunk_tool.specs.Survey.{totals_line};
 ghost use Rattle.hunk_commands.specs.Devices.{IsCutShort};
 ghost use Rattle.hunk_commands.specs.Survey.{IsSurveyed, IsSurveyedSomewhere};
 
 use crate::devices::{buffered, flushed};
 use crate::failure::Failure;
-use hunk_tool::{FileSystem, SurveyFault, survey_files, survey_status, write_totals};
-use hunk_words::Watched;
+use hunk_tool::{FileSystem, Finding, SurveyFault, survey_files, survey_status, write_totals};
+use hunk_words::{Sink, Text, Watched, WriteFault};
 use std::alloc::Global;
 use std::io::Write;
 use std::rt::Files;
@@ -56,11 +58,20 @@ pub fn survey_to<'a, R: Files, O: Write + Drop>(
             return Err(failure_of(fault));
         }
     };
-    let Ok(_) = write_totals(&findings, &mut writer) else {
+    let Ok(()) = write_last_line(&findings, &mut writer) else {
         return Err(Failure::Printing);
     };
     let output = flushed(writer)?;
     Ok((output, survey_status(&findings)))
+}
+
+/// Writes the line with the numbers of files.
+fn write_last_line<W: Sink>(findings: &[Finding], writer: &mut W) -> Result<(), WriteFault>
+    ensures { WroteText W.taken W.failed writer.old writer.new (totals_line findings.now) result }
+{
+    let mut text = Text::new(writer);
+    write_totals(&mut text, findings);
+    text.finish()
 }
 
 /// Why a survey was not printed.

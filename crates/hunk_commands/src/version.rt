@@ -1,11 +1,12 @@
 //! The request `--version`: the version of the program.
 ghost use Rattle.std.specs.Prelude.{◌≡◌, IfOk, IfErr};
 ghost use Rattle.std.specs.Io.KnownBytes.{Appends};
+ghost use Rattle.hunk_base.specs.Streams.{WroteText};
 ghost use Rattle.hunk_commands.specs.Version.{version_line, IsVersionFailure};
 
 use crate::devices::flush;
 use crate::failure::Failure;
-use hunk_words::{Watched, write_all};
+use hunk_words::{Sink, Text, Watched, WriteFault};
 use std::io;
 use std::io::Write;
 
@@ -37,8 +38,17 @@ pub fn write_version<'a, O: Write + Drop>(output: O) -> Result<O, Failure<'a>>
     ensures err { IfErr result (λ failure. failure ≡ Failure.Printing) }
 {
     let mut writer = Watched::new(output);
-    match write_all(&mut writer, 0, LINE) {
-        Ok(_) => flush(writer.into_inner()),
+    match write_line(&mut writer) {
+        Ok(()) => flush(writer.into_inner()),
         Err(_) => Err(Failure::Printing),
     }
+}
+
+/// Writes that line.
+fn write_line<W: Sink>(writer: &mut W) -> Result<(), WriteFault>
+    ensures { WroteText W.taken W.failed writer.old writer.new version_line result }
+{
+    let mut text = Text::new(writer);
+    text.put(LINE);
+    text.finish()
 }

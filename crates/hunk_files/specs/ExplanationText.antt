@@ -1,24 +1,31 @@
 -- The lines that explain the first offence of a file.
-use Rattle.std.specs.Prelude.{ℕ, zero, suc, pred, ◌++◌, Bool, true, List, [], ◌∷◌, if◌then◌else◌, Option, Some, None, codes}
+use Rattle.std.specs.Prelude.{ℕ, zero, suc, pred, ◌++◌, Bool, true, List, [], if◌then◌else◌, Option, Some, None, codes}
 use Rattle.std.specs.Fmt.{decimal}
-use Rattle.hunk_text.specs.Digits.{eight_digits}
+use Rattle.hunk_base.specs.Digits.{eight_digits}
+use Rattle.hunk_base.specs.Text.{line}
 use Rattle.hunk_words.specs.declared.due.Due.{Due}
 use Rattle.hunk_words.specs.declared.due.Due.TheVariants as due_is
 use Rattle.hunk_words.specs.declared.kinds.BlockType.{BlockType}
 use Rattle.hunk_words.specs.declared.kinds.BlockType.TheVariants as block
 use Rattle.hunk_words.specs.declared.kinds.HunkKind.TheVariants.{Code, Data, Bss}
 use Rattle.hunk_files.specs.Path.{is_type}
-use Rattle.hunk_text.specs.Phrase.{joined_texts}
 use Rattle.hunk_files.specs.declared.explanation.Explanation.{Explanation}
 use Rattle.hunk_files.specs.declared.explanation.Found.{Found}
 use Rattle.hunk_files.specs.declared.explanation.Found.TheVariants.{Longword, End}
 use Rattle.hunk_files.specs.declared.path.Path.{Path}
 
+-- after how many bytes of a longword the file ends
+abbrev pub ended_after : ℕ → List ℕ
+ended_after zero = []
+ended_after (suc count) = codes ", after " ++ decimal (suc count) ++ codes " of the 4 bytes of a longword"
+
+abbrev pub end_text : ℕ → List ℕ
+end_text count = codes "the end of the file" ++ ended_after count
+
 -- what was found
 abbrev pub found_text : Found → List ℕ
 found_text (Longword word) = eight_digits word
-found_text (End zero) = codes "the end of the file"
-found_text (End (suc count)) = codes "the end of the file, after " ++ decimal (suc count) ++ codes " of the 4 bytes of a longword"
+found_text (End count) = end_text count
 
 -- the unit, counted from 0; nothing in a load file
 abbrev pub unit_number : ℕ → List ℕ
@@ -28,13 +35,16 @@ unit_number (suc unit) = codes "unit " ++ decimal unit ++ codes ", "
 abbrev pub unit_text : Path → List ℕ
 unit_text path = unit_number path.units
 
+abbrev pub hunk_place : ℕ → List ℕ
+hunk_place number = codes "hunk " ++ decimal number ++ codes ", "
+
 -- the hunk that a block is in, where so many hunks have ended; nothing before the first one
 abbrev pub hunk_number : Option BlockType → ℕ → List ℕ
 hunk_number None hunks = []
 hunk_number (Some block.Unit) hunks = []
 hunk_number (Some block.Header) hunks = []
-hunk_number (Some block.End) hunks = codes "hunk " ++ decimal (pred hunks) ++ codes ", "
-hunk_number (Some type) hunks = codes "hunk " ++ decimal hunks ++ codes ", "
+hunk_number (Some block.End) hunks = hunk_place (pred hunks)
+hunk_number (Some type) hunks = hunk_place hunks
 
 abbrev pub hunk_text : Path → List ℕ
 hunk_text path = hunk_number path.block path.hunks
@@ -106,7 +116,7 @@ due_text due_is.ShortPad = codes "16-bit words, first a pad"
 
 -- four lines: where in bytes, what was found, in which unit, hunk and block, and what was due
 abbrev pub explanation_text : Explanation → List ℕ
-explanation_text e = joined_texts (
-    (codes "  at byte " ++ decimal e.offset ++ codes " (") ∷ (eight_digits e.offset ++ codes ")\n  found ") ∷ found_text e.found
-    ∷ codes "\n  path: " ∷ unit_text e.path ∷ hunk_text e.path ∷ side_text e.path e.due ∷ block_name e.path
-    ∷ codes "\n  due: " ∷ due_text e.due ∷ codes "\n" ∷ [])
+explanation_text e =
+    line (codes "  at byte " ++ decimal e.offset ++ codes " (" ++ eight_digits e.offset ++ codes ")\n  found " ++ found_text e.found
+    ++ codes "\n  path: " ++ unit_text e.path ++ hunk_text e.path ++ side_text e.path e.due ++ block_name e.path
+    ++ codes "\n  due: " ++ due_text e.due)

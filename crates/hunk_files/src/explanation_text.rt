@@ -1,27 +1,17 @@
 //! The lines that explain the first offence of a file.
 
-ghost use Rattle.std.specs.Prelude.{◌≡◌, ◌≤◌, length, IfErr};
-ghost use Rattle.hunk_base.specs.Streams.{IsDevice, WroteAll};
-ghost use Rattle.hunk_files.specs.ExplanationText.{block_name, due_text, explanation_text, found_text, hunk_text, side_text, unit_text};
-ghost use Rattle.hunk_text.specs.Phrase.{phrase_text};
+ghost use Rattle.std.specs.Prelude.{◌≡◌};
+ghost use Rattle.hunk_base.specs.Text.{Puts};
+ghost use Rattle.hunk_files.specs.ExplanationText.{block_name, due_text, end_text, explanation_text, found_text, hunk_place, hunk_text, side_text, unit_text};
 
 use crate::explanation::{Explanation, Found};
 use crate::path::{Path, is_type};
-use hunk_text::Phrase;
-use hunk_words::{BlockType, Due, HunkKind, Sink, WriteFault};
+use hunk_words::{BlockType, Due, HunkKind, Sink, Text};
 
 /// Writes four lines, each after two spaces: where the offence is, in bytes from 0; what is there; in
 /// which unit, hunk and block it is, or after which; and what was due. It does not allocate.
-///
-/// # Errors
-///
-/// [`WriteFault::Device`] where a write failed, or took no byte.
-pub fn write_explanation<W: Sink>(
-    explanation: &Explanation,
-    writer: &mut W,
-) -> Result<(), WriteFault>
-    ensures wrote { WroteAll W.taken W.failed writer.old writer.new (explanation_text explanation.now) result }
-    ensures device { IfErr result IsDevice }
+pub fn write_explanation<W: Sink>(text: &mut Text<'_, W>, explanation: &Explanation)
+    ensures { Puts W.taken W.failed text.old text.new (explanation_text explanation.now) }
 {
     let Explanation {
         offset,
@@ -30,64 +20,78 @@ pub fn write_explanation<W: Sink>(
         path,
         ..
     } = *explanation;
-    Phrase::write_all(
-        &[
-            Phrase::decimal("  at byte ", u64::from(offset), " ("),
-            Phrase::hexadecimal("", offset, ")\n  found "),
-            found_phrase(found),
-            Phrase::plain("\n  path: "),
-            unit_phrase(path),
-            hunk_phrase(path),
-            Phrase::plain(side_text(path, due)),
-            Phrase::plain(block_name(path)),
-            Phrase::plain("\n  due: "),
-            Phrase::plain(due_text(due)),
-            Phrase::plain("\n"),
-        ],
-        writer,
-    )
+    text.put(b"  at byte ");
+    text.put_decimal(u64::from(offset));
+    text.put(b" (");
+    text.put_longword(offset);
+    text.put(b")\n  found ");
+    write_found(text, found);
+    text.put(b"\n  path: ");
+    write_unit(text, path);
+    write_hunk(text, path);
+    text.put(side_text(path, due).as_bytes());
+    text.put(block_name(path).as_bytes());
+    text.put(b"\n  due: ");
+    text.put(due_text(due).as_bytes());
+    text.end_line();
 }
 
-// What was found.
-fn found_phrase(found: Found) -> Phrase
-    ensures { phrase_text result ≡ found_text found }
+/// Writes what was found.
+fn write_found<W: Sink>(text: &mut Text<'_, W>, found: Found)
+    ensures { Puts W.taken W.failed text.old text.new (found_text found) }
 {
     match found {
-        Found::Longword(word) => Phrase::hexadecimal("", word, ""),
-        Found::End(0) => Phrase::plain("the end of the file"),
-        Found::End(count) => Phrase::decimal(
-            "the end of the file, after ",
-            u64::from(count),
-            " of the 4 bytes of a longword",
-        ),
+        Found::Longword(word) => text.put_longword(word),
+        Found::End(count) => write_end(text, count),
     }
 }
 
-// The unit of a path; nothing in a load file.
-fn unit_phrase(path: Path) -> Phrase
-    ensures { phrase_text result ≡ unit_text path }
+/// Writes that the file ends, after `count` bytes of a longword.
+fn write_end<W: Sink>(text: &mut Text<'_, W>, count: u8)
+    ensures { Puts W.taken W.failed text.old text.new (end_text count) }
 {
-    match path.units {
-        0 => Phrase::plain(""),
-        units => Phrase::decimal("unit ", units - 1, ", "),
+    text.put(b"the end of the file");
+    if count > 0 {
+        text.put(b", after ");
+        text.put_decimal(u64::from(count));
+        text.put(b" of the 4 bytes of a longword");
     }
 }
 
-// The hunk of a path; nothing before the first one. The block that ends a hunk belongs to it.
-fn hunk_phrase(path: Path) -> Phrase
-    ensures { phrase_text result ≡ hunk_text path }
+/// Writes the unit of a path; nothing in a load file.
+fn write_unit<W: Sink>(text: &mut Text<'_, W>, path: Path)
+    ensures { Puts W.taken W.failed text.old text.new (unit_text path) }
+{
+    if path.units > 0 {
+        text.put(b"unit ");
+        text.put_decimal(path.units - 1);
+        text.put(b", ");
+    }
+}
+
+/// Writes the hunk of a path; nothing before the first one. The block that ends a hunk belongs to it.
+fn write_hunk<W: Sink>(text: &mut Text<'_, W>, path: Path)
+    ensures { Puts W.taken W.failed text.old text.new (hunk_text path) }
 {
     match path.block {
-        None | Some(BlockType::Unit | BlockType::Header) => Phrase::plain(""),
-        Some(BlockType::End) => Phrase::decimal("hunk ", path.hunks.saturating_sub(1), ", "),
-        Some(_) => Phrase::decimal("hunk ", path.hunks, ", "),
+        None | Some(BlockType::Unit | BlockType::Header) => {}
+        Some(BlockType::End) => write_hunk_number(text, path.hunks.saturating_sub(1)),
+        Some(_) => write_hunk_number(text, path.hunks),
     }
 }
 
-// Whether the offence is in the last block, or after it.
+/// Writes the number of a hunk, before what is in it.
+fn write_hunk_number<W: Sink>(text: &mut Text<'_, W>, number: u64)
+    ensures { Puts W.taken W.failed text.old text.new (hunk_place number) }
+{
+    text.put(b"hunk ");
+    text.put_decimal(number);
+    text.put(b", ");
+}
+
+/// Whether the offence is in the last block, or after it.
 fn side_text(path: Path, due: Due) -> &'static str
-    ensures text { result.now ≡ side_text path due }
-    ensures short { length result.now ≤ 64 }
+    ensures { result.now ≡ side_text path due }
 {
     if path.block.is_none() {
         ""
@@ -98,10 +102,9 @@ fn side_text(path: Path, due: Due) -> &'static str
     }
 }
 
-// The name of the last block, as `doshunks.h` has it.
+/// The name of the last block, as `doshunks.h` has it.
 fn block_name(path: Path) -> &'static str
-    ensures text { result.now ≡ block_name path }
-    ensures short { length result.now ≤ 64 }
+    ensures { result.now ≡ block_name path }
 {
     match path.block {
         None => "start of the file",
@@ -121,10 +124,9 @@ fn block_name(path: Path) -> &'static str
     }
 }
 
-// What was due.
+/// What was due.
 fn due_text(due: Due) -> &'static str
-    ensures text { result.now ≡ due_text due }
-    ensures short { length result.now ≤ 64 }
+    ensures { result.now ≡ due_text due }
 {
     match due {
         Due::ObjectStart => "HUNK_UNIT, which begins an object file",

@@ -2,7 +2,7 @@
 
 ghost use Rattle.std.specs.Prelude.{◌≡◌, IsTrue, OnOk, IfOk, IfErr, string_bytes};
 ghost use Rattle.serde_json.specs.Written.{compact_text};
-ghost use Rattle.hunk_base.specs.Streams.{HasRead};
+ghost use Rattle.hunk_base.specs.Streams.{HasRead, IsDevice, WroteAll};
 ghost use Rattle.hunk_tool.specs.FileText.{IsTextFault, IsWritten};
 ghost use Rattle.hunk_files.specs.HunkFile.{value_of};
 ghost use Rattle.hunk_tool.specs.Load.{ends_of};
@@ -11,7 +11,7 @@ ghost use Rattle.hunk_json.specs.Run.{file_json, json_text};
 use crate::load::load_json_text;
 use crate::object::object_json_text;
 use hunk_tool::{File, HunkFile, ToolFault, read_hunk_file};
-use hunk_words::{Sink, Source, write_all};
+use hunk_words::{Sink, Source, Text, WriteFault};
 use std::alloc::{AllocError, Global};
 
 /// Reads a file to the reader's end, and writes what is in it as one JSON document, on one line: what
@@ -40,9 +40,18 @@ pub fn json_run<R: Source, W: Sink>(
         (W.taken writer.old) (W.taken writer.new) (W.failed writer.new))) }
 {
     let file = read_hunk_file(alloc, reader)?;
-    let text = line_of(alloc, &file)?;
-    write_all(writer, 0, text.as_bytes())?;
-    Ok(())
+    let line = line_of(alloc, &file)?;
+    Ok(write_line(line.as_str(), writer)?)
+}
+
+/// Writes this line.
+fn write_line<W: Sink>(line: &str, writer: &mut W) -> Result<(), WriteFault>
+    ensures wrote { WroteAll W.taken W.failed writer.old writer.new line.now result }
+    ensures device { IfErr result IsDevice }
+{
+    let mut text = Text::new(writer);
+    text.put(line.as_bytes());
+    text.finish()
 }
 
 /// The text of a file, and the end of its line.

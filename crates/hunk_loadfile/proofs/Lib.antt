@@ -8,6 +8,7 @@ pub mod LoadFormLemmas
 pub mod ShortNumbersLemmas
 pub mod WrittenFormLengthLemmas
 pub mod NumberWidthLemmas
+pub mod PutsLemmas
 pub mod LongwordWriterLemmas
 pub mod LoadWriterLemmas
 pub mod OpenHunkLemmas

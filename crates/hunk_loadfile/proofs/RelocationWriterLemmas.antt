@@ -3,14 +3,13 @@
 use Rattle.std.proofs.Common.{◌≡◌, ◌==◌, ◌&&◌, not, ◌<◌, ◌≤◌, ◌+◌, ◌-◌, ◌*◌, ◌/◌, ◌%◌, ◌^◌, ◌∙◌, ℕ, zero, suc, inl, inr, Bool, false, List, [], ◌∷◌, ◌++◌, length, map, take, drop, get_or, replicate, sym, ap, refl, subst, append-nil, eq-eqb, arith}
 use Rattle.std.proofs.lemmas.Bool.{cases_eq, cases_lt, ne_eqb}
 use Rattle.std.proofs.lemmas.List.{length-append, length-drop, length-map, length-take-le, map-append, take-append-drop, get_or-take, get_or-drop}
-use Rattle.std.proofs.lemmas.List.Elements.{All-drop, All-from_recursion, All-take, All-weaker, filter-append, filter_agree, recursion_from_All}
+use Rattle.std.proofs.lemmas.List.Elements.{All-from_recursion, All-weaker, filter-append, filter_agree, recursion_from_All}
 use Rattle.std.proofs.lemmas.List.Sorted.{All-permutation, IsNonDecreasingBy-drop, length_permutation}
 use Rattle.std.specs.List.{All, AllByRecursion, filter, flat_map, range_with_len}
 use Rattle.std.specs.List.Sorted.{IsNonDecreasingBy, IsStableByKey, ties}
 use Rattle.std.specs.Ordering.{is_lt, nat_cmp}
 use Rattle.std.specs.Cmp.{nat_cmp_is}
 use Rattle.std.specs.declared.cmp.Ordering.TheVariants.{Less, Equal, Greater}
-use Rattle.std.proofs.Math.Seq.{drop-append_seam, take-append_seam}
 use Rattle.hunk_base.specs.Name.{bytes_of}
 use Rattle.hunk_base.specs.Sites.{StandFrom}
 use Rattle.byteorder.specs.Endian.{big_bytes}
@@ -23,8 +22,8 @@ use Rattle.hunk_loadfile.specs.declared.load_form.LoadForm.{LoadForm}
 use Rattle.hunk_loadfile.specs.LoadForm.{long_sites, short_sites}
 use Rattle.hunk_loadfile.proofs.LoadFormLemmas.{AllByRecursion-filter, stand-few}
 use Rattle.hunk_loadfile.proofs.ShortNumbersLemmas.{short_groups-fit}
+use Rattle.hunk_loadfile.proofs.PutsLemmas.{All-front}
 use Rattle.hunk_loadfile.proofs.LongwordWriterLemmas.{bytes_of-append, length-bytes_of}
-use Rattle.hunk_loadfile.proofs.NumberWidthLemmas.{length-bytes_in-le}
 
 -- ---- the offsets of a target
 
@@ -96,7 +95,7 @@ groups_from-nil : (from count : ℕ) → groups_from from count [] ≡ []
 groups_from-nil from zero = refl
 groups_from-nil from (suc count) = groups_from-nil (from + 1) count
 
-pub groups_words-nil : (count : ℕ) → groups_words count [] ≡ []
+groups_words-nil : (count : ℕ) → groups_words count [] ≡ []
 groups_words-nil count = groups_from-nil 0 count
 
 module _ (target : ℕ) (group behind : List (ℕ × ℕ)) (same : All (λ (pair : ℕ × ℕ). pair.1 ≡ target) group) (above : All (λ (pair : ℕ × ℕ). target < pair.1) behind) where
@@ -143,27 +142,16 @@ module _ (target : ℕ) (group behind pairs : List (ℕ × ℕ)) (is : IsGroup t
   pub group-length : length group + length behind ≡ length pairs
   group-length = omega (arith, ap length is.parts, length-append group behind)
 
-  -- sites of lower targets
-  pub All-behind : (P : ℕ × ℕ → Type 0) → All P pairs → All P behind
-  All-behind P all =
-      subst (All P) (drop-append_seam group behind) (All-drop P (length group) (group ++ behind) (subst (All P) is.parts all))
-
   -- the groups are the first one and those of the sites after it
   pub groups_words-first : (count : ℕ) → All (λ (pair : ℕ × ℕ). pair.1 < count) pairs → groups_words count pairs ≡ group_words target (map offset_of group) ++ groups_words count behind
   groups_words-first count below =
-      let front = subst (All (λ (pair : ℕ × ℕ). pair.1 < count)) (take-append_seam group behind) (All-take (λ (pair : ℕ × ℕ). pair.1 < count) (length group) (group ++ behind) (subst (All (λ (pair : ℕ × ℕ). pair.1 < count)) is.parts below)) in
+      let front = All-front (λ (pair : ℕ × ℕ). pair.1 < count) group behind pairs is.parts below in
       ap (groups_words count) is.parts ∙ groups-first target group behind is.same is.above 0 count (omega arith) (omega (arith, target-below target count group is.some is.same front))
 
 -- the longwords of a group
 length-words : (target : ℕ) (os : List ℕ) → 0 < length os → length (group_words target os) ≡ 2 + length os
 length-words target [] some = absurd (omega arith)
 length-words target (o ∷ os) some = omega arith
-
-pub length-group : (width : NumberWidth) (target : ℕ) (group behind pairs : List (ℕ × ℕ)) → IsGroup target group behind pairs → length (bytes_in width (group_words target (map offset_of group))) ≤ 4 * (2 + length group)
-length-group width target group behind pairs is =
-    let same = length-map group offset_of in
-    let some_offsets : 0 < length (map offset_of group) = omega (arith, same, is.some) in
-    omega (arith, length-bytes_in-le width (group_words target (map offset_of group)), length-words target (map offset_of group) some_offsets, same)
 
 pub group_words-some : (target : ℕ) (group : List (ℕ × ℕ)) → 0 < length group → group_words target (map offset_of group) ≡ (length group ∷ target ∷ []) ++ map offset_of group
 group_words-some target [] some = absurd (omega arith)
@@ -173,12 +161,22 @@ group_words-some target (x ∷ xs) some = ap (λ (n : ℕ). n ∷ target ∷ x.0
 abbrev pub words_of : {target : ℕ} {group behind pairs : List (ℕ × ℕ)} → IsGroup target group behind pairs → List ℕ
 words_of {target} {group} is = group_words target (map offset_of group)
 
+pub length-words_of : (target : ℕ) (group behind pairs : List (ℕ × ℕ)) (is : IsGroup target group behind pairs) → length (words_of is) ≡ 2 + length group
+length-words_of target group behind pairs is =
+    let same = length-map group offset_of in
+    omega (arith, is.some, same, length-words target (map offset_of group) (omega (arith, same, is.some)))
+
 -- the groups, around the next one
 pub groups-around : (target : ℕ) (group behind pairs all : List (ℕ × ℕ)) → IsGroup target group behind pairs → (words : List ℕ) (count : ℕ)
     → All (λ (pair : ℕ × ℕ). pair.1 < count) pairs → words ++ groups_words count pairs ≡ groups_words count all
     → words ++ (group_words target (map offset_of group) ++ groups_words count behind) ≡ groups_words count all
 groups-around target group behind pairs all is words count below whole =
     ap (λ (ws : List ℕ). words ++ ws) (sym (groups_words-first target group behind pairs is count below)) ∙ whole
+
+-- the groups, if no site is left
+pub groups-all : (count : ℕ) (words : List ℕ) (rest all : List (ℕ × ℕ)) → length rest ≡ 0 → words ++ groups_words count rest ≡ groups_words count all → words ≡ groups_words count all
+groups-all count words [] all none whole = sym (append-nil words) ∙ ap (λ (ws : List ℕ). words ++ ws) (sym (groups_words-nil count)) ∙ whole
+groups-all count words (x ∷ rest) all none whole = absurd (omega arith)
 
 -- ---- the block
 

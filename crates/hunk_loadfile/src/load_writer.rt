@@ -1,9 +1,10 @@
 //! Load files as bytes: writing one, hunk by hunk.
-ghost use Rattle.std.specs.Prelude.{◌≡◌, ◌+◌, ◌*◌, ◌<◌, ◌≤◌, ◌^◌, ◌++◌, ℕ, length, map};
+ghost use Rattle.std.specs.Prelude.{◌≡◌, ◌<◌, ◌≤◌, ◌^◌, ◌++◌, ℕ, length, map, OnErr, OnOk};
 ghost use Rattle.std.specs.List.{All, flat_map};
 ghost use Rattle.hunk_base.specs.Longwords.{longwords};
 ghost use Rattle.hunk_base.specs.Name.{bytes_of};
-ghost use Rattle.hunk_base.specs.Streams.{Wrote, WroteAll};
+ghost use Rattle.hunk_base.specs.Streams.{WroteAll};
+ghost use Rattle.hunk_base.specs.Text.{Puts, PutsFront};
 ghost use Rattle.hunk_loadfile.specs.Rules.{IsLoadFile, IsLoadHunk, carried_by, most_hunks, most_size};
 ghost use Rattle.hunk_loadfile.specs.WrittenForm.{content_words, header_words, hunk_words, size_word, written_form, written_in};
 
@@ -14,8 +15,8 @@ use crate::load_hunk::LoadHunk;
 use crate::longword_writer::write_longwords;
 use crate::relocation_writer::write_sites;
 use hunk_words::doshunks::{HUNK_BSS, HUNK_CODE, HUNK_DATA, HUNK_END, HUNK_HEADER};
-use hunk_words::{HunkKind, Memory, Sink, WriteFault, write_all};
-use std::alloc::Allocator;
+use hunk_words::{HunkKind, Memory, Sink, Text, WriteFault};
+use std::alloc::{AllocError, Allocator};
 
 /// Writes a load file in its plain form: [`write_load_with`] and [`LoadForm::Plain`].
 ///
@@ -53,58 +54,57 @@ pub fn write_load_with<A: Allocator + Copy, W: Sink>(
 ) -> Result<(), WriteFault>
     ensures wrote { WroteAll W.taken W.failed writer.old writer.new (bytes_of (written_in form file.now)) result }
 {
-    let _length = write_file(alloc, file, form, writer)?;
-    Ok(())
+    let mut text = Text::new(writer);
+    match write_file(alloc, &mut text, file, form) {
+        Ok(()) => text.finish(),
+        Err(AllocError) => Err(text.out_of_memory()),
+    }
 }
 
-/// Writes a load file as [`write_load_with`] does, and returns the number of bytes written.
+/// Writes a load file in one of its forms.
+///
+/// # Errors
+///
+/// [`AllocError`] only if an allocation failed.
 pub(crate) fn write_file<A: Allocator + Copy, W: Sink>(
     alloc: A,
+    text: &mut Text<'_, W>,
     file: &LoadFile<A>,
     form: LoadForm,
-    writer: &mut W,
-) -> Result<u64, WriteFault>
-    ensures wrote { Wrote W.taken W.failed writer.old writer.new (bytes_of (written_in form file.now)) 0 result }
+) -> Result<(), AllocError>
+    ensures wrote { OnOk result (Puts W.taken W.failed text.old text.new (bytes_of (written_in form file.now))) }
+    ensures stopped { OnErr result (PutsFront W.taken W.failed text.old text.new (bytes_of (written_in form file.now))) }
+    ensures short { length (bytes_of (written_in form file.now)) < 2 ^ 64 }
 {
     let hunks = file.hunks();
-    let written = write_header(writer, hunks)?;
-    write_hunks(alloc, writer, written, form, hunks)
+    write_header(text, hunks);
+    write_hunks(alloc, text, form, hunks)
 }
 
-/// Writes the header, and returns the number of bytes written after it.
-fn write_header<A: Allocator + Copy, W: Sink>(
-    writer: &mut W,
-    hunks: &[LoadHunk<A>],
-) -> Result<u64, WriteFault>
-    requires valid { IsLoadFile hunks.now }
-    ensures wrote { Wrote W.taken W.failed writer.old writer.new (bytes_of (header_words hunks.now)) 0 result }
+/// Writes the header.
+fn write_header<A: Allocator + Copy, W: Sink>(text: &mut Text<'_, W>, hunks: &[LoadHunk<A>])
+    requires { IsLoadFile hunks.now }
+    ensures { Puts W.taken W.failed text.old text.new (bytes_of (header_words hunks.now)) }
 {
     let count = hunks.len() as u32;
-    let written = write_longwords(writer, 0, &[HUNK_HEADER, 0, count, 0, count - 1])?;
-    write_sizes(writer, written, hunks)
+    write_longwords(text, &[HUNK_HEADER, 0, count, 0, count - 1]);
+    write_sizes(text, hunks);
 }
 
 /// The number of hunks whose sizes are written at once.
 const CHUNK: usize = 64;
 
 /// Writes the sizes of a header. They go through an array of fixed size.
-fn write_sizes<A: Allocator + Copy, W: Sink>(
-    writer: &mut W,
-    written: u64,
-    hunks: &[LoadHunk<A>],
-) -> Result<u64, WriteFault>
-    requires small { All (λ h. h.size ≤ most_size) hunks.now }
-    requires room { written + 4 * length hunks.now < 2 ^ 64 }
-    ensures wrote { Wrote W.taken W.failed writer.old writer.new (bytes_of (map size_word hunks.now)) written result }
+fn write_sizes<A: Allocator + Copy, W: Sink>(text: &mut Text<'_, W>, hunks: &[LoadHunk<A>])
+    requires { All (λ h. h.size ≤ most_size) hunks.now }
+    ensures { Puts W.taken W.failed text.old text.new (bytes_of (map size_word hunks.now)) }
 {
     let mut room = [0; CHUNK];
-    let mut written = written;
     for chunk in hunks.chunks(CHUNK) {
         let words = &mut room[..chunk.len()];
         fill_sizes(words, chunk);
-        written = write_longwords(writer, written, words)?;
+        write_longwords(text, words);
     }
-    Ok(written)
 }
 
 /// Fills `words` with the sizes of these hunks, as a header has them.
@@ -131,58 +131,62 @@ fn size_word<A: Allocator + Copy>(hunk: &LoadHunk<A>) -> u32
     bits + hunk.size
 }
 
-/// Writes these hunks, each including its END.
+/// Writes these hunks, each including its END. Once the text has stopped, it leaves out the hunks
+/// that are left.
+///
+/// # Errors
+///
+/// [`AllocError`] only if an allocation failed.
 fn write_hunks<A: Allocator + Copy, W: Sink>(
     alloc: A,
-    writer: &mut W,
-    written: u64,
+    text: &mut Text<'_, W>,
     form: LoadForm,
     hunks: &[LoadHunk<A>],
-) -> Result<u64, WriteFault>
-    requires valid { IsLoadFile hunks.now }
-    requires room { written < 2 ^ 32 }
-    ensures wrote { Wrote W.taken W.failed writer.old writer.new (bytes_of (flat_map (hunk_words form (length hunks.now)) hunks.now)) written result }
+) -> Result<(), AllocError>
+    requires { IsLoadFile hunks.now }
+    ensures wrote { OnOk result (Puts W.taken W.failed text.old text.new (flat_map (λ hunk. bytes_of (hunk_words form (length hunks.now) hunk)) hunks.now)) }
+    ensures stopped { OnErr result (PutsFront W.taken W.failed text.old text.new (flat_map (λ hunk. bytes_of (hunk_words form (length hunks.now) hunk)) hunks.now)) }
 {
-    let mut written = written;
     for hunk in hunks {
-        written = write_hunk(alloc, writer, written, form, hunk)?;
+        if text.is_stopped() {
+            return Ok(());
+        }
+        write_hunk(alloc, text, form, hunk)?;
     }
-    Ok(written)
+    Ok(())
 }
 
 /// Writes a hunk, including its END.
+///
+/// # Errors
+///
+/// [`AllocError`] only if an allocation failed.
 fn write_hunk<A: Allocator + Copy, W: Sink>(
     alloc: A,
-    writer: &mut W,
-    written: u64,
+    text: &mut Text<'_, W>,
     form: LoadForm,
     hunk: &LoadHunk<A>,
-) -> Result<u64, WriteFault>
+) -> Result<(), AllocError>
     requires valid { IsLoadHunk most_hunks hunk.now }
-    requires small { hunk.now.size ≤ most_size }
     requires carries { carried_by hunk.now ≤ 2 ^ 28 }
-    requires room { written < 2 ^ 36 }
-    ensures wrote { (count : ℕ) → All (λ site. site.1 < count) hunk.now.sites.entries → Wrote W.taken W.failed writer.old writer.new (bytes_of (hunk_words form count hunk.now)) written result }
+    ensures wrote { (count : ℕ) → All (λ site. site.1 < count) hunk.now.sites.entries → OnOk result (Puts W.taken W.failed text.old text.new (bytes_of (hunk_words form count hunk.now))) }
+    ensures stopped { (count : ℕ) → OnErr result (PutsFront W.taken W.failed text.old text.new (bytes_of (hunk_words form count hunk.now))) }
 {
-    let written = write_content(writer, written, hunk)?;
-    let written = write_sites(alloc, writer, written, form, &hunk.sites)?;
-    let written = write_symbols(writer, written, &hunk.symbols)?;
-    let written = write_debugs(writer, written, &hunk.debugs)?;
-    write_longwords(writer, written, &[HUNK_END])
+    write_content(text, hunk);
+    write_sites(alloc, text, form, &hunk.sites)?;
+    write_symbols(text, &hunk.symbols);
+    write_debugs(text, &hunk.debugs);
+    write_longwords(text, &[HUNK_END]);
+    Ok(())
 }
 
-/// Writes what a file has for the content of a hunk. The bytes are written unchanged, in one call.
-fn write_content<A: Allocator + Copy, W: Sink>(
-    writer: &mut W,
-    written: u64,
-    hunk: &LoadHunk<A>,
-) -> Result<u64, WriteFault>
-    requires valid { IsLoadHunk most_hunks hunk.now }
-    requires room { written + 4 * (2 + hunk.now.size) < 2 ^ 64 }
-    ensures wrote { Wrote W.taken W.failed writer.old writer.new (bytes_of (content_words hunk.now.kind hunk.now.size (longwords hunk.now.content))) written result }
+/// Writes what a file has for the content of a hunk. The bytes are put unchanged, in one call.
+fn write_content<A: Allocator + Copy, W: Sink>(text: &mut Text<'_, W>, hunk: &LoadHunk<A>)
+    requires { IsLoadHunk most_hunks hunk.now }
+    ensures { Puts W.taken W.failed text.old text.new (bytes_of (content_words hunk.now.kind hunk.now.size (longwords hunk.now.content))) }
 {
-    let written = write_longwords(writer, written, &content_head(hunk))?;
-    write_all(writer, written, &hunk.content)
+    write_longwords(text, &content_head(hunk));
+    text.put(&hunk.content);
 }
 
 /// The longwords of a content block before its content.

@@ -1,12 +1,12 @@
 //! The numbers of a text, as they are written.
-ghost use Rattle.std.specs.Prelude.{◌≡◌, ◌+◌, ◌*◌, ◌%◌, ◌<◌, ◌≤◌, ◌^◌, length, map};
+ghost use Rattle.std.specs.Prelude.{◌≡◌, ◌*◌, ◌%◌, ◌≤◌, ◌^◌, length, map};
 ghost use Rattle.hunk_base.specs.Name.{bytes_of};
-ghost use Rattle.hunk_base.specs.Streams.{Wrote};
+ghost use Rattle.hunk_base.specs.Text.{Puts};
 ghost use Rattle.hunk_loadfile.specs.NumberWidth.{bytes_in, width_bytes};
 
 use crate::number_width::NumberWidth;
 use byteorder::{BigEndian, ByteOrder};
-use hunk_words::{Sink, WriteFault, write_all};
+use hunk_words::{Sink, Text};
 
 /// The number of numbers that are written at once.
 const CHUNK: usize = 256;
@@ -14,38 +14,24 @@ const CHUNK: usize = 256;
 /// How many numbers a word can hold.
 const WORDS: u32 = 1 << 16;
 
-/// Writes these longwords of a text, each with its most significant byte first, after the first
-/// `written` bytes of it, and returns the number of bytes written after them.
-pub(crate) fn write_longwords<W: Sink>(
-    writer: &mut W,
-    written: u64,
-    words: &[u32],
-) -> Result<u64, WriteFault>
-    requires room { written + length (bytes_of words.now) < 2 ^ 64 }
-    ensures wrote { Wrote W.taken W.failed writer.old writer.new (bytes_of words.now) written result }
+/// Writes these longwords, each with its most significant byte first.
+pub(crate) fn write_longwords<W: Sink>(text: &mut Text<'_, W>, words: &[u32])
+    ensures { Puts W.taken W.failed text.old text.new (bytes_of words.now) }
 {
-    write_numbers(writer, written, NumberWidth::Longword, words)
+    write_numbers(text, NumberWidth::Longword, words);
 }
 
-/// Writes these numbers of a text in the given width, of each its lowest bytes, the most
-/// significant one first. They go through an array of fixed size.
-pub(crate) fn write_numbers<W: Sink>(
-    writer: &mut W,
-    written: u64,
-    width: NumberWidth,
-    numbers: &[u32],
-) -> Result<u64, WriteFault>
-    requires room { written + length (bytes_in width numbers.now) < 2 ^ 64 }
-    ensures wrote { Wrote W.taken W.failed writer.old writer.new (bytes_in width numbers.now) written result }
+/// Writes these numbers in the given width, of each its lowest bytes, the most significant one
+/// first. They go through an array of fixed size.
+pub(crate) fn write_numbers<W: Sink>(text: &mut Text<'_, W>, width: NumberWidth, numbers: &[u32])
+    ensures { Puts W.taken W.failed text.old text.new (bytes_in width numbers.now) }
 {
     let mut room = [0; 4 * CHUNK];
-    let mut written = written;
     for chunk in numbers.chunks(CHUNK) {
         let bytes = &mut room[..width.bytes() * chunk.len()];
         fill_bytes(bytes, width, chunk);
-        written = write_all(writer, written, bytes)?;
+        text.put(bytes);
     }
-    Ok(written)
 }
 
 /// Fills `bytes` with the numbers in the given width.

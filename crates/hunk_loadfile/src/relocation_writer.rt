@@ -1,10 +1,10 @@
 //! The relocation blocks of a hunk, as they are written.
-ghost use Rattle.std.specs.Prelude.{◌≡◌, ◌≢◌, ◌+◌, ◌*◌, ◌<◌, ◌≤◌, ◌^◌, ℕ, length, map, slice_index_or, IfOk};
+ghost use Rattle.std.specs.Prelude.{◌≡◌, ◌≢◌, ◌*◌, ◌<◌, ◌≤◌, ◌^◌, ℕ, [], length, map, slice_index_or, IfOk, OnErr, OnOk};
 ghost use Rattle.std.specs.List.{All};
 ghost use Rattle.std.specs.List.Sorted.{IsNonDecreasingBy};
 ghost use Rattle.hunk_base.specs.Name.{bytes_of};
 ghost use Rattle.hunk_base.specs.Sites.{AreApart};
-ghost use Rattle.hunk_base.specs.Streams.{Wrote};
+ghost use Rattle.hunk_base.specs.Text.{Puts};
 ghost use Rattle.hunk_loadfile.specs.LoadForm.{long_sites, short_sites};
 ghost use Rattle.hunk_loadfile.specs.NumberWidth.{bytes_in};
 ghost use Rattle.hunk_loadfile.specs.RelocationWriter.{AreByTarget, IsGroup, block_bytes};
@@ -13,38 +13,33 @@ ghost use Rattle.hunk_loadfile.specs.WrittenForm.{group_words, groups_words, rel
 use crate::load_form::LoadForm;
 use crate::longword_writer::{write_longwords, write_numbers};
 use crate::number_width::NumberWidth;
-use hunk_words::{Sink, Sites, WriteFault, write_all};
+use hunk_words::{Sink, Sites, Text};
 use std::alloc::{AllocError, Allocator};
 
-/// Writes the relocation blocks of a hunk, and returns the number of bytes written after them. A
-/// block without sites is not written. Each has a group for each target, in ascending order, with
-/// its offsets in ascending order (The AmigaDOS Manual, 3rd edition, "Amiga binary file
-/// structure"; the order is our own).
+/// Writes the relocation blocks of a hunk. A block without sites is not written. Each has a group
+/// for each target, in ascending order, with its offsets in ascending order (The AmigaDOS Manual,
+/// 3rd edition, "Amiga binary file structure"; the order is our own).
 ///
 /// It keeps only the pairs of offset and target of this hunk, and allocates them before it writes.
 ///
 /// # Errors
 ///
-/// `OutOfMemory` only if an allocation failed: nothing of the blocks is written then. `Device` only
-/// if a write failed or took no byte. In either case the writer has taken exactly the first
-/// `written` bytes of the text.
+/// [`AllocError`] only if an allocation failed: nothing of the blocks is written then.
 pub(crate) fn write_sites<W: Sink, A: Allocator + Copy>(
     alloc: A,
-    writer: &mut W,
-    written: u64,
+    text: &mut Text<'_, W>,
     form: LoadForm,
     sites: &Sites<u32, A>,
-) -> Result<u64, WriteFault>
-    requires room { written + 8 * (2 + 3 * length sites.now.entries) < 2 ^ 64 }
+) -> Result<(), AllocError>
     requires apart { AreApart sites.now }
     requires targets { All (λ site. site.1 < 2 ^ 16) sites.now.entries }
-    ensures wrote { (count : ℕ) → All (λ site. site.1 < count) sites.now.entries → Wrote W.taken W.failed writer.old writer.new (bytes_of (relocation_words form count sites.now.entries)) written result }
+    ensures wrote { (count : ℕ) → All (λ site. site.1 < count) sites.now.entries → OnOk result (Puts W.taken W.failed text.old text.new (bytes_of (relocation_words form count sites.now.entries))) }
+    ensures nothing { OnErr result (Puts W.taken W.failed text.old text.new []) }
 {
-    let Ok((short, long)) = by_target(alloc, form, sites) else {
-        return Err(WriteFault::OutOfMemory { written });
-    };
-    let written = write_block(writer, written, NumberWidth::Word, &short)?;
-    write_block(writer, written, NumberWidth::Longword, &long)
+    let (short, long) = by_target(alloc, form, sites)?;
+    write_block(text, NumberWidth::Word, &short);
+    write_block(text, NumberWidth::Longword, &long);
+    Ok(())
 }
 
 /// The sites of the short relocation block and those of the other, each in ascending order of
@@ -91,50 +86,39 @@ fn block_counts<A: Allocator + Copy>(form: LoadForm, sites: &Sites<u32, A>) -> (
 }
 
 /// Writes a relocation block whose sites are in ascending order of target, if there are sites.
-fn write_block<W: Sink>(
-    writer: &mut W,
-    written: u64,
-    width: NumberWidth,
-    pairs: &[(u32, u32)],
-) -> Result<u64, WriteFault>
+fn write_block<W: Sink>(text: &mut Text<'_, W>, width: NumberWidth, pairs: &[(u32, u32)])
     requires rise { IsNonDecreasingBy (λ pair. pair.1) pairs.now }
     requires few { length pairs.now < 2 ^ 32 }
-    requires room { written + 4 * (2 + 3 * length pairs.now) < 2 ^ 64 }
-    ensures wrote { (count : ℕ) → All (λ pair. pair.1 < count) pairs.now → Wrote W.taken W.failed writer.old writer.new (block_bytes width count pairs.now) written result }
-    ensures bound { IfOk result (λ end. end ≤ written + 4 * (2 + 3 * length pairs.now)) }
+    ensures { (count : ℕ) → All (λ pair. pair.1 < count) pairs.now → Puts W.taken W.failed text.old text.new (block_bytes width count pairs.now) }
 {
     if pairs.is_empty() {
-        return Ok(written);
+        return;
     }
-    let begun = write_longwords(writer, written, &[width.block_type()])?;
-    let grouped = write_groups(writer, begun, width, pairs)?;
-    let zeros = 4 - (grouped - begun) as usize % 4;
-    write_all(writer, grouped, &[0; 4][..zeros])
+    write_longwords(text, &[width.block_type()]);
+    let numbers = write_groups(text, width, pairs);
+    let zeros = 4 - width.bytes() * numbers % 4;
+    text.put(&[0; 4][..zeros]);
 }
 
-/// Writes the groups of sites that are in ascending order of target.
-fn write_groups<W: Sink>(
-    writer: &mut W,
-    written: u64,
-    width: NumberWidth,
-    pairs: &[(u32, u32)],
-) -> Result<u64, WriteFault>
+/// Writes the groups of sites that are in ascending order of target, and returns how many numbers
+/// they have.
+fn write_groups<W: Sink>(text: &mut Text<'_, W>, width: NumberWidth, pairs: &[(u32, u32)]) -> usize
     requires rise { IsNonDecreasingBy (λ pair. pair.1) pairs.now }
     requires few { length pairs.now < 2 ^ 32 }
-    requires room { written + 12 * length pairs.now < 2 ^ 64 }
-    ensures wrote { (count : ℕ) → All (λ pair. pair.1 < count) pairs.now → Wrote W.taken W.failed writer.old writer.new (bytes_in width (groups_words count pairs.now)) written result }
-    ensures from { IfOk result (λ end. written ≤ end) }
-    ensures bound { IfOk result (λ end. end ≤ written + 12 * length pairs.now) }
+    ensures wrote { (count : ℕ) → All (λ pair. pair.1 < count) pairs.now → Puts W.taken W.failed text.old text.new (bytes_in width (groups_words count pairs.now)) }
+    ensures counts { (count : ℕ) → All (λ pair. pair.1 < count) pairs.now → result ≡ length (groups_words count pairs.now) }
+    ensures few { result ≤ 3 * length pairs.now }
 {
-    let mut written = written;
+    let mut numbers = 0;
     let mut rest = pairs;
     'groups: while !rest.is_empty() {
         let target = rest[0].1;
         let (group, behind) = split_group(rest, target);
-        written = write_group(writer, written, width, target, group)?;
+        write_group(text, width, target, group);
+        numbers += 2 + group.len();
         rest = behind;
     }
-    Ok(written)
+    numbers
 }
 
 /// The sites of the first target, and those after them.
@@ -163,42 +147,32 @@ fn group_length(pairs: &[(u32, u32)], target: u32) -> usize
 
 /// Writes a group: the number of its sites, the target and the offsets.
 fn write_group<W: Sink>(
-    writer: &mut W,
-    written: u64,
+    text: &mut Text<'_, W>,
     width: NumberWidth,
     target: u32,
     group: &[(u32, u32)],
-) -> Result<u64, WriteFault>
+)
     requires some { 0 < length group.now }
     requires few { length group.now < 2 ^ 32 }
-    requires room { written + 4 * (2 + length group.now) < 2 ^ 64 }
-    ensures wrote { Wrote W.taken W.failed writer.old writer.new (bytes_in width (group_words target (map (λ pair. pair.0) group.now))) written result }
+    ensures { Puts W.taken W.failed text.old text.new (bytes_in width (group_words target (map (λ pair. pair.0) group.now))) }
 {
-    let begun = write_numbers(writer, written, width, &[group.len() as u32, target])?;
-    write_offsets(writer, begun, width, group)
+    write_numbers(text, width, &[group.len() as u32, target]);
+    write_offsets(text, width, group);
 }
 
 /// The number of offsets that are written at once.
 const CHUNK: usize = 256;
 
 /// Writes the offsets of these sites. They go through an array of fixed size.
-fn write_offsets<W: Sink>(
-    writer: &mut W,
-    written: u64,
-    width: NumberWidth,
-    group: &[(u32, u32)],
-) -> Result<u64, WriteFault>
-    requires room { written + 4 * length group.now < 2 ^ 64 }
-    ensures wrote { Wrote W.taken W.failed writer.old writer.new (bytes_in width (map (λ pair. pair.0) group.now)) written result }
+fn write_offsets<W: Sink>(text: &mut Text<'_, W>, width: NumberWidth, group: &[(u32, u32)])
+    ensures { Puts W.taken W.failed text.old text.new (bytes_in width (map (λ pair. pair.0) group.now)) }
 {
     let mut room = [0; CHUNK];
-    let mut written = written;
     for chunk in group.chunks(CHUNK) {
         let offsets = &mut room[..chunk.len()];
         fill_offsets(offsets, chunk);
-        written = write_numbers(writer, written, width, offsets)?;
+        write_numbers(text, width, offsets);
     }
-    Ok(written)
 }
 
 /// Fills `offsets` with the offsets of the sites.

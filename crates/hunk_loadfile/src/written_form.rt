@@ -6,7 +6,7 @@ ghost use Rattle.hunk_loadfile.specs.WrittenForm.{written_in};
 use crate::load_file::LoadFile;
 use crate::load_form::LoadForm;
 use crate::load_writer::{write_file, write_load_with};
-use hunk_words::{DeviceFault, Sink, Watched, WriteFault};
+use hunk_words::{DeviceFault, Sink, Text, Watched};
 use std::alloc::{AllocError, Allocator};
 
 /// The number of bytes that [`write_load_with`](crate::write_load_with) writes for this file in this form. It allocates the sites of one hunk
@@ -22,10 +22,19 @@ pub fn written_length<A: Allocator + Copy>(
 ) -> Result<u64, AllocError>
     ensures { IfOk result (λ count. count ≡ length (bytes_of (written_in form file.now))) }
 {
-    match write_file(alloc, file, form, &mut Discarding) {
-        Ok(count) => Ok(count),
-        Err(WriteFault::OutOfMemory { .. }) => Err(AllocError),
-        Err(WriteFault::Device { .. }) => unreachable!(),
+    let mut writer = Discarding;
+    let mut text = Text::new(&mut writer);
+    match write_file(alloc, &mut text, file, form) {
+        Ok(()) => {
+            let count = text.written();
+            // The writer takes everything, so this can't fail.
+            let _ = text.finish();
+            Ok(count)
+        }
+        Err(AllocError) => {
+            let _ = text.out_of_memory();
+            Err(AllocError)
+        }
     }
 }
 

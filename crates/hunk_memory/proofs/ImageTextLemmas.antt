@@ -1,14 +1,13 @@
 -- The lines of the hunks of an image, around those of one hunk, and how long they are.
-use Rattle.std.proofs.Common.{◌≡◌, ◌<◌, ◌≤◌, ◌+◌, ◌*◌, ◌^◌, ℕ, List, [], ◌∷◌, ◌++◌, length, take, drop, slice_index_or, Vec, sym, ap, subst, ◌∙◌, zero-add, append-nil, arith}
+use Rattle.std.proofs.Common.{◌≡◌, ◌<◌, ◌≤◌, ◌+◌, ◌*◌, ◌^◌, ℕ, List, [], ◌∷◌, ◌++◌, length, take, slice_index_or, Vec, sym, ap, subst, ◌∙◌, zero-add, append-nil, arith}
 use Rattle.std.specs.List.{All, enumerate_from, flat_map}
 use Rattle.std.proofs.lemmas.Grind.{flat_map-append}
 use Rattle.std.proofs.lemmas.List.{get_or-map, length-append, length-map, take_all, take_more}
 use Rattle.std.proofs.lemmas.List.FromFn.{get_or-enumerate_from, length-enumerate_from}
 use Rattle.hex.specs.Hex.{encode_with}
 use Rattle.hunk_loader.specs.Image.{hunks_of}
-use Rattle.hunk_base.proofs.StreamsWritingLemmas.{flat_map-around, length-front-le}
-use Rattle.hunk_text.proofs.DigitsLemmas.{length-decimal}
-use Rattle.hunk_memory.specs.ImageText.{EndsInside, all_hunk_lines, closing, hunk_heading, hunk_lines, numbered_lines, opening}
+use Rattle.hunk_base.proofs.DigitsLemmas.{length-decimal}
+use Rattle.hunk_memory.specs.ImageText.{EndsInside, all_hunk_lines, closing, hunk_heading, hunk_lines, image_text, numbered_lines, opening}
 use Rattle.hunk_memory.specs.Rows.{row_lines}
 use Rattle.hunk_memory.specs.declared.image_form.ImageForm.{ImageForm}
 use Rattle.hunk_memory.specs.declared.image_form.ImageForm.TheVariants.{Report, SRecords}
@@ -64,24 +63,8 @@ module _ (form : ImageForm) where
       ∙ flat_map-append (numbered_lines form) (take number numbered) (slice_index_or numbered number (number, (base, bytes)) ∷ [])
       ∙ ap (λ last. first_hunk_lines hunks number ++ last) (append-nil _ ∙ ap (numbered_lines form) (numbered-at hunks number base bytes here))
 
-  -- what comes after the lines of the hunk with that number
-  pub hunks_behind : List (ℕ × List ℕ) → ℕ → List ℕ
-  hunks_behind hunks number = flat_map (numbered_lines form) (drop (number + 1) (enumerate_from 0 hunks))
-
-  pub hunk_lines-around : (hunks : List (ℕ × List ℕ)) (number base : ℕ) (bytes : List ℕ) → IsHunk hunks number base bytes → all_hunk_lines form hunks ≡ first_hunk_lines hunks number ++ (hunk_lines form number base bytes ++ hunks_behind hunks number)
-  unfolding hunks_behind
-  hunk_lines-around hunks number base bytes here =
-      let numbered = enumerate_from 0 hunks in
-      let within : number < length numbered = omega (arith, length-enumerate_from 0 hunks, here.within) in
-      flat_map-around (numbered_lines form) numbered number (number, (base, bytes)) within
-      ∙ ap (λ hunk. first_hunk_lines hunks number ++ (numbered_lines form hunk ++ hunks_behind hunks number)) (numbered-at hunks number base bytes here)
-
   pub first_hunk_lines-all : (hunks : List (ℕ × List ℕ)) (number : ℕ) → length hunks ≤ number → first_hunk_lines hunks number ≡ all_hunk_lines form hunks
   first_hunk_lines-all hunks number all = ap (flat_map (numbered_lines form)) (take_all number (enumerate_from 0 hunks) (omega (arith, length-enumerate_from 0 hunks)))
-
-  pub length-hunk_lines-le : (hunks : List (ℕ × List ℕ)) (number base : ℕ) (bytes : List ℕ) → IsHunk hunks number base bytes → length (first_hunk_lines hunks number) + length (hunk_lines form number base bytes) ≤ length (all_hunk_lines form hunks)
-  length-hunk_lines-le hunks number base bytes here =
-      length-front-le (all_hunk_lines form hunks) (first_hunk_lines hunks number) (hunk_lines form number base bytes) (hunks_behind hunks number) (hunk_lines-around hunks number base bytes here)
 
 -- ---- lengths
 
@@ -121,3 +104,8 @@ length-all_hunk_lines-lt form hunks few inside =
     let found : k < length hunks = omega (arith, within, length-enumerate_from 0 hunks) in
     subst Short (sym (get_or-enumerate_from 0 hunks k d found)) (length-numbered_lines form (0 + k) (slice_index_or hunks k d.1) (omega (arith, found, few)) (inside k d.1 found)) in
     omega (arith, length-flat_map-le (numbered_lines form) most numbered each, length-enumerate_from 0 hunks)
+
+pub length-image_text-lt : (form : ImageForm) (hunks : List (ℕ × List ℕ)) → length hunks < 2 ^ 16 → All EndsInside hunks → length (image_text form hunks) < 2 ^ 64
+length-image_text-lt form hunks few inside =
+    let lines = all_hunk_lines form hunks in
+    omega (arith, length-append (opening form) (lines ++ closing form), length-append lines (closing form), length-opening form, length-closing form, length-all_hunk_lines-lt form hunks few inside)

@@ -1,7 +1,6 @@
 -- The lines of the rows of a hunk, block by block.
-use Rattle.std.proofs.Common.{◌≡◌, ◌≤◌, ◌+◌, ◌*◌, ℕ, List, ◌++◌, length, take, drop, ap, ◌∙◌, arith}
+use Rattle.std.proofs.Common.{◌≡◌, ◌≤◌, ◌+◌, ◌*◌, ℕ, List, ◌++◌, length, take, drop, ap, sym, ◌∙◌, arith}
 use Rattle.std.proofs.lemmas.List.{drop-take, take-take, take_all}
-use Rattle.hunk_base.proofs.StreamsWritingLemmas.{length-front-le}
 use Rattle.hunk_memory.specs.Rows.{row_lines}
 use Rattle.hunk_memory.specs.declared.image_form.ImageForm.{ImageForm}
 use Rattle.hunk_memory.proofs.RowsLemmas.{row_lines-at_block}
@@ -18,16 +17,14 @@ lines_before form base bytes index = row_lines form base (take (1024 * index) by
 abbrev pub block_lines : ImageForm → ℕ → List ℕ → ℕ → List ℕ
 block_lines form base bytes index = row_lines form (base + 1024 * index) (block_of bytes index)
 
--- what comes after them
-pub lines_behind : ImageForm → ℕ → List ℕ → ℕ → List ℕ
-lines_behind form base bytes index = row_lines form (base + 1024 * index + 1024) (drop 1024 (drop (1024 * index) bytes))
+-- the lines from that block on
+pub lines_from : ImageForm → ℕ → List ℕ → ℕ → List ℕ
+lines_from form base bytes index = row_lines form (base + 1024 * index) (drop (1024 * index) bytes)
 
 module _ (form : ImageForm) where
-  pub row_lines-around_block : (base : ℕ) (bytes : List ℕ) (index : ℕ) → row_lines form base bytes ≡ lines_before form base bytes index ++ (block_lines form base bytes index ++ lines_behind form base bytes index)
-  unfolding lines_behind
-  row_lines-around_block base bytes index =
-      row_lines-at_block form base index bytes
-      ∙ ap (λ rest. lines_before form base bytes index ++ rest) (row_lines-at_block form (base + 1024 * index) 1 (drop (1024 * index) bytes))
+  pub row_lines-around : (base : ℕ) (bytes : List ℕ) (index : ℕ) → lines_before form base bytes index ++ lines_from form base bytes index ≡ row_lines form base bytes
+  unfolding lines_from
+  row_lines-around base bytes index = sym (row_lines-at_block form base index bytes)
 
   pub lines_before-more : (base : ℕ) (bytes : List ℕ) (index : ℕ) → lines_before form base bytes (index + 1) ≡ lines_before form base bytes index ++ block_lines form base bytes index
   lines_before-more base bytes index =
@@ -39,7 +36,3 @@ module _ (form : ImageForm) where
 
   pub lines_before-all : (base : ℕ) (bytes : List ℕ) (index : ℕ) → length bytes ≤ 1024 * index → lines_before form base bytes index ≡ row_lines form base bytes
   lines_before-all base bytes index all = ap (λ front. row_lines form base front) (take_all (1024 * index) bytes all)
-
-  pub length-block_lines-le : (base : ℕ) (bytes : List ℕ) (index : ℕ) → length (lines_before form base bytes index) + length (block_lines form base bytes index) ≤ length (row_lines form base bytes)
-  length-block_lines-le base bytes index =
-      length-front-le (row_lines form base bytes) (lines_before form base bytes index) (block_lines form base bytes index) (lines_behind form base bytes index) (row_lines-around_block base bytes index)

@@ -11,7 +11,7 @@ use Rattle.std.proofs.lemmas.List.Elements.{All-head, All-tail}
 use Rattle.std.proofs.lemmas.List.FromFn.{length-range_with_len}
 use Rattle.hex.specs.Hex.{encode_upper, lower_digits, upper_digits}
 use Rattle.hex.proofs.HexLemmas.{length-encode_with}
-use Rattle.hunk_text.specs.Digits.{eight_digits}
+use Rattle.hunk_base.specs.Digits.{eight_digits}
 use Rattle.hunk_memory.specs.Record.{checksum, counted, record_line}
 use Rattle.hunk_memory.specs.Rows.{first_row_lines, line_overhead, longest_line, row_count, row_line, row_lines, row_of, row_size}
 use Rattle.hunk_memory.specs.declared.image_form.ImageForm.{ImageForm}

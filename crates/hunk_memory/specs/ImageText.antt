@@ -2,8 +2,8 @@
 use Rattle.std.specs.Prelude.{ℕ, ◌+◌, ◌^◌, ◌≤◌, List, [], ◌++◌, length, codes}
 use Rattle.std.specs.Fmt.{decimal}
 use Rattle.std.specs.List.{enumerate_from, flat_map}
-use Rattle.hunk_text.specs.Printing.{line}
-use Rattle.hunk_text.specs.Digits.{eight_digits}
+use Rattle.hunk_base.specs.Text.{line}
+use Rattle.hunk_base.specs.Digits.{eight_digits}
 use Rattle.hunk_memory.specs.Record.{end_record, header_record}
 use Rattle.hunk_memory.specs.Rows.{row_lines}
 use Rattle.hunk_memory.specs.declared.image_form.ImageForm.{ImageForm}

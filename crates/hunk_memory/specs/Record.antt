@@ -2,7 +2,7 @@
 use Rattle.std.specs.Prelude.{ℕ, ◌+◌, ◌-◌, ◌%◌, List, [], ◌∷◌, ◌++◌, length, codes, sum}
 use Rattle.std.specs.Int.{bytes_high_first}
 use Rattle.hex.specs.Hex.{encode_upper}
-use Rattle.hunk_text.specs.Printing.{line}
+use Rattle.hunk_base.specs.Text.{line}
 
 -- the ones' complement of the least significant byte of the sum of these bytes
 abbrev pub checksum : List ℕ → ℕ

@@ -3,8 +3,8 @@ use Rattle.std.specs.Prelude.{ℕ, ◌+◌, ◌*◌, List, ◌++◌, length, tak
 use Rattle.std.specs.Int.{div_ceil}
 use Rattle.std.specs.List.{flat_map, range_with_len}
 use Rattle.hex.specs.Hex.{encode_lower}
-use Rattle.hunk_text.specs.Printing.{line}
-use Rattle.hunk_text.specs.Digits.{eight_digits}
+use Rattle.hunk_base.specs.Text.{line}
+use Rattle.hunk_base.specs.Digits.{eight_digits}
 use Rattle.hunk_memory.specs.Record.{data_record}
 use Rattle.hunk_memory.specs.declared.image_form.ImageForm.{ImageForm}
 use Rattle.hunk_memory.specs.declared.image_form.ImageForm.TheVariants.{Report, SRecords}

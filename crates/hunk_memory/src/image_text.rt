@@ -1,7 +1,8 @@
 //! The text of an image, line by line as it is written.
 ghost use Rattle.std.specs.Prelude.{◌≡◌, ◌+◌, ◌<◌, ◌≤◌, ◌^◌, length, IfErr};
 ghost use Rattle.std.specs.List.{All};
-ghost use Rattle.hunk_base.specs.Streams.{IsDevice, Wrote, WroteAll};
+ghost use Rattle.hunk_base.specs.Streams.{IsDevice, WroteAll};
+ghost use Rattle.hunk_base.specs.Text.{Puts};
 ghost use Rattle.hunk_loader.specs.Image.{hunks_of};
 ghost use Rattle.hunk_memory.specs.ImageText.{all_hunk_lines, closing, hunk_heading, hunk_line, hunk_lines, image_text};
 ghost use Rattle.hunk_memory.specs.ImageText.{opening, EndsInside};
@@ -9,8 +10,7 @@ ghost use Rattle.hunk_memory.specs.ImageText.{opening, EndsInside};
 use crate::image_form::ImageForm;
 use crate::record;
 use crate::rows::write_rows;
-use hunk_text::{Digits, write_pieces};
-use hunk_words::{Sink, WriteFault, write_all};
+use hunk_words::{Sink, Text, WriteFault};
 use std::alloc::Allocator;
 
 /// Writes an image with these hunks in this form: each is a base, which is an address, and bytes,
@@ -31,29 +31,25 @@ pub fn write_image<A: Allocator, W: Sink>(
     ensures wrote { WroteAll W.taken W.failed writer.old writer.new (image_text form (hunks_of hunks.now)) result }
     ensures device { IfErr result IsDevice }
 {
-    let written = write_all(writer, 0, form.opening())?;
-    let written = write_hunks(writer, written, form, hunks)?;
-    write_all(writer, written, form.closing())?;
-    Ok(())
+    let mut text = Text::new(writer);
+    text.put(form.opening());
+    write_hunks(&mut text, form, hunks);
+    text.put(form.closing());
+    text.finish()
 }
 
-/// Writes all lines of the hunks, after `written` bytes of the text.
+/// Writes all lines of the hunks.
 fn write_hunks<A: Allocator, W: Sink>(
-    writer: &mut W,
-    written: u64,
+    text: &mut Text<'_, W>,
     form: ImageForm,
     hunks: &[(u32, Vec<u8, A>)],
-) -> Result<u64, WriteFault>
-    requires inside { All EndsInside (hunks_of hunks.now) }
-    requires room { written + length (all_hunk_lines form (hunks_of hunks.now)) < 2 ^ 64 }
-    ensures wrote { Wrote W.taken W.failed writer.old writer.new (all_hunk_lines form (hunks_of hunks.now)) written result }
-    ensures device { IfErr result IsDevice }
+)
+    requires { All EndsInside (hunks_of hunks.now) }
+    ensures { Puts W.taken W.failed text.old text.new (all_hunk_lines form (hunks_of hunks.now)) }
 {
-    let mut written = written;
     for (number, (base, bytes)) in hunks.iter().enumerate() {
-        written = write_hunk(writer, written, form, number as u64, *base, bytes)?;
+        write_hunk(text, form, number as u64, *base, bytes);
     }
-    Ok(written)
 }
 
 impl ImageForm {
@@ -78,70 +74,46 @@ impl ImageForm {
     }
 }
 
-/// Writes all lines of a hunk, after `written` bytes of the text.
+/// Writes all lines of a hunk.
 fn write_hunk<W: Sink>(
-    writer: &mut W,
-    written: u64,
+    text: &mut Text<'_, W>,
     form: ImageForm,
     number: u64,
     base: u32,
     bytes: &[u8],
-) -> Result<u64, WriteFault>
-    requires inside { base + length bytes.now ≤ 2 ^ 32 }
-    requires room { written + length (hunk_lines form number base bytes.now) < 2 ^ 64 }
-    ensures wrote { Wrote W.taken W.failed writer.old writer.new (hunk_lines form number base bytes.now) written result }
-    ensures device { IfErr result IsDevice }
+)
+    requires { base + length bytes.now ≤ 2 ^ 32 }
+    ensures { Puts W.taken W.failed text.old text.new (hunk_lines form number base bytes.now) }
 {
-    let size = bytes.len() as u64;
-    let written = write_heading(writer, written, form, number, base, size)?;
-    write_rows(writer, written, form, base, bytes)
+    write_heading(text, form, number, base, bytes.len() as u64);
+    write_rows(text, form, base, bytes);
 }
 
-/// Writes what comes before the rows of a hunk.
+/// Writes what comes before the rows of a hunk: only a report tells where one begins.
 fn write_heading<W: Sink>(
-    writer: &mut W,
-    written: u64,
+    text: &mut Text<'_, W>,
     form: ImageForm,
     number: u64,
     base: u32,
     size: u64,
-) -> Result<u64, WriteFault>
-    requires { written + length (hunk_heading form number base size) < 2 ^ 64 }
-    ensures wrote { Wrote W.taken W.failed writer.old writer.new (hunk_heading form number base size) written result }
-    ensures device { IfErr result IsDevice }
+)
+    ensures { Puts W.taken W.failed text.old text.new (hunk_heading form number base size) }
 {
     match form {
-        ImageForm::Report => write_hunk_line(writer, written, number, base, size),
-        ImageForm::SRecords => Ok(written),
+        ImageForm::Report => write_hunk_line(text, number, base, size),
+        ImageForm::SRecords => {}
     }
 }
 
 /// Writes the first line of a hunk of a report.
-fn write_hunk_line<W: Sink>(
-    writer: &mut W,
-    written: u64,
-    number: u64,
-    base: u32,
-    size: u64,
-) -> Result<u64, WriteFault>
-    requires { written + length (hunk_line number base size) < 2 ^ 64 }
-    ensures wrote { Wrote W.taken W.failed writer.old writer.new (hunk_line number base size) written result }
-    ensures device { IfErr result IsDevice }
+fn write_hunk_line<W: Sink>(text: &mut Text<'_, W>, number: u64, base: u32, size: u64)
+    ensures { Puts W.taken W.failed text.old text.new (hunk_line number base size) }
 {
-    let number = Digits::decimal(number);
-    let base = Digits::hexadecimal(base);
-    let size = Digits::decimal(size);
-    write_pieces(
-        writer,
-        written,
-        &[
-            b"hunk ",
-            number.as_bytes(),
-            b" at ",
-            base.as_bytes(),
-            b" size ",
-            size.as_bytes(),
-            b"\n",
-        ],
-    )
+    text.put(b"hunk ");
+    text.put_decimal(number);
+    text.put(b" at ");
+    text.put_longword(base);
+    text.put(b" size ");
+    text.put_decimal(size);
+    text.end_line();
 }

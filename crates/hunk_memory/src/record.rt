@@ -1,7 +1,7 @@
 //! The lines of S-records.
 ghost use Rattle.std.specs.Prelude.{◌≡◌, ◌+◌, ◌*◌, ◌≤◌, ◌++◌, length, take};
 ghost use Rattle.hex.specs.Hex.{encode_upper};
-ghost use Rattle.hunk_text.specs.Printing.{line};
+ghost use Rattle.hunk_base.specs.Text.{line};
 ghost use Rattle.hunk_memory.specs.Record.{checksum, data_record, end_record, header_record};
 
 use crate::hex_digits::put_upper_digits;

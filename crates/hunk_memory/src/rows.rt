@@ -1,12 +1,12 @@
 //! The lines that hold the bytes of a hunk, row by row as they are written.
-ghost use Rattle.std.specs.Prelude.{◌≡◌, ◌+◌, ◌*◌, ◌<◌, ◌≤◌, ◌^◌, length, take, IfErr};
-ghost use Rattle.hunk_base.specs.Streams.{IsDevice, Wrote};
+ghost use Rattle.std.specs.Prelude.{◌≡◌, ◌+◌, ◌*◌, ◌≤◌, ◌^◌, length, take};
+ghost use Rattle.hunk_base.specs.Text.{Puts};
 ghost use Rattle.hunk_memory.specs.Rows.{line_overhead, longest_line, report_line, row_count, row_line, row_lines, row_size};
 
 use crate::hex_digits::put_digits;
 use crate::image_form::ImageForm;
 use crate::record::put_data_record;
-use hunk_words::{Sink, WriteFault, write_all};
+use hunk_words::{Sink, Text};
 
 /// Bytes of the rows that are written at once: 64 rows of a report, or 32 of S-records.
 const BLOCK: usize = 1024;
@@ -14,51 +14,31 @@ const BLOCK: usize = 1024;
 /// The most bytes of the lines of these rows: 42 for each row of a report.
 const MOST_LINES: usize = 64 * 42;
 
-/// Writes the lines of the rows of a hunk, after `written` bytes of the text.
-pub(crate) fn write_rows<W: Sink>(
-    writer: &mut W,
-    written: u64,
-    form: ImageForm,
-    base: u32,
-    bytes: &[u8],
-) -> Result<u64, WriteFault>
-    requires inside { base + length bytes.now ≤ 2 ^ 32 }
-    requires room { written + length (row_lines form base bytes.now) < 2 ^ 64 }
-    ensures wrote { Wrote W.taken W.failed writer.old writer.new (row_lines form base bytes.now) written result }
-    ensures device { IfErr result IsDevice }
+/// Writes the lines of the rows of a hunk, block by block.
+pub(crate) fn write_rows<W: Sink>(text: &mut Text<'_, W>, form: ImageForm, base: u32, bytes: &[u8])
+    requires { base + length bytes.now ≤ 2 ^ 32 }
+    ensures { Puts W.taken W.failed text.old text.new (row_lines form base bytes.now) }
 {
-    let mut written = written;
     for index in 0..bytes.len().div_ceil(BLOCK) {
+        // No digits are made for a writer that takes no more.
+        if text.is_stopped() {
+            return;
+        }
         let start = BLOCK * index;
         let end = bytes.len().min(start + BLOCK);
-        written = write_block(
-            writer,
-            written,
-            form,
-            base + start as u32,
-            &bytes[start..end],
-        )?;
+        write_block(text, form, base + start as u32, &bytes[start..end]);
     }
-    Ok(written)
 }
 
 /// Writes the lines of the rows of a block at once. `address` is that of the block's first byte.
-fn write_block<W: Sink>(
-    writer: &mut W,
-    written: u64,
-    form: ImageForm,
-    address: u32,
-    block: &[u8],
-) -> Result<u64, WriteFault>
+fn write_block<W: Sink>(text: &mut Text<'_, W>, form: ImageForm, address: u32, block: &[u8])
     requires inside { address + length block.now ≤ 2 ^ 32 }
     requires short { length block.now ≤ 1024 }
-    requires room { written + length (row_lines form address block.now) < 2 ^ 64 }
-    ensures wrote { Wrote W.taken W.failed writer.old writer.new (row_lines form address block.now) written result }
-    ensures device { IfErr result IsDevice }
+    ensures { Puts W.taken W.failed text.old text.new (row_lines form address block.now) }
 {
     let mut lines = [0; MOST_LINES];
     let end = put_rows(&mut lines, form, address, block);
-    write_all(writer, written, &lines[..end])
+    text.put(&lines[..end]);
 }
 
 /// Puts the lines of the rows of a block at the start of `lines`, and returns their length.

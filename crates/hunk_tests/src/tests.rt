@@ -15,6 +15,7 @@
 //! - `short_form`: load files with relocations in 16-bit words, as they are written.
 //! - `site_allocations`: sites that are added while allocations fail.
 //! - `sites`: sites that touch, overlap and stand outside.
+//! - `texts`: texts on their way to a writer.
 //! - `trimmed`: load files without the zeros at the end of contents.
 //! - `unit_values`: the expected units of an object file.
 //! - `units`: program units, as they are read.
@@ -36,6 +37,7 @@ mod places;
 mod short_form;
 mod site_allocations;
 mod sites;
+mod texts;
 mod trimmed;
 mod unit_values;
 mod units;

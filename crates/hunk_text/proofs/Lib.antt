@@ -1,11 +1,7 @@
-pub mod DigitsLemmas
 pub mod ListingLemmas
-pub mod QuotedNameLemmas
 pub mod ListingSizeLemmas
 pub mod ListingSizeLoadLemmas
 pub mod ListingSizeObjectLemmas
 pub mod ListingSizeTablesLemmas
 pub mod ListingSizeTreeLemmas
 pub mod ListingSizeUnitsLemmas
-pub mod PhraseLemmas
-pub mod WrittenTextLemmas

@@ -1,5 +1,5 @@
 -- How many bytes the lines of a listing have.
-use Rattle.std.proofs.Common.{◌≡◌, ℕ, ◌+◌, ◌*◌, ◌^◌, ◌<◌, ◌≤◌, Bool, true, false, if◌then◌else◌, List, [], ◌∷◌, ◌++◌, length, sum_by, codes, arith}
+use Rattle.std.proofs.Common.{◌≡◌, ℕ, ◌+◌, ◌*◌, ◌^◌, ◌<◌, ◌≤◌, List, [], ◌∷◌, ◌++◌, length, sum_by, codes, arith}
 use Rattle.std.specs.Fmt.{decimal}
 use Rattle.std.specs.Int.{bytes_high_first}
 use Rattle.std.specs.List.{All, enumerate_from, flat_map}
@@ -7,30 +7,22 @@ use Rattle.std.proofs.lemmas.List.{length-append}
 use Rattle.std.proofs.lemmas.List.Concat.{length-flat_map}
 use Rattle.std.proofs.lemmas.List.Elements.{All-head, All-tail, All-weaker}
 use Rattle.std.proofs.lemmas.List.Sums.{sum_by-cons, sum_by-le}
-use Rattle.hex.specs.Hex.{encode_lower, lower_digits}
+use Rattle.hex.specs.Hex.{lower_digits}
 use Rattle.hex.proofs.HexLemmas.{length-encode_with}
 use Rattle.hunk_words.specs.declared.kinds.HunkKind.{HunkKind}
 use Rattle.hunk_words.specs.declared.kinds.HunkKind.TheVariants.{Code, Data, Bss}
 use Rattle.hunk_words.specs.declared.kinds.Memory.{Memory}
 use Rattle.hunk_words.specs.declared.kinds.Memory.TheVariants.{Any, Chip, Fast}
 use Rattle.hunk_base.specs.Name.{most_name}
-use Rattle.hunk_text.specs.Digits.{eight_digits}
+use Rattle.hunk_base.specs.Digits.{eight_digits}
 use Rattle.hunk_text.specs.Listing.{adds_hunk, debug_line, debug_lines, hunk_front, kind_word, memory_word, site_line, symbol_line}
-use Rattle.hunk_text.specs.QuotedName.{escaped, escaped_all, is_plain, quoted}
-use Rattle.hunk_text.proofs.DigitsLemmas.{length-decimal}
+use Rattle.hunk_base.specs.QuotedName.{escaped_all, quoted}
+use Rattle.hunk_base.proofs.QuotedNameLemmas.{length-escaped_all-le}
+use Rattle.hunk_base.proofs.DigitsLemmas.{length-decimal}
 
 -- ---- parts of lines
 
--- up to four bytes for each byte of a name
-pub length-escaped_all-le : (name : List ℕ) → length (escaped_all name) ≤ 4 * length name
-length-escaped_all-le [] = omega arith
-length-escaped_all-le (byte ∷ bytes) = omega (arith, length-append (escaped byte) (escaped_all bytes), either (is_plain byte), length-escaped_all-le bytes)
-  where
-    either : (plain : Bool) → length (if plain then byte ∷ [] else codes "\\x" ++ encode_lower (byte ∷ [])) ≤ 4
-    either true = omega arith
-    either false = omega (arith, length-encode_with lower_digits (byte ∷ []))
-
--- and a quote at each end
+-- up to four bytes for each byte of a name, and a quote at each end
 pub length-quoted-le : (name : List ℕ) → length (quoted name) ≤ 4 * length name + 2
 length-quoted-le name = omega (arith, length-append (escaped_all name) (34 ∷ []), length-escaped_all-le name)
 

@@ -13,8 +13,8 @@ use Rattle.hunk_loadfile.specs.Rules.{IsLoadFile, IsLoadHunk, carried_by, carrie
 use Rattle.hunk_loadfile.proofs.RulesReadLemmas.{IsLoadFile-load}
 use Rattle.hunk_text.specs.Laws.{LoadListingFits}
 use Rattle.hunk_text.specs.Listing.{adds_hunk, debug_lines, hunk_front, load_hunk_line, load_hunk_lines, load_line, load_listing, load_site_lines, site_line}
-use Rattle.hunk_text.specs.Printing.{line}
-use Rattle.hunk_text.proofs.DigitsLemmas.{length-decimal}
+use Rattle.hunk_base.specs.Text.{line}
+use Rattle.hunk_base.proofs.DigitsLemmas.{length-decimal}
 use Rattle.hunk_text.proofs.ListingSizeLemmas.{IsCounted, length-adds_hunk-le, length-debug_lines-le, length-hunk_front-le, length-le-sum_by, length-lines-le, length-numbered-le, length-parts-le, length-site_line-le, most_front, most_line}
 
 -- ---- a hunk

@@ -14,10 +14,11 @@ use Rattle.hunk_objects.specs.declared.unit_hunk.Adds.TheVariants.{Hunk, Referen
 use Rattle.hunk_objects.specs.declared.unit_hunk.Definition.{Definition}
 use Rattle.hunk_objects.specs.declared.unit_hunk.Definition.TheVariants.{At, Absolute}
 use Rattle.hunk_text.specs.Listing.{adds_text, debug_lines, definition_line, definition_text, hunk_front, object_line, object_listing, site_line, unit_hunk_line, unit_hunk_lines, unit_line, unit_lines, unit_site_lines}
-use Rattle.hunk_text.specs.Printing.{line}
-use Rattle.hunk_text.specs.QuotedName.{quoted}
-use Rattle.hunk_text.proofs.DigitsLemmas.{length-decimal}
-use Rattle.hunk_text.proofs.ListingSizeLemmas.{HasShortName, IsCounted, length-adds_hunk-le, length-debug_lines-le, length-eight_digits, length-escaped_all-le, length-hunk_front-le, length-le-sum_by, length-lines-le, length-numbered-le, length-parts-le, length-quoted-le, length-site_line-le, most_front, most_line}
+use Rattle.hunk_base.specs.Text.{line}
+use Rattle.hunk_base.specs.QuotedName.{quoted}
+use Rattle.hunk_base.proofs.DigitsLemmas.{length-decimal}
+use Rattle.hunk_base.proofs.QuotedNameLemmas.{length-escaped_all-le}
+use Rattle.hunk_text.proofs.ListingSizeLemmas.{HasShortName, IsCounted, length-adds_hunk-le, length-debug_lines-le, length-eight_digits, length-hunk_front-le, length-le-sum_by, length-lines-le, length-numbered-le, length-parts-le, length-quoted-le, length-site_line-le, most_front, most_line}
 
 -- ---- what can be printed
 

@@ -13,9 +13,9 @@ use Rattle.hunk_objects.specs.declared.unit_hunk.Adds.TheVariants.{Hunk, Referen
 use Rattle.hunk_objects.specs.declared.unit_hunk.Definition.{Definition}
 use Rattle.hunk_objects.specs.declared.unit_hunk.Definition.TheVariants.{At, Absolute}
 use Rattle.hunk_loadfile.specs.LoadHunk.{FileHunk}
-use Rattle.hunk_text.specs.Digits.{eight_digits}
-use Rattle.hunk_text.specs.Printing.{line}
-use Rattle.hunk_text.specs.QuotedName.{quoted}
+use Rattle.hunk_base.specs.Digits.{eight_digits}
+use Rattle.hunk_base.specs.Text.{line}
+use Rattle.hunk_base.specs.QuotedName.{quoted}
 
 -- ---- first lines
 

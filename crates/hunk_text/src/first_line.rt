@@ -1,50 +1,28 @@
 //! The line of what a file is, which begins its listing.
 
-ghost use Rattle.std.specs.Prelude.{IfErr};
-ghost use Rattle.hunk_base.specs.Streams.{IsDevice, Wrote};
+ghost use Rattle.hunk_base.specs.Text.{Puts};
 ghost use Rattle.hunk_text.specs.Listing.{load_line, object_line};
 
-use crate::digits::Digits;
-use crate::printing::write_pieces;
-use hunk_words::{Sink, WriteFault};
+use hunk_words::{Sink, Text};
 
-/// Writes the line of an object file, with its numbers of units and of the hunks of all units, and
-/// returns its length in bytes. Does not allocate.
-///
-/// # Errors
-///
-/// [`WriteFault::Device`] if a write failed or took no byte, with the number of bytes of the line
-/// that were written.
-pub fn write_object_line<W: Sink>(units: u64, hunks: u64, writer: &mut W) -> Result<u64, WriteFault>
-    ensures wrote { Wrote W.taken W.failed writer.old writer.new (object_line units hunks) 0 result }
-    ensures device { IfErr result IsDevice }
+/// Writes the line of an object file, with its numbers of units and of the hunks of all units.
+pub fn write_object_line<W: Sink>(text: &mut Text<'_, W>, units: u64, hunks: u64)
+    ensures { Puts W.taken W.failed text.old text.new (object_line units hunks) }
 {
-    let units = Digits::decimal(units);
-    let hunks = Digits::decimal(hunks);
-    write_pieces(
-        writer,
-        0,
-        &[
-            b"object file: ",
-            units.as_bytes(),
-            b" units, ",
-            hunks.as_bytes(),
-            b" hunks\n",
-        ],
-    )
+    text.put(b"object file: ");
+    text.put_decimal(units);
+    text.put(b" units, ");
+    text.put_decimal(hunks);
+    text.put(b" hunks");
+    text.end_line();
 }
 
-/// Writes the line of a load file, with its number of hunks, and returns its length in bytes. Does
-/// not allocate.
-///
-/// # Errors
-///
-/// [`WriteFault::Device`] if a write failed or took no byte, with the number of bytes of the line
-/// that were written.
-pub fn write_load_line<W: Sink>(hunks: u64, writer: &mut W) -> Result<u64, WriteFault>
-    ensures wrote { Wrote W.taken W.failed writer.old writer.new (load_line hunks) 0 result }
-    ensures device { IfErr result IsDevice }
+/// Writes the line of a load file, with its number of hunks.
+pub fn write_load_line<W: Sink>(text: &mut Text<'_, W>, hunks: u64)
+    ensures { Puts W.taken W.failed text.old text.new (load_line hunks) }
 {
-    let hunks = Digits::decimal(hunks);
-    write_pieces(writer, 0, &[b"load file: ", hunks.as_bytes(), b" hunks\n"])
+    text.put(b"load file: ");
+    text.put_decimal(hunks);
+    text.put(b" hunks");
+    text.end_line();
 }

@@ -1,5 +1,7 @@
 -- The line of a file that was counted, put together from the pieces that are written.
-use Rattle.std.proofs.Common.{◌≡◌, ℕ, List, Option, ap, ap₂, refl}
+use Rattle.std.proofs.Common.{◌≡◌, ◌<◌, ◌^◌, ℕ, List, Option, length, ap, ap₂, refl, arith}
+use Rattle.std.proofs.lemmas.List.{length-append}
+use Rattle.hunk_base.proofs.DigitsLemmas.{length-decimal}
 use Rattle.hunk_base.specs.Streams.{HasRead}
 use Rattle.hunk_words.specs.declared.event.FileKind.{FileKind}
 use Rattle.hunk_words.specs.declared.event.FileKind.TheVariants as kind_is
@@ -34,3 +36,11 @@ line-counted kind_is.Load (Object counter) bytes is has = absurd has
 pub HasText-counted : {A : Type 0} (counted : File (ObjectCounter A) (LoadCounter A)) (left left_then : Option (List ℕ))
     → HasRead left left_then (λ bytes. IsFileOf CountsObject CountsLoad (kind_of_bytes bytes) counted bytes) → HasRead left left_then (HasText check_text (line_of counted))
 HasText-counted counted left left_then read = HasRead-weaker left left_then _ _ (λ bytes has. line-counted (kind_of_bytes bytes) counted bytes refl has) read
+
+-- ---- the lines are short
+
+pub object_line-fits : (units hunks : ℕ) → units < 2 ^ 64 → hunks < 2 ^ 64 → length (object_line units hunks) < 2 ^ 64
+object_line-fits units hunks few_units few_hunks = simp length-append (omega (arith, length-decimal units few_units, length-decimal hunks few_hunks))
+
+pub load_line-fits : (hunks : ℕ) → hunks < 2 ^ 64 → length (load_line hunks) < 2 ^ 64
+load_line-fits hunks few = simp length-append (omega (arith, length-decimal hunks few))

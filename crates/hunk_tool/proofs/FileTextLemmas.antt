@@ -36,14 +36,14 @@ IsTextFault-read A text left left_then failed ended taken write_failed read_faul
 
 -- The file was read, and writing its text stopped.
 pub IsTextFault-written : (A : Type 0) {W : Type 0} (text : FileValue → List ℕ) (taken : W → Option (List ℕ)) (failed : W → Bool) (old new : W) (told : List ℕ) (left left_then : Option (List ℕ)) (read_failed ended : Bool) (fault : WriteFault)
-    → IsTrue ended → HasRead left left_then (HasText text told) → IsDevice fault → WriteStopped taken failed old new told 0 fault
+    → IsTrue ended → HasRead left left_then (HasText text told) → IsDevice fault → WriteStopped taken failed old new told fault
     → IsTextFault {A = A} text (ends_of left left_then read_failed ended (taken old) (taken new) (failed new)) (tool_fault_of_write fault)
 IsTextFault-written A text taken failed old new told left left_then read_failed ended (write_fault.Device written) at_end read device stopped = (
   at_end,
   HasRead-weaker left left_then _ (IsCutShort text (taken old) (taken new) written) (λ bytes has. record {
     value = has.value;
     is_file = has.is_file;
-    front = subst (λ t. TookFront (taken old) (taken new) t 0 written) has.is_text stopped.0;
+    front = subst (λ t. TookFront (taken old) (taken new) t written) has.is_text stopped.0;
   }) read,
   stopped.1,
 )

@@ -79,14 +79,14 @@ HaveRead-not_placed inputs bases file fault read first =
 
 -- Where writing the image stopped.
 pub IsImageFault-written : (A : Type 0) {W : Type 0} (taken : W → Option (List ℕ)) (failed : W → Bool) (old new : W) (form : ImageForm) (bases : List ℕ) (inputs : List Input) (file : List FileHunk) (image : List (ℕ × List ℕ)) (fault : WriteFault)
-    → HaveRead inputs (LinkTo true file) → Placed (sizes_of file) bases → image ≡ loaded file bases → IsDevice fault → WriteStopped taken failed old new (image_text form image) 0 fault
+    → HaveRead inputs (LinkTo true file) → Placed (sizes_of file) bases → image ≡ loaded file bases → IsDevice fault → WriteStopped taken failed old new (image_text form image) fault
     → IsImageFault form bases inputs (record { old = taken old; new = taken new; failed = failed new }) (tool_fault_of_write {A = A} fault)
 IsImageFault-written A taken failed old new form bases inputs file image (write_fault.Device written) read placed made device stopped = (
   HaveRead-weaker inputs (LinkTo true file) (IsImageCutShort form bases (taken old) (taken new) written) (λ files to. record {
     units = to.units;
     link = to.link;
     placed = Placed-carried to.units file bases to.file_is placed;
-    front = subst (λ hunks. TookFront (taken old) (taken new) (image_text form hunks) 0 written) (direct-carried to.units file bases image to.file_is to.link.typed made) stopped.0;
+    front = subst (λ hunks. TookFront (taken old) (taken new) (image_text form hunks) written) (direct-carried to.units file bases image to.file_is to.link.typed made) stopped.0;
   }) read,
   stopped.1,
 )

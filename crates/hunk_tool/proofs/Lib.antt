@@ -1,4 +1,3 @@
-pub mod FaultLineLemmas
 pub mod LawsLemmas
 pub mod FileLawsLemmas
 pub mod LoadLemmas
@@ -8,7 +7,6 @@ pub mod CheckLemmas
 pub mod ShowLemmas
 pub mod SurveyLemmas
 pub mod HeadlineLemmas
-pub mod LinkLineLemmas
 pub mod InputsLemmas
 pub mod LinkLemmas
 pub mod ImageLemmas
@@ -17,10 +15,9 @@ pub mod IsOfInputsLemmas
 pub mod RanksLemmas
 pub mod ObjectFilesLemmas
 pub mod MapLemmas
-pub mod OriginTextLemmas
 pub mod OriginsLemmas
 pub mod OriginLemmas
 pub mod DefinedNamesLemmas
 pub mod UndefinedLemmas
 pub mod LinkExplanationLemmas
-pub mod TextPartLemmas
+pub mod BegunLemmas

@@ -2,15 +2,18 @@
 use Rattle.std.proofs.Common.{◌≡◌, ◌∙◌, ℕ, zero, suc, ◌+◌, ◌-◌, ◌<◌, ◌≤◌, List, [], ◌∷◌, ◌++◌, Some, None, drop, get_or, length, sym, ap, take, append_assoc, arith}
 use Rattle.std.specs.Prelude.{slice_get}
 use Rattle.std.specs.List.{flat_map}
-use Rattle.std.proofs.lemmas.List.{drop_all, get_or-take, length-take}
+use Rattle.std.proofs.lemmas.List.{at_drop_more, drop_all, get_or-take, length-take}
 use Rattle.std.proofs.lemmas.Option.{get_or_from_slice_get, slice_get_within}
 use Rattle.hunk_tool.specs.LinkExplanation.{more_line, most_told, use_line}
 use Rattle.hunk_tool.specs.Undefined.{Use, Uses}
-use Rattle.hunk_tool.proofs.TextPartLemmas.{flat_map-next}
 
 -- the text of the names from this one on
 abbrev pub uses_rest : (names : List (List ℕ)) (index : ℕ) → Uses → List ℕ
 uses_rest names index uses = flat_map (use_line names) (drop index (take most_told uses)) ++ more_line (length uses - most_told)
+
+-- what those from one on give
+flat_map-next : {X Y : Type 0} (f : X → List Y) (xs : List X) (i : ℕ) (x : X) → i < length xs → x ≡ get_or xs i x → flat_map f (drop i xs) ≡ f x ++ flat_map f (drop (i + 1) xs)
+flat_map-next f xs i x within is = at_drop_more (flat_map f) xs i x within ∙ ap (λ y. f y ++ flat_map f (drop (i + 1) xs)) (sym is)
 
 slice_get_ended : (uses : Uses) (index : ℕ) → slice_get uses index ≡ None → length uses ≤ index
 slice_get_ended [] index none = omega arith

@@ -127,17 +127,17 @@ IsLinkFault-unlinked options inputs taken failed (tool_fault.Output written) is 
 IsLinkFault-unlinked options inputs taken failed (tool_fault.OutOfMemory written) is = inl (is, Keeps-refl taken)
 
 cut_short : (inputs : List Input) (options : LinkOptions) (file : List FileHunk) (old new : Option (List ℕ)) (written : ℕ) → HaveRead inputs (LinkTo options.strip file)
-    → TookFront old new (bytes_of (written_in (form_of options) (trimmed_if options.trim file))) 0 written → HaveRead inputs (IsLinkCutShort options old new written)
+    → TookFront old new (bytes_of (written_in (form_of options) (trimmed_if options.trim file))) written → HaveRead inputs (IsLinkCutShort options old new written)
 cut_short inputs options file old new written read front =
     HaveRead-weaker inputs (LinkTo options.strip file) (IsLinkCutShort options old new written) (λ files to. record {
       units = to.units;
       link = to.link;
-      front = subst (λ hunks. TookFront old new (bytes_of (written_in (form_of options) (trimmed_if options.trim hunks))) 0 written) to.file_is front;
+      front = subst (λ hunks. TookFront old new (bytes_of (written_in (form_of options) (trimmed_if options.trim hunks))) written) to.file_is front;
     }) read
 
 -- Where writing the load file stopped.
 pub IsLinkFault-written : (A : Type 0) {W : Type 0} (taken : W → Option (List ℕ)) (failed : W → Bool) (old new : W) (options : LinkOptions) (inputs : List Input) (file : List FileHunk) (fault : WriteFault)
-    → HaveRead inputs (LinkTo options.strip file) → WriteStopped taken failed old new (bytes_of (written_in (form_of options) (trimmed_if options.trim file))) 0 fault
+    → HaveRead inputs (LinkTo options.strip file) → WriteStopped taken failed old new (bytes_of (written_in (form_of options) (trimmed_if options.trim file))) fault
     → IsLinkFault options inputs (record { old = taken old; new = taken new; failed = failed new }) (tool_fault_of_write {A = A} fault)
 IsLinkFault-written A taken failed old new options inputs file (write_fault.Device written) read stopped = (cut_short inputs options file (taken old) (taken new) written read stopped.0, stopped.1)
 IsLinkFault-written A taken failed old new options inputs file (write_fault.OutOfMemory written) read stopped = inr (cut_short inputs options file (taken old) (taken new) written read stopped.0)

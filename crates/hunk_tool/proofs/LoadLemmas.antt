@@ -55,7 +55,7 @@ pub record HasTextAt (text : List FileHunk → List ℕ → List ℕ) (bases tol
 
 -- Where the file was placed, and writing its text stopped.
 pub IsFaultAt-written : (A : Type 0) {W : Type 0} (taken : W → Option (List ℕ)) (failed : W → Bool) (old new : W) (text : List FileHunk → List ℕ → List ℕ) (bases told : List ℕ) (left left_then : Option (List ℕ)) (read_failed ended : Bool) (fault : WriteFault)
-    → IsTrue ended → HasRead left left_then (HasTextAt text bases told) → IsDevice fault → WriteStopped taken failed old new told 0 fault
+    → IsTrue ended → HasRead left left_then (HasTextAt text bases told) → IsDevice fault → WriteStopped taken failed old new told fault
     → IsFaultAt {A = A} text bases (ends_of left left_then read_failed ended (taken old) (taken new) (failed new)) (tool_fault_of_write fault)
 IsFaultAt-written A taken failed old new text bases told left left_then read_failed ended (write_fault.Device written) at_end read device stopped = (
   at_end,
@@ -63,7 +63,7 @@ IsFaultAt-written A taken failed old new text bases told left left_then read_fai
     hunks = has.hunks;
     is_file = has.is_file;
     placed = has.placed;
-    front = subst (λ t. TookFront (taken old) (taken new) t 0 written) has.is_text stopped.0;
+    front = subst (λ t. TookFront (taken old) (taken new) t written) has.is_text stopped.0;
   }) read,
   stopped.1,
 )

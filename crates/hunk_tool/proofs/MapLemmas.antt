@@ -1,6 +1,5 @@
 -- The lines of a map, one hunk after another.
 use Rattle.std.proofs.Common.{◌≡◌, ◌∙◌, ℕ, ◌+◌, ◌<◌, ◌≤◌, List, [], ◌∷◌, ◌++◌, length, drop, get_or, map, sum_by, take, ◌-◌, add-zero, refl, sym, ap, ap₂, append-nil, append_assoc, arith}
-use Rattle.std.specs.Prelude.{codes}
 use Rattle.std.specs.List.{enumerate_from}
 use Rattle.std.proofs.lemmas.List.{drop-drop, drop_all, drop_more, get_or-map, length-append, length-drop, length-map, take_all}
 use Rattle.std.proofs.lemmas.List.Sums.{sum_by-cons}
@@ -8,10 +7,8 @@ use Rattle.std.proofs.lemmas.List.FromFn.{length-enumerate_from}
 use Rattle.hunk_objects.specs.ProgramUnit.{ObjectUnit, hunk_count}
 use Rattle.hunk_objects.specs.UnitHunk.{ObjectHunk}
 use Rattle.hunk_loadfile.specs.LoadHunk.{FileHunk}
-use Rattle.hunk_text.specs.Listing.{hunk_front}
-use Rattle.hunk_tool.specs.Map.{map_from, map_line, map_lines}
+use Rattle.hunk_tool.specs.Map.{map_from, map_lines}
 use Rattle.hunk_tool.specs.ObjectFiles.{FileUnit, units_of}
-use Rattle.hunk_tool.specs.OriginText.{origin_end, origin_text}
 use Rattle.hunk_tool.specs.Origins.{Origin, origins, origins_from, unit_origins}
 use Rattle.hunk_tool.specs.declared.object_files.UnitPlace.{UnitPlace}
 
@@ -141,15 +138,3 @@ length-origins (unit ∷ units) =
 -- the hunks of a slice that begins here
 pub rest-is : (hunks file : List FileHunk) (first : ℕ) → hunks ≡ file → take (length hunks - first) (drop first hunks) ≡ drop first file
 rest-is hunks file first is = take_all (length hunks - first) (drop first hunks) (omega (arith, length-drop first hunks)) ∙ ap (λ (hs : List FileHunk). drop first hs) is
-
--- ---- the first line of a hunk
-
--- what comes after the kind, the memory and the size of the hunk
-abbrev pub line_rest : (names : List (List ℕ)) → Origin → List ℕ
-line_rest names origin = (codes " " ++ []) ++ origin_end names origin
-
-pieces : (front space origin end : List ℕ) → ((front ++ space) ++ origin) ++ end ≡ front ++ ((space ++ []) ++ (origin ++ end))
-pieces front space origin end = simp (append_assoc, append-nil)
-
-pub map_line-is : (names : List (List ℕ)) (number : ℕ) (hunk : FileHunk) (origin : Origin) → map_line names number hunk origin ≡ hunk_front number hunk.kind hunk.memory hunk.size ++ line_rest names origin
-map_line-is names number hunk origin = pieces (hunk_front number hunk.kind hunk.memory hunk.size) (codes " ") (origin_text names origin) (codes "\n")

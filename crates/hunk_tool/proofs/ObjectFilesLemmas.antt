@@ -11,7 +11,8 @@ use Rattle.hunk_objects.specs.UnitHunk.{ObjectHunk}
 use Rattle.hunk_objects.specs.declared.unit_hunk.Definition.{Definition}
 use Rattle.hunk_objects.specs.declared.unit_hunk.Definition.TheVariants.{At, Absolute}
 use Rattle.hunk_text.specs.Listing.{definition_line, definition_text}
-use Rattle.hunk_text.proofs.ListingSizeLemmas.{HasShortName, length-eight_digits, length-escaped_all-le, length-lines-le, most_line}
+use Rattle.hunk_base.proofs.QuotedNameLemmas.{length-escaped_all-le}
+use Rattle.hunk_text.proofs.ListingSizeLemmas.{HasShortName, length-eight_digits, length-lines-le, most_line}
 use Rattle.hunk_text.proofs.ListingSizeObjectLemmas.{IsPrintable, hunk_weight, unit_weight}
 use Rattle.hunk_text.proofs.ListingSizeUnitsLemmas.{printable-object}
 use Rattle.hunk_tool.specs.Inputs.{AreObjects, HaveRead, Input}

@@ -54,27 +54,6 @@ pub HasRead-load : {A : Type 0} (counter : LoadCounter A) (left left_then : Opti
 HasRead-load counter left left_then read =
     HasRead-weaker left left_then _ _ (λ bytes has. load-found (kind_of_bytes bytes) counter bytes refl has) read
 
--- ---- the lines
-
--- the line is the name, and then the rest
-pub finding_line-split : (name rest : List ℕ) (finding : Finding) → rest ≡ codes ": " ++ finding_text finding → finding_line name finding ≡ name ++ rest
-finding_line-split name rest finding is = append_assoc name (codes ": ") (finding_text finding) ∙ ap (λ text. name ++ text) (sym is)
-
-ten-append : (a b c d e f g h i j k : List ℕ) → a ++ (b ++ (c ++ (d ++ (e ++ (f ++ (g ++ (h ++ (i ++ (j ++ k))))))))) ≡ (((((((((a ++ b) ++ c) ++ d) ++ e) ++ f) ++ g) ++ h) ++ i) ++ j) ++ k
-ten-append a b c d e f g h i j k = simp append_assoc
-
--- the last line is its numbers, and the words between them
-pub totals_line-pieces : (findings : List Finding) (files objects loads refused unreadable : List ℕ) → files ≡ decimal (length findings)
-    → objects ≡ decimal (number_of is_object findings) → loads ≡ decimal (number_of is_load findings)
-    → refused ≡ decimal (number_of is_refused findings) → unreadable ≡ decimal (number_of is_unreadable findings)
-    → files ++ (codes " files: " ++ (objects ++ (codes " object files, " ++ (loads ++ (codes " load files, " ++ (refused ++ (codes " refused, " ++ (unreadable ++ codes " unreadable\n"))))))))
-    ≡ totals_line findings
-totals_line-pieces findings files objects loads refused unreadable all of_objects of_loads of_refused of_unreadable =
-    rw (all, of_objects, of_loads, of_refused, of_unreadable)
-    (ten-append (decimal (length findings)) (codes " files: ") (decimal (number_of is_object findings)) (codes " object files, ")
-    (decimal (number_of is_load findings)) (codes " load files, ") (decimal (number_of is_refused findings)) (codes " refused, ")
-    (decimal (number_of is_unreadable findings)) (codes " unreadable") (codes "\n"))
-
 -- ---- all files
 
 -- the lines about the files so far, and that about the next one

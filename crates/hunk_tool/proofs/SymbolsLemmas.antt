@@ -19,8 +19,9 @@ use Rattle.hunk_loader.specs.ImageReader.{IsRefused}
 use Rattle.hunk_loader.specs.Places.{IsFirstRefusal, Placed}
 use Rattle.hunk_loader.specs.Sizes.{sizes_of}
 use Rattle.hunk_loader.specs.declared.places.PlaceFault.{PlaceFault}
-use Rattle.hunk_text.proofs.DigitsLemmas.{length-decimal}
-use Rattle.hunk_text.proofs.ListingSizeLemmas.{HasShortName, length-eight_digits, length-escaped_all-le, length-le-sum_by, length-lines-le, length-numbered-le, most_line}
+use Rattle.hunk_base.proofs.DigitsLemmas.{length-decimal}
+use Rattle.hunk_base.proofs.QuotedNameLemmas.{length-escaped_all-le}
+use Rattle.hunk_text.proofs.ListingSizeLemmas.{HasShortName, length-eight_digits, length-le-sum_by, length-lines-le, length-numbered-le, most_line}
 use Rattle.hunk_tool.specs.Load.{IsFaultAt, ends_of}
 use Rattle.hunk_tool.specs.Symbols.{address_line, address_lines, symbol_address, symbols_text}
 use Rattle.hunk_tool.specs.ToolFault.{tool_fault_of_read}

@@ -7,9 +7,9 @@ use Rattle.hunk_loader.specs.declared.places.PlaceFault.{PlaceFault}
 use Rattle.hunk_loader.specs.declared.places.PlaceFault.TheVariants.{WrongCount, PastEnd, Overlap}
 use Rattle.hunk_link.specs.declared.refusal.LinkRefusal.{LinkRefusal}
 use Rattle.hunk_link.specs.declared.refusal.LinkRefusal.TheVariants as link
-use Rattle.hunk_text.specs.Printing.{line}
-use Rattle.hunk_text.specs.QuotedName.{quoted}
-use Rattle.hunk_text.specs.Digits.{eight_digits}
+use Rattle.hunk_base.specs.Text.{line}
+use Rattle.hunk_base.specs.QuotedName.{quoted}
+use Rattle.hunk_base.specs.Digits.{eight_digits}
 use Rattle.hunk_tool.specs.declared.tool_fault.ToolFault.{ToolFault}
 use Rattle.hunk_tool.specs.declared.tool_fault.ToolFault.TheVariants.{Input, InputDevice, Link, Place, Output, OutOfMemory}
 
@@ -62,23 +62,22 @@ name_of names (Place fault) = []
 name_of names (Output written) = []
 name_of names (OutOfMemory written) = []
 
--- why an operation failed, if its inputs have these names
-abbrev pub fault_text : {A : Type 0} → List (List ℕ) → ToolFault A → List ℕ
-fault_text names (Input file fault) =
-    slice_index_or names file [] ++ codes ": longword " ++ decimal fault.place ++ codes ": " ++ reason_text fault.reason
-fault_text names (InputDevice file) = slice_index_or names file [] ++ codes ": read failed"
-fault_text names (Link refusal) = codes "link: " ++ link_text refusal
-fault_text names (Place fault) = codes "places: " ++ place_text fault
-fault_text names (Output written) = codes "output: write failed"
-fault_text names (OutOfMemory written) = codes "out of memory"
+-- why an operation failed, if the input that the fault is about has this name
+abbrev pub fault_text : {A : Type 0} → (name : List ℕ) → ToolFault A → List ℕ
+fault_text name (Input file fault) = name ++ codes ": longword " ++ decimal fault.place ++ codes ": " ++ reason_text fault.reason
+fault_text name (InputDevice file) = name ++ codes ": read failed"
+fault_text name (Link refusal) = codes "link: " ++ link_text refusal
+fault_text name (Place fault) = codes "places: " ++ place_text fault
+fault_text name (Output written) = codes "output: write failed"
+fault_text name (OutOfMemory written) = codes "out of memory"
 
 -- a line of the program
 abbrev pub program_line : List ℕ → List ℕ
 program_line text = line (codes "amihunk: " ++ text)
 
--- the whole line
+-- the whole line, if the inputs have these names
 abbrev pub fault_line : {A : Type 0} → List (List ℕ) → ToolFault A → List ℕ
-fault_line names fault = program_line (fault_text names fault)
+fault_line names fault = program_line (fault_text (name_of names fault) fault)
 
 -- a name is no longer than an object file can have it
 abbrev pub HasShortName : {A : Type 0} → LinkRefusal A → Type 0

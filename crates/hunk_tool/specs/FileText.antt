@@ -19,7 +19,7 @@ pub record IsWritten (text : FileValue → List ℕ) (old new : Option (List ℕ
 pub record IsCutShort (text : FileValue → List ℕ) (old new : Option (List ℕ)) (written : ℕ) (bytes : List ℕ) : Type 0 where
   pub value : FileValue
   pub is_file : IsOfItsKind value bytes
-  pub front : TookFront old new (text value) 0 written
+  pub front : TookFront old new (text value) written
 
 -- Why the text of a file was not written, or not in full. Nothing was written before the reader
 -- ended.

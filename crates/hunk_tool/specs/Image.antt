@@ -32,7 +32,7 @@ pub record IsImageCutShort (form : ImageForm) (bases : List ℕ) (old new : Opti
   pub units : List ObjectUnit
   pub link : DoLink true files units
   pub placed : Placed (ranked_sizes units) bases
-  pub front : TookFront old new (image_text form (direct units bases)) 0 written
+  pub front : TookFront old new (image_text form (direct units bases)) written
 
 -- They link, and their hunks cannot be placed at the bases, with this as the first fault.
 pub record AreNotPlaced (bases : List ℕ) (fault : PlaceFault) (files : List (List ℕ)) : Type 0 where

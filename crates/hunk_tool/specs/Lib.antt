@@ -20,4 +20,3 @@ pub mod DefinedNames
 pub mod Undefined
 pub mod LinkExplanation
 pub mod Headline
-pub mod TextPart

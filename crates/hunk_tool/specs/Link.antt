@@ -44,7 +44,7 @@ pub record IsLinked (options : LinkOptions) (old new : Option (List ℕ)) (files
 pub record IsLinkCutShort (options : LinkOptions) (old new : Option (List ℕ)) (written : ℕ) (files : List (List ℕ)) : Type 0 where
   pub units : List ObjectUnit
   pub link : DoLink options.strip files units
-  pub front : TookFront old new (linked_bytes units options) 0 written
+  pub front : TookFront old new (linked_bytes units options) written
 
 -- The object files link, and this is the load file of their units, before it is trimmed.
 pub record LinkTo (strip : Bool) (file : List FileHunk) (files : List (List ℕ)) : Type 0 where

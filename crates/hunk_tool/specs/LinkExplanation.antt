@@ -4,12 +4,12 @@ use Rattle.std.specs.Fmt.{decimal}
 use Rattle.std.specs.List.{flat_map}
 use Rattle.hunk_link.specs.declared.refusal.LinkRefusal.{LinkRefusal}
 use Rattle.hunk_link.specs.declared.refusal.LinkRefusal.TheVariants as link
-use Rattle.hunk_text.specs.QuotedName.{quoted}
+use Rattle.hunk_base.specs.QuotedName.{quoted}
+use Rattle.hunk_base.specs.Text.{line}
 use Rattle.hunk_tool.specs.DefinedNames.{first_definition}
 use Rattle.hunk_tool.specs.ObjectFiles.{FileUnit}
-use Rattle.hunk_tool.specs.OriginText.{origin_end}
+use Rattle.hunk_tool.specs.OriginText.{origin_text}
 use Rattle.hunk_tool.specs.Origins.{Origin, origin_at, origins}
-use Rattle.hunk_text.specs.Phrase.{joined_texts}
 use Rattle.hunk_tool.specs.Undefined.{Use, Uses, undefined_uses}
 
 -- a hunk by its unit's index in the link and its number in the unit, and where it is from
@@ -38,19 +38,22 @@ told_of units refusal = record { place = None; first = None; undefined = [] }
 
 -- ---- the lines, if the files have these names
 
+abbrev pub known_place_line : (names : List (List ℕ)) → Place → List ℕ
+known_place_line names place =
+    line (codes "  unit " ++ decimal place.unit ++ codes " hunk " ++ decimal place.hunk ++ codes ": " ++ origin_text names place.origin)
+
 abbrev pub place_line : (names : List (List ℕ)) → Option Place → List ℕ
 place_line names None = []
-place_line names (Some place) =
-    joined_texts (codes "  unit " ∷ decimal place.unit ∷ codes " hunk " ∷ decimal place.hunk ∷ codes ": " ∷ []) ++ origin_end names place.origin
+place_line names (Some place) = known_place_line names place
 
 abbrev pub first_line : (names : List (List ℕ)) → Option Origin → List ℕ
 first_line names None = []
-first_line names (Some origin) = joined_texts (codes "  first defined in " ∷ []) ++ origin_end names origin
+first_line names (Some origin) = line (codes "  first defined in " ++ origin_text names origin)
 
 -- a name, the number of references to it, and the first of them
 abbrev pub use_line : (names : List (List ℕ)) → List ℕ × Use → List ℕ
 use_line names used =
-    joined_texts (codes "  " ∷ quoted used.0 ∷ codes ", references: " ∷ decimal used.1.count ∷ codes ", first in " ∷ []) ++ origin_end names used.1.origin
+    line (codes "  " ++ quoted used.0 ++ codes ", references: " ++ decimal used.1.count ++ codes ", first in " ++ origin_text names used.1.origin)
 
 -- the most names that are told
 abbrev pub most_told : ℕ
@@ -59,7 +62,7 @@ most_told = 100
 -- how many there are besides those
 abbrev pub more_line : ℕ → List ℕ
 more_line zero = []
-more_line (suc count) = joined_texts (codes "  and " ∷ decimal (suc count) ∷ codes " more\n" ∷ [])
+more_line (suc count) = line (codes "  and " ++ decimal (suc count) ++ codes " more")
 
 abbrev pub uses_text : (names : List (List ℕ)) → Uses → List ℕ
 uses_text names uses = flat_map (use_line names) (take most_told uses) ++ more_line (length uses - most_told)

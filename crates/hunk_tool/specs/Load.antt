@@ -28,7 +28,7 @@ pub record IsCutShortAt (text : List FileHunk → List ℕ → List ℕ) (bases 
   pub hunks : List FileHunk
   pub is_file : IsLoadOf hunks bytes
   pub placed : Placed (sizes_of hunks) bases
-  pub front : TookFront old new (text hunks bases) 0 written
+  pub front : TookFront old new (text hunks bases) written
 
 -- what is known of a reader and a writer before and after a call: the bytes left and taken, and
 -- what they report about themselves

@@ -4,7 +4,7 @@ use Rattle.std.specs.List.{enumerate_from, flat_map, zip}
 use Rattle.hunk_loadfile.specs.LoadHunk.{FileHunk}
 use Rattle.hunk_link.specs.Carried.{carried}
 use Rattle.hunk_text.specs.Listing.{definition_line, hunk_front}
-use Rattle.hunk_text.specs.Printing.{line}
+use Rattle.hunk_base.specs.Text.{line}
 use Rattle.hunk_tool.specs.Link.{DoLink}
 use Rattle.hunk_tool.specs.ObjectFiles.{AreFileUnits, FileUnit, units_of}
 use Rattle.hunk_tool.specs.OriginText.{origin_text}

@@ -1,7 +1,7 @@
 -- The text that tells where a hunk is from.
 use Rattle.std.specs.Prelude.{ℕ, List, [], ◌++◌, codes, slice_index_or}
 use Rattle.std.specs.Fmt.{decimal}
-use Rattle.hunk_text.specs.QuotedName.{quoted}
+use Rattle.hunk_base.specs.QuotedName.{quoted}
 use Rattle.hunk_tool.specs.Origins.{Origin}
 
 -- the file, the unit and the hunk, if the files have these names
@@ -10,7 +10,3 @@ origin_text names origin =
     slice_index_or names origin.unit.0.file []
     ++ codes " unit " ++ decimal origin.unit.0.number ++ codes " " ++ quoted origin.unit.1.name
     ++ codes " hunk " ++ decimal origin.number ++ codes " " ++ quoted origin.hunk.name
-
--- the end of a line that tells where a hunk is from
-abbrev pub origin_end : (names : List (List ℕ)) → Origin → List ℕ
-origin_end names origin = origin_text names origin ++ codes "\n"

@@ -6,7 +6,7 @@ use Rattle.std.specs.List.{All, filter, flat_map, zip}
 use Rattle.hunk_base.specs.Streams.{HasRead}
 use Rattle.hunk_objects.specs.ProgramUnit.{hunk_count}
 use Rattle.hunk_text.specs.Listing.{load_line, object_line}
-use Rattle.hunk_text.specs.Printing.{line}
+use Rattle.hunk_base.specs.Text.{line}
 use Rattle.hunk_tool.specs.FaultLine.{reason_text}
 use Rattle.hunk_files.specs.FileDecoder.{IsRefused}
 use Rattle.hunk_files.specs.FileValue.{FileValue, IsOfItsKind}

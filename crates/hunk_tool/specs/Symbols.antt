@@ -3,9 +3,9 @@ use Rattle.std.specs.Prelude.{ℕ, ◌+◌, ◌%◌, ◌^◌, List, ◌++◌, co
 use Rattle.std.specs.Fmt.{decimal}
 use Rattle.std.specs.List.{enumerate_from, flat_map}
 use Rattle.hunk_loadfile.specs.LoadHunk.{FileHunk}
-use Rattle.hunk_text.specs.Digits.{eight_digits}
-use Rattle.hunk_text.specs.Printing.{line}
-use Rattle.hunk_text.specs.QuotedName.{quoted}
+use Rattle.hunk_base.specs.Digits.{eight_digits}
+use Rattle.hunk_base.specs.Text.{line}
+use Rattle.hunk_base.specs.QuotedName.{quoted}
 
 -- where a symbol of this value stands, in the hunk at this base: addresses are taken modulo 2^32
 abbrev pub symbol_address : (base value : ℕ) → ℕ

@@ -2,6 +2,7 @@
 
 ghost use Rattle.std.specs.Prelude.{IsTrue, OnOk, IfErr};
 ghost use Rattle.hunk_base.specs.Streams.{HasRead, IsDevice, WroteAll};
+ghost use Rattle.hunk_text.specs.Listing.{load_line, object_line};
 ghost use Rattle.hunk_tool.specs.Check.{check_text, line_of};
 ghost use Rattle.hunk_tool.specs.FileText.{IsTextFault, IsWritten};
 ghost use Rattle.hunk_tool.specs.Load.{ends_of};
@@ -9,7 +10,7 @@ ghost use Rattle.hunk_tool.specs.Load.{ends_of};
 use crate::tool_fault::ToolFault;
 use hunk_files::{CountedFile, File, count_file};
 use hunk_text::{write_load_line, write_object_line};
-use hunk_words::{Sink, Source, WriteFault};
+use hunk_words::{Sink, Source, Text, WriteFault};
 use std::alloc::Allocator;
 
 /// Reads a file to the reader's end, checks it, and writes one line: `object file: U units, H hunks`,
@@ -53,8 +54,27 @@ fn write_counts<A: Allocator + Copy, W: Sink>(
     ensures device { IfErr result IsDevice }
 {
     match counted {
-        File::Object(counter) => write_object_line(counter.units(), counter.hunks(), writer)?,
-        File::Load(counter) => write_load_line(counter.hunks(), writer)?,
-    };
-    Ok(())
+        File::Object(counter) => write_object(counter.units(), counter.hunks(), writer),
+        File::Load(counter) => write_load(counter.hunks(), writer),
+    }
+}
+
+/// Writes the line of an object file with these numbers of units and hunks.
+fn write_object<W: Sink>(units: u64, hunks: u64, writer: &mut W) -> Result<(), WriteFault>
+    ensures wrote { WroteAll W.taken W.failed writer.old writer.new (object_line units hunks) result }
+    ensures device { IfErr result IsDevice }
+{
+    let mut text = Text::new(writer);
+    write_object_line(&mut text, units, hunks);
+    text.finish()
+}
+
+/// Writes the line of a load file with this number of hunks.
+fn write_load<W: Sink>(hunks: u64, writer: &mut W) -> Result<(), WriteFault>
+    ensures wrote { WroteAll W.taken W.failed writer.old writer.new (load_line hunks) result }
+    ensures device { IfErr result IsDevice }
+{
+    let mut text = Text::new(writer);
+    write_load_line(&mut text, hunks);
+    text.finish()
 }

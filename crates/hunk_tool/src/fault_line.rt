@@ -1,17 +1,17 @@
 //! The line that reports why an operation failed.
 
-ghost use Rattle.std.specs.Prelude.{◌≡◌, ◌≢◌, ◌++◌, ◌≤◌, ◌^◌, ℕ, List, codes, length, map, IfErr};
+ghost use Rattle.std.specs.Prelude.{◌≡◌, ◌+◌, ◌^◌, ◌≤◌, ◌++◌, ℕ, codes, length, map, IfErr};
+ghost use Rattle.std.specs.Fmt.{decimal};
 ghost use Rattle.std.specs.String.{string_bytes};
+ghost use Rattle.hunk_base.specs.Digits.{eight_digits};
 ghost use Rattle.hunk_base.specs.Streams.{IsDevice, WroteAll};
-ghost use Rattle.hunk_tool.specs.FaultLine.{fault_line, fault_text, name_of, place_text, program_line, reason_text, HasShortName, IsOfInputs};
-ghost use Rattle.hunk_link.specs.declared.refusal.LinkRefusal.{LinkRefusal};
-ghost use Rattle.hunk_text.specs.Phrase.{phrase_text};
+ghost use Rattle.hunk_base.specs.Text.{Puts};
+ghost use Rattle.hunk_tool.specs.FaultLine.{fault_line, fault_text, name_of, place_text, program_line, reason_text, IsOfInputs};
 
-use crate::link_line::write_link_line;
+use crate::link_line::write_link_refusal;
 use crate::tool_fault::ToolFault;
 use hunk_loader::PlaceFault;
-use hunk_text::{Phrase, write_line_end};
-use hunk_words::{Reason, Sink, WriteFault, write_all};
+use hunk_words::{Reason, Sink, Text, WriteFault};
 use std::alloc::Allocator;
 
 /// Writes the line that reports why an operation failed. `files` are the names of its inputs: a
@@ -31,32 +31,10 @@ pub fn write_fault<A: Allocator + Copy, W: Sink>(
     ensures wrote { WroteAll W.taken W.failed writer.old writer.new (fault_line (map string_bytes files.now) fault.now) result }
     ensures device { IfErr result IsDevice }
 {
-    if let ToolFault::Link(refusal) = fault {
-        return write_link_line(refusal, writer);
-    }
-    let (first, second) = phrases(fault);
-    write_line(named_file(files, fault), &first, &second, writer)
-}
-
-/// Writes a line of the program: `amihunk: `, a name, and what is told after it. It does not
-/// allocate.
-///
-/// # Errors
-///
-/// [`WriteFault::Device`] where a write failed, or took no byte.
-pub fn write_line<W: Sink>(
-    name: &[u8],
-    first: &Phrase,
-    second: &Phrase,
-    writer: &mut W,
-) -> Result<(), WriteFault>
-    ensures wrote { WroteAll W.taken W.failed writer.old writer.new (program_line (name.now ++ (phrase_text first.now ++ phrase_text second.now))) result }
-    ensures device { IfErr result IsDevice }
-{
-    let written = write_all(writer, 0, b"amihunk: ")?;
-    let written = write_all(writer, written, name)?;
-    write_line_end(writer, written, first, second)?;
-    Ok(())
+    let name = named_file(files, fault);
+    let mut text = Text::new(writer);
+    write_fault_line(&mut text, name, fault);
+    text.finish()
 }
 
 /// The name of the input that the fault is about; empty if it is about none.
@@ -73,72 +51,140 @@ fn named_file<'a, A: Allocator + Copy>(files: &'a [String], fault: &ToolFault<A>
     }
 }
 
-/// What comes after that name.
-fn phrases<A: Allocator + Copy>(fault: &ToolFault<A>) -> (Phrase, Phrase)
-    requires { (refusal : LinkRefusal A) → fault.now ≢ ToolFault.Link refusal }
-    ensures { (names : List (List ℕ)) → name_of names fault.now ++ (phrase_text result.0 ++ phrase_text result.1) ≡ fault_text names fault.now }
+/// Writes the line, if the input that the fault is about has this name.
+fn write_fault_line<A: Allocator + Copy, W: Sink>(
+    text: &mut Text<'_, W>,
+    name: &[u8],
+    fault: &ToolFault<A>,
+)
+    ensures puts { Puts W.taken W.failed text.old text.new (program_line (fault_text name.now fault.now)) }
+    ensures short { (count : ℕ) → IsOfInputs count fault.now → length (fault_text name.now fault.now) ≤ length name.now + 2 ^ 33 }
 {
-    let nothing = Phrase::plain("");
+    text.put(b"amihunk: ");
+    write_fault_text(text, name, fault);
+    text.end_line();
+}
+
+/// Writes why an operation failed, if the input that the fault is about has this name.
+fn write_fault_text<A: Allocator + Copy, W: Sink>(
+    text: &mut Text<'_, W>,
+    name: &[u8],
+    fault: &ToolFault<A>,
+)
+    ensures puts { Puts W.taken W.failed text.old text.new (fault_text name.now fault.now) }
+    ensures short { (count : ℕ) → IsOfInputs count fault.now → length (fault_text name.now fault.now) ≤ length name.now + 2 ^ 33 }
+{
     match fault {
-        ToolFault::Input { fault, .. } => (
-            Phrase::decimal(": longword ", fault.place, ": "),
-            reason_phrase(fault.reason),
-        ),
-        ToolFault::InputDevice { .. } => (Phrase::plain(": read failed"), nothing),
-        ToolFault::Link(_) => unreachable!(),
-        ToolFault::Place(fault) => place_phrases(*fault),
-        ToolFault::Output { .. } => (Phrase::plain("output: write failed"), nothing),
-        ToolFault::OutOfMemory { .. } => (Phrase::plain("out of memory"), nothing),
+        ToolFault::Input { fault, .. } => {
+            text.put(name);
+            write_number(text, b": longword ", fault.place, b": ");
+            write_reason(text, fault.reason);
+        }
+        ToolFault::InputDevice { .. } => {
+            text.put(name);
+            text.put(b": read failed");
+        }
+        ToolFault::Link(refusal) => {
+            text.put(b"link: ");
+            write_link_refusal(text, refusal);
+        }
+        ToolFault::Place(fault) => {
+            text.put(b"places: ");
+            write_place_fault(text, *fault);
+        }
+        ToolFault::Output { .. } => text.put(b"output: write failed"),
+        ToolFault::OutOfMemory { .. } => text.put(b"out of memory"),
     }
 }
 
-/// Why addresses are rejected.
-fn place_phrases(fault: PlaceFault) -> (Phrase, Phrase)
-    ensures { phrase_text result.0 ++ phrase_text result.1 ≡ codes "places: " ++ place_text fault }
+/// Writes why addresses are rejected.
+fn write_place_fault<W: Sink>(text: &mut Text<'_, W>, fault: PlaceFault)
+    ensures puts { Puts W.taken W.failed text.old text.new (place_text fault) }
+    ensures short { length (place_text fault) ≤ 64 }
 {
     match fault {
-        PlaceFault::WrongCount => (
-            Phrase::plain("places: wrong number of addresses"),
-            Phrase::plain(""),
-        ),
-        PlaceFault::PastEnd(hunk) => (
-            Phrase::decimal("places: hunk ", hunk as u64, ""),
-            Phrase::plain(" passes the end of memory"),
-        ),
-        PlaceFault::Overlap(earlier, later) => (
-            Phrase::decimal("places: hunks ", earlier as u64, " and "),
-            Phrase::decimal("", later as u64, " overlap"),
-        ),
+        PlaceFault::WrongCount => text.put(b"wrong number of addresses"),
+        PlaceFault::PastEnd(hunk) => {
+            write_number(text, b"hunk ", hunk as u64, b" passes the end of memory");
+        }
+        PlaceFault::Overlap(earlier, later) => {
+            write_number(text, b"hunks ", earlier as u64, b" and ");
+            write_number(text, b"", later as u64, b" overlap");
+        }
     }
 }
 
-/// Why a longword is rejected.
-pub(crate) fn reason_phrase(reason: Reason) -> Phrase
-    ensures { phrase_text result ≡ reason_text reason }
+/// Writes why a longword is rejected.
+pub(crate) fn write_reason<W: Sink>(text: &mut Text<'_, W>, reason: Reason)
+    ensures puts { Puts W.taken W.failed text.old text.new (reason_text reason) }
+    ensures short { length (reason_text reason) ≤ 64 }
 {
     match reason {
-        Reason::PartialLongword => Phrase::plain("file ends inside a longword"),
-        Reason::UnexpectedEnd => Phrase::plain("file ends too early"),
-        Reason::WrongStart => Phrase::plain("wrong first longword"),
-        Reason::UnknownType(number) => Phrase::decimal("unknown block type ", number as u64, ""),
+        Reason::PartialLongword => text.put(b"file ends inside a longword"),
+        Reason::UnexpectedEnd => text.put(b"file ends too early"),
+        Reason::WrongStart => text.put(b"wrong first longword"),
+        Reason::UnknownType(number) => write_last(text, b"unknown block type ", u64::from(number)),
         Reason::MisplacedType(number) => {
-            Phrase::decimal("block type ", number as u64, " not allowed here")
+            write_number(
+                text,
+                b"block type ",
+                u64::from(number),
+                b" not allowed here",
+            );
         }
         Reason::UnsupportedBlock(number) => {
-            Phrase::decimal("block type ", number as u64, " not supported")
+            write_number(text, b"block type ", u64::from(number), b" not supported");
         }
         Reason::UnsupportedExt(number) => {
-            Phrase::decimal("external type ", number as u64, " not supported")
+            write_number(
+                text,
+                b"external type ",
+                u64::from(number),
+                b" not supported",
+            );
         }
-        Reason::BothMemoryBits => Phrase::plain("both memory bits set"),
-        Reason::ResidentNames => Phrase::plain("resident library names not supported"),
-        Reason::HunkTable => Phrase::plain("bad hunk table"),
-        Reason::TooLarge => Phrase::plain("too large"),
-        Reason::ContentTooLong => Phrase::plain("block longer than its hunk"),
-        Reason::NoSuchHunk(hunk) => Phrase::decimal("no hunk ", hunk as u64, ""),
-        Reason::SiteOutside(offset) => Phrase::hexadecimal("site ", offset, " outside its hunk"),
-        Reason::SiteOverlap(offset) => Phrase::hexadecimal("site ", offset, " overlaps another"),
-        Reason::SymbolKind(kind) => Phrase::decimal("symbol of kind ", kind as u64, ""),
-        Reason::TrailingData => Phrase::plain("data after the last hunk"),
+        Reason::BothMemoryBits => text.put(b"both memory bits set"),
+        Reason::ResidentNames => text.put(b"resident library names not supported"),
+        Reason::HunkTable => text.put(b"bad hunk table"),
+        Reason::TooLarge => text.put(b"too large"),
+        Reason::ContentTooLong => text.put(b"block longer than its hunk"),
+        Reason::NoSuchHunk(hunk) => write_last(text, b"no hunk ", u64::from(hunk)),
+        Reason::SiteOutside(offset) => write_site(text, offset, b" outside its hunk"),
+        Reason::SiteOverlap(offset) => write_site(text, offset, b" overlaps another"),
+        Reason::SymbolKind(kind) => write_last(text, b"symbol of kind ", u64::from(kind)),
+        Reason::TrailingData => text.put(b"data after the last hunk"),
     }
+}
+
+/// Writes a number in decimal digits, between two pieces.
+pub(crate) fn write_number<W: Sink>(
+    text: &mut Text<'_, W>,
+    before: &[u8],
+    number: u64,
+    after: &[u8],
+)
+    ensures puts { Puts W.taken W.failed text.old text.new (before.now ++ decimal number ++ after.now) }
+    ensures short { length (decimal number) ≤ 20 }
+{
+    text.put(before);
+    text.put_decimal(number);
+    text.put(after);
+}
+
+/// Writes a number in decimal digits, after a piece.
+fn write_last<W: Sink>(text: &mut Text<'_, W>, before: &[u8], number: u64)
+    ensures puts { Puts W.taken W.failed text.old text.new (before.now ++ decimal number) }
+    ensures short { length (decimal number) ≤ 20 }
+{
+    text.put(before);
+    text.put_decimal(number);
+}
+
+/// Writes the offset of a site, and what is wrong with it.
+fn write_site<W: Sink>(text: &mut Text<'_, W>, offset: u32, after: &[u8])
+    ensures { Puts W.taken W.failed text.old text.new (codes "site " ++ eight_digits offset ++ after.now) }
+{
+    text.put(b"site ");
+    text.put_longword(offset);
+    text.put(after);
 }

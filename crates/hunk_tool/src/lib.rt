@@ -20,8 +20,6 @@
 //! - `link_line`: the line that reports why units do not link.
 //! - `link_explanation`: what is told of units that do not link; `link_explanation_text`: the lines of
 //!   that.
-//! - `text_part`: parts of texts: bytes, numbers and names.
-//! - `written_text`: texts that are written one part after another.
 //! - `defined_names`: the names that hunks define; `undefined`: those that none defines.
 #![tactic(auto)]
 
@@ -44,13 +42,11 @@ mod origins;
 pub mod show;
 pub mod survey;
 pub mod symbols;
-mod text_part;
 pub mod tool_fault;
 mod undefined;
-mod written_text;
 
 pub use check::check_run;
-pub use fault_line::{write_fault, write_line};
+pub use fault_line::write_fault;
 pub use file_system::FileSystem;
 pub use hunk_files::{
     CountedFile, Explanation, File, Found, HunkFile, LoadCounter, ObjectCounter, count_file,
@@ -60,7 +56,6 @@ pub use hunk_loader::PlaceFault;
 pub use hunk_memory::{
     BasesFault, BasesFileFault, ImageForm, parse_bases, read_bases, write_image, write_places,
 };
-pub use hunk_text::Phrase;
 pub use image::{image_run, image_run_with};
 pub use link::{link_inputs, link_run, link_to_vec};
 pub use link_explanation::{LinkExplanation, explain_link};

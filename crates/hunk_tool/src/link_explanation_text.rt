@@ -1,16 +1,15 @@
 //! The lines that explain why units do not link.
 
-ghost use Rattle.std.specs.Prelude.{◌≤◌, ◌^◌, length, map};
+ghost use Rattle.std.specs.Prelude.{map};
 ghost use Rattle.std.specs.String.{string_bytes};
-ghost use Rattle.hunk_tool.specs.LinkExplanation.{first_line, more_line, place_line, told_text, use_line, uses_text};
-ghost use Rattle.hunk_text.specs.WrittenText.{WroteText};
+ghost use Rattle.hunk_base.specs.Text.{Puts};
+ghost use Rattle.hunk_tool.specs.LinkExplanation.{first_line, known_place_line, more_line, place_line, told_text, use_line, uses_text};
 
 use crate::link_explanation::{LinkExplanation, Place};
 use crate::origin_text::write_origin;
 use crate::origins::Origin;
-use crate::text_part::TextPart;
 use crate::undefined::{Use, Uses};
-use hunk_words::{DeviceFault, Sink};
+use hunk_words::{Sink, Text};
 use std::alloc::Allocator;
 
 /// The most undefined names that are told; of the others, their number is.
@@ -21,121 +20,106 @@ const MOST_TOLD: usize = 100;
 /// defined; and each undefined name, in the order of the first references, with the number of
 /// references, the first 100 of them and then how many more there are. `names` are those of the files.
 /// It does not allocate.
-///
-/// # Errors
-///
-/// [`DeviceFault`] if a write failed or took no byte. The writer has then taken the first bytes of the
-/// lines, and nothing else.
 pub fn write_link_explanation<A: Allocator + Copy, W: Sink>(
-    explanation: &LinkExplanation<'_, A>,
+    text: &mut Text<'_, W>,
     names: &[String],
-    writer: &mut W,
-) -> Result<(), DeviceFault>
-    ensures { WroteText W.taken W.failed writer.old writer.new (told_text (map string_bytes names.now) explanation.now) result }
+    explanation: &LinkExplanation<'_, A>,
+)
+    ensures { Puts W.taken W.failed text.old text.new (told_text (map string_bytes names.now) explanation.now) }
 {
-    write_place(writer, names, &explanation.place)?;
-    write_first(writer, names, &explanation.first)?;
-    write_uses(writer, names, &explanation.undefined)
+    write_place(text, names, &explanation.place);
+    write_first(text, names, &explanation.first);
+    write_uses(text, names, &explanation.undefined);
 }
 
 /// Writes the line of the hunk that a refusal is about, if it is known.
 fn write_place<A: Allocator + Copy, W: Sink>(
-    writer: &mut W,
+    text: &mut Text<'_, W>,
     names: &[String],
     place: &Option<Place<'_, A>>,
-) -> Result<(), DeviceFault>
-    ensures { WroteText W.taken W.failed writer.old writer.new (place_line (map string_bytes names.now) place.now) result }
+)
+    ensures { Puts W.taken W.failed text.old text.new (place_line (map string_bytes names.now) place.now) }
 {
-    let Some(place) = place else {
-        return Ok(());
-    };
-    write_origin(
-        writer,
-        &[
-            TextPart::Plain(b"  unit "),
-            TextPart::decimal(place.unit as u64),
-            TextPart::Plain(b" hunk "),
-            TextPart::decimal(u64::from(place.hunk)),
-            TextPart::Plain(b": "),
-        ],
-        names,
-        &place.origin,
-    )
+    if let Some(place) = place {
+        write_known_place(text, names, place);
+    }
+}
+
+/// Writes the line of the hunk that a refusal is about.
+fn write_known_place<A: Allocator + Copy, W: Sink>(
+    text: &mut Text<'_, W>,
+    names: &[String],
+    place: &Place<'_, A>,
+)
+    ensures { Puts W.taken W.failed text.old text.new (known_place_line (map string_bytes names.now) place.now) }
+{
+    text.put(b"  unit ");
+    text.put_decimal(place.unit as u64);
+    text.put(b" hunk ");
+    text.put_decimal(u64::from(place.hunk));
+    text.put(b": ");
+    write_origin(text, names, &place.origin);
+    text.end_line();
 }
 
 /// Writes the line of the first definition of a name, if there is one.
 fn write_first<A: Allocator + Copy, W: Sink>(
-    writer: &mut W,
+    text: &mut Text<'_, W>,
     names: &[String],
     first: &Option<Origin<'_, A>>,
-) -> Result<(), DeviceFault>
-    ensures { WroteText W.taken W.failed writer.old writer.new (first_line (map string_bytes names.now) first.now) result }
+)
+    ensures { Puts W.taken W.failed text.old text.new (first_line (map string_bytes names.now) first.now) }
 {
-    match first {
-        Some(origin) => write_origin(
-            writer,
-            &[TextPart::Plain(b"  first defined in ")],
-            names,
-            origin,
-        ),
-        None => Ok(()),
+    if let Some(origin) = first {
+        text.put(b"  first defined in ");
+        write_origin(text, names, origin);
+        text.end_line();
     }
 }
 
 /// Writes the lines of undefined names.
 fn write_uses<A: Allocator + Copy, W: Sink>(
-    writer: &mut W,
+    text: &mut Text<'_, W>,
     names: &[String],
     uses: &Uses<'_, A>,
-) -> Result<(), DeviceFault>
-    ensures { WroteText W.taken W.failed writer.old writer.new (uses_text (map string_bytes names.now) uses.now) result }
+)
+    ensures { Puts W.taken W.failed text.old text.new (uses_text (map string_bytes names.now) uses.now) }
 {
     for index in 0..MOST_TOLD {
         match uses.get(index) {
-            Some((name, used)) => write_use(writer, names, name, used)?,
-            None => return Ok(()),
+            Some((name, used)) => write_use(text, names, name, used),
+            None => return,
         }
     }
-    write_more(writer, uses.len() - MOST_TOLD)
+    write_more(text, uses.len() - MOST_TOLD);
 }
 
 /// Writes the line of an undefined name.
 fn write_use<A: Allocator + Copy, W: Sink>(
-    writer: &mut W,
+    text: &mut Text<'_, W>,
     names: &[String],
     name: &[u8],
     used: &Use<'_, A>,
-) -> Result<(), DeviceFault>
-    requires { length name.now ≤ 2 ^ 30 }
-    ensures { WroteText W.taken W.failed writer.old writer.new (use_line (map string_bytes names.now) (name.now, used.now)) result }
+)
+    ensures { Puts W.taken W.failed text.old text.new (use_line (map string_bytes names.now) (name.now, used.now)) }
 {
-    write_origin(
-        writer,
-        &[
-            TextPart::Plain(b"  "),
-            TextPart::name(name),
-            TextPart::Plain(b", references: "),
-            TextPart::decimal(used.count),
-            TextPart::Plain(b", first in "),
-        ],
-        names,
-        &used.origin,
-    )
+    text.put(b"  ");
+    text.put_quoted(name);
+    text.put(b", references: ");
+    text.put_decimal(used.count);
+    text.put(b", first in ");
+    write_origin(text, names, &used.origin);
+    text.end_line();
 }
 
 /// Writes how many more undefined names there are, if there are any.
-fn write_more<W: Sink>(writer: &mut W, count: usize) -> Result<(), DeviceFault>
-    ensures { WroteText W.taken W.failed writer.old writer.new (more_line count) result }
+fn write_more<W: Sink>(text: &mut Text<'_, W>, count: usize)
+    ensures { Puts W.taken W.failed text.old text.new (more_line count) }
 {
-    if count == 0 {
-        return Ok(());
+    if count > 0 {
+        text.put(b"  and ");
+        text.put_decimal(count as u64);
+        text.put(b" more");
+        text.end_line();
     }
-    TextPart::write_all(
-        &[
-            TextPart::Plain(b"  and "),
-            TextPart::decimal(count as u64),
-            TextPart::Plain(b" more\n"),
-        ],
-        writer,
-    )
 }

@@ -3,26 +3,23 @@
 ghost use Rattle.std.specs.Prelude.{◌≡◌, ◌+◌, ◌≤◌, ◌<◌, ◌^◌, length, map, IfOk, IfErr};
 ghost use Rattle.std.specs.String.{string_bytes};
 ghost use Rattle.hunk_loadfile.specs.WrittenForm.{IsShortEnough};
-ghost use Rattle.hunk_text.specs.Listing.{hunk_front};
 ghost use Rattle.hunk_tool.specs.FaultLine.{IsOfInputs};
 ghost use Rattle.hunk_tool.specs.Inputs.{HaveRead, inputs_of};
 ghost use Rattle.hunk_tool.specs.Link.{IsUnlinked};
 ghost use Rattle.hunk_tool.specs.Map.{LinkFiles, map_from, map_line, map_lines, map_text};
-ghost use Rattle.hunk_text.specs.WrittenText.{WroteText};
+ghost use Rattle.hunk_base.specs.Text.{Puts};
 ghost use Rattle.hunk_tool.specs.ObjectFiles.{IsShortUnit};
 ghost use Rattle.hunk_tool.specs.Origins.{origins, unit_origins};
 
 use crate::object_files::{ObjectFiles, UnitPlace, read_object_files};
 use crate::origin_text::write_origin;
 use crate::origins::Origin;
-use crate::text_part::TextPart;
 use crate::tool_fault::ToolFault;
-use crate::written_text::uncounted;
 use hunk_link::link;
 use hunk_loadfile::{LoadFile, LoadHunk};
 use hunk_objects::ProgramUnit;
 use hunk_text::{write_definitions, write_hunk_front};
-use hunk_words::{DeviceFault, HunkKind, Memory, Sink, Source};
+use hunk_words::{Sink, Source, Text};
 use std::alloc::Allocator;
 
 /// Reads and links as [`link_inputs`](crate::link_inputs) does, and keeps the units that it read, for
@@ -50,45 +47,39 @@ pub fn link_files<A: Allocator + Copy, R: Source>(
 /// Writes the map of a load file that [`link_files`] linked, before it is trimmed: for each of its
 /// hunks, in order, a line of its number, kind, memory and size in longwords, and of the file, the
 /// unit and the hunk that it is from; and then a line for each definition of that hunk, in file
-/// order. `names` are those of the input files. It does not allocate, and does not flush.
-///
-/// # Errors
-///
-/// [`DeviceFault`] if a write failed or took no byte. The writer has then taken the first bytes of
-/// the map, and nothing else.
+/// order. `names` are those of the input files. It does not allocate.
 pub fn write_map<A: Allocator + Copy, W: Sink>(
+    text: &mut Text<'_, W>,
     files: &ObjectFiles<A>,
     names: &[String],
     file: &LoadFile<A>,
-    writer: &mut W,
-) -> Result<(), DeviceFault>
+)
     requires { length (origins files.now) ≡ length file.now }
-    ensures { WroteText W.taken W.failed writer.old writer.new (map_text (map string_bytes names.now) file.now files.now) result }
+    ensures { Puts W.taken W.failed text.old text.new (map_text (map string_bytes names.now) file.now files.now) }
 {
     let hunks = file.hunks();
     let places = files.places();
     let mut first = 0;
     for (index, unit) in files.units().iter().enumerate() {
-        write_unit(writer, &hunks[first..], first, names, places[index], unit)?;
+        write_unit(text, &hunks[first..], first, names, places[index], unit);
         first += unit.hunks().len();
     }
-    Ok(())
 }
 
 /// Writes the lines of the hunks of a unit. They are the first of these hunks of the load file, which
 /// are numbered from `first`.
 fn write_unit<A: Allocator + Copy, W: Sink>(
-    writer: &mut W,
+    text: &mut Text<'_, W>,
     hunks: &[LoadHunk<A>],
     first: usize,
     names: &[String],
     place: UnitPlace,
     unit: &ProgramUnit<A>,
-) -> Result<(), DeviceFault>
+)
     requires counted { first + length hunks.now < 2 ^ 64 }
     requires room { length unit.now.hunks ≤ length hunks.now }
     requires short { IsShortUnit unit.now }
-    ensures { WroteText W.taken W.failed writer.old writer.new (map_from (map string_bytes names.now) first hunks.now (unit_origins (place, unit.now))) result }
+    ensures { Puts W.taken W.failed text.old text.new (map_from (map string_bytes names.now) first hunks.now (unit_origins (place, unit.now))) }
 {
     for (number, hunk) in unit.hunks().iter().enumerate() {
         let origin = Origin {
@@ -98,48 +89,36 @@ fn write_unit<A: Allocator + Copy, W: Sink>(
             hunk,
         };
         let rank = (first + number) as u64;
-        write_hunk(writer, rank, &hunks[number], names, &origin)?;
+        write_hunk(text, rank, &hunks[number], names, &origin);
     }
-    Ok(())
 }
 
 /// Writes the lines of a hunk of the load file, which has this number.
 fn write_hunk<A: Allocator + Copy, W: Sink>(
-    writer: &mut W,
+    text: &mut Text<'_, W>,
     number: u64,
     hunk: &LoadHunk<A>,
     names: &[String],
     origin: &Origin<'_, A>,
-) -> Result<(), DeviceFault>
-    ensures { WroteText W.taken W.failed writer.old writer.new (map_lines (map string_bytes names.now) (number, (hunk.now, origin.now))) result }
+)
+    ensures { Puts W.taken W.failed text.old text.new (map_lines (map string_bytes names.now) (number, (hunk.now, origin.now))) }
 {
-    write_line(writer, number, hunk, names, origin)?;
-    uncounted(write_definitions(writer, 0, origin.hunk.definitions()))
+    write_line(text, number, hunk, names, origin);
+    write_definitions(text, origin.hunk.definitions());
 }
 
 /// Writes the first line of a hunk of the load file.
 fn write_line<A: Allocator + Copy, W: Sink>(
-    writer: &mut W,
+    text: &mut Text<'_, W>,
     number: u64,
     hunk: &LoadHunk<A>,
     names: &[String],
     origin: &Origin<'_, A>,
-) -> Result<(), DeviceFault>
-    ensures { WroteText W.taken W.failed writer.old writer.new (map_line (map string_bytes names.now) number hunk.now origin.now) result }
+)
+    ensures { Puts W.taken W.failed text.old text.new (map_line (map string_bytes names.now) number hunk.now origin.now) }
 {
-    write_front(writer, number, hunk.kind, hunk.memory, hunk.size)?;
-    write_origin(writer, &[TextPart::Plain(b" ")], names, origin)
-}
-
-/// Writes how that line begins, for a hunk of this kind, memory and size.
-fn write_front<W: Sink>(
-    writer: &mut W,
-    number: u64,
-    kind: HunkKind,
-    memory: Memory,
-    size: u32,
-) -> Result<(), DeviceFault>
-    ensures { WroteText W.taken W.failed writer.old writer.new (hunk_front number kind memory size) result }
-{
-    uncounted(write_hunk_front(writer, 0, number, kind, memory, size))
+    write_hunk_front(text, number, hunk.kind, hunk.memory, hunk.size);
+    text.put(b" ");
+    write_origin(text, names, origin);
+    text.end_line();
 }

@@ -2,6 +2,7 @@
 
 ghost use Rattle.std.specs.Prelude.{◌^◌, ◌<◌, length, IsTrue, OnOk, IfErr};
 ghost use Rattle.hunk_base.specs.Streams.{HasRead, IsDevice, WroteAll};
+ghost use Rattle.hunk_base.specs.Text.{Puts};
 ghost use Rattle.hunk_tool.specs.FileText.{IsTextFault, IsWritten};
 ghost use Rattle.hunk_files.specs.HunkFile.{value_of};
 ghost use Rattle.hunk_tool.specs.Load.{ends_of};
@@ -10,7 +11,7 @@ ghost use Rattle.hunk_tool.specs.Show.{show_text};
 use crate::tool_fault::ToolFault;
 use hunk_files::{File, HunkFile, read_hunk_file};
 use hunk_text::{write_load_listing, write_object_listing};
-use hunk_words::{Sink, Source, WriteFault};
+use hunk_words::{Sink, Source, Text, WriteFault};
 use std::alloc::Allocator;
 
 /// Reads a file to the reader's end, and writes its listing: the line that
@@ -55,8 +56,18 @@ fn write_listing<A: Allocator + Copy, W: Sink>(
     ensures wrote { WroteAll W.taken W.failed writer.old writer.new (show_text (value_of file.now)) result }
     ensures device { IfErr result IsDevice }
 {
+    let mut text = Text::new(writer);
+    write_file(&mut text, file);
+    text.finish()
+}
+
+/// Writes the listing of a file of its kind.
+fn write_file<A: Allocator + Copy, W: Sink>(text: &mut Text<'_, W>, file: &HunkFile<A>)
+    requires { length (show_text (value_of file.now)) < 2 ^ 64 }
+    ensures { Puts W.taken W.failed text.old text.new (show_text (value_of file.now)) }
+{
     match file {
-        File::Object(units) => write_object_listing(units, writer),
-        File::Load(file) => write_load_listing(file.hunks(), writer),
+        File::Object(units) => write_object_listing(text, units),
+        File::Load(file) => write_load_listing(text, file.hunks()),
     }
 }

@@ -1,18 +1,17 @@
 //! Surveys files: what each of them is, the line about it, and the line with their numbers.
 
 ghost use Rattle.std.specs.Prelude.{◌≡◌, ◌++◌, codes, IfOk, IfErr};
-ghost use Rattle.hunk_base.specs.Streams.{IsDevice, Wrote};
-ghost use Rattle.hunk_text.specs.Printing.{line};
-ghost use Rattle.hunk_text.specs.Phrase.{phrase_text};
+ghost use Rattle.hunk_base.specs.Streams.{WroteText};
+ghost use Rattle.hunk_base.specs.Text.{Puts};
 ghost use Rattle.hunk_tool.specs.Inputs.{file_names};
 ghost use Rattle.hunk_tool.specs.Survey.{finding_line, finding_text, is_load, is_object, is_refused, is_unreadable, number_of, survey_status, totals_line};
 ghost use Rattle.hunk_tool.specs.Survey.{AreFound, IsFound, IsOfFile, IsSurveyFault};
 
-use crate::fault_line::reason_phrase;
+use crate::fault_line::write_reason;
 use crate::file_system::FileSystem;
 use hunk_files::{File, count_file};
-use hunk_text::{Digits, Phrase, write_line_end, write_pieces};
-use hunk_words::{Fault, ReadFault, Refusal, Sink, Source, WriteFault, write_all};
+use hunk_text::{write_load_line, write_object_line};
+use hunk_words::{Fault, ReadFault, Refusal, Sink, Source, Text, WriteFault};
 use std::alloc::{AllocError, Allocator};
 
 /// What a survey finds of a file.
@@ -124,7 +123,7 @@ pub fn survey_files<A: Allocator + Copy, S: FileSystem, W: Sink>(
         let Ok(finding) = finding_of(alloc, system, name) else {
             return Err(SurveyFault::OutOfMemory);
         };
-        let Ok(_) = write_finding(name, finding, writer) else {
+        let Ok(()) = write_about(name, finding, writer) else {
             return Err(SurveyFault::Output);
         };
         let Ok(()) = findings.push(finding) else {
@@ -148,78 +147,65 @@ fn finding_of<A: Allocator + Copy, S: FileSystem>(
     }
 }
 
-/// Writes the line about the file named `name`: the name, `: `, and what
-/// [`check_run`](crate::check_run) writes of the file, or the reason why there is nothing to write;
-/// and returns its length in bytes. It does not allocate.
-///
-/// # Errors
-///
-/// [`WriteFault::Device`] if a write failed or took no byte, with the number of bytes of the line
-/// that were written.
-pub fn write_finding<W: Sink>(
-    name: &str,
-    finding: Finding,
-    writer: &mut W,
-) -> Result<u64, WriteFault>
-    ensures wrote { Wrote W.taken W.failed writer.old writer.new (finding_line name.now finding) 0 result }
-    ensures device { IfErr result IsDevice }
+/// Writes the line about the file named `name`, as [`write_finding`] does.
+fn write_about<W: Sink>(name: &str, finding: Finding, writer: &mut W) -> Result<(), WriteFault>
+    ensures wrote { WroteText W.taken W.failed writer.old writer.new (finding_line name.now finding) result }
 {
-    let (first, second) = phrases(finding);
-    let written = write_all(writer, 0, name.as_bytes())?;
-    write_line_end(writer, written, &first, &second)
+    let mut text = Text::new(writer);
+    write_finding(&mut text, name, finding);
+    text.finish()
 }
 
-/// What comes after the name of the file.
-fn phrases(finding: Finding) -> (Phrase, Phrase)
-    ensures { line (phrase_text result.0 ++ phrase_text result.1) ≡ codes ": " ++ finding_text finding }
+/// Writes the line about the file named `name`: the name, `: `, and what
+/// [`check_run`](crate::check_run) writes of the file, or the reason why there is nothing to write. It
+/// does not allocate.
+pub fn write_finding<W: Sink>(text: &mut Text<'_, W>, name: &str, finding: Finding)
+    ensures { Puts W.taken W.failed text.old text.new (finding_line name.now finding) }
 {
-    let nothing = Phrase::plain("");
+    text.put(name.as_bytes());
+    text.put(b": ");
     match finding {
-        Finding::Object { units, hunks } => (
-            Phrase::decimal(": object file: ", units, " units, "),
-            Phrase::decimal("", hunks, " hunks"),
-        ),
-        Finding::Load { hunks } => (Phrase::decimal(": load file: ", hunks, " hunks"), nothing),
-        Finding::Refused(fault) => (
-            Phrase::decimal(": longword ", fault.place, ": "),
-            reason_phrase(fault.reason),
-        ),
-        Finding::Unread => (Phrase::plain(": read failed"), nothing),
-        Finding::Unopened => (Phrase::plain(": cannot be opened"), nothing),
+        Finding::Object { units, hunks } => write_object_line(text, units, hunks),
+        Finding::Load { hunks } => write_load_line(text, hunks),
+        Finding::Refused(fault) => write_refused(text, fault),
+        Finding::Unread => {
+            text.put(b"read failed");
+            text.end_line();
+        }
+        Finding::Unopened => {
+            text.put(b"cannot be opened");
+            text.end_line();
+        }
     }
 }
 
-/// Writes the last line of a survey: the number of files, and how many of them are object files,
-/// load files, refused and unreadable; and returns its length in bytes. It does not allocate.
-///
-/// # Errors
-///
-/// [`WriteFault::Device`] if a write failed or took no byte, with the number of bytes of the line
-/// that were written.
-pub fn write_totals<W: Sink>(findings: &[Finding], writer: &mut W) -> Result<u64, WriteFault>
-    ensures wrote { Wrote W.taken W.failed writer.old writer.new (totals_line findings.now) 0 result }
-    ensures device { IfErr result IsDevice }
+/// Writes the place and the reason of the first offence of a file.
+fn write_refused<W: Sink>(text: &mut Text<'_, W>, fault: Fault)
+    ensures { Puts W.taken W.failed text.old text.new (finding_text (Finding.Refused fault)) }
 {
-    let objects = number_of_objects(findings);
-    let loads = number_of_loads(findings);
-    let refused = number_of_refused(findings);
-    let unreadable = number_of_unreadable(findings);
-    write_pieces(
-        writer,
-        0,
-        &[
-            Digits::decimal(findings.len() as u64).as_bytes(),
-            b" files: ",
-            Digits::decimal(objects as u64).as_bytes(),
-            b" object files, ",
-            Digits::decimal(loads as u64).as_bytes(),
-            b" load files, ",
-            Digits::decimal(refused as u64).as_bytes(),
-            b" refused, ",
-            Digits::decimal(unreadable as u64).as_bytes(),
-            b" unreadable\n",
-        ],
-    )
+    text.put(b"longword ");
+    text.put_decimal(fault.place);
+    text.put(b": ");
+    write_reason(text, fault.reason);
+    text.end_line();
+}
+
+/// Writes the last line of a survey: the number of files, and how many of them are object files,
+/// load files, refused and unreadable. It does not allocate.
+pub fn write_totals<W: Sink>(text: &mut Text<'_, W>, findings: &[Finding])
+    ensures { Puts W.taken W.failed text.old text.new (totals_line findings.now) }
+{
+    text.put_decimal(findings.len() as u64);
+    text.put(b" files: ");
+    text.put_decimal(number_of_objects(findings) as u64);
+    text.put(b" object files, ");
+    text.put_decimal(number_of_loads(findings) as u64);
+    text.put(b" load files, ");
+    text.put_decimal(number_of_refused(findings) as u64);
+    text.put(b" refused, ");
+    text.put_decimal(number_of_unreadable(findings) as u64);
+    text.put(b" unreadable");
+    text.end_line();
 }
 
 /// The exit status after a survey: 0 if all files are hunk files, 3 if one could not be read, and

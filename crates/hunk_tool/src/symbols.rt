@@ -1,8 +1,9 @@
 //! The symbols of a load file, with their addresses.
 
-ghost use Rattle.std.specs.Prelude.{◌≡◌, ◌+◌, ◌<◌, ◌^◌, length, IsTrue, OnOk, IfErr};
+ghost use Rattle.std.specs.Prelude.{◌≡◌, length, IsTrue, OnOk, IfErr};
 ghost use Rattle.std.specs.List.{flat_map};
-ghost use Rattle.hunk_base.specs.Streams.{HasRead, IsDevice, Wrote, WroteAll};
+ghost use Rattle.hunk_base.specs.Streams.{HasRead, IsDevice, WroteAll};
+ghost use Rattle.hunk_base.specs.Text.{Puts};
 ghost use Rattle.hunk_loadfile.specs.Rules.{IsLoadFile};
 ghost use Rattle.hunk_tool.specs.Load.{ends_of, IsFaultAt, IsWrittenAt};
 ghost use Rattle.hunk_tool.specs.Symbols.{address_line, symbols_text};
@@ -10,8 +11,7 @@ ghost use Rattle.hunk_tool.specs.Symbols.{address_line, symbols_text};
 use crate::tool_fault::ToolFault;
 use hunk_loader::check_sizes;
 use hunk_loadfile::{LoadHunk, read_load};
-use hunk_text::{Digits, write_around_name};
-use hunk_words::{Name, Sink, Source, WriteFault};
+use hunk_words::{Name, Sink, Source, Text, WriteFault};
 use std::alloc::Allocator;
 
 /// Reads a load file to the reader's end, and writes a line for each of its symbols, in file order,
@@ -62,53 +62,52 @@ fn write_symbols<A: Allocator + Copy, W: Sink>(
     ensures wrote { WroteAll W.taken W.failed writer.old writer.new (symbols_text hunks.now bases.now) result }
     ensures device { IfErr result IsDevice }
 {
-    let mut written = 0;
-    for (number, hunk) in hunks.iter().enumerate() {
-        let base = bases[number];
-        written = write_hunk(writer, written, number as u64, base, &hunk.symbols)?;
-    }
-    Ok(())
+    let mut text = Text::new(writer);
+    write_hunks(&mut text, hunks, bases);
+    text.finish()
 }
 
-/// Writes a line for each of the symbols of the hunk with this number, which is at this base, after
-/// `written` bytes of the text.
+/// Writes the lines of these hunks, which are numbered from 0.
+fn write_hunks<A: Allocator + Copy, W: Sink>(
+    text: &mut Text<'_, W>,
+    hunks: &[LoadHunk<A>],
+    bases: &[u32],
+)
+    requires { length hunks.now ≡ length bases.now }
+    ensures { Puts W.taken W.failed text.old text.new (symbols_text hunks.now bases.now) }
+{
+    for (number, hunk) in hunks.iter().enumerate() {
+        write_hunk(text, number as u64, bases[number], &hunk.symbols);
+    }
+}
+
+/// Writes a line for each of the symbols of the hunk with this number, which is at this base.
 fn write_hunk<A: Allocator + Copy, W: Sink>(
-    writer: &mut W,
-    written: u64,
+    text: &mut Text<'_, W>,
     number: u64,
     base: u32,
     symbols: &[(Name<A>, u32)],
-) -> Result<u64, WriteFault>
-    requires { written + length (flat_map (address_line number base) symbols.now) < 2 ^ 64 }
-    ensures wrote { Wrote W.taken W.failed writer.old writer.new (flat_map (address_line number base) symbols.now) written result }
-    ensures device { IfErr result IsDevice }
+)
+    ensures { Puts W.taken W.failed text.old text.new (flat_map (address_line number base) symbols.now) }
 {
-    let mut written = written;
     for symbol in symbols {
-        written = write_symbol(writer, written, number, base, symbol)?;
+        write_symbol(text, number, base, symbol);
     }
-    Ok(written)
 }
 
 /// Writes the line of a symbol of the hunk with this number, which is at this base.
 fn write_symbol<A: Allocator + Copy, W: Sink>(
-    writer: &mut W,
-    written: u64,
+    text: &mut Text<'_, W>,
     number: u64,
     base: u32,
     symbol: &(Name<A>, u32),
-) -> Result<u64, WriteFault>
-    requires { written + length (address_line number base symbol.now) < 2 ^ 64 }
-    ensures wrote { Wrote W.taken W.failed writer.old writer.new (address_line number base symbol.now) written result }
-    ensures device { IfErr result IsDevice }
+)
+    ensures { Puts W.taken W.failed text.old text.new (address_line number base symbol.now) }
 {
-    let address = Digits::hexadecimal(base.wrapping_add(symbol.1));
-    let number = Digits::decimal(number);
-    write_around_name(
-        writer,
-        written,
-        &[address.as_bytes(), b" hunk ", number.as_bytes(), b" "],
-        symbol.0.bytes(),
-        &[b"\n"],
-    )
+    text.put_longword(base.wrapping_add(symbol.1));
+    text.put(b" hunk ");
+    text.put_decimal(number);
+    text.put(b" ");
+    text.put_quoted(symbol.0.bytes());
+    text.end_line();
 }

@@ -45,7 +45,7 @@ pub use due::Due;
 pub use event::{Event, FileKind};
 pub use hunk_base::{
     DeviceFault, Fault, Feed, Name, OpenName, Pieces, ReadFault, Reason, Refusal, Room, Sink,
-    SiteRefusal, Sites, Source, Splitter, Walk, Watched, WriteFault, read_all, write_all,
+    SiteRefusal, Sites, Source, Splitter, Text, Walk, Watched, WriteFault, read_all,
 };
 pub use kinds::{BlockType, EntryType, Half, HunkKind, Memory};
 pub use partial_hunk::PartialHunk;

@@ -3,7 +3,7 @@
 use super::answers::bytes_of;
 use super::asserts::{equals, equals_at, holds};
 use hunk_tool::{LinkOptions, ToolFault, image_run, link_run, link_to_vec, load_run, status_of};
-use hunk_words::{Pieces, Room, Sink, write_all};
+use hunk_words::{Pieces, Room, Sink, Text};
 use std::alloc::{AllocError, Allocator, Global};
 use std::process::Abort;
 use std::test::Fail;
@@ -31,8 +31,9 @@ impl Run<'_> {
             Run::Link { options } => link_run(alloc, inputs, options, writer),
             Run::LinkToVec { options } => {
                 let bytes = link_to_vec(alloc, inputs, options)?;
-                let _written = write_all(writer, 0, &bytes)?;
-                Ok(())
+                let mut text = Text::new(writer);
+                text.put(&bytes);
+                Ok(text.finish()?)
             }
             Run::Image { bases } => image_run(alloc, inputs, bases, writer),
         }

@@ -9,7 +9,7 @@ use hunk_test_support::{Refusing, bytes_of};
 use hunk_tool::{
     Explanation, explain_file, explain_load, explain_object, write_explanation, write_places,
 };
-use hunk_words::{DeviceFault, Fault, Pieces, ReadFault, Reason, Refusal, Room, WriteFault};
+use hunk_words::{Fault, Pieces, ReadFault, Reason, Refusal, Room, Text, WriteFault};
 use std::alloc::{Allocator, Global};
 use std::process::Abort;
 use std::test::Fail;
@@ -125,8 +125,9 @@ fn is_told(rt: &impl Abort, alloc: Global, row: &Row, most: usize) -> Result<(),
     let mut writer = Room::new(alloc, 256, 256, false)?;
     match explained(alloc, *read_as, &mut reader) {
         Ok(Some(explanation)) => {
-            let got = write_explanation(&explanation, &mut writer);
-            holds(rt, &(text, most), got.is_ok());
+            let mut told = Text::new(&mut writer);
+            write_explanation(&mut told, &explanation);
+            holds(rt, &(text, most), told.finish().is_ok());
             holds(rt, &(text, most), !text.is_empty());
         }
         got => holds(rt, &(text, most), got.is_ok()),
@@ -235,9 +236,15 @@ fn stops_at_each_byte_of_an_explanation(rt: HostRuntime) -> Result<(), Fail> {
     };
     for room in 0..text.len() {
         let mut writer = Room::new(rt.alloc(), 7, room, false)?;
-        let got = write_explanation(&explanation, &mut writer);
+        let mut told = Text::new(&mut writer);
+        write_explanation(&mut told, &explanation);
         let written = room as u64;
-        equals_at(&rt, &room, got, Err(WriteFault::Device { written }));
+        equals_at(
+            &rt,
+            &room,
+            told.finish(),
+            Err(WriteFault::Device { written }),
+        );
         equals_at(&rt, &room, writer.bytes(), &text.as_bytes()[..room]);
     }
     Ok(())
@@ -272,13 +279,15 @@ fn tells_the_sizes_of_hunks_beside_their_addresses(rt: HostRuntime) -> Result<()
     for (bases, text) in &PLACES {
         for room in 0..=text.len() {
             let mut writer = Room::new(rt.alloc(), 7, room, false)?;
-            let got = write_places(file.hunks(), bases, &mut writer);
+            let mut told = Text::new(&mut writer);
+            write_places(&mut told, file.hunks(), bases);
+            let written = room as u64;
             let wanted = if room == text.len() {
                 Ok(())
             } else {
-                Err(DeviceFault)
+                Err(WriteFault::Device { written })
             };
-            equals_at(&rt, &(text, room), got, wanted);
+            equals_at(&rt, &(text, room), told.finish(), wanted);
             equals_at(&rt, &(text, room), writer.bytes(), &text.as_bytes()[..room]);
         }
     }

@@ -6,7 +6,7 @@ use super::unlinked::{AGAIN, END, FAR, NONE, ONE, OTHER};
 use hunk_link::{LinkRefusal, link};
 use hunk_test_support::{Refusing, bytes_of};
 use hunk_tool::{ObjectFiles, ToolFault, explain_link, read_object_files, write_link_explanation};
-use hunk_words::{DeviceFault, Pieces, Room};
+use hunk_words::{Pieces, Room, Text, WriteFault};
 use std::alloc::{AllocError, Allocator, Global};
 use std::process::Abort;
 use std::test::Fail;
@@ -128,12 +128,14 @@ fn told_of(
     names: &[String],
     room: usize,
     most: usize,
-) -> Result<(Room, Result<(), DeviceFault>), Fail> {
+) -> Result<(Room, Result<(), WriteFault>), Fail> {
     assert!(rt; 1 <= most);
     let refusal = refusal_of(rt, alloc, files);
     let explanation = explain_link(alloc, files, &refusal)?;
     let mut writer = Room::new(alloc, most, room, false)?;
-    let got = write_link_explanation(&explanation, names, &mut writer);
+    let mut text = Text::new(&mut writer);
+    write_link_explanation(&mut text, names, &explanation);
+    let got = text.finish();
     Ok((writer, got))
 }
 
@@ -144,7 +146,7 @@ fn is_told(
     row: &Row,
     room: usize,
     most: usize,
-    wanted: Result<(), DeviceFault>,
+    wanted: Result<(), WriteFault>,
 ) -> Result<(), Fail> {
     let files = files_of(rt, alloc, row)?;
     let (writer, got) = told_of(rt, alloc, &files, &names_of(alloc, row)?, room, most)?;
@@ -169,7 +171,9 @@ fn tells_the_files_of_units_that_do_not_link(rt: HostRuntime) -> Result<(), Fail
 fn stops_at_each_byte_of_what_is_told(rt: HostRuntime) -> Result<(), Fail> {
     for row in [&ROWS[0], &ROWS[3]] {
         for room in 0..row.6.len() {
-            is_told(&rt, rt.alloc(), row, room, ROOM, Err(DeviceFault))?;
+            let written = room as u64;
+            let wanted = Err(WriteFault::Device { written });
+            is_told(&rt, rt.alloc(), row, room, ROOM, wanted)?;
         }
     }
     Ok(())
@@ -305,8 +309,9 @@ fn tells_nothing_of_hunks_that_are_not_there(rt: HostRuntime) -> Result<(), Fail
     for refusal in &ABOUT_NONE {
         let explanation = explain_link(rt.alloc(), &files, refusal)?;
         let mut writer = Room::new(rt.alloc(), 64, ROOM, false)?;
-        let got = write_link_explanation(&explanation, &[], &mut writer);
-        equals_at(&rt, refusal, got, Ok(()));
+        let mut text = Text::new(&mut writer);
+        write_link_explanation(&mut text, &[], &explanation);
+        equals_at(&rt, refusal, text.finish(), Ok(()));
         equals_at(&rt, refusal, writer.bytes(), b"");
     }
     Ok(())

@@ -4,7 +4,7 @@ use super::asserts::{equals_at, holds};
 use super::memory::MOST_GROWTHS;
 use hunk_test_support::{Refusing, bytes_of};
 use hunk_tool::{ToolFault, link_files, write_map};
-use hunk_words::{DeviceFault, Pieces, Room};
+use hunk_words::{Pieces, Room, Text, WriteFault};
 use std::alloc::Global;
 use std::process::Abort;
 use std::test::Fail;
@@ -75,7 +75,7 @@ fn is_mapped(
     strip: bool,
     room: usize,
     most: usize,
-    wanted: Result<(), DeviceFault>,
+    wanted: Result<(), WriteFault>,
 ) -> Result<(), Fail> {
     assert!(rt; 1 <= most);
     let mut inputs = [
@@ -91,7 +91,9 @@ fn is_mapped(
         Ok(linked) => linked,
         Err(fault) => panic!(rt; "{fault:?}"),
     };
-    let got = write_map(&files, &names, &file, &mut writer);
+    let mut text = Text::new(&mut writer);
+    write_map(&mut text, &files, &names, &file);
+    let got = text.finish();
     let length = room.min(MAP.len());
     equals_at(rt, &("room", room, most), got, wanted);
     equals_at(
@@ -116,7 +118,9 @@ fn tells_where_each_hunk_is_from(rt: HostRuntime) -> Result<(), Fail> {
 #[test]
 fn stops_at_each_byte_of_a_map(rt: HostRuntime) -> Result<(), Fail> {
     for room in 0..MAP.len() {
-        is_mapped(&rt, rt.alloc(), false, room, ROOM, Err(DeviceFault))?;
+        let written = room as u64;
+        let wanted = Err(WriteFault::Device { written });
+        is_mapped(&rt, rt.alloc(), false, room, ROOM, wanted)?;
     }
     is_mapped(&rt, rt.alloc(), false, MAP.len(), ROOM, Ok(()))
 }

@@ -7,7 +7,7 @@ use hunk_tool::{
     FileSystem, Finding, SurveyFault, survey_file, survey_files, survey_status, write_finding,
     write_totals,
 };
-use hunk_words::{Fault, Pieces, Reason, Room, WriteFault};
+use hunk_words::{Fault, Pieces, Reason, Room, Text, WriteFault};
 use std::alloc::{AllocError, Global};
 use std::process::Abort;
 use std::test::Fail;
@@ -130,11 +130,16 @@ enum Line<'a> {
 }
 
 impl Line<'_> {
+    // How many bytes were written.
     fn write(self, writer: &mut Room<Global>) -> Result<u64, WriteFault> {
+        let mut text = Text::new(writer);
         match self {
-            Line::Of(name, finding) => write_finding(name, finding, writer),
-            Line::Totals(findings) => write_totals(findings, writer),
+            Line::Of(name, finding) => write_finding(&mut text, name, finding),
+            Line::Totals(findings) => write_totals(&mut text, findings),
         }
+        let written = text.written();
+        text.finish()?;
+        Ok(written)
     }
 }
 

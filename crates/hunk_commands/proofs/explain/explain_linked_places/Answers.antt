@@ -11,5 +11,5 @@ returns g c =
     let origin = origin_of c.args.addresses in
     let bases = c.as_slice.result.now in
     let numbers_are : HaveNumbers origin bases = rw c.as_slice.ensures.value c.in-Some.ensures in
-    tells_places g.W.Sink.taken g.W.Sink.failed c.args.errors.now c.write_places.new.writer origin (DoLinkTo true (file_names c.args.files.now)) c.in-Some-linked_again.loaded c.hunks.result.now bases c.write_places.result
-    c.hunks.ensures.value c.in-Some-linked_again.ensures numbers_are c.write_places.ensures
+    tells_places g.W.Sink.taken g.W.Sink.failed c.args.errors.now c.tell_places.new.errors origin (DoLinkTo true (file_names c.args.files.now)) c.in-Some-linked_again.loaded c.hunks.result.now bases
+    c.hunks.ensures.value c.in-Some-linked_again.ensures numbers_are c.tell_places.ensures

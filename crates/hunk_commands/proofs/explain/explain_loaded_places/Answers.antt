@@ -13,5 +13,5 @@ returns g c =
     let read = c.in-Ok.ensures.file in
     let bases = c.as_slice.result.now in
     let numbers_are : HaveNumbers origin bases = rw c.as_slice.ensures.value c.in-Some.ensures in
-    tells_places g.W.Sink.taken g.W.Sink.failed c.args.errors.now c.write_places.new.writer origin IsLoadFile c.in-Ok.loaded c.hunks.result.now bases c.write_places.result
-    c.hunks.ensures.value (read.bytes, read.holds) numbers_are c.write_places.ensures
+    tells_places g.W.Sink.taken g.W.Sink.failed c.args.errors.now c.tell_places.new.errors origin IsLoadFile c.in-Ok.loaded c.hunks.result.now bases
+    c.hunks.ensures.value (read.bytes, read.holds) numbers_are c.tell_places.ensures

@@ -1,9 +1,9 @@
 -- The lines that explain it, or nothing.
-use Rattle.std.proofs.Common.{refl}
+use Rattle.std.proofs.Common.{[], refl, rules}
 use Rattle.hunk_files.specs.ExplanationText.{explanation_text}
 use Rattle.hunk_commands.specs.Explain.{AreOffenceLines, kind_read}
 use Rattle.hunk_commands.proofs.ExplainLemmas.{tells_lines, tells_nothing}
-use Rattle.hunk_commands.proofs.FailureLemmas.{tells_line}
+use Rattle.hunk_commands.proofs.FailureLemmas.{tells_text}
 use Rattle.hunk_commands.proofs.explain.explain_offence.Goals as goal
 
 pub returns-in_default-explanation_of : goal.returns-in_default-explanation_of
@@ -12,6 +12,8 @@ returns-in_default-explanation_of g c = tells_nothing g.W.Sink.taken g.W.Sink.fa
 pub returns : goal.returns
 returns g c =
     let read = rw c.in-Ok-Some.field-0-is at c.in-Ok-Some.ensures.given in
-    tells_lines g.W.Sink.taken g.W.Sink.failed c.args.errors.now c.write_explanation.new.writer (AreOffenceLines (kind_read c.args.command) c.args.fault) (explanation_text c.in-Ok-Some.explanation)
+    let wrote = c.finish.ensures.wrote c.args.errors.now _ (c.write_explanation.ensures.adds _ [] c.new-text.ensures.empty) in
+    let told = tells_lines g.W.Sink.taken g.W.Sink.failed c.args.errors.now _ (AreOffenceLines (kind_read c.args.command) c.args.fault) (explanation_text c.in-Ok-Some.explanation)
     (record { bytes = read.bytes; explanation = c.in-Ok-Some.explanation; given = read.holds; lines_are = refl })
-    (tells_line g.W.Sink.taken g.W.Sink.failed c.args.errors.now c.write_explanation.new.writer _ c.write_explanation.result c.write_explanation.ensures.wrote c.write_explanation.ensures.device)
+    (tells_text g.W.Sink.taken g.W.Sink.failed c.args.errors.now _ _ c.finish.result wrote) in
+    search (rules, told)

@@ -1,11 +1,12 @@
 -- The lines about the refusal.
-use Rattle.std.proofs.Common.{◌≡◌, ◌∙◌, List, ℕ, ap, ap₂, map, refl, subst}
+use Rattle.std.proofs.Common.{◌≡◌, ◌∙◌, List, [], ℕ, ap, ap₂, map, refl, rules}
 use Rattle.std.specs.String.{string_bytes}
+use Rattle.hunk_base.proofs.TextLemmas.{Puts-as}
 use Rattle.hunk_tool.specs.Inputs.{file_names}
 use Rattle.hunk_tool.specs.LinkExplanation.{Told, told_of, told_text}
-use Rattle.hunk_text.specs.WrittenText.{WroteText}
 use Rattle.hunk_commands.specs.Explain.{AreRefusalLines}
-use Rattle.hunk_commands.proofs.ExplainLemmas.{tells_lines, tells_text}
+use Rattle.hunk_commands.proofs.ExplainLemmas.{tells_lines}
+use Rattle.hunk_commands.proofs.FailureLemmas.{tells_text}
 use Rattle.hunk_commands.proofs.explain.explain_refusal.Goals as goal
 
 pub returns : goal.returns
@@ -14,8 +15,8 @@ returns g c =
     let refusal = c.args.refusal.now in
     let units = c.in-Some.units in
     let names_are : map string_bytes c.as_slice.result.now ≡ files = ap (map string_bytes) c.as_slice.ensures.value ∙ c.in-Ok.ensures in
-    let same = ap₂ (λ (names : List (List ℕ)) (told : Told). told_text names told) names_are c.in-Ok-explain_link.ensures in
-    let lines = told_text files (told_of units refusal) in
-    tells_lines g.W.Sink.taken g.W.Sink.failed c.args.errors.now c.write_link_explanation.new.writer (AreRefusalLines files refusal) lines (record { units = units; are = c.in-Some.ensures; lines_are = refl })
-    (tells_text g.W.Sink.taken g.W.Sink.failed c.args.errors.now c.write_link_explanation.new.writer lines c.write_link_explanation.result
-    (subst (λ text. WroteText g.W.Sink.taken g.W.Sink.failed c.args.errors.now c.write_link_explanation.new.writer text c.write_link_explanation.result) same c.write_link_explanation.ensures))
+    let put = Puts-as (ap₂ (λ (names : List (List ℕ)) (told : Told). told_text names told) names_are c.in-Ok-explain_link.ensures) c.write_link_explanation.ensures in
+    let wrote = c.finish.ensures.wrote c.args.errors.now _ (put.adds _ [] c.new-text.ensures.empty) in
+    let told = tells_lines g.W.Sink.taken g.W.Sink.failed c.args.errors.now _ (AreRefusalLines files refusal) (told_text files (told_of units refusal)) (record { units = units; are = c.in-Some.ensures; lines_are = refl })
+    (tells_text g.W.Sink.taken g.W.Sink.failed c.args.errors.now _ _ c.finish.result wrote) in
+    search (rules, told)

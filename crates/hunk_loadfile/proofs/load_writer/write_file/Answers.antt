@@ -1,31 +1,27 @@
--- The header is written, and then the hunks.
-use Rattle.std.proofs.Common.{ap, length, sym, arith}
-use Rattle.std.proofs.lemmas.Result.{err_from_is_err_and}
-use Rattle.std.specs.List.{flat_map}
-use Rattle.hunk_loadfile.specs.WrittenForm.{header_words, hunk_words, written_in}
-use Rattle.hunk_loadfile.proofs.LoadWriterLemmas.{length-header_words}
-use Rattle.hunk_loadfile.specs.declared.number_width.NumberWidth.TheVariants.{Longword}
-use Rattle.hunk_loadfile.proofs.LongwordWriterLemmas.{length-bytes_of, numbers-stop, numbers-then}
+-- The header, and then the hunks.
+use Rattle.std.proofs.Common.{◌∙◌, ap, subst, sym}
+use Rattle.std.proofs.lemmas.Result.{on_err_weaker, on_ok_weaker}
+use Rattle.hunk_base.specs.Name.{bytes_of}
+use Rattle.hunk_base.specs.Text.{Puts, PutsFront}
+use Rattle.hunk_base.proofs.TextLemmas.{Puts-then}
+use Rattle.hunk_loadfile.specs.WrittenForm.{written_in}
+use Rattle.hunk_loadfile.proofs.LoadWriterLemmas.{file-bytes, length-file-lt}
+use Rattle.hunk_loadfile.proofs.PutsLemmas.{PutsFront-behind}
 use Rattle.hunk_loadfile.proofs.load_writer.write_file.Goals as goal
 
-pub returns-in_err-written : goal.returns-in_err-written
-returns-in_err-written g c =
-    let p = err_from_is_err_and c.from_residual.result c.from_residual.ensures.1 in
-    let hunks = c.hunks-hunks.result.now in
-    let file = c.args.file.now in
-    record {
-      wrote = rw (p.1, p.2) (numbers-stop Longword g.W.Sink.taken g.W.Sink.failed c.args.writer.now c.write_header.new.writer (written_in c.args.form file) (header_words hunks) (flat_map (hunk_words c.args.form (length hunks)) hunks) 0 _ (ap (written_in c.args.form) (sym c.hunks-hunks.ensures.value)) c.in_err-written.ensures.wrote);
-    }
+pub returns-clause-wrote : goal.returns-clause-wrote
+returns-clause-wrote g c =
+    let parts = sym (file-bytes c.args.form c.hunks-hunks.result.now) ∙ ap (λ file. bytes_of (written_in c.args.form file)) c.hunks-hunks.ensures.value in
+    on_ok_weaker c.write_hunks.result
+    (λ puts. subst (λ text. Puts g.W.Sink.taken g.W.Sink.failed c.args.text.now c.write_hunks.new.text text) parts (Puts-then g.W.Sink.taken g.W.Sink.failed c.write_header.ensures puts))
+    c.write_hunks.ensures.wrote
 
-pub write_hunks-requires-clause-room : goal.write_hunks-requires-clause-room
-write_hunks-requires-clause-room g c =
-    let hunks = c.hunks-hunks.result.now in
-    omega (arith, ap length c.hunks-hunks.ensures.value, c.hunks-hunks.ensures.valid.few, length-header_words hunks, length-bytes_of (header_words hunks), c.in_ok-written.ensures.wrote.0)
+pub returns-clause-stopped : goal.returns-clause-stopped
+returns-clause-stopped g c =
+    let parts = sym (file-bytes c.args.form c.hunks-hunks.result.now) ∙ ap (λ file. bytes_of (written_in c.args.form file)) c.hunks-hunks.ensures.value in
+    on_err_weaker c.write_hunks.result
+    (λ puts. subst (λ text. PutsFront g.W.Sink.taken g.W.Sink.failed c.args.text.now c.write_hunks.new.text text) parts (PutsFront-behind g.W.Sink.taken g.W.Sink.failed c.write_header.ensures puts))
+    c.write_hunks.ensures.stopped
 
-pub returns : goal.returns
-returns g c =
-    let hunks = c.hunks-hunks.result.now in
-    let file = c.args.file.now in
-    record {
-      wrote = numbers-then Longword g.W.Sink.taken g.W.Sink.failed c.args.writer.now c.write_header.new.writer c.write_hunks.new.writer (written_in c.args.form file) (header_words hunks) (flat_map (hunk_words c.args.form (length hunks)) hunks) 0 c.in_ok-written.written c.write_hunks.result (ap (written_in c.args.form) (sym c.hunks-hunks.ensures.value)) c.in_ok-written.ensures.wrote c.write_hunks.ensures.wrote;
-    }
+pub returns-clause-short : goal.returns-clause-short
+returns-clause-short g c = length-file-lt c.args.form c.args.file.now c.hunks-hunks.ensures.valid

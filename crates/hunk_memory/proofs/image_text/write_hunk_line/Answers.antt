@@ -1,10 +1,6 @@
--- `grind` at once: `search`, which Rattle tries before it, is slow here
-use Rattle.std.proofs.Common.{arith}
-use Rattle.std.proofs.lemmas.Grind.{common_steps}
+-- The pieces of the line, one after another.
+use Rattle.hunk_base.proofs.TextLemmas.{◌⨾◌}
 use Rattle.hunk_memory.proofs.image_text.write_hunk_line.Goals as goal
 
-pub write_pieces-requires : goal.write_pieces-requires
-write_pieces-requires g c = grind (arith, common_steps)
-
-pub returns-clause-wrote : goal.returns-clause-wrote
-returns-clause-wrote g c = grind (arith, common_steps)
+pub returns : goal.returns
+returns g c = c.put.ensures ⨾ c.put_decimal.ensures ⨾ c.put-2.ensures ⨾ c.put_longword.ensures ⨾ c.put-3.ensures ⨾ c.put_decimal-2.ensures ⨾ c.end_line.ensures

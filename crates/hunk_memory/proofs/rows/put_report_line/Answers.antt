@@ -5,7 +5,7 @@ use borrow.Rule.Slice.PartMut.{put_mid}
 use Rattle.hex.specs.Hex.{lower_digits}
 use Rattle.hex.proofs.HexLemmas.{length-encode_with}
 use Rattle.std.specs.Int.{bytes_high_first}
-use Rattle.hunk_text.specs.Digits.{eight_digits}
+use Rattle.hunk_base.specs.Digits.{eight_digits}
 use Rattle.hunk_memory.proofs.rows.put_report_line.Goals as goal
 
 line_of_parts : (line address digits : List ℕ) (last : ℕ) → length address ≡ 8 → length line ≡ 10 + length digits → last ≡ 9 + length digits

@@ -1,10 +1,8 @@
--- named, so that a mistake is refused without a look for advice
+-- The pieces of the line, one after another.
 use Rattle.std.proofs.Common.{arith}
 use Rattle.std.proofs.lemmas.Grind.{common_steps}
+use Rattle.hunk_base.proofs.TextLemmas.{◌⨾◌, Puts-as}
 use Rattle.hunk_text.proofs.hunk_lines.write_hunk_front.Goals as goal
 
-pub returns-clause-wrote : goal.returns-clause-wrote
-returns-clause-wrote g c = grind (arith, common_steps)
-
-pub write_pieces-requires : goal.write_pieces-requires
-write_pieces-requires g c = grind (arith, common_steps)
+pub returns : goal.returns
+returns g c = Puts-as (grind (arith, common_steps)) (c.put.ensures ⨾ c.put_decimal.ensures ⨾ c.put-2.ensures ⨾ c.put-3.ensures ⨾ c.put-4.ensures ⨾ c.put-5.ensures ⨾ c.put-6.ensures ⨾ c.put_decimal-2.ensures ⨾ c.put-7.ensures)

@@ -1,11 +1,9 @@
--- The lines of the symbols so far were written.
-use Rattle.std.proofs.Common.{take, Ok}
+-- The lines of the symbols so far were put.
+use Rattle.std.proofs.Common.{take}
 use Rattle.std.specs.List.{flat_map}
-use Rattle.hunk_base.specs.Streams.{Wrote}
+use Rattle.hunk_base.specs.Text.{Puts}
 use Rattle.hunk_text.specs.Listing.{symbol_line}
 use Rattle.hunk_text.proofs.hunk_lines.write_symbols.Given as goal
 
 abbrev pub invariant-loop-symbol : goal.invariant-loop-symbol
-invariant-loop-symbol g l = record {
-  wrote : Wrote g.W.Sink.taken g.W.Sink.failed l.fn.writer l.writer (flat_map symbol_line (take l.symbol-index l.symbols)) l.fn.written (Ok l.written);
-}
+invariant-loop-symbol g l = Puts g.W.Sink.taken g.W.Sink.failed l.fn.text l.text (flat_map symbol_line (take l.symbol-index l.symbols))

@@ -1,11 +1,9 @@
--- The lines of the hunks so far were written.
-use Rattle.std.proofs.Common.{take, Ok}
+-- The lines of the hunks so far were put.
+use Rattle.std.proofs.Common.{take}
 use Rattle.std.specs.List.{enumerate_from, flat_map}
-use Rattle.hunk_base.specs.Streams.{Wrote}
+use Rattle.hunk_base.specs.Text.{Puts}
 use Rattle.hunk_text.specs.Listing.{load_hunk_lines}
 use Rattle.hunk_text.proofs.load_listing.write_hunks.Given as goal
 
 abbrev pub invariant-loop-number : goal.invariant-loop-number
-invariant-loop-number g l = record {
-  wrote : Wrote g.W.Sink.taken g.W.Sink.failed l.fn.writer l.writer (flat_map load_hunk_lines (take l.number (enumerate_from 0 l.hunks))) l.fn.written (Ok l.written);
-}
+invariant-loop-number g l = Puts g.W.Sink.taken g.W.Sink.failed l.fn.text l.text (flat_map load_hunk_lines (take l.number (enumerate_from 0 l.hunks)))

@@ -20,7 +20,7 @@ returns-in_err-write_load_with-clause-err g c =
     let bytes = bytes-chosen c.args.options c.in_ok-linked.linked c.trimmed-file.result c.form.result c.form.ensures c.trimmed-file.ensures in
     rw (p.1, p.2)
     (IsLinkFault-written g.row.A.Denot g.W.Sink.taken g.W.Sink.failed c.args.writer.now c.write_load_with.new.writer c.args.options _ c.in_ok-linked.linked fault c.in_ok-linked.ensures.linked
-    (subst (λ text. WriteStopped g.W.Sink.taken g.W.Sink.failed c.args.writer.now c.write_load_with.new.writer text 0 fault) bytes c.in_err-write_load_with.ensures.wrote))
+    (subst (λ text. WriteStopped g.W.Sink.taken g.W.Sink.failed c.args.writer.now c.write_load_with.new.writer text fault) bytes c.in_err-write_load_with.ensures.wrote))
 
 pub returns-clause-ok : goal.returns-clause-ok
 returns-clause-ok g c =

@@ -1,9 +1,9 @@
--- The lines of the names so far were written, of which there are that many.
+-- The lines of the names so far were put, of which there are that many.
 use Rattle.std.proofs.Common.{◌≤◌, length, map}
 use Rattle.std.specs.String.{string_bytes}
 use Rattle.hunk_tool.specs.LinkExplanation.{uses_text}
+use Rattle.hunk_tool.proofs.BegunLemmas.{Begun}
 use Rattle.hunk_tool.proofs.LinkExplanationLemmas.{uses_rest}
-use Rattle.hunk_text.proofs.WrittenTextLemmas.{TextBegun}
 use Rattle.hunk_tool.proofs.link_explanation_text.write_uses.Given as goal
 
 abbrev pub invariant-loop-index : goal.invariant-loop-index
@@ -11,5 +11,5 @@ invariant-loop-index g l = record {
   within : l.index ≤ length l.uses;
   begun :
       let names = map string_bytes l.names in
-      TextBegun g.W.Sink.taken g.W.Sink.failed l.fn.writer l.writer (uses_text names l.uses) (uses_rest names l.index l.uses);
+      Begun g.W.Sink.taken g.W.Sink.failed l.fn.text l.text (uses_text names l.uses) (uses_rest names l.index l.uses);
 }

@@ -1,15 +1,14 @@
 -- One more unit.
-use Rattle.std.proofs.Common.{◌≡◌, ◌+◌, ◌≤◌, List, Ok, Err, ap, drop, get_or, length, map, refl, subst, arith}
+use Rattle.std.proofs.Common.{◌≡◌, ◌+◌, ◌≤◌, List, ap, drop, get_or, length, map, refl, arith}
 use Rattle.std.proofs.lemmas.Grind.{common_steps}
 use Rattle.std.proofs.lemmas.List.{length-drop}
-use Rattle.std.proofs.lemmas.Result.{err_from_is_err_and}
 use Rattle.std.specs.String.{string_bytes}
 use Rattle.hunk_loadfile.specs.LoadHunk.{FileHunk}
 use Rattle.hunk_tool.specs.Map.{map_from, map_text}
-use Rattle.hunk_text.specs.WrittenText.{WroteText}
 use Rattle.hunk_tool.specs.Origins.{unit_origins}
 use Rattle.hunk_tool.proofs.MapLemmas.{length-origins-more, rest-is, no_place, next_unit, units_rest, units_rest-more}
-use Rattle.hunk_text.proofs.WrittenTextLemmas.{TextBegun-more, TextBegun-nothing, TextBegun-stop}
+use Rattle.hunk_base.proofs.TextLemmas.{Puts-as}
+use Rattle.hunk_tool.proofs.BegunLemmas.{Begun-done, Begun-more, Begun-nothing}
 use Rattle.hunk_tool.proofs.map.write_map.Goals as goal
 
 pub loop-index-init : goal.loop-index-init
@@ -17,7 +16,7 @@ loop-index-init g c =
     let names = map string_bytes c.args.names.now in
     record {
       counted = omega (arith, c.requires);
-      begun = TextBegun-nothing g.W.Sink.taken g.W.Sink.failed c.args.writer.now (map_text names c.args.file.now c.args.files.now) (units_rest names 0 0 c.args.file.now c.args.files.now) refl;
+      begun = Begun-nothing g.W.Sink.taken g.W.Sink.failed c.args.text.now (map_text names c.args.file.now c.args.files.now) (units_rest names 0 0 c.args.file.now c.args.files.now) refl;
     }
 
 pub write_unit-requires-clause-room : goal.write_unit-requires-clause-room
@@ -35,27 +34,6 @@ write_unit-requires-clause-room g c =
       loop.invariant.counted,
     )
 
-pub returns-in_err-write_unit : goal.returns-in_err-write_unit
-returns-in_err-write_unit g c =
-    let p = err_from_is_err_and c.from_residual.result c.from_residual.ensures.1 in
-    let names = map string_bytes c.args.names.now in
-    let units = c.args.files.now in
-    let file = c.args.file.now in
-    let loop = c.loop-index in
-    let unit = c.unit-item.result in
-    let place = get_or c.places-places.result.now loop.index no_place in
-    let count = length unit.hunks in
-    let hunks = drop loop.first file in
-    let left = next_unit units c.places-places.result.now c.units-unit-items.result.now loop.index unit c.places-places.ensures c.units-unit-items.ensures.value c.loop-index-test.true c.unit-item.is in
-    let room : count ≤ length hunks = omega (arith, length-drop loop.first file, length-origins-more units loop.index (place, unit) left, loop.invariant.counted) in
-    let stopped =
-    subst (λ (hs : List FileHunk). WroteText {E = Unit {0}} g.W.Sink.taken g.W.Sink.failed loop.writer c.write_unit.new.writer (map_from names loop.first hs (unit_origins (place, unit))) (Err tt))
-    (rest-is c.hunks-hunks.result.now file loop.first c.hunks-hunks.ensures.value) c.in_err-write_unit.ensures in
-    rw p.1
-    (TextBegun-stop g.W.Sink.taken g.W.Sink.failed c.args.writer.now loop.writer c.write_unit.new.writer (map_text names file units) (units_rest names loop.first loop.index file units)
-    (map_from names loop.first hunks (unit_origins (place, unit))) (units_rest names (loop.first + count) (loop.index + 1) file units) p.0
-    (units_rest-more names loop.first loop.index count file hunks units (place, unit) left refl refl room) loop.invariant.begun stopped)
-
 pub loop-index-preserved : goal.loop-index-preserved
 loop-index-preserved g c =
     let names = map string_bytes c.args.names.now in
@@ -70,15 +48,10 @@ loop-index-preserved g c =
     let left = next_unit units c.places-places.result.now c.units-unit-items.result.now loop.index unit c.places-places.ensures c.units-unit-items.ensures.value c.loop-index-test.true c.unit-item.is in
     let more = length-origins-more units loop.index (place, unit) left in
     let room : count ≤ length hunks = omega (arith, length-drop loop.first file, more, count_is, loop.invariant.counted) in
-    let wrote =
-    subst (λ (hs : List FileHunk). WroteText {E = Unit {0}} g.W.Sink.taken g.W.Sink.failed loop.writer c.write_unit.new.writer (map_from names loop.first hs (unit_origins (place, unit))) (Ok tt))
-    (rest-is c.hunks-hunks.result.now file loop.first c.hunks-hunks.ensures.value) c.in_ok-write_unit.ensures in
+    let lines = Puts-as (ap (λ (hs : List FileHunk). map_from names loop.first hs (unit_origins (place, unit))) (rest-is c.hunks-hunks.result.now file loop.first c.hunks-hunks.ensures.value)) c.write_unit.ensures in
     record {
       counted = omega (arith, more, count_is, loop.invariant.counted);
-      begun =
-          TextBegun-more g.W.Sink.taken g.W.Sink.failed c.args.writer.now loop.writer c.write_unit.new.writer (map_text names file units) (units_rest names loop.first loop.index file units)
-          (map_from names loop.first hunks (unit_origins (place, unit))) (units_rest names (loop.first + count) (loop.index + 1) file units)
-          (units_rest-more names loop.first loop.index count file hunks units (place, unit) left refl count_is room) loop.invariant.begun wrote;
+      begun = Begun-more g.W.Sink.taken g.W.Sink.failed (units_rest-more names loop.first loop.index count file hunks units (place, unit) left refl count_is room) loop.invariant.begun lines;
     }
 
 -- `grind` at once: `search`, which Rattle tries before it, is slow here

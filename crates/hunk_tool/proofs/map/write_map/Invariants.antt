@@ -1,10 +1,10 @@
--- The lines of the units so far were written, and the others have as many hunks as are left.
+-- The lines of the units so far were put, and the others have as many hunks as are left.
 use Rattle.std.proofs.Common.{◌≡◌, ◌+◌, drop, length, map}
 use Rattle.std.specs.String.{string_bytes}
 use Rattle.hunk_tool.specs.Map.{map_text}
 use Rattle.hunk_tool.specs.Origins.{origins}
+use Rattle.hunk_tool.proofs.BegunLemmas.{Begun}
 use Rattle.hunk_tool.proofs.MapLemmas.{units_rest}
-use Rattle.hunk_text.proofs.WrittenTextLemmas.{TextBegun}
 use Rattle.hunk_tool.proofs.map.write_map.Given as goal
 
 abbrev pub invariant-loop-index : goal.invariant-loop-index
@@ -12,5 +12,5 @@ invariant-loop-index g l = record {
   counted : l.first + length (origins (drop l.index l.files)) ≡ length l.file;
   begun :
       let names = map string_bytes l.names in
-      TextBegun g.W.Sink.taken g.W.Sink.failed l.fn.writer l.writer (map_text names l.file l.files) (units_rest names l.first l.index l.file l.files);
+      Begun g.W.Sink.taken g.W.Sink.failed l.fn.text l.text (map_text names l.file l.files) (units_rest names l.first l.index l.file l.files);
 }

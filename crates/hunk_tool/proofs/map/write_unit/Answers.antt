@@ -2,21 +2,20 @@
 use Rattle.std.proofs.Common.{◌∙◌, ◌+◌, ◌<◌, List, ap, get_or, length, map, sym, subst, arith}
 use Rattle.std.proofs.lemmas.Grind.{common_steps}
 use Rattle.std.proofs.lemmas.List.Elements.{All-get_or}
-use Rattle.std.proofs.lemmas.Result.{err_from_is_err_and}
 use Rattle.std.specs.String.{string_bytes}
 use Rattle.hunk_objects.specs.UnitHunk.{ObjectHunk}
-use Rattle.hunk_tool.specs.Map.{map_from, map_lines}
+use Rattle.hunk_tool.specs.Map.{map_from}
 use Rattle.hunk_tool.specs.ObjectFiles.{IsShortHunk}
 use Rattle.hunk_tool.specs.Origins.{unit_origins}
 use Rattle.hunk_tool.proofs.MapLemmas.{unit_rest, unit_rest-all, unit_rest-more, unit_rest-none}
-use Rattle.hunk_text.proofs.WrittenTextLemmas.{TextBegun-done, TextBegun-more, TextBegun-nothing, TextBegun-stop}
+use Rattle.hunk_tool.proofs.BegunLemmas.{Begun-done, Begun-more, Begun-nothing}
 use Rattle.hunk_tool.proofs.map.write_unit.Goals as goal
 
 pub loop-number-init : goal.loop-number-init
 loop-number-init g c =
     let names = map string_bytes c.args.names.now in
-    TextBegun-nothing g.W.Sink.taken g.W.Sink.failed c.args.writer.now (map_from names c.args.first c.args.hunks.now (unit_origins (c.args.place, c.args.unit.now)))
-    (unit_rest names c.args.first 0 c.args.hunks.now (c.args.place, c.args.unit.now)) (unit_rest-all names c.args.first c.args.hunks.now (c.args.place, c.args.unit.now))
+    Begun-nothing g.W.Sink.taken g.W.Sink.failed c.args.text.now (map_from names c.args.first c.args.hunks.now (unit_origins (c.args.place, c.args.unit.now)))
+    (unit_rest names c.args.first 0 c.args.hunks.now (c.args.place, c.args.unit.now)) (sym (unit_rest-all names c.args.first c.args.hunks.now (c.args.place, c.args.unit.now)))
 
 pub invariant_of-origin : goal.invariant_of-origin
 invariant_of-origin g c =
@@ -26,24 +25,6 @@ invariant_of-origin g c =
     let at = c.hunk-item.is ∙ ap (λ (hs : List ObjectHunk). get_or hs number own) c.hunks-hunk-items.ensures.value in
     let within : number < length hunks = omega (arith, c.loop-number-test.true, ap length c.hunks-hunk-items.ensures.value) in
     record { unit = c.requires.short.name; hunk = subst IsShortHunk (sym at) (All-get_or IsShortHunk hunks number own within c.requires.short.hunks) }
-
-pub returns-in_err-write_hunk : goal.returns-in_err-write_hunk
-returns-in_err-write_hunk g c =
-    let p = err_from_is_err_and c.from_residual.result c.from_residual.ensures.1 in
-    let names = map string_bytes c.args.names.now in
-    let first = c.args.first in
-    let number = c.loop-number.number in
-    let hunks = c.args.hunks.now in
-    let hunk = c.index-hunks-number.result in
-    let own = c.hunk-item.result in
-    let at = c.hunk-item.is ∙ ap (λ (hs : List ObjectHunk). get_or hs number own) c.hunks-hunk-items.ensures.value in
-    let inside : number < length c.args.unit.now.hunks = omega (arith, c.loop-number-test.true, ap length c.hunks-hunk-items.ensures.value) in
-    let text = map_lines names (first + number, (hunk, record { unit = (c.args.place, c.args.unit.now); number = number; hunk = own })) in
-    rw p.1
-    (TextBegun-stop g.W.Sink.taken g.W.Sink.failed c.args.writer.now c.loop-number.writer c.write_hunk.new.writer (map_from names first hunks (unit_origins (c.args.place, c.args.unit.now)))
-    (unit_rest names first number hunks (c.args.place, c.args.unit.now)) text (unit_rest names first (number + 1) hunks (c.args.place, c.args.unit.now)) p.0
-    (unit_rest-more names first number hunks (c.args.place, c.args.unit.now) hunk own (omega (arith, inside, c.requires.room)) inside c.index-hunks-number.is at)
-    c.loop-number.invariant c.in_err-write_hunk.ensures)
 
 pub loop-number-preserved : goal.loop-number-preserved
 loop-number-preserved g c =
@@ -55,11 +36,9 @@ loop-number-preserved g c =
     let own = c.hunk-item.result in
     let at = c.hunk-item.is ∙ ap (λ (hs : List ObjectHunk). get_or hs number own) c.hunks-hunk-items.ensures.value in
     let inside : number < length c.args.unit.now.hunks = omega (arith, c.loop-number-test.true, ap length c.hunks-hunk-items.ensures.value) in
-    let text = map_lines names (first + number, (hunk, record { unit = (c.args.place, c.args.unit.now); number = number; hunk = own })) in
-    TextBegun-more g.W.Sink.taken g.W.Sink.failed c.args.writer.now c.loop-number.writer c.write_hunk.new.writer (map_from names first hunks (unit_origins (c.args.place, c.args.unit.now)))
-    (unit_rest names first number hunks (c.args.place, c.args.unit.now)) text (unit_rest names first (number + 1) hunks (c.args.place, c.args.unit.now))
+    Begun-more g.W.Sink.taken g.W.Sink.failed
     (unit_rest-more names first number hunks (c.args.place, c.args.unit.now) hunk own (omega (arith, inside, c.requires.room)) inside c.index-hunks-number.is at)
-    c.loop-number.invariant c.in_ok-write_hunk.ensures
+    c.loop-number.invariant c.write_hunk.ensures
 
 pub returns : goal.returns
 returns g c =
@@ -67,7 +46,7 @@ returns g c =
     let first = c.args.first in
     let number = c.loop-number.number in
     let hunks = c.args.hunks.now in
-    TextBegun-done g.W.Sink.taken g.W.Sink.failed c.args.writer.now c.loop-number.writer (map_from names first hunks (unit_origins (c.args.place, c.args.unit.now))) (unit_rest names first number hunks (c.args.place, c.args.unit.now))
+    Begun-done g.W.Sink.taken g.W.Sink.failed
     (unit_rest-none names first number hunks (c.args.place, c.args.unit.now) (omega (arith, c.loop-number-test.false, ap length c.hunks-hunk-items.ensures.value))) c.loop-number.invariant
 
 -- `grind` at once: `search`, which Rattle tries before it, is slow here

@@ -16,8 +16,8 @@ loop-name-preserved g c =
     (record {
       one_each = omega (arith, kept.one_each, length-append before (found ∷ []));
       of_files = All-append IsOfFile before (found ∷ []) kept.of_files (All-cons IsOfFile found [] c.in-Ok.ensures (All-nil IsOfFile));
-      written = written-more c.args.names.now _ before found c.loop-name.name-index _ _ _ kept.one_each c.loop-name-test.true kept.written c.in-Ok-write_finding.ensures.wrote.1;
-      same_failed = c.in-Ok-write_finding.ensures.wrote.2 ∙ kept.same_failed;
+      written = written-more c.args.names.now _ before found c.loop-name.name-index _ _ _ kept.one_each c.loop-name-test.true kept.written c.in-Ok-write_about.ensures.wrote.0;
+      same_failed = c.in-Ok-write_about.ensures.wrote.1 ∙ kept.same_failed;
     })
 
 -- `grind` at once: `search`, which Rattle tries before it, is slow here

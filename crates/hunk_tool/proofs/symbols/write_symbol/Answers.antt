@@ -1,7 +1,10 @@
--- `grind` at once: `search`, which Rattle tries before it, is slow here
-use Rattle.std.proofs.Common.{rules, arith}
-use Rattle.std.proofs.lemmas.Grind.{common_steps}
+-- The pieces of the line, one after another.
+use Rattle.std.proofs.Common.{ap}
+use Rattle.hunk_base.specs.QuotedName.{quoted}
+use Rattle.hunk_base.proofs.TextLemmas.{◌⨾◌, Puts-as}
 use Rattle.hunk_tool.proofs.symbols.write_symbol.Goals as goal
 
-pub write_around_name-requires : goal.write_around_name-requires
-write_around_name-requires g c = grind (rules, arith, common_steps)
+pub returns : goal.returns
+returns g c =
+    let name = Puts-as (ap quoted c.bytes.ensures.value) c.put_quoted.ensures in
+    c.put_longword.ensures ⨾ c.put.ensures ⨾ c.put_decimal.ensures ⨾ c.put-2.ensures ⨾ name ⨾ c.end_line.ensures

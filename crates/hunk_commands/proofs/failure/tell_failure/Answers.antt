@@ -1,0 +1,15 @@
+-- One name was given for both files, or the output did not take everything.
+use Rattle.std.proofs.Common.{map, subst, sym}
+use Rattle.std.specs.String.{string_bytes}
+use Rattle.hunk_commands.specs.Failure.{failure_line, TellsLine}
+use Rattle.hunk_commands.proofs.failure.tell_failure.Goals as goal
+
+pub returns-in-SameFile : goal.returns-in-SameFile
+returns-in-SameFile g c =
+    subst (λ failure. TellsLine g.W.Sink.taken g.W.Sink.failed c.args.errors.now c.tell_about-in-SameFile.new.errors (failure_line (map string_bytes c.args.files.now) failure)) (sym c.in-SameFile.is)
+    c.tell_about-in-SameFile.ensures
+
+pub returns-in-Printing : goal.returns-in-Printing
+returns-in-Printing g c =
+    subst (λ failure. TellsLine g.W.Sink.taken g.W.Sink.failed c.args.errors.now c.tell_fault.new.errors (failure_line (map string_bytes c.args.files.now) failure)) (sym c.in-Printing.is)
+    c.tell_fault.ensures

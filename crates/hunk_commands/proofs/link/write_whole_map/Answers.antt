@@ -1,0 +1,8 @@
+-- The map is put into a text that is finished.
+use Rattle.std.proofs.Common.{[], rules}
+use Rattle.hunk_commands.proofs.link.write_whole_map.Goals as goal
+
+pub returns : goal.returns
+returns g c =
+    let wrote = c.finish.ensures.wrote c.args.writer.now _ (c.write_map.ensures.adds _ [] c.new-text.ensures.empty) in
+    search (rules, wrote)

@@ -1,7 +1,0 @@
--- named, so that a mistake is refused without a look for advice
-use Rattle.std.proofs.Common.{arith}
-use Rattle.std.proofs.lemmas.Grind.{common_steps}
-use Rattle.hunk_text.proofs.digits.Digits.as_bytes.Goals as goal
-
-pub returns : goal.returns
-returns c = grind (arith, common_steps)

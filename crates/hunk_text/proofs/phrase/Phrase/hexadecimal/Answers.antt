@@ -1,6 +1,0 @@
--- named, so that a mistake is refused without a look for advice
-use Rattle.std.proofs.Common.{rules}
-use Rattle.hunk_text.proofs.phrase.Phrase.hexadecimal.Goals as goal
-
-pub returns : goal.returns
-returns c = search rules
