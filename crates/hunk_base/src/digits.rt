@@ -1,6 +1,6 @@
 //! The digits of numbers, in arrays of fixed size, so that they need no allocation.
 
-ghost use Rattle.std.specs.Prelude.{◌≡◌, ◌≤◌, List, [], ℕ, drop, length};
+ghost use Rattle.std.specs.Prelude.{◌≡◌, ◌≤◌, List, ℕ, drop, length};
 ghost use Rattle.std.specs.Fmt.{decimal};
 ghost use Rattle.hunk_base.specs.Digits.{eight_digits};
 
@@ -25,17 +25,6 @@ impl Model for Digits {
 }
 
 impl Digits {
-    /// No digits.
-    pub fn none() -> Digits
-        ensures value { result ≡ [] }
-        ensures short { length result ≤ 20 }
-    {
-        Digits {
-            digits: [0; MOST_DIGITS],
-            start: MOST_DIGITS,
-        }
-    }
-
     /// A number in decimal digits, without leading zeros.
     pub fn decimal(number: u64) -> Digits
         ensures value { result ≡ decimal number }
