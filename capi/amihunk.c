@@ -15,6 +15,12 @@ struct span {
 };
 
 uint32_t amihunk_c_open(void **session, const uint32_t *bases, size_t count);
+uint32_t amihunk_c_begin(void **session);
+uint32_t amihunk_c_feed_header(void **session, const uint8_t *piece, size_t size, uint64_t *taken,
+                               amihunk_answer *answer);
+uint32_t amihunk_c_table(void **session, uint64_t hunk, amihunk_table *told);
+uint32_t amihunk_c_place(void **session, const uint32_t *bases, size_t count,
+                         amihunk_answer *answer);
 uint32_t amihunk_c_feed(void **session, const uint8_t *piece, size_t size, amihunk_answer *answer);
 uint32_t amihunk_c_finish(void **session, amihunk_answer *answer);
 uint64_t amihunk_c_hunk_count(void **session);
@@ -154,6 +160,45 @@ amihunk_status amihunk_loader_open(amihunk_loader *loader, amihunk_memory memory
         loader->memory = memory;
     }
     return status;
+}
+
+amihunk_status amihunk_loader_begin(amihunk_loader *loader, amihunk_memory memory)
+{
+    const amihunk_memory *before = enter(&memory);
+    uint32_t status = leave(before, amihunk_c_begin(&loader->session));
+    if (status == AMIHUNK_OK) {
+        loader->memory = memory;
+    }
+    return status;
+}
+
+amihunk_status amihunk_loader_feed_header(amihunk_loader *loader, const void *piece, size_t size,
+                                          size_t *taken, amihunk_answer *answer)
+{
+    amihunk_answer unwanted;
+    uint64_t count = 0;
+    const amihunk_memory *before = enter(&loader->memory);
+    uint32_t status =
+        leave(before, amihunk_c_feed_header(&loader->session, items(piece), size, &count,
+                                            answer != NULL ? answer : &unwanted));
+    *taken = count;
+    return status;
+}
+
+amihunk_status amihunk_loader_table(amihunk_loader *loader, size_t hunk, amihunk_table *told)
+{
+    *told = (amihunk_table){0};
+    const amihunk_memory *before = enter(&loader->memory);
+    return leave(before, amihunk_c_table(&loader->session, hunk, told));
+}
+
+amihunk_status amihunk_loader_place(amihunk_loader *loader, const uint32_t *bases, size_t count,
+                                    amihunk_answer *answer)
+{
+    amihunk_answer unwanted;
+    const amihunk_memory *before = enter(&loader->memory);
+    return leave(before, amihunk_c_place(&loader->session, items(bases), count,
+                                         answer != NULL ? answer : &unwanted));
 }
 
 amihunk_status amihunk_loader_feed(amihunk_loader *loader, const void *piece, size_t size,

@@ -19,6 +19,19 @@
  *     }
  *     amihunk_loader_close(&loader);
  *
+ * Where the addresses depend on the sizes of the hunks, read the header first:
+ *
+ *     size_t taken;
+ *     amihunk_table table;
+ *     amihunk_loader_begin(&loader, amihunk_from_malloc());
+ *     if (amihunk_loader_feed_header(&loader, bytes, size, &taken, &answer) ==
+ *         AMIHUNK_NEEDS_BASES) {
+ *         ...                  amihunk_loader_table tells the sizes: choose the bases
+ *         amihunk_loader_place(&loader, bases, count, &answer);
+ *         amihunk_loader_feed(&loader, bytes + taken, size - taken, &answer);
+ *     }
+ *     amihunk_loader_finish(&loader, &answer);
+ *
  * A handle that is refused answers the same to every later call that feeds or finishes it, so it is
  * enough to look at the answer of the last one.
  *
@@ -158,7 +171,9 @@ typedef enum amihunk_status {
     /* The call is out of turn. The handle is as it was. */
     AMIHUNK_WRONG_STATE = 12,
     /* There is no hunk with this number. */
-    AMIHUNK_OUT_OF_RANGE = 13
+    AMIHUNK_OUT_OF_RANGE = 13,
+    /* The header of the file is whole, and the bases of its hunks are due. */
+    AMIHUNK_NEEDS_BASES = 14
 } amihunk_status;
 
 /* Why a file is refused. The words after a colon say what `number` is; without them it is 0. */
@@ -218,7 +233,7 @@ typedef struct amihunk_answer {
 
 /* -------------------------------------------- Loading ---------------------------------------- */
 
-/* A loader. It is closed, loading, loaded or refused. Leave its fields alone. */
+/* A loader. It is closed, sizing, loading, loaded or refused. Leave its fields alone. */
 typedef struct amihunk_loader {
     void *session;
     amihunk_memory memory;
@@ -244,6 +259,80 @@ amihunk_status amihunk_loader_open(amihunk_loader *loader, amihunk_memory memory
                                    const uint32_t *bases, size_t count);
 
 /*
+ * Opens a closed loader for a load file whose hunks have no addresses yet. Its header is read
+ * first, by amihunk_loader_feed_header; then amihunk_loader_table tells the sizes, and
+ * amihunk_loader_place takes the bases. The time is constant.
+ *
+ * AMIHUNK_OK: the loader is sizing.
+ * AMIHUNK_OUT_OF_MEMORY: it is still closed.
+ * AMIHUNK_WRONG_STATE: it was not closed.
+ */
+amihunk_status amihunk_loader_begin(amihunk_loader *loader, amihunk_memory memory);
+
+/*
+ * Takes the next bytes of the file, at most `size`, up to the last size in its header, and writes
+ * to `taken` how many it took. The rest of the piece is for amihunk_loader_feed, once the hunks are
+ * placed. The time of all these calls together grows with the bytes of the header.
+ *
+ * AMIHUNK_OK: all of the piece was taken, and the header goes on.
+ * AMIHUNK_NEEDS_BASES: the header is whole. If it was before, nothing is taken.
+ * AMIHUNK_BAD_FILE: no load file begins so. This comes with the last byte of the longword at the
+ * place, as it does from amihunk_loader_feed.
+ * AMIHUNK_OUT_OF_MEMORY: an allocation failed.
+ * AMIHUNK_WRONG_STATE: the loader is not sizing.
+ *
+ * With the last three, nothing is taken. With AMIHUNK_BAD_FILE and AMIHUNK_OUT_OF_MEMORY the loader
+ * is refused from then on.
+ */
+amihunk_status amihunk_loader_feed_header(amihunk_loader *loader, const void *piece, size_t size,
+                                          size_t *taken, amihunk_answer *answer);
+
+/* Which memory a hunk asks for. */
+typedef enum amihunk_memory_kind {
+    AMIHUNK_ANY_MEMORY = 0,
+    /* Memory that the custom chips can reach. */
+    AMIHUNK_CHIP_MEMORY = 1,
+    /* Memory that only the processor can reach. */
+    AMIHUNK_FAST_MEMORY = 2
+} amihunk_memory_kind;
+
+/* What a header tells of a hunk. */
+typedef struct amihunk_table {
+    uint64_t hunks;  /* how many hunks the file has, 1 to 65,535 */
+    uint32_t size;   /* of this one: its size in longwords, all of them together at most 2^24 */
+    uint32_t memory; /* of this one: an amihunk_memory_kind */
+} amihunk_table;
+
+/*
+ * Tells how many hunks the file has, and of one of them its size, and which memory it asks for. The
+ * time is constant.
+ *
+ * AMIHUNK_OK: `told` is that. Hunk 0 is always there.
+ * AMIHUNK_OUT_OF_RANGE: there is no such hunk.
+ * AMIHUNK_WRONG_STATE: the loader is not sizing, or the header is not whole.
+ *
+ * With the last two, `told` is all zeros.
+ */
+amihunk_status amihunk_loader_table(amihunk_loader *loader, size_t hunk, amihunk_table *told);
+
+/*
+ * Chooses the bases of a file whose header is whole: hunk number i is to be at address bases[i].
+ * The bases are copied. The time grows with that of amihunk_check_places, and with the bytes of the
+ * header.
+ *
+ * AMIHUNK_OK: the loader is loading, as if it had been opened with these bases and fed the header.
+ * amihunk_loader_feed takes what follows.
+ * AMIHUNK_WRONG_COUNT, AMIHUNK_PAST_END, AMIHUNK_OVERLAP: the hunks cannot be placed there.
+ * AMIHUNK_OUT_OF_MEMORY: an allocation failed.
+ * AMIHUNK_WRONG_STATE: the loader is not sizing, or the header is not whole.
+ *
+ * With all but the first, the loader is as it was: try other bases, or again. A loader that was
+ * refused before gives the same answer as then.
+ */
+amihunk_status amihunk_loader_place(amihunk_loader *loader, const uint32_t *bases, size_t count,
+                                    amihunk_answer *answer);
+
+/*
  * Takes the next `size` bytes of the file. The time of all these calls together grows with the
  * bytes of the file and of its hunks in memory; one of them also takes the time of
  * amihunk_check_places.
@@ -251,7 +340,7 @@ amihunk_status amihunk_loader_open(amihunk_loader *loader, amihunk_memory memory
  * AMIHUNK_OK: the bytes so far may be the beginning of a load file.
  * AMIHUNK_BAD_FILE: they are not. This comes with the last byte of the longword at the place.
  * AMIHUNK_OUT_OF_MEMORY: an allocation failed.
- * AMIHUNK_WRONG_STATE: the loader is closed or loaded.
+ * AMIHUNK_WRONG_STATE: the loader is closed, sizing or loaded.
  *
  * With AMIHUNK_BAD_FILE and AMIHUNK_OUT_OF_MEMORY the loader is refused from then on: every later
  * feed and finish gives the same answer.
@@ -263,9 +352,9 @@ amihunk_status amihunk_loader_feed(amihunk_loader *loader, const void *piece, si
  * Ends the file, and makes its hunks known. No memory is needed for that. The time is constant.
  *
  * AMIHUNK_OK: the loader is loaded.
- * AMIHUNK_BAD_FILE: the file ends too early.
+ * AMIHUNK_BAD_FILE: the file ends too early, as it does if the loader is still sizing.
  * AMIHUNK_WRONG_COUNT, AMIHUNK_PAST_END, AMIHUNK_OVERLAP: it is a load file, but its hunks cannot
- * be placed at the bases.
+ * be placed at the bases of amihunk_loader_open. After amihunk_loader_place they can.
  * AMIHUNK_WRONG_STATE: the loader is closed or loaded.
  *
  * With all but the first and the last of these, the loader is refused from then on. A loader that

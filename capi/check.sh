@@ -12,7 +12,7 @@ export LC_ALL=C
 cc="${CC:-cc}"
 cxx="${CXX:-c++}"
 warnings=(-Wall -Wextra -Werror -pedantic)
-tests=(loading reasons linking memory handles calls mutated buffer blocks)
+tests=(loading sizes reasons linking memory handles calls mutated buffer blocks)
 # Of the library the sanitizers see nothing, so what these tests are about is built with them.
 declare -A sources=([buffer]=buffer.c [blocks]=buffer.c)
 work="$(mktemp -d)" || exit 1

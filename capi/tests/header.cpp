@@ -11,6 +11,27 @@ static const unsigned char object[] = {0, 0,    3, 0xE7, 0, 0,    0, 0, 0, 0,   
                                        0, 0,    0, 1,    0, 0,    0, 0, 0, 0,    0, 0,    0, 0,
                                        3, 0xF2, 0, 0,    3, 0xEB, 0, 0, 0, 4,    0, 0,    3, 0xF2};
 
+static bool loads_by_sizes(const std::vector<unsigned char> &file)
+{
+    const uint32_t bases[] = {0x1000, 0x2000};
+    amihunk_answer answer;
+    amihunk_loader loader = {};
+    amihunk_table table;
+    std::size_t taken = 0;
+    bool good = amihunk_loader_begin(&loader, amihunk_from_malloc()) == AMIHUNK_OK &&
+                amihunk_loader_feed_header(&loader, file.data(), file.size(), &taken, &answer) ==
+                    AMIHUNK_NEEDS_BASES &&
+                taken == 28 && amihunk_loader_table(&loader, 1, &table) == AMIHUNK_OK &&
+                table.hunks == 2 && table.size == 4 && table.memory == AMIHUNK_ANY_MEMORY;
+    good = good && amihunk_loader_place(&loader, bases, 2, &answer) == AMIHUNK_OK &&
+           amihunk_loader_feed(&loader, file.data() + taken, file.size() - taken, &answer) ==
+               AMIHUNK_OK &&
+           amihunk_loader_finish(&loader, &answer) == AMIHUNK_OK &&
+           amihunk_loader_hunk_count(&loader) == 2;
+    amihunk_loader_close(&loader);
+    return good;
+}
+
 static bool links_and_loads()
 {
     static unsigned char room[16384];
@@ -39,6 +60,7 @@ static bool links_and_loads()
            hunk.base == 0x1000 && hunk.size == 4 && std::memcmp(hunk.bytes, "\0\0\x20\x08", 4) == 0;
     unsigned char bytes[16];
     good = good && amihunk_loader_read(&loader, 1, 0, bytes, 16) == 16;
+    good = good && loads_by_sizes(copy);
     good = good && amihunk_loader_line(&loader, "x", nullptr, 0) == 0 &&
            amihunk_linker_name(&linker, nullptr, 0) == 0 &&
            amihunk_linker_line(&linker, "x", nullptr, 0) == 0;

@@ -1,3 +1,4 @@
 pub mod HandleLemmas
 pub mod LinkerLemmas
 pub mod LinkingLemmas
+pub mod SizingLemmas

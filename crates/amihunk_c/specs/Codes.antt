@@ -26,6 +26,7 @@ status_code status.UndefinedName = 10
 status_code status.OutOfMemory = 11
 status_code status.WrongState = 12
 status_code status.OutOfRange = 13
+status_code status.NeedsBases = 14
 
 -- the status for hunks that cannot be placed
 abbrev pub place_status : PlaceFault → Status

@@ -12,6 +12,8 @@ pub mod Loading
 pub mod PlacesAnswers
 pub mod Refusals
 pub mod Sessions
+pub mod Sizing
 pub mod Spans
+pub mod Tables
 pub mod Texts
 pub mod Turns

@@ -2,7 +2,7 @@
 use Rattle.std.specs.Global.{Global}
 use Rattle.std.specs.Prelude.{◌≡◌, ℕ, List, [], ◌++◌, length, None}
 use Rattle.hunk_words.specs.Files.{IsValidPrefix}
-use Rattle.hunk_words.specs.FirstOffence.{FirstOffence, OffendsAt}
+use Rattle.hunk_words.specs.FirstOffence.{EndsEarly, FirstOffence, OffendsAt}
 use Rattle.hunk_base.specs.Longwords.{longwords, unfinished}
 use Rattle.hunk_words.specs.declared.event.FileKind.TheVariants.{Load}
 use Rattle.hunk_loader.specs.ImageLoader.{IsNotPlaced, LoadsAs, StandsFor, bases_of, refusal_of}
@@ -16,7 +16,7 @@ use Rattle.amihunk_c.specs.declared.answer.Answer.{Answer}
 use Rattle.amihunk_c.specs.declared.codes.Status.TheVariants as status
 use Rattle.amihunk_c.specs.declared.refused.Refused.{Refused}
 use Rattle.amihunk_c.specs.declared.session.Session.{Session}
-use Rattle.amihunk_c.specs.declared.session.Session.TheVariants.{Loading, Loaded, Stopped}
+use Rattle.amihunk_c.specs.declared.session.Session.TheVariants.{Sizing, Loading, Loaded, Stopped}
 
 -- The loader has these bases and was fed these bytes, and refused none of them.
 pub record HasFed (bases bytes : List ℕ) (loader : ImageLoader Global) : Type 0 where
@@ -64,7 +64,17 @@ IsFinished bases bytes (Loaded image) answer = LoadsAs bases bytes image × (ans
 IsFinished bases bytes (Stopped refused) answer = IsLoadRefusal bases bytes refused refused.fault × (answer ≡ refused.answer)
 IsFinished bases bytes _ answer = ⊥
 
+-- The file ends after these bytes, which are of its header: it ends too early.
+abbrev pub IsEndRefusal : List ℕ → Refused → ToolFault Global → Type 0
+IsEndRefusal bytes refused (Input file fault) = EndsEarly Load (longwords bytes) (length (unfinished bytes)) fault.place fault.reason × (refused ≡ file_refused fault 0)
+IsEndRefusal bytes refused _ = ⊥
+
+abbrev pub EndsInHeader : List ℕ → Session → Answer → Type 0
+EndsInHeader bytes (Stopped refused) answer = IsEndRefusal bytes refused refused.fault × (answer ≡ refused.answer)
+EndsInHeader bytes _ answer = ⊥
+
 abbrev pub FinishesLoader : (old new : Session) → Answer → Type 0
 FinishesLoader (Loading loader) new answer = (bases bytes : List ℕ) → HasFed bases bytes loader → IsFinished bases bytes new answer
+FinishesLoader (Sizing header) new answer = header.refusal ≡ None → EndsInHeader header.bytes new answer
 FinishesLoader (Stopped refused) new answer = TellsAgain (Stopped refused) new refused answer
 FinishesLoader old new answer = OutOfTurn old new answer

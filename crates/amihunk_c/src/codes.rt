@@ -37,6 +37,8 @@ pub enum Status {
     WrongState,
     /// There is no hunk with that number.
     OutOfRange,
+    /// The header is whole, and its hunks are to be placed.
+    NeedsBases,
 }
 
 impl Status {

@@ -1,11 +1,13 @@
 //! The loader and the linker of `amihunk` for programs in C, as a static library.
 //!
 //! - `loading`: the calls that load a file.
+//! - `sizing`: the calls that tell the sizes of its hunks before they have addresses.
 //! - `linking`: the calls that link object files.
 //! - `texts`: the calls that tell a refusal in words.
 //! - `places`: the call that checks whether hunks can be placed.
 //! - `handle`: what C holds between calls, and `parts`: a box taken apart.
 //! - `session`: what a handle is at.
+//! - `header`: reading a header, step by step, and `table`: what C is told of its hunks.
 //! - `loader`: loading, step by step.
 //! - `linker`: what a linker has taken, and `inputs`: linking, step by step.
 //! - `image`: the hunks that were loaded.
@@ -21,6 +23,7 @@ mod answer;
 mod codes;
 mod copying;
 mod handle;
+mod header;
 mod image;
 mod inputs;
 mod line;
@@ -31,5 +34,7 @@ pub mod loading;
 pub mod places;
 mod refused;
 mod session;
+pub mod sizing;
 mod span;
+mod table;
 pub mod texts;

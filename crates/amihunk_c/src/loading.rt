@@ -67,8 +67,9 @@ pub extern "C" fn amihunk_c_feed(
 
 /// Ends the file, and loads it.
 ///
-/// It answers `OK`; `FILE` with the first offence of the file, which may be that it ends too early;
-/// or `WRONG_COUNT`, `PAST_END` or `OVERLAP` if its hunks cannot be placed at the bases. It allocates
+/// It answers `OK`; `FILE` with the first offence of the file, which may be that it ends too early,
+/// as one does that ends in its header, or before its hunks are placed; or `WRONG_COUNT`, `PAST_END`
+/// or `OVERLAP` if its hunks cannot be placed at the bases of [`amihunk_c_open`]. It allocates
 /// nothing: it tells `OUT_OF_MEMORY` only again. It answers `WRONG_STATE` if the handle does not load
 /// a file.
 #[unsafe(no_mangle)]

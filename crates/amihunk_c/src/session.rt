@@ -7,11 +7,13 @@ use crate::answer::Answer;
 use crate::codes::Status;
 use crate::linker::Linker;
 use crate::refused::Refused;
-use hunk_loader::{Image, ImageLoader};
+use hunk_loader::{HeaderLoader, Image, ImageLoader};
 
 /// What a handle is at. A call that its stage does not allow changes nothing.
 #[derive(Drop)]
 pub enum Session {
+    /// The header of a load file is being fed, or its hunks are to be placed.
+    Sizing(HeaderLoader),
     /// A load file is being fed.
     Loading(ImageLoader),
     /// A load file is loaded.

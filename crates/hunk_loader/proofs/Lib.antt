@@ -1,4 +1,7 @@
 pub mod BoundedImageBuilderLemmas
+pub mod HeaderBytesLemmas
+pub mod HeaderHunksLemmas
+pub mod HeaderLoaderLemmas
 pub mod ImageBuilderLemmas
 pub mod ImageBuilderHunkLemmas
 pub mod ImageLoaderLemmas

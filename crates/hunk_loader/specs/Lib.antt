@@ -1,4 +1,7 @@
 pub mod BoundedImageBuilder
+pub mod HeaderBytes
+pub mod HeaderHunks
+pub mod HeaderLoader
 pub mod Image
 pub mod Laws
 pub mod ImageBuilder

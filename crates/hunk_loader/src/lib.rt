@@ -3,6 +3,9 @@
 //! - `image`: the hunks in memory.
 //! - `laws`: laws about the definitions of loading.
 //! - `image_loader`: loading a load file while its bytes come.
+//! - `header_loader`: its header alone, before its hunks have addresses.
+//! - `header_bytes`: the bytes of a header, which are judged as they come.
+//! - `header_hunks`: the hunks that a header tells of.
 //! - `image_reader`: the image of a load file that a reader has.
 //! - `image_builder`: a builder of images from the events of load files.
 //! - `bounded_image_builder`: that builder, with a bound on what it keeps.
@@ -14,6 +17,9 @@
 #![tactic(auto)]
 
 mod bounded_image_builder;
+mod header_bytes;
+pub mod header_hunks;
+pub mod header_loader;
 pub mod image;
 mod image_builder;
 pub mod image_loader;
@@ -25,6 +31,8 @@ pub mod places;
 mod placing;
 pub mod sizes;
 
+pub use header_hunks::HeaderHunk;
+pub use header_loader::{HeaderLoader, PlaceRefusal};
 pub use image::Image;
 pub use image_loader::ImageLoader;
 pub use image_reader::{ImageFault, read_image};

@@ -38,6 +38,16 @@ impl From<Refusal> for LoadRefusal {
     }
 }
 
+impl From<AllocError> for LoadRefusal {
+    ghost use Rattle.hunk_loader.specs.declared.loading.LoadRefusal.{LoadRefusal};
+
+    ghost from_gives = { λ _ refusal. refusal ≡ LoadRefusal.OutOfMemory };
+
+    fn from(_failure: AllocError) -> LoadRefusal {
+        LoadRefusal::OutOfMemory
+    }
+}
+
 /// Loads a load file: the content of each hunk stands at its base, zeros behind it up to the size,
 /// and the base of a hunk is added to the longword at each site that names it, modulo 2^32
 /// (The AmigaDOS Manual, 3rd edition, "Amiga binary file structure"). [`load_file`] moves the

@@ -14,6 +14,7 @@
 //! - `places`: addresses of hunks.
 //! - `short_form`: load files with relocations in 16-bit words, as they are written.
 //! - `site_allocations`: sites that are added while allocations fail.
+//! - `sized`: load files whose hunks get their addresses once the header is read.
 //! - `sites`: sites that touch, overlap and stand outside.
 //! - `texts`: texts on their way to a writer.
 //! - `trimmed`: load files without the zeros at the end of contents.
@@ -37,6 +38,7 @@ mod places;
 mod short_form;
 mod site_allocations;
 mod sites;
+mod sized;
 mod texts;
 mod trimmed;
 mod unit_values;

@@ -1,1 +1,2 @@
 pub mod AssemblerLemmas
+pub mod MachineLemmas

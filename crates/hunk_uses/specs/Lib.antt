@@ -1,3 +1,4 @@
 pub mod Assembler
 pub mod Debugger
 pub mod Emulator
+pub mod Machine

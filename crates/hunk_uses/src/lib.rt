@@ -3,8 +3,10 @@
 //! - `assembler`: an assembler that links what it has assembled, in memory.
 //! - `debugger`: a debugger that asks the memory of a program for bytes.
 //! - `emulator`: an emulator that loads a program inside a budget of memory.
+//! - `machine`: a machine that chooses addresses by the sizes in a header.
 #![tactic(auto)]
 
 pub mod assembler;
 pub mod debugger;
 pub mod emulator;
+pub mod machine;

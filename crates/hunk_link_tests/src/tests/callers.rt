@@ -2,11 +2,12 @@
 
 use super::asserts::{equals, equals_at};
 use hunk_link::LinkRefusal;
-use hunk_loader::{ImageFault, LoadRefusal, PlaceFault};
+use hunk_loader::{Image, ImageFault, LoadRefusal, PlaceFault};
 use hunk_tool::ToolFault;
 use hunk_uses::assembler::link_objects;
 use hunk_uses::debugger::{dump, longword_at};
 use hunk_uses::emulator::load_program;
+use hunk_uses::machine::load_from_memory;
 use hunk_words::{Fault, Pieces, Reason};
 use linked_list_allocator::LocalHeap;
 use std::alloc::Global;
@@ -45,16 +46,53 @@ const BUDGET: usize = 4096;
 /// The bytes that the disk of the tests hands over at a time.
 const SECTOR: usize = 16;
 
+/// Checks that this is the memory of the program.
+fn is_in_memory(rt: &impl Abort, image: &Image<&LocalHeap>) {
+    let hunks = image.hunks();
+    equals(rt, hunks.len(), MEMORY.len());
+    for ((base, bytes), (wanted, content)) in hunks.iter().zip(&MEMORY) {
+        equals(rt, *base, *wanted);
+        equals_at(rt, base, bytes.as_slice(), *content);
+    }
+}
+
 #[test]
 fn a_program_is_loaded_from_a_disk(rt: HostRuntime) -> Result<(), Fail> {
     let budget = LocalHeap::new(rt.alloc(), BUDGET)?;
     let mut disk = Pieces::new(PROGRAM.to_vec(rt.alloc())?, SECTOR, None);
-    let image = load_program(&budget, &mut disk, 0x1000)?;
-    let hunks = image.hunks();
-    equals(&rt, hunks.len(), MEMORY.len());
-    for ((base, bytes), (wanted, content)) in hunks.iter().zip(&MEMORY) {
-        equals(&rt, *base, *wanted);
-        equals_at(&rt, base, bytes.as_slice(), *content);
+    is_in_memory(&rt, &load_program(&budget, &mut disk, 0x1000)?);
+    Ok(())
+}
+
+#[test]
+fn a_program_is_loaded_after_its_header(rt: HostRuntime) -> Result<(), Fail> {
+    let budget = LocalHeap::new(rt.alloc(), BUDGET)?;
+    is_in_memory(&rt, &load_from_memory(&budget, PROGRAM, 0x1000)?);
+    Ok(())
+}
+
+#[test]
+fn a_machine_says_what_is_wrong(rt: HostRuntime) -> Result<(), Fail> {
+    let early = |place| {
+        LoadRefusal::File(Fault {
+            place,
+            reason: Reason::UnexpectedEnd,
+        })
+    };
+    let past = LoadRefusal::Place(PlaceFault::PastEnd(1));
+    let rows = [
+        (&PROGRAM[..84], BUDGET, 0x1000, early(21)),
+        (&PROGRAM[..24], BUDGET, 0x1000, early(6)),
+        (PROGRAM, BUDGET, 0xFFFF_FFF8, past),
+        (PROGRAM, 64, 0x1000, LoadRefusal::OutOfMemory),
+    ];
+    for (file, size, first, refusal) in rows {
+        let budget = LocalHeap::new(rt.alloc(), size)?;
+        equals(
+            &rt,
+            load_from_memory(&budget, file, first).err(),
+            Some(refusal),
+        );
     }
     Ok(())
 }

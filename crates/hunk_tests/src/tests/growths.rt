@@ -2,6 +2,7 @@
 
 use super::asserts::{equals, equals_at, holds};
 use super::loaded::has_bytes;
+use super::sized::sized;
 use super::values::{SCATTERED_HUNKS, has_hunks};
 use super::written::file_of;
 use hunk_loader::{ImageFault, LoadRefusal, load, read_image};
@@ -27,6 +28,7 @@ const MEMORY: [&[u8]; 2] = [&[0, 0, 0x20, 0, 0, 0, 0x10, 0, 0, 0, 0x20, 4], &[0;
 enum Call {
     Read,
     Image,
+    Sized,
     Load,
     Write,
 }
@@ -73,6 +75,17 @@ fn is_image(
     Ok(true)
 }
 
+fn is_sized(rt: &impl Abort, heap: &Refusing<Global>, bytes: &[u8]) -> bool {
+    match sized(rt, heap, bytes, &BASES, ROOM) {
+        Ok(image) => has_bytes(rt, &image, &BASES, &MEMORY),
+        Err(refusal) => {
+            equals(rt, refusal, LoadRefusal::OutOfMemory);
+            return false;
+        }
+    }
+    true
+}
+
 fn is_loaded(
     rt: &impl Abort,
     alloc: Global,
@@ -115,7 +128,7 @@ fn is_written(
 // succeeds once none fails. The allocations to read the file that is loaded or written come before.
 fn growths_of(rt: &impl Abort, alloc: Global, call: Call, bytes: &[u8]) -> Result<u64, Fail> {
     let before = match call {
-        Call::Read | Call::Image => 0,
+        Call::Read | Call::Image | Call::Sized => 0,
         Call::Load | Call::Write => growths_of_reading(alloc, bytes)?,
     };
     for number in 0..MOST_GROWTHS {
@@ -124,6 +137,7 @@ fn growths_of(rt: &impl Abort, alloc: Global, call: Call, bytes: &[u8]) -> Resul
         let done = match call {
             Call::Read => is_read(rt, alloc, &heap, bytes)?,
             Call::Image => is_image(rt, alloc, &heap, bytes)?,
+            Call::Sized => is_sized(rt, &heap, bytes),
             Call::Load => is_loaded(rt, alloc, &heap, bytes)?,
             Call::Write => is_written(rt, alloc, &heap, bytes)?,
         };
@@ -149,6 +163,8 @@ fn refuses_each_growth_of_a_call(rt: HostRuntime) -> Result<(), Fail> {
         (Call::Read, 8),
         // the bases, the sizes, the hunks and the bytes of each
         (Call::Image, 5),
+        // the bytes of the header, its sizes, its hunks, and what an image takes
+        (Call::Sized, 8),
         // the hunks and the bytes of each
         (Call::Load, 3),
         // the sites of the first hunk

@@ -1,7 +1,9 @@
-//! Load files in memory: by `ImageLoader`, by `read_image`, and by decoding whole and then loading.
+//! Load files in memory: by `ImageLoader`, by `read_image`, by `HeaderLoader`, and by decoding whole
+//! and then loading.
 
 use super::asserts::{equals, equals_at};
 use super::decoded::{fed, read, reader_of};
+use super::sized::sized;
 use hunk_loader::{Image, ImageLoader, LoadRefusal, load, read_image};
 use hunk_loadfile::LoadFile;
 use hunk_test_support::load_words::{EVEN_WORDS, NO_WORDS, THREE_HUNKS, TWO_HUNKS, ZEROS};
@@ -90,6 +92,8 @@ fn is_loaded(
         let file = read(rt, alloc, bytes, chunk)?;
         is_in_memory(rt, alloc, &file, bases, wanted)?;
         let image = image_of(rt, alloc, bytes, bases, chunk)?;
+        has_bytes(rt, &image, bases, wanted);
+        let image = sized(rt, alloc, bytes, bases, chunk)?;
         has_bytes(rt, &image, bases, wanted);
     }
     Ok(())

@@ -245,7 +245,9 @@ fn copies_symbols_and_debug_blocks(rt: HostRuntime) -> Result<(), Fail> {
     let bytes = bytes_of(rt.alloc(), &ASSEMBLED, &[])?;
     let mut reader = Pieces::new(bytes, ROOM, None);
     let units = read_object(rt.alloc(), &mut reader)?;
+    equals(&rt, units.len(), 1);
     for unit in &units {
+        equals(&rt, unit.hunks().len(), ASSEMBLED_HUNKS.len());
         for (hunk, wanted) in unit.hunks().iter().zip(&ASSEMBLED_HUNKS) {
             let symbols = hunk.copy_symbols(rt.alloc())?;
             let debugs = hunk.copy_debugs(rt.alloc())?;

@@ -1,0 +1,209 @@
+//! Load files whose hunks get their addresses once the header is read.
+
+use super::asserts::{equals, equals_at, holds};
+use hunk_loader::{HeaderHunk, HeaderLoader, Image, LoadRefusal, PlaceFault, PlaceRefusal};
+use hunk_loadfile::Memory;
+use hunk_test_support::load_words::TWO_HUNKS;
+use hunk_test_support::{CHUNKS, FILE, bytes_of};
+use hunk_words::{Fault, Reason};
+use std::alloc::{Allocator, Global};
+use std::process::Abort;
+use std::test::Fail;
+
+// Feeds these bytes in pieces of this size, and returns how many were taken.
+fn feed_header<A: Allocator + Copy>(
+    rt: &impl Abort,
+    header: &mut HeaderLoader<A>,
+    bytes: &[u8],
+    chunk: usize,
+) -> Result<usize, LoadRefusal> {
+    assert!(rt; 1 <= chunk);
+    let mut taken: usize = 0;
+    for piece in bytes.chunks(chunk) {
+        taken = taken.saturating_add(header.feed(piece)?);
+    }
+    Ok(taken)
+}
+
+/// The image of these bytes, fed in pieces of this size: first the header, then the rest at these
+/// bases.
+pub(crate) fn sized<A: Allocator + Copy>(
+    rt: &impl Abort,
+    alloc: A,
+    bytes: &[u8],
+    bases: &[u32],
+    chunk: usize,
+) -> Result<Image<A>, LoadRefusal> {
+    assert!(rt; 1 <= chunk);
+    let mut header = HeaderLoader::new(alloc);
+    let taken = feed_header(rt, &mut header, bytes, chunk)?;
+    let mut loader = match header.place(bases) {
+        Ok(loader) => loader,
+        Err(PlaceRefusal::HeaderIncomplete) => return Err(header.finish()),
+        Err(PlaceRefusal::Place(fault)) => return Err(LoadRefusal::Place(fault)),
+        Err(PlaceRefusal::OutOfMemory) => return Err(LoadRefusal::OutOfMemory),
+    };
+    for piece in bytes.get(taken..).unwrap_or(&[]).chunks(chunk) {
+        loader.feed(piece)?;
+    }
+    loader.finish()
+}
+
+// In any pieces, these bytes are refused for this reason, at this longword.
+fn is_refused(
+    rt: &impl Abort,
+    alloc: Global,
+    bytes: &[u8],
+    place: u64,
+    reason: Reason,
+) -> Result<(), Fail> {
+    for chunk in CHUNKS {
+        match sized(rt, alloc, bytes, &[0x1000], chunk) {
+            Ok(_) => holds(rt, &("loaded", place, chunk), false),
+            Err(refusal) => equals_at(
+                rt,
+                &chunk,
+                refusal,
+                LoadRefusal::File(Fault { place, reason }),
+            ),
+        }
+    }
+    Ok(())
+}
+
+#[test]
+fn refuses_each_longword_of_a_header(rt: HostRuntime) -> Result<(), Fail> {
+    let rows = [
+        (0, 0x3E7, Reason::WrongStart),
+        (1, 1, Reason::ResidentNames),
+        (2, 0, Reason::HunkTable),
+        (2, 0x0001_0000, Reason::HunkTable),
+        (3, 1, Reason::HunkTable),
+        (4, 1, Reason::HunkTable),
+        (5, 0xC000_0001, Reason::BothMemoryBits),
+        (5, 0x0100_0001, Reason::TooLarge),
+        (6, 0x3F2, Reason::MisplacedType(0x3F2)),
+        (7, 2, Reason::ContentTooLong),
+    ];
+    for (place, word, reason) in rows {
+        let mut words = FILE;
+        *words.get_mut(place).ok_or("no such place")? = word;
+        let bytes = bytes_of(rt.alloc(), &words, &[])?;
+        is_refused(&rt, rt.alloc(), &bytes, place as u64, reason)?;
+    }
+    Ok(())
+}
+
+#[test]
+fn refuses_a_file_that_ends_anywhere(rt: HostRuntime) -> Result<(), Fail> {
+    let bytes = bytes_of(rt.alloc(), &FILE, &[])?;
+    for size in 0..bytes.len() {
+        let front = bytes.get(..size).ok_or("no such size")?;
+        let reason = if size % 4 == 0 {
+            Reason::UnexpectedEnd
+        } else {
+            Reason::PartialLongword
+        };
+        is_refused(&rt, rt.alloc(), front, size as u64 / 4, reason)?;
+    }
+    Ok(())
+}
+
+#[test]
+fn tells_sizes_and_memory(rt: HostRuntime) -> Result<(), Fail> {
+    let words = [0x3F3, 0, 3, 0, 2, 5, 0x4000_0000, 0x80FF_FFFB, 0x3E9];
+    let bytes = bytes_of(rt.alloc(), &words, &[])?;
+    let wants = [
+        (5, Memory::Any),
+        (0, Memory::Chip),
+        (0x00FF_FFFB, Memory::Fast),
+    ];
+    for chunk in CHUNKS {
+        let mut header = HeaderLoader::new(rt.alloc());
+        equals(&rt, feed_header(&rt, &mut header, &bytes, chunk)?, 32);
+        let hunks = header.hunks().ok_or("no hunks")?;
+        equals(&rt, hunks.len(), wants.len());
+        for (hunk, (size, memory)) in hunks.iter().zip(wants) {
+            equals(&rt, *hunk, HeaderHunk { size, memory });
+        }
+        equals(&rt, header.feed(&bytes), Ok(0));
+    }
+    Ok(())
+}
+
+#[test]
+fn answers_a_refused_header_again(rt: HostRuntime) -> Result<(), Fail> {
+    let refusal = LoadRefusal::File(Fault {
+        place: 0,
+        reason: Reason::WrongStart,
+    });
+    let mut header = HeaderLoader::new(rt.alloc());
+    equals(&rt, header.feed(&[0, 0, 3, 0xE7, 0]), Err(refusal));
+    equals(&rt, header.feed(&[]), Err(refusal));
+    holds(&rt, &"told hunks", header.hunks().is_none());
+    equals(
+        &rt,
+        header.place(&[0x1000]).err(),
+        Some(PlaceRefusal::HeaderIncomplete),
+    );
+    equals(&rt, header.finish(), refusal);
+    Ok(())
+}
+
+#[test]
+fn places_a_whole_header_alone(rt: HostRuntime) -> Result<(), Fail> {
+    let bytes = bytes_of(rt.alloc(), &TWO_HUNKS, &[])?;
+    let mut header = HeaderLoader::new(rt.alloc());
+    for byte in bytes.iter().take(28) {
+        holds(&rt, &"told hunks", header.hunks().is_none());
+        equals(
+            &rt,
+            header.place(&[0x1000, 0x2000]).err(),
+            Some(PlaceRefusal::HeaderIncomplete),
+        );
+        equals(&rt, header.feed(&[*byte]), Ok(1));
+    }
+    let rows: [(&[u32], PlaceFault); 4] = [
+        (&[], PlaceFault::WrongCount),
+        (&[0x1000], PlaceFault::WrongCount),
+        (&[0x1000, 0xFFFF_FFFC], PlaceFault::PastEnd(1)),
+        (&[0x1000, 0x100C], PlaceFault::Overlap(0, 1)),
+    ];
+    for (bases, fault) in rows {
+        equals(
+            &rt,
+            header.place(bases).err(),
+            Some(PlaceRefusal::Place(fault)),
+        );
+    }
+    Ok(())
+}
+
+// The bytes at offsets 2 to 5 of the first hunk: the base of the second one.
+fn is_at(rt: &impl Abort, image: &Image, base: u32, wanted: [u8; 4]) {
+    for (offset, want) in (2u32..).zip(wanted) {
+        equals(rt, image.byte(base.wrapping_add(offset)), Some(want));
+    }
+}
+
+#[test]
+fn loads_a_file_twice(rt: HostRuntime) -> Result<(), Fail> {
+    let bytes = bytes_of(rt.alloc(), &TWO_HUNKS, &[])?;
+    let mut header = HeaderLoader::new(rt.alloc());
+    let taken = header.feed(&bytes)?;
+    let rest = bytes.get(taken..).ok_or("no rest")?;
+    let rows = [
+        (0x1000, 0x0002_0000, [0, 2, 0, 0]),
+        (0x3000, 0x0400_0000, [4, 0, 0, 0]),
+    ];
+    for (first, second, wanted) in rows {
+        match header.place(&[first, second]) {
+            Ok(mut loader) => {
+                loader.feed(rest)?;
+                is_at(&rt, &loader.finish()?, first, wanted);
+            }
+            Err(refusal) => holds(&rt, &refusal, false),
+        }
+    }
+    Ok(())
+}
