@@ -3,7 +3,8 @@
 export LC_ALL=C
 benches="$(cd "$(dirname "${BASH_SOURCE[0]}")" && pwd)"
 crates="$(cd "$benches/../crates" && pwd)"
-folder="$(mktemp -d)"
+# In memory, if there is such a file system: a link ends once its file is on the disk, and disks are not what is measured.
+folder="$(mktemp -d -p "$([ -w /dev/shm ] && echo /dev/shm || echo "${TMPDIR:-/tmp}")")"
 trap 'rm -rf "$folder"' EXIT
 
 build() { # CRATE WORDS..

@@ -1,16 +1,22 @@
 """What `--explain` tells after the line of a refusal, and that it changes nothing else."""
+import contextlib
+import itertools
+import os
 import random
+import resource
+import socket
+import subprocess
 
 import model
-from harness import BAD_WORDS, DEVICE, DONE, REFUSED, equals, test
+from harness import BAD_WORDS, DEVICE, DONE, REFUSED, as_nobody, equals, test
 from model import ABS, BSS, CODE, DATA, DEF, END, HEADER, Hunk, UNIT, Unit, words
 from runs import LOAD_FILE, OBJECT_FILE, write_parts
 
 
-def tells(program, line, more, *words_, **how):
+def tells(program, line, more, *words_, status=REFUSED, **how):
     """With the flag it tells the line and more, and without it the line alone."""
-    program.fails(REFUSED, line, *words_, **how)
-    equals(program.run(words_[0], "--explain", *words_[1:], **how), (REFUSED, "", f"amihunk: {line}\n{more}"), words_)
+    program.fails(status, line, *words_, **how)
+    equals(program.run(words_[0], "--explain", *words_[1:], **how), (status, "", f"amihunk: {line}\n{more}"), words_)
 
 
 @test
@@ -35,6 +41,30 @@ def a_refused_file_is_explained(program):
         "  path: hunk 0, after HUNK_CODE\n  due: the type of a block\n"
     )
     tells(program, "cut: longword 9: file ends inside a longword", more, "check", "cut")
+
+
+@test
+def a_file_of_the_other_kind_is_told_as_one(program):
+    front = "  at byte 0 (00000000)\n  found {}\n  path: start of the file\n  due: {}\n"
+    load_file_due, object_file_due = "HUNK_HEADER, which begins a load file", "HUNK_UNIT, which begins an object file"
+    program.write("x", LOAD_FILE)
+    program.write("x.o", OBJECT_FILE)
+    program.write("text", b"no hunk file")
+    for command, file, found, due, kind in (
+        (("load", "--at", "0"), "x.o", "000003e7", load_file_due, "  kind: object file\n"),
+        (("load", "--srec", "--at", "0,1"), "x.o", "000003e7", load_file_due, "  kind: object file\n"),
+        (("load", "--symbols", "--at", "0"), "x.o", "000003e7", load_file_due, "  kind: object file\n"),
+        (("link", "--out", "out", "x.o"), "x", "000003f3", object_file_due, "  kind: load file\n"),
+        (("link", "--out", "out", "--map", "map"), "x", "000003f3", object_file_due, "  kind: load file\n"),
+        (("image", "--at", "0", "x.o", "x.o"), "x", "000003f3", object_file_due, "  kind: load file\n"),
+        # It is of neither kind, and these commands take files of both.
+        (("load", "--at", "0"), "text", "6e6f2068", load_file_due, ""),
+        (("image", "--at", "0"), "text", "6e6f2068", object_file_due, ""),
+        (("check",), "text", "6e6f2068", object_file_due, ""),
+        (("show",), "text", "6e6f2068", object_file_due, ""),
+    ):
+        tells(program, f"{file}: longword 0: wrong first longword", front.format(found, due) + kind, *command, file)
+    equals(program.tree(), {"x": LOAD_FILE, "x.o": OBJECT_FILE, "text": b"no hunk file"})
 
 
 @test
@@ -84,7 +114,8 @@ def units_that_do_not_link_are_explained(program):
 
 @test
 def undefined_names_of_random_units_are_all_told(program):
-    for seed in range(50):
+    compared = 0
+    for seed in itertools.count():
         dice, units = random.Random(seed), model.random_named_units(seed)
         hunks = [hunk for unit in units for hunk in unit]
         for hunk in hunks:
@@ -108,16 +139,137 @@ def undefined_names_of_random_units_are_all_told(program):
         told = place + "".join(lines[:100]) + (f"  and {len(lines) - 100} more\n" if len(lines) > 100 else "")
         status, out, errors = program.run("link", "--out", "out", "--explain", *files)
         equals((status, out, errors.partition("\n")[2]), (REFUSED, "", told), seed)
+        compared += 1
+        if compared == 50:
+            break
+
+
+def cannot_be_opened(program, name, why, *words_, **how):
+    """It ends with the line that this cannot be opened, and with why if it is asked to explain."""
+    tells(program, f"{name}: cannot be opened", f"  reason: {why}\n", *words_, status=DEVICE, **how)
+
+
+def each_file_read(name):
+    """The words of the commands that read this, as FILE or as the file of addresses."""
+    yield from (("check", name), ("show", name), ("show", "--json", name), ("load", "--at", "0", name), ("image", "--at", "0", "x.o", name))
+    yield from (("link", "--out", "out", "x.o", name), ("load", "--at-file", name, "x.o"), ("image", "--at-file", name, "missing too"))
+
+
+def each_file_written(name):
+    """The words of the links that write this, as OUT or as MAP."""
+    yield from (("link", "--out", name, "x.o"), ("link", "--out", name, "--map", "/dev/null", "x.o"))
+    yield ("link", "--out", "/dev/null", "--map", name, "x.o")
+
+
+@contextlib.contextmanager
+def read_only(program):
+    """Names of files on a file system that is read-only: one that root mounts, or else one that is there. A system may have none."""
+    folder = program.inside("read-only")
+    mount = ("mount", "-t", "tmpfs", "-o", "size=1m,mode=755", "amihunk-test", folder.folder)
+    if os.geteuid() == 0 and subprocess.run(mount, stderr=subprocess.DEVNULL).returncode == 0:
+        try:
+            folder.write("old", OBJECT_FILE)
+            subprocess.run(("mount", "-o", "remount,ro", folder.folder), check=True)
+            yield ["read-only/old", "read-only/new"]
+            equals(folder.tree(), {"old": OBJECT_FILE})
+        finally:
+            subprocess.run(("umount", "-l", folder.folder), check=True)
+    else:
+        with open("/proc/self/mounts", encoding="utf-8") as mounts:
+            rows = [row.split() for row in mounts]
+        yield [f"{row[1]}/new" for row in rows if "ro" in row[3].split(",") and os.path.isdir(row[1])][:1]
+
+
+@test
+def why_a_file_cannot_be_opened_is_told(program):
+    program.write("x.o", OBJECT_FILE)
+    for name, to in (("loop", "pool"), ("pool", "loop"), ("dangling", "nowhere")):
+        os.symlink(to, program.at(name))
+    os.mkdir(program.at("folder"))
+    with socket.socket(socket.AF_UNIX) as server:
+        # Its own path may be too long for the name of a socket.
+        here = os.open(program.folder, os.O_RDONLY)
+        server.bind(f"/proc/self/fd/{here}/socket")
+        os.close(here)
+    before, long = program.tree(), "n" * 300
+    for name, why in (
+        ("missing", "no such file or directory"),
+        ("no/missing", "no such file or directory"),
+        ("dangling", "no such file or directory"),
+        ("x.o/missing", "a part of its path is no directory"),
+        ("loop", "too many symbolic links"),
+        ("loop/missing", "too many symbolic links"),
+        (long, "system error 36"),
+        ("socket", "system error 6"),
+    ):
+        for words_ in each_file_read(name):
+            cannot_be_opened(program, name, why, *words_)
+    for name, why in (
+        ("no/new", "no such file or directory"),
+        ("x.o/new", "a part of its path is no directory"),
+        ("folder", "it is a directory"),
+        (".", "it is a directory"),
+        ("loop", "too many symbolic links"),
+        (long, "system error 36"),
+        ("socket", "system error 6"),
+    ):
+        for words_ in each_file_written(name):
+            cannot_be_opened(program, name, why, *words_)
+    equals(program.tree(), before)
+    with read_only(program) as names:
+        for name in names:
+            for words_ in each_file_written(name):
+                cannot_be_opened(program, name, "the file system is read-only", *words_)
+    # One more file may be open than standard input, output and error.
+    for words_ in (("image", "--at", "0", "x.o", "x.o"), ("link", "--out", "out", "x.o", "x.o")):
+        cannot_be_opened(program, "x.o", "too many open files", *words_, limit=(resource.RLIMIT_NOFILE, 4))
+    program.prints("object file: 1 units, 1 hunks\n", "check", "--explain", "x.o", limit=(resource.RLIMIT_NOFILE, 4))
+
+
+@test
+def what_is_not_allowed_is_told(program):
+    program = program.for_all()
+    for name, mode in (("x.o", 0o644), ("hidden", 0o000), ("locked", 0o444)):
+        program.write(name, OBJECT_FILE)
+        os.chmod(program.at(name), mode)
+    os.mkdir(program.at("closed"))
+    os.chmod(program.at("closed"), 0o600)
+    names = os.listdir(program.folder)
+    os.chmod(program.folder, 0o777)
+    for name in ("hidden", "closed/missing"):
+        for words_ in each_file_read(name):
+            cannot_be_opened(program, name, "not allowed", *words_, before=as_nobody)
+    for name in ("hidden", "locked", "closed/new"):
+        for words_ in each_file_written(name):
+            cannot_be_opened(program, name, "not allowed", *words_, before=as_nobody)
+    os.chmod(program.folder, 0o555)
+    for words_ in each_file_written("new"):
+        cannot_be_opened(program, "new", "not allowed", *words_, before=as_nobody)
+    os.chmod(program.folder, 0o755)
+    equals(sorted(os.listdir(program.folder)), sorted(names))
+
+
+@test
+def a_directory_is_told_as_one(program):
+    program.write("x.o", OBJECT_FILE)
+    os.mkdir(program.at("folder"))
+    os.symlink("folder", program.at("way"))
+    for name in ("folder", "way", ".", "/"):
+        for words_ in each_file_read(name):
+            tells(program, f"{name}: read failed", "  reason: it is a directory\n", *words_, status=DEVICE)
 
 
 @test
 def what_is_no_refusal_of_a_file_is_told_in_a_line(program):
     program.write("x", LOAD_FILE)
+    program.write("y.o", OBJECT_FILE)
     program.prints("load file: 1 hunks\n", "check", "--explain", "x")
-    program.fails(DEVICE, "missing: cannot be opened", "check", "--explain", "missing")
+    program.fails(DEVICE, "output: write failed", "link", "--explain", "--out", "/dev/full", "y.o")
+    program.fails(DEVICE, "/dev/full: write failed", "link", "--explain", "--out", "/dev/null", "--map", "/dev/full", "y.o")
     program.fails(BAD_WORDS, "--at: part 0 is not 1 to 8 hexadecimal digits", "load", "--explain", "--at", "x", "x")
     program.write("x.o", OBJECT_FILE)
     program.fails(BAD_WORDS, "o: given for both --out and --map", "link", "--explain", "--out", "o", "--map", "o", "x.o")
+    program.fails(BAD_WORDS, "./x.o: given for both --map and FILE", "link", "--explain", "--out", "o", "--map", "./x.o", "x.o")
 
 
 @test

@@ -49,21 +49,14 @@ def a_map_has_the_names_of_the_files_as_given(program):
 
 
 @test
-def a_map_may_be_one_of_the_files(program):
-    program.write("x.o", OBJECT_FILE)
-    program.prints("", "link", "--map", "x.o", "--out", "out", "x.o")
-    equals(program.read("out"), LOAD_FILE)
-    equals(program.read("x.o"), MAP.encode())
-
-
-@test
-def a_map_does_not_replace_the_load_file(program):
+def a_map_does_not_replace_the_load_file_or_one_of_the_files(program):
     program.write("x.o", OBJECT_FILE)
     for file in ("x.o", "missing"):
         program.fails(BAD_WORDS, "out: given for both --out and --map", "link", "--out", "out", "--map", "out", file)
         assert not os.path.exists(program.at("out"))
     program.fails(BAD_WORDS, "x.o: given for both --out and --map", "link", "-o", "x.o", "--map", "x.o", "x.o")
-    equals(program.read("x.o"), OBJECT_FILE)
+    program.fails(BAD_WORDS, "x.o: given for both --map and FILE", "link", "--map", "x.o", "--out", "out", "x.o")
+    equals(program.tree(), {"x.o": OBJECT_FILE})
 
 
 @test

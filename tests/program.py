@@ -6,6 +6,7 @@
 Each PROGRAM is a build of the program. Expected values are written down in the tests, or come from model.py. The last line is
 'N passed, M failed', and the status is 0 if M is 0. Each test is counted once for each PROGRAM.
 """
+import os
 import sys
 import tempfile
 import traceback
@@ -14,13 +15,17 @@ sys.dont_write_bytecode = True
 import command_line  # (the tests of a module register themselves)
 import explanations
 import json_documents
+import limits
 import maps
+import memory
+import outputs
 import readme
 import runs
 from harness import TESTS, Program
 
 
 def main():
+    os.umask(0o022)
     passed = failed = 0
     for path in sys.argv[1:]:
         for it in TESTS:

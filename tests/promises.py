@@ -243,7 +243,7 @@ def vocabulary():
 
 
 # Commands of the toolchain that no source here names.
-FOREIGN = set("plant version".split())
+FOREIGN = set("plant version ulimit".split())
 
 
 def without_code(text):

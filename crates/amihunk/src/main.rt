@@ -2,16 +2,25 @@
 //!
 //! - `program`: the arguments, what they ask for, and the exit status.
 //! - `command_line`: the arguments of the command line, as `clap` reads them.
+//! - `stack`: the stack that the program needs.
 //! - `syntax`: the command line that the program accepts, as `clap` is told of it.
 #![tactic(auto)]
 
 mod command_line;
 mod program;
+mod stack;
 mod syntax;
 
+use hunk_commands::Lines;
 use hunk_words::Watched;
 use std::process::ExitCode;
 
 fn main(rt: HostRuntime) -> ExitCode {
-    ExitCode::from(program::start(&rt, &mut Watched::new(rt.stderr())))
+    let has_stack = stack::take(rt.alloc());
+    let status = match Lines::new(rt.alloc(), rt.stderr()) {
+        Ok(lines) => program::start(&rt, &mut Watched::new(lines), has_stack),
+        // Lines that may be mixed with those of other programs are better than none.
+        Err(_) => program::start(&rt, &mut Watched::new(rt.stderr()), has_stack),
+    };
+    ExitCode::from(status)
 }

@@ -6,7 +6,7 @@ ghost use Rattle.hunk_tool.specs.declared.link_options.LinkOptions.{LinkOptions}
 ghost use Rattle.hunk_commands.specs.Addresses.{Origin};
 ghost use Rattle.hunk_commands.specs.declared.load.LoadText.{LoadText};
 ghost use Rattle.hunk_commands.specs.Request.{EndsImage, EndsLink, EndsLoad, EndsSurvey, EndsText, EndsVersion, shown};
-ghost use Rattle.amihunk.specs.Program.{EndsLine};
+ghost use Rattle.amihunk.specs.Program.{EndsLine, EndsStart};
 ghost use Rattle.amihunk.specs.CommandLine.{IsNoFlag, IsNoFlagIn, IsVersionWord, brief_link_line, file_line, image_line, link_line, load_line};
 ghost use Rattle.amihunk.specs.CommandLine.{show_line, survey_line, text_in, version_line};
 
@@ -18,11 +18,19 @@ use std::io::ErrorKind;
 use std::rt::{Env, Files};
 use std::{env, io};
 
-/// Does what the system's command line asks for, and returns the exit status. Nothing is known of
-/// the arguments before they are read.
-pub fn start<R: Env + Files + Print + AllocGlobal, W: Sink>(rt: &R, errors: &mut W) -> u8
-    ensures { result ≤ 4 }
+/// Does what the system's command line asks for, if there is the stack for it, and returns the exit
+/// status. Nothing is known of the arguments before they are read.
+pub fn start<R: Env + Files + Print + AllocGlobal, W: Sink>(
+    rt: &R,
+    errors: &mut W,
+    has_stack: bool,
+) -> u8
+    ensures ends { EndsStart W.taken W.failed errors.old errors.new result }
+    ensures status { result ≤ 4 }
 {
+    if !has_stack {
+        return answer(rt, errors, Request::OutOfMemory);
+    }
     match words_of(rt) {
         Ok(words) => run(rt, errors, words.as_slice()),
         Err(error) if error.kind() == ErrorKind::OutOfMemory => {

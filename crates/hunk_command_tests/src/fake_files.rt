@@ -1,79 +1,18 @@
-//! A file system in memory for the tests, which counts the files that are open.
+//! A file system in memory for the tests: it logs what is done with files, and fails on demand.
 
-use crate::samples::{CALLEE, CALLER, LOOP, MISTYPED, PROGRAM, TRAILING, UNENDED, ZEROS};
+use crate::fake_disk::Place;
+use crate::fake_handle::{Bytes, Handle};
+use crate::fake_log::{Log, add_one};
+use crate::named_files::{Kind, fault_at, find, link_at, metadata_of};
 use std::alloc::{Allocator, Global};
-use std::cell::{Cell, RefCell};
 use std::fmt::Display;
-use std::fs::{Metadata, OpenFile, OpenOptions};
+use std::fs::{Metadata, OpenOptions};
 use std::io;
-use std::io::{Empty, ErrorKind, Read, Seek, SeekFrom, Write};
+use std::io::{Empty, ErrorKind};
+use std::path::PathBuf;
 use std::rt::Files;
 
-/// What a file is.
-#[derive(Clone, Copy, PartialEq, Eq)]
-pub enum Kind {
-    /// A regular file.
-    Regular,
-    /// A pipe, of which there is no metadata.
-    Pipe,
-    /// A directory: it can be opened, but neither read nor written.
-    Directory,
-    /// A device that takes no byte.
-    Full,
-    /// A device that takes no byte at the first write, and every byte after that.
-    FullAtFirst,
-}
-
-/// What was done with files.
-#[derive(Drop)]
-pub struct Log {
-    /// How many files are open.
-    pub open: Cell<usize>,
-    /// How many files were open at once.
-    pub most_open: Cell<usize>,
-    /// How many files were opened to be read.
-    pub opened: Cell<usize>,
-    /// How many reads there were.
-    pub reads: Cell<usize>,
-    /// How many reads there are before one that fails.
-    pub good_reads: Cell<usize>,
-    /// How many files were created.
-    pub created: Cell<usize>,
-    /// Whether the standard output takes what is printed.
-    pub prints: Cell<bool>,
-    /// What was written and printed.
-    pub written: RefCell<Vec<u8>>,
-}
-
-impl Log {
-    /// Nothing has been done.
-    pub fn new(alloc: Global) -> Log {
-        Log {
-            open: Cell::new(0),
-            most_open: Cell::new(0),
-            opened: Cell::new(0),
-            reads: Cell::new(0),
-            good_reads: Cell::new(usize::MAX),
-            created: Cell::new(0),
-            prints: Cell::new(false),
-            written: RefCell::new(Vec::new(alloc)),
-        }
-    }
-
-    fn append(&self, bytes: &[u8]) -> io::Result<()> {
-        let Ok(mut written) = self.written.try_borrow_mut() else {
-            return unsupported();
-        };
-        written.extend_from_slice(bytes)?;
-        Ok(())
-    }
-}
-
-fn add_one(count: &Cell<usize>) {
-    count.set(count.get().saturating_add(1));
-}
-
-/// The file system.
+/// The file system. Names that are equal are one file, and so are a symbolic link and what it leads to.
 #[derive(Clone, Copy)]
 pub struct FakeFiles<'a> {
     /// How many times a file can be opened to be read.
@@ -81,81 +20,141 @@ pub struct FakeFiles<'a> {
     pub log: &'a Log,
 }
 
+fn failed<T>(kind: ErrorKind) -> io::Result<T> {
+    Err(io::Error::from(kind))
+}
+
+// What a name leads to.
+fn followed(name: &str) -> &str {
+    match link_at(name) {
+        Some(target) => target,
+        None => name,
+    }
+}
+
 impl<'a> FakeFiles<'a> {
-    fn handle(&self, kind: Kind, bytes: &'static [u8]) -> Handle<'a> {
-        let open = self.log.open.get().saturating_add(1);
-        self.log.open.set(open);
-        self.log.most_open.set(self.log.most_open.get().max(open));
-        Handle {
-            log: self.log,
-            kind,
-            rest: bytes,
+    /// A copy of the bytes under this name; `None` if there is no file.
+    pub fn bytes_under(&self, alloc: Global, name: &str) -> io::Result<Option<Vec<u8>>> {
+        let disk = self.log.disk.try_borrow()?;
+        let bytes = match disk.place_of(name) {
+            Place::File(number) => disk.bytes(number),
+            Place::Gone => return Ok(None),
+            Place::Unchanged => match find(name, self.log.opened.get()) {
+                Some((_, bytes)) => bytes,
+                None => return Ok(None),
+            },
+        };
+        let mut copy = Vec::new(alloc);
+        copy.extend_from_slice(bytes)?;
+        Ok(Some(copy))
+    }
+
+    // What the file with this name is, if there is one.
+    fn kind(&self, name: &str) -> io::Result<Option<Kind>> {
+        let disk = self.log.disk.try_borrow()?;
+        Ok(match disk.place_of(name) {
+            Place::File(number) => Some(disk.kind(number)),
+            Place::Gone => None,
+            Place::Unchanged => find(name, self.log.opened.get()).map(|(kind, _)| kind),
+        })
+    }
+
+    // The number of the file with this name, which it gets if it has none yet.
+    fn number(&self, name: &str) -> io::Result<usize> {
+        let mut disk = self.log.disk.try_borrow_mut()?;
+        match disk.place_of(name) {
+            Place::File(number) => Ok(number),
+            Place::Gone => failed(ErrorKind::NotFound),
+            Place::Unchanged => match find(name, self.log.opened.get()) {
+                Some((Kind::Regular, bytes)) => Ok(disk.add(name, Kind::Regular, bytes)?),
+                // What a device takes is not what it gives.
+                Some((kind, _)) => Ok(disk.add(name, kind, &[])?),
+                None => failed(ErrorKind::NotFound),
+            },
         }
     }
 
+    // Opens a file to be read.
     fn read(&self, name: &str) -> io::Result<Handle<'a>> {
         let opened = self.log.opened.get();
-        match find(name, opened) {
-            Some((kind, bytes)) if opened < self.openings => {
-                add_one(&self.log.opened);
-                Ok(self.handle(kind, bytes))
-            }
-            _ => Err(io::Error::from(ErrorKind::NotFound)),
+        if opened >= self.openings {
+            return failed(ErrorKind::NotFound);
         }
+        let disk = self.log.disk.try_borrow()?;
+        let (kind, bytes) = match disk.place_of(name) {
+            Place::File(number) => (disk.kind(number), Bytes::Read(number, 0)),
+            Place::Gone => return failed(ErrorKind::NotFound),
+            Place::Unchanged => match find(name, opened) {
+                Some((kind, bytes)) => (kind, Bytes::Fixed(bytes)),
+                None => return failed(ErrorKind::NotFound),
+            },
+        };
+        add_one(&self.log.opened);
+        Ok(Handle::new(self.log, kind, bytes))
     }
 
-    fn create(&self, name: &str) -> io::Result<Handle<'a>> {
-        let kind = match find(name, 0) {
-            Some((kind, _)) => kind,
-            None => Kind::Regular,
+    // Opens a file to be written.
+    fn write(&self, how: &OpenOptions, name: &str) -> io::Result<Handle<'a>> {
+        let Some(kind) = self.kind(name)? else {
+            return self.write_new(how, name);
         };
         if kind == Kind::Directory {
-            return Err(io::Error::from(ErrorKind::IsADirectory));
+            return failed(ErrorKind::IsADirectory);
         }
-        add_one(&self.log.created);
-        Ok(self.handle(kind, &[]))
+        let number = self.number(name)?;
+        self.begin(how, number, name)?;
+        Ok(Handle::new(self.log, kind, Bytes::Written(number, 0)))
     }
-}
 
-/// The file with this name, once so many files have been opened: what it is, and its bytes.
-fn find(name: &str, opened: usize) -> Option<(Kind, &'static [u8])> {
-    match name {
-        "caller" => Some((Kind::Regular, &CALLER)),
-        "callee" => Some((Kind::Regular, &CALLEE)),
-        "loop" => Some((Kind::Regular, &LOOP)),
-        "zeros" => Some((Kind::Regular, &ZEROS)),
-        "program" => Some((Kind::Regular, &PROGRAM)),
-        "addresses" => Some((Kind::Regular, b"10000, 20000\r\n")),
-        "mistyped" => Some((Kind::Regular, &MISTYPED)),
-        "unended" => Some((Kind::Regular, &UNENDED)),
-        "trailing" => Some((Kind::Regular, &TRAILING)),
-        "mistyped-pipe" => Some((Kind::Pipe, &MISTYPED)),
-        "addresses-pipe" => Some((Kind::Pipe, b"10000\n")),
-        // These change once a file has been opened.
-        "changed" if opened == 0 => Some((Kind::Regular, &MISTYPED)),
-        "changed" => Some((Kind::Regular, &UNENDED)),
-        "mended" if opened == 0 => Some((Kind::Regular, &MISTYPED)),
-        "mended" => Some((Kind::Regular, &CALLEE)),
-        "bad-addresses" => Some((Kind::Regular, b",10000 ,\r\n\r\n0x20,30000\n")),
-        "pipe" => Some((Kind::Pipe, &LOOP)),
-        "directory" => Some((Kind::Directory, &[])),
-        "full" => Some((Kind::Full, &[])),
-        "full-at-first" => Some((Kind::FullAtFirst, &[])),
-        _ => None,
+    // Opens a file that is not there to be written.
+    fn write_new(&self, how: &OpenOptions, name: &str) -> io::Result<Handle<'a>> {
+        if how.asks_create() {
+            return self.create(name);
+        }
+        failed(ErrorKind::NotFound)
     }
-}
 
-/// What the system tells of a file.
-fn metadata_of(kind: Kind) -> io::Result<Metadata> {
-    match kind {
-        Kind::Pipe | Kind::Full | Kind::FullAtFirst => unsupported(),
-        Kind::Directory => Ok(Metadata::of_dir()),
-        Kind::Regular => Ok(Metadata::of_file(0)),
+    // Begins to write a file: it is emptied, or keeps its bytes.
+    fn begin(&self, how: &OpenOptions, number: usize, name: &str) -> io::Result<()> {
+        if how.asks_truncate() {
+            return self.truncate(number, name);
+        }
+        self.log.tell("open", &[name])
     }
-}
 
-fn unsupported<T>() -> io::Result<T> {
-    Err(io::Error::from(ErrorKind::Unsupported))
+    // Empties a file.
+    fn truncate(&self, number: usize, name: &str) -> io::Result<()> {
+        let mut disk = self.log.disk.try_borrow_mut()?;
+        disk.clear(number);
+        self.log.tell("truncate", &[name])
+    }
+
+    // Creates a file under a name that no file may have.
+    fn create_new(&self, name: &str) -> io::Result<Handle<'a>> {
+        if let Some(kind) = self.log.faults.new_file.get() {
+            return failed(kind);
+        }
+        if link_at(name).is_some() || self.kind(name)?.is_some() {
+            return failed(ErrorKind::AlreadyExists);
+        }
+        self.create(name)
+    }
+
+    // Creates a file under a name that no file has.
+    fn create(&self, name: &str) -> io::Result<Handle<'a>> {
+        // There is no such directory.
+        if name.starts_with("nowhere/") {
+            return failed(ErrorKind::NotFound);
+        }
+        let number = self
+            .log
+            .disk
+            .try_borrow_mut()?
+            .add(name, Kind::Regular, &[])?;
+        self.log.tell("create", &[name])?;
+        let bytes = Bytes::Written(number, 0);
+        Ok(Handle::new(self.log, Kind::Regular, bytes))
+    }
 }
 
 impl<'a> Files for FakeFiles<'a> {
@@ -164,142 +163,94 @@ impl<'a> Files for FakeFiles<'a> {
     type Dir = Empty;
 
     fn open_file(&self, how: &OpenOptions, path: &str) -> io::Result<Handle<'a>> {
-        if how.asks_create() {
-            self.create(path)
+        how.check()?;
+        if let Some(error) = fault_at(path) {
+            return Err(error);
+        }
+        if how.asks_create_new() {
+            self.create_new(path)
+        } else if how.asks_write() {
+            self.write(how, followed(path))
         } else {
-            self.read(path)
+            self.read(followed(path))
         }
     }
 
     fn open_dir(&self, _path: &str) -> io::Result<Empty> {
-        unsupported()
+        failed(ErrorKind::Unsupported)
     }
 
     fn metadata(&self, path: &str) -> io::Result<Metadata> {
-        match find(path, self.log.opened.get()) {
-            Some((kind, _)) => metadata_of(kind),
-            None => Err(io::Error::from(ErrorKind::NotFound)),
+        match self.kind(followed(path))? {
+            Some(kind) => metadata_of(kind),
+            None => failed(ErrorKind::NotFound),
         }
     }
 
-    fn symlink_metadata(&self, _path: &str) -> io::Result<Metadata> {
-        unsupported()
+    fn symlink_metadata(&self, path: &str) -> io::Result<Metadata> {
+        match link_at(path) {
+            Some(_) => Ok(Metadata::of_symlink(0)),
+            None => self.metadata(path),
+        }
     }
 
     fn copy(&self, _from: &str, _to: &str) -> io::Result<u64> {
-        unsupported()
+        failed(ErrorKind::Unsupported)
     }
 
-    fn rename(&self, _from: &str, _to: &str) -> io::Result<()> {
-        unsupported()
+    fn rename(&self, from: &str, to: &str) -> io::Result<()> {
+        if let Some(kind) = self.log.faults.rename.get() {
+            return failed(kind);
+        }
+        if self.kind(to)? == Some(Kind::Directory) {
+            return failed(ErrorKind::IsADirectory);
+        }
+        let number = self.number(from)?;
+        self.log.disk.try_borrow_mut()?.rename(number, to)?;
+        self.log.tell("rename", &[from, to])
     }
 
-    fn remove_file(&self, _path: &str) -> io::Result<()> {
-        unsupported()
+    fn remove_file(&self, path: &str) -> io::Result<()> {
+        let number = self.number(path)?;
+        self.log.disk.try_borrow_mut()?.remove(number);
+        self.log.tell("remove", &[path])
     }
 
     fn create_dir(&self, _path: &str) -> io::Result<()> {
-        unsupported()
+        failed(ErrorKind::Unsupported)
     }
 
     fn remove_dir(&self, _path: &str) -> io::Result<()> {
-        unsupported()
+        failed(ErrorKind::Unsupported)
     }
 
     fn remove_dir_all<B: Allocator>(&self, _alloc: B, _path: &str) -> io::Result<()> {
-        unsupported()
+        failed(ErrorKind::Unsupported)
+    }
+
+    fn canonicalize<B: Allocator>(&self, alloc: B, path: &str) -> io::Result<PathBuf<B>> {
+        let target = followed(path);
+        if self.log.faults.canonicalize.get() || self.kind(target)?.is_none() {
+            return failed(ErrorKind::NotFound);
+        }
+        Ok(PathBuf::from_str(alloc, target)?)
     }
 }
 
 impl Print for FakeFiles<'_> {
     fn print<D: Display + Drop>(&self, _value: D) -> io::Result<()> {
-        unsupported()
+        failed(ErrorKind::Unsupported)
     }
 
     fn println<D: Display + Drop>(&self, _value: D) -> io::Result<()> {
-        unsupported()
+        failed(ErrorKind::Unsupported)
     }
 
     fn write_all(&self, bytes: &[u8]) -> io::Result<()> {
-        if self.log.prints.get() {
-            self.log.append(bytes)
-        } else {
-            unsupported()
+        if !self.log.prints.get() {
+            return failed(ErrorKind::Unsupported);
         }
-    }
-}
-
-/// An open file.
-pub struct Handle<'a> {
-    log: &'a Log,
-    kind: Kind,
-    rest: &'static [u8],
-}
-
-impl Drop for Handle<'_> {
-    fn drop(self) {
-        self.log.open.set(self.log.open.get().saturating_sub(1));
-        let Handle {
-            log: _,
-            kind: _,
-            rest: _,
-        } = self;
-    }
-}
-
-impl Read for Handle<'_> {
-    fn read(&mut self, buf: &mut [u8]) -> io::Result<usize> {
-        let reads = self.log.reads.get();
-        add_one(&self.log.reads);
-        if self.kind == Kind::Directory {
-            return Err(io::Error::from(ErrorKind::IsADirectory));
-        }
-        if reads >= self.log.good_reads.get() {
-            return Err(io::Error::from(ErrorKind::Other));
-        }
-        self.rest.read(buf)
-    }
-}
-
-impl Write for Handle<'_> {
-    fn write(&mut self, buf: &[u8]) -> io::Result<usize> {
-        match self.kind {
-            Kind::Full => return Ok(0),
-            Kind::FullAtFirst => {
-                self.kind = Kind::Regular;
-                return Ok(0);
-            }
-            Kind::Regular | Kind::Pipe | Kind::Directory => {}
-        }
-        self.log.append(buf)?;
-        Ok(buf.len())
-    }
-
-    fn flush(&mut self) -> io::Result<()> {
+        self.log.printed.try_borrow_mut()?.extend_from_slice(bytes)?;
         Ok(())
-    }
-}
-
-impl Seek for Handle<'_> {
-    fn seek(&mut self, _to: SeekFrom) -> io::Result<u64> {
-        unsupported()
-    }
-}
-
-impl OpenFile for Handle<'_> {
-    fn metadata(&self) -> io::Result<Metadata> {
-        metadata_of(self.kind)
-    }
-
-    fn set_len(&self, _size: u64) -> io::Result<()> {
-        unsupported()
-    }
-
-    fn sync_all(&self) -> io::Result<()> {
-        unsupported()
-    }
-
-    fn sync_data(&self) -> io::Result<()> {
-        unsupported()
     }
 }

@@ -8,9 +8,13 @@
 //! - `inputs`: files that are open at once.
 //! - `json_load`, `json_object`: load files and object files as JSON values and texts.
 //! - `json_runs`: files of either kind as JSON, from readers to writers.
+//! - `lines`: lines that reach a writer whole.
 //! - `links`: the load file of object files.
 //! - `loads`: the report and the symbols of a load file.
 //! - `maps`: the load file of object files, and its map.
+//! - `outcomes`: assertions about what was done with files.
+//! - `reasons`: why a file cannot be opened or read, after the line of its failure.
+//! - `replacements`: each way in which a load file takes the place of another file.
 //! - `requests`: the status of each request, and the line of its failure.
 //! - `surveys`: what a survey tells of files.
 //! - `texts`: the texts about a file.
@@ -25,9 +29,13 @@ mod inputs;
 mod json_load;
 mod json_object;
 mod json_runs;
+mod lines;
 mod links;
 mod loads;
 mod maps;
+mod outcomes;
+mod reasons;
+mod replacements;
 mod requests;
 mod surveys;
 mod texts;

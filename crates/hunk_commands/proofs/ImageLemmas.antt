@@ -8,7 +8,7 @@ use Rattle.hunk_memory.specs.declared.image_form.ImageForm.{ImageForm}
 use Rattle.hunk_tool.specs.declared.tool_fault.ToolFault.TheVariants.{OutOfMemory}
 use Rattle.hunk_commands.specs.Image.{AreImaged, AtBasesOfInputs, HaveNoReport, HaveReport, IsImageFailure, IsUnprinted}
 use Rattle.hunk_commands.specs.declared.failure.Failure.{Failure}
-use Rattle.hunk_commands.specs.declared.failure.Failure.TheVariants.{BadNumber, Opening, Printing, Reading, SameFile, Tool, Writing}
+use Rattle.hunk_commands.specs.declared.failure.Failure.TheVariants.{BadNumber, MapOverFile, Opening, Printing, Reading, SameFile, Tool, Writing}
 use Rattle.hunk_commands.proofs.InputsLemmas.{OfInputs-readers}
 
 -- Memory ran out before anything was read or written.
@@ -36,10 +36,11 @@ pub unprinted_where : {R : Type 0} (form : ImageForm) (origin : Origin) (files :
     (failure : Failure) → HaveNumbers origin bases → length olds ≡ length files → length news ≡ length olds
     → IsUnprinted form bases (inputs_of left failed ended olds news) old failure → IsImageFailure form origin (file_names files) failure
 unprinted_where form origin files bases left failed ended olds news old (BadNumber addresses index) numbers_are count same why = absurd why
-unprinted_where form origin files bases left failed ended olds news old (Opening name) numbers_are count same why = absurd why
+unprinted_where form origin files bases left failed ended olds news old (Opening name reason) numbers_are count same why = absurd why
 unprinted_where form origin files bases left failed ended olds news old (Reading name) numbers_are count same why = absurd why
 unprinted_where form origin files bases left failed ended olds news old (Writing name) numbers_are count same why = absurd why
 unprinted_where form origin files bases left failed ended olds news old (SameFile name) numbers_are count same why = absurd why
+unprinted_where form origin files bases left failed ended olds news old (MapOverFile name) numbers_are count same why = absurd why
 unprinted_where form origin files bases left failed ended olds news old Printing numbers_are count same why =
     inr (at_bases_of_readers origin files bases left failed ended olds news old (HaveReport form) numbers_are count same why)
 unprinted_where form origin files bases left failed ended olds news old (Tool fault) numbers_are count same why =

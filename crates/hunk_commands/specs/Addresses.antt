@@ -57,7 +57,7 @@ AreAddresses origin = AtBases origin (λ bases. ⊤)
 -- of it failed, or out of memory
 abbrev pub IsAddressesFailure : Origin → Failure → Type 0
 IsAddressesFailure origin (BadNumber found index) = (origin_of found ≡ origin) × HaveBadPart origin index
-IsAddressesFailure origin (Opening name) = origin ≡ in_file name.now
+IsAddressesFailure origin (Opening name reason) = origin ≡ in_file name.now
 IsAddressesFailure origin (Reading name) = origin ≡ in_file name.now
 IsAddressesFailure origin (Tool fault) = fault ≡ OutOfMemory 0
 IsAddressesFailure origin _ = ⊥

@@ -1,13 +1,14 @@
 -- What is known of a file and of the output under a buffer after a text about the file was printed,
 -- or why it was not.
 use Rattle.std.specs.declared.alloc.Global.{Global}
+use Rattle.std.specs.Borrow.{Bor}
 use Rattle.std.specs.Prelude.{◌≡◌, List, Option, ℕ, ⊤}
 use Rattle.hunk_base.specs.Streams.{HasRead}
 use Rattle.hunk_tool.specs.Load.{Ends}
 use Rattle.hunk_tool.specs.declared.tool_fault.ToolFault.{ToolFault}
 use Rattle.hunk_tool.specs.declared.tool_fault.ToolFault.TheVariants.{OutOfMemory}
 use Rattle.hunk_commands.specs.declared.failure.Failure.{Failure}
-use Rattle.hunk_commands.specs.declared.failure.Failure.TheVariants.{Printing, Tool}
+use Rattle.hunk_commands.specs.declared.failure.Failure.TheVariants.{Opening, Printing, Tool}
 
 -- This holds of the bytes that were read, and of what the output had taken before and after.
 pub record Prints (Holds : Option (List ℕ) → Option (List ℕ) → List ℕ → Type 0) (left old new : Option (List ℕ)) : Type 0 where
@@ -45,3 +46,8 @@ abbrev pub IsCutShort : Failure → Type 0
 IsCutShort Printing = ⊤
 IsCutShort (Tool fault) = fault ≡ OutOfMemory 0
 IsCutShort _ = ⊥
+
+-- this file cannot be opened or created, for some reason
+abbrev pub IsOpening : (file : Bor (List ℕ)) → Failure → Type 0
+IsOpening file (Opening name reason) = name ≡ file
+IsOpening file _ = ⊥

@@ -17,7 +17,7 @@ use Rattle.hunk_tool.specs.LinkExplanation.{told_of, told_text}
 use Rattle.hunk_tool.specs.ObjectFiles.{AreFileUnits, FileUnit}
 use Rattle.hunk_memory.specs.PlacesText.{places_text}
 use Rattle.hunk_files.specs.declared.explanation.Explanation.{Explanation}
-use Rattle.hunk_tool.specs.declared.tool_fault.ToolFault.TheVariants.{Input, Link, Place}
+use Rattle.hunk_tool.specs.declared.tool_fault.ToolFault.TheVariants.{Input, InputDevice, Link, Place}
 use Rattle.hunk_commands.specs.Addresses.{AtBases, Origin, origin_of}
 use Rattle.hunk_commands.specs.Failure.{TellsLine}
 use Rattle.hunk_commands.specs.Inputs.{OfInputs}
@@ -25,7 +25,10 @@ use Rattle.hunk_commands.specs.Link.{DoLinkTo}
 use Rattle.hunk_commands.specs.declared.explain.Command.{Command}
 use Rattle.hunk_commands.specs.declared.explain.Command.TheVariants as command
 use Rattle.hunk_commands.specs.declared.failure.Failure.{Failure}
-use Rattle.hunk_commands.specs.declared.failure.Failure.TheVariants.{Tool}
+use Rattle.hunk_commands.specs.declared.failure.Failure.TheVariants.{Opening, Reading, Tool}
+use Rattle.hunk_commands.specs.OpenFault.{reason_line}
+use Rattle.hunk_commands.specs.declared.open_fault.OpenFault.{OpenFault}
+use Rattle.hunk_commands.specs.declared.open_fault.OpenFault.TheVariants.{Directory}
 
 -- ---- a file that is refused
 
@@ -85,6 +88,12 @@ pub record AreRefusalLines (files : List (List ℕ)) (refusal : LinkRefusal Glob
   pub are : HaveUnits files units
   pub lines_are : more ≡ told_text files (told_of units refusal)
 
+-- ---- a file that cannot be opened or read
+
+-- the line that tells this reason
+abbrev pub IsReason : OpenFault → (more : List ℕ) → Type 0
+IsReason reason more = more ≡ reason_line reason
+
 -- ---- the lines for each command
 
 -- there are no further lines
@@ -97,6 +106,9 @@ abbrev pub AreLines : (kind_of : List ℕ → FileKind) (ArePlaces : List ℕ �
 AreLines kind_of ArePlaces files (Tool (Input file fault)) more = AreOffenceLines kind_of fault more
 AreLines kind_of ArePlaces files (Tool (Link refusal)) more = AreRefusalLines files refusal more
 AreLines kind_of ArePlaces files (Tool (Place fault)) more = ArePlaces more
+AreLines kind_of ArePlaces files (Tool (InputDevice file)) more = IsReason Directory more
+AreLines kind_of ArePlaces files (Reading name) more = IsReason Directory more
+AreLines kind_of ArePlaces files (Opening name reason) more = IsReason reason more
 AreLines kind_of ArePlaces files _ more = ⊥
 
 abbrev pub AreLinkLines : (files : List (List ℕ)) → Failure → (more : List ℕ) → Type 0

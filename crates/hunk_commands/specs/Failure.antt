@@ -9,19 +9,20 @@ use Rattle.hunk_tool.specs.FaultLine.{fault_line, IsOfInputs}
 use Rattle.hunk_tool.specs.declared.tool_fault.ToolFault.TheVariants.{Output}
 use Rattle.hunk_tool.specs.ToolFault.{status}
 use Rattle.hunk_commands.specs.declared.failure.Failure.{Failure}
-use Rattle.hunk_commands.specs.declared.failure.Failure.TheVariants.{BadNumber, Opening, Printing, Reading, SameFile, Tool, Writing}
+use Rattle.hunk_commands.specs.declared.failure.Failure.TheVariants.{BadNumber, MapOverFile, Opening, Printing, Reading, SameFile, Tool, Writing}
 use Rattle.hunk_commands.specs.Addresses.{Origin, origin_of}
 use Rattle.hunk_commands.specs.Addresses.Origin.{in_file, in_list}
 
--- 2 if the addresses are rejected, or OUT and MAP are one file, 3 if a file cannot be opened, or a read
--- of the addresses or a write failed, also one of the map, and otherwise the status of what `hunk_tool`
--- returned
+-- 2 if the addresses are rejected, or MAP is one file with OUT or with one of the FILEs, 3 if a file
+-- cannot be opened, or a read of the addresses or a write failed, also one of the map, and otherwise the
+-- status of what `hunk_tool` returned
 abbrev pub status_of : Failure → ℕ
 status_of (BadNumber addresses index) = 2
-status_of (Opening file) = 3
+status_of (Opening file reason) = 3
 status_of (Reading file) = 3
 status_of (Writing file) = 3
 status_of (SameFile file) = 2
+status_of (MapOverFile file) = 2
 status_of Printing = 3
 status_of (Tool fault) = status fault
 
@@ -47,10 +48,11 @@ about_line file told = line (codes "amihunk: " ++ file ++ codes ": " ++ told)
 -- the line that reports the failure, if the files have these names
 abbrev pub failure_line : List (List ℕ) → Failure → List ℕ
 failure_line names (BadNumber addresses index) = bad_number_line (origin_of addresses) index
-failure_line names (Opening file) = about_line file.now (codes "cannot be opened")
+failure_line names (Opening file reason) = about_line file.now (codes "cannot be opened")
 failure_line names (Reading file) = about_line file.now (codes "read failed")
 failure_line names (Writing file) = about_line file.now (codes "write failed")
 failure_line names (SameFile file) = about_line file.now (codes "given for both --out and --map")
+failure_line names (MapOverFile file) = about_line file.now (codes "given for both --map and FILE")
 failure_line names Printing = fault_line {A = Global} names (Output 0)
 failure_line names (Tool fault) = fault_line names fault
 

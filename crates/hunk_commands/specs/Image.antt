@@ -41,7 +41,7 @@ AreImaged form origin files = AtBasesOfInputs origin files (HaveReport form)
 
 -- why the memory of the files was not printed at addresses that are known
 abbrev pub AreUnimaged : ImageForm → Origin → (files : List (List ℕ)) → Failure → Type 0
-AreUnimaged form origin files (Opening name) = Contains files name.now × AreAddresses origin
+AreUnimaged form origin files (Opening name reason) = Contains files name.now × AreAddresses origin
 AreUnimaged form origin files Printing = AtBasesOfInputs origin files (HaveReport form)
 AreUnimaged form origin files (Tool fault) = (fault ≡ OutOfMemory 0)
     ⊎ AtBasesOfInputs origin files (λ bases inputs old. HaveNoReport form bases inputs old fault)

@@ -13,6 +13,6 @@ pub record OfInputs (files : List (List ℕ)) (Holds : List Input → Type 0) : 
 
 -- why the files were not opened: one of them cannot be opened, or out of memory
 abbrev pub IsOpenFailure : List (List ℕ) → Failure → Type 0
-IsOpenFailure files (Opening name) = Contains files name.now
+IsOpenFailure files (Opening name reason) = Contains files name.now
 IsOpenFailure files (Tool fault) = fault ≡ OutOfMemory 0
 IsOpenFailure files _ = ⊥

@@ -10,3 +10,6 @@ pub mod Image
 pub mod Survey
 pub mod Text
 pub mod Version
+pub mod OpenFault
+pub mod Replacement
+pub mod Lines

@@ -23,7 +23,7 @@ IsLoaded text origin = AtBases origin (λ bases. Printed (IsWrittenAt (text_of t
 -- why the text of a file was not printed at addresses that are known: the numbers of the addresses are
 -- the bases at which it was to be written
 abbrev pub IsUnloaded : LoadText → Origin → (file : List ℕ) → Failure → Type 0
-IsUnloaded text origin file (Opening name) = (name.now ≡ file) × AreAddresses origin
+IsUnloaded text origin file (Opening name reason) = (name.now ≡ file) × AreAddresses origin
 IsUnloaded text origin file Printing = AreAddresses origin
 IsUnloaded text origin file (Tool fault) = AtBases origin (λ bases. StoppedBy (IsFaultAt (text_of text) bases) fault)
 IsUnloaded text origin file _ = ⊥

@@ -26,7 +26,7 @@ IsTold text = Printed (IsWritten (text_of text))
 
 -- why the text was not printed
 abbrev pub IsTextFailure : Text → (file : List ℕ) → Failure → Type 0
-IsTextFailure text file (Opening name) = name.now ≡ file
+IsTextFailure text file (Opening name reason) = name.now ≡ file
 IsTextFailure text file Printing = ⊤
 IsTextFailure text file (Tool fault) = (fault ≡ OutOfMemory 0) ⊎ StoppedBy (IsTextFault (text_of text)) fault
 IsTextFailure text file _ = ⊥

@@ -6,7 +6,7 @@ ghost use Rattle.hunk_files.specs.Explanation.{IsEnd, IsExplained, IsUnexplained
 ghost use Rattle.hunk_memory.specs.PlacesText.{places_text};
 ghost use Rattle.hunk_tool.specs.Inputs.{file_names};
 ghost use Rattle.hunk_commands.specs.Addresses.{HaveNumbers, origin_of};
-ghost use Rattle.hunk_commands.specs.Explain.{AreLinesOf, AreOffenceLines, ArePlaceLines, ArePlaceLinesOf, AreRefusalLines, HaveUnits, IsGiven, IsLoadFile, TellsMore, kind_read, sizes_of};
+ghost use Rattle.hunk_commands.specs.Explain.{AreLinesOf, AreOffenceLines, ArePlaceLines, ArePlaceLinesOf, AreRefusalLines, HaveUnits, IsGiven, IsLoadFile, IsReason, TellsMore, kind_read, sizes_of};
 ghost use Rattle.hunk_commands.specs.Failure.{TellsLine};
 ghost use Rattle.hunk_commands.specs.Link.{DoLinkTo};
 
@@ -15,6 +15,7 @@ use crate::devices::open;
 use crate::failure::Failure;
 use crate::inputs::{names_of, open_inputs};
 use crate::link::linked;
+use crate::open_fault::{OpenFault, write_reason_line};
 use hunk_link::LinkRefusal;
 use hunk_loadfile::{LoadFile, LoadHunk, read_load};
 use hunk_tool::{
@@ -40,11 +41,12 @@ pub enum Command<'a> {
 }
 
 /// Tells more of a failure of this command for the files named `files`: of a file that is refused, the
-/// lines of [`write_explanation`]; of units that do not link, those of [`write_link_explanation`]; and of
-/// hunks that cannot be placed, those of [`write_places`]. Of any other failure it tells nothing.
+/// lines of [`write_explanation`]; of units that do not link, those of [`write_link_explanation`]; of
+/// hunks that cannot be placed, those of [`write_places`]; and of a file that cannot be opened, or is a
+/// directory and so cannot be read, a line with the reason. Of any other failure it tells nothing.
 ///
-/// The files are read once more for it, so nothing is told unless each file that is read is a regular
-/// one: a pipe cannot be read again. Nothing is told either if a file that was refused has another first
+/// Files that are refused, do not link or cannot be placed are read once more for it, so nothing is told
+/// unless each of them is a regular file: a pipe cannot be read again. Nothing is told either if a file that was refused has another first
 /// offence by now, if a file cannot be read, if memory runs out, or if a write to `errors` has failed
 /// before.
 pub fn explain_failure<R: Files + AllocGlobal, W: Sink>(
@@ -68,8 +70,33 @@ pub fn explain_failure<R: Files + AllocGlobal, W: Sink>(
         }
         Failure::Tool(ToolFault::Link(refusal)) => explain_refusal(rt, errors, files, refusal),
         Failure::Tool(ToolFault::Place(_)) => explain_places(rt, errors, command, files),
+        Failure::Tool(ToolFault::InputDevice { file }) => {
+            if let Some(name) = files.get(*file) {
+                explain_unread(rt, errors, name);
+            }
+        }
+        Failure::Reading(name) => explain_unread(rt, errors, name),
+        Failure::Opening(_, reason) => tell_reason(errors, *reason),
         _ => {}
     }
+}
+
+/// Tells that the file named `name`, of which a read failed, is a directory, if it is one.
+fn explain_unread<R: Files, W: Sink>(rt: &R, errors: &mut W, name: &str)
+    ensures { TellsMore W.taken W.failed errors.old errors.new (IsReason OpenFault.Directory) }
+{
+    if fs::metadata(rt, name).is_ok_and(|metadata| metadata.is_dir()) {
+        tell_reason(errors, OpenFault::Directory);
+    }
+}
+
+/// Tells why a file cannot be opened or read.
+fn tell_reason<W: Sink>(errors: &mut W, reason: OpenFault)
+    ensures { TellsMore W.taken W.failed errors.old errors.new (IsReason reason) }
+{
+    let mut text = Text::new(errors);
+    write_reason_line(&mut text, reason);
+    let _ = text.finish();
 }
 
 /// Tells of the offence `fault` of the file named `name`.

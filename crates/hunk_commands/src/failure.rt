@@ -7,6 +7,7 @@ ghost use Rattle.hunk_commands.specs.Failure.{about_line, bad_number_line, failu
 ghost use Rattle.hunk_commands.specs.Failure.{status_of, IsOfFiles, TellsLine};
 
 use crate::addresses::Addresses;
+use crate::open_fault::OpenFault;
 use hunk_tool::{ToolFault, status_of, write_fault};
 use hunk_words::{Sink, Text};
 
@@ -29,14 +30,16 @@ pub enum Failure<'a> {
         /// The index, from 0, of the first such part.
         index: usize,
     },
-    /// The file with this name cannot be opened, or cannot be created.
-    Opening(&'a str),
+    /// The file with this name cannot be opened, or cannot be created, for this reason.
+    Opening(&'a str, OpenFault),
     /// A read of the file of addresses with this name failed.
     Reading(&'a str),
     /// The file with this name, the map of a link, did not take everything that was written to it.
     Writing(&'a str),
-    /// The load file of a link and its map are to be written to one file, with this name.
+    /// The load file of a link and its map are to be written to one file, with this name for the map.
     SameFile(&'a str),
+    /// The map of a link is to be written to one of the files that are linked, with this name.
+    MapOverFile(&'a str),
     /// The output did not take everything that was written to it.
     Printing,
     /// What `hunk_tool` returned.
@@ -56,8 +59,9 @@ impl<'a> Failure<'a> {
         ensures { result ≡ status_of self.now }
     {
         match self {
-            Failure::BadNumber { .. } | Failure::SameFile(_) => COMMAND_LINE,
-            Failure::Opening(_) | Failure::Reading(_) | Failure::Writing(_) | Failure::Printing =>
+            Failure::BadNumber { .. } | Failure::SameFile(_) | Failure::MapOverFile(_) =>
+                COMMAND_LINE,
+            Failure::Opening(..) | Failure::Reading(_) | Failure::Writing(_) | Failure::Printing =>
                 DEVICE,
             Failure::Tool(fault) => status_of(fault),
         }
@@ -109,10 +113,11 @@ fn tell_failure<W: Sink>(errors: &mut W, files: &[String], failure: &Failure<'_>
 {
     match failure {
         Failure::BadNumber { addresses, index } => tell_bad_number(errors, *addresses, *index),
-        Failure::Opening(file) => tell_about(errors, file, b"cannot be opened"),
+        Failure::Opening(file, _) => tell_about(errors, file, b"cannot be opened"),
         Failure::Reading(file) => tell_about(errors, file, b"read failed"),
         Failure::Writing(file) => tell_about(errors, file, b"write failed"),
         Failure::SameFile(file) => tell_about(errors, file, b"given for both --out and --map"),
+        Failure::MapOverFile(file) => tell_about(errors, file, b"given for both --map and FILE"),
         Failure::Printing => {
             let output: ToolFault = ToolFault::Output { written: 0 };
             tell_fault(errors, files, &output);

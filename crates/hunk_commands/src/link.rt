@@ -1,37 +1,38 @@
 //! The request `link`: the load file of object files, and the map of it.
 ghost use Rattle.std.specs.Prelude.{◌≡◌, Err, IfOk, IfErr, OnOk, length, map};
-ghost use Rattle.std.specs.Io.KnownBytes.{Appends};
 ghost use Rattle.std.specs.String.{string_bytes};
 ghost use Rattle.hunk_base.specs.Streams.{WroteText};
 ghost use Rattle.hunk_loadfile.specs.WrittenForm.{IsShortEnough};
 ghost use Rattle.hunk_tool.specs.Inputs.{file_names};
 ghost use Rattle.hunk_tool.specs.Map.{map_text};
 ghost use Rattle.hunk_tool.specs.Origins.{origins};
-ghost use Rattle.hunk_commands.specs.Devices.{IsCutShort};
 ghost use Rattle.hunk_commands.specs.Failure.{IsOfFiles};
-ghost use Rattle.hunk_commands.specs.Link.{AreUnlinked, DoLinkFiles, DoLinkTo, HasMap, IsLinkFailure, IsMade, IsMapFailure, IsMapped, IsUnmapped, IsUnwritten, IsWrittenOut};
+ghost use Rattle.hunk_commands.specs.Replacement.{run_of};
+ghost use Rattle.hunk_commands.specs.Link.{AreUnlinked, DoLinkFiles, DoLinkTo, HasMap, IsLinkFailure, IsMade, IsMapFailure, IsMapped, IsUnmapped, IsUnwritten, IsWrittenOut, map_failure};
 
-use crate::devices::{buffered, create, flushed, write_file};
 use crate::failure::Failure;
 use crate::inputs::open_inputs;
-use hunk_loadfile::LoadFile;
-use hunk_tool::{LinkOptions, ObjectFiles, link_files, link_inputs, write_map};
+use crate::replacement::Replacement;
+use crate::same_file::is_one_file;
+use hunk_loadfile::{LoadFile, write_load_with};
+use hunk_tool::{
+    LinkOptions, ObjectFiles, ToolFault, link_files, link_inputs, link_run, write_map,
+};
 use hunk_words::{Sink, Text, WriteFault};
-use std::alloc::Global;
-use std::io::Write;
 use std::rt::Files;
 
-/// Links the object files named `files`, and writes their load file to the file named `out`, as
-/// `options` say.
+/// Links the object files named `files`, and puts their load file in the place of the file named `out`,
+/// as `options` say: [`link_run`], over what replaces `out`.
 ///
-/// The files are linked before `out` is created, so `out` may be one of them.
+/// Nothing is done to `out` before the files have been linked, so it may be one of them. Whatever fails,
+/// it is what it was, or the whole load file: unless it is a device or a pipe, or its directory takes no
+/// new file. Then it is written in place, once the load file is whole in memory.
 ///
 /// # Errors
 ///
 /// - [`Failure::Opening`] with the first of `files` that cannot be opened, or with `out` if it
-///   cannot be created.
-/// - [`Failure::Tool`] with what [`link_inputs`] returns, or out of memory. If memory runs out while
-///   `out` is written, it holds a beginning of the load file.
+///   cannot be created or replaced.
+/// - [`Failure::Tool`] with what [`link_run`] returns, or out of memory.
 /// - [`Failure::Printing`] if `out` did not take everything that was written to it.
 pub fn link<'a, R: Files + AllocGlobal>(
     rt: &R,
@@ -40,25 +41,27 @@ pub fn link<'a, R: Files + AllocGlobal>(
     files: &[&'a str],
 ) -> Result<(), Failure<'a>>
     ensures ok { OnOk result (IsMade options (file_names files.entry.now)) }
-    ensures err { IfErr result (IsLinkFailure options.strip (file_names files.entry.now) out.entry.now) }
+    ensures err { IfErr result (IsLinkFailure options (file_names files.entry.now) out.entry.now) }
     ensures of_files { IfErr result (IsOfFiles (length files.entry.now)) }
 {
-    let linked = linked(rt, options.strip, files)?;
-    write_out(rt, out, options, linked)?;
-    Ok(())
+    let mut inputs = open_inputs(rt, rt.alloc(), files)?;
+    let mut output = Replacement::new(rt, out);
+    let ran = link_run(rt.alloc(), inputs.as_mut_slice(), options, &mut output);
+    output.finish(out, ran)
 }
 
-/// Links as [`link`] does, and then writes the map of the load file to the file named `map_file`, which
-/// tells where each of its hunks is from. In the map, the files have these names.
+/// Links as [`link`] does, and then puts the map of the load file in the place of the file named
+/// `map_file`, which tells where each of its hunks is from. In the map, the files have these names.
 ///
-/// The map is made of the units of the files, which are kept for it. It is written after the whole load
-/// file, which stays if the map is not written.
+/// The map is made of the units of the files, which are kept for it. It is begun once the load file is
+/// in its place, where it stays if the map is not written.
 ///
 /// # Errors
 ///
-/// - [`Failure::SameFile`] if `out` and `map_file` are the same name. Then no file is touched.
+/// - [`Failure::SameFile`] if `out` and `map_file` are one file, and [`Failure::MapOverFile`] if one of
+///   `files` and `map_file` are. Then no file is touched.
 /// - Those of [`link`]; then the map is not begun.
-/// - [`Failure::Opening`] with `map_file` if it cannot be created.
+/// - [`Failure::Opening`] with `map_file` if it cannot be created or replaced.
 /// - [`Failure::Writing`] with `map_file` if it did not take everything that was written to it.
 /// - [`Failure::Tool`] with out of memory, also if the map is not begun for it.
 pub fn link_with_map<'a, R: Files + AllocGlobal>(
@@ -74,8 +77,11 @@ pub fn link_with_map<'a, R: Files + AllocGlobal>(
     ensures err { IfErr result (IsMapFailure options (file_names files.entry.now) out.entry.now map_file.entry.now) }
     ensures of_files { IfErr result (IsOfFiles (length files.entry.now)) }
 {
-    if out == map_file {
+    if is_one_file(rt, out, map_file) {
         return Err(Failure::SameFile(map_file));
+    }
+    if files.iter().any(|file| is_one_file(rt, file, map_file)) {
+        return Err(Failure::MapOverFile(map_file));
     }
     let (units, linked) = linked_files(rt, options.strip, files)?;
     let file = write_out(rt, out, options, linked)?;
@@ -115,7 +121,8 @@ fn linked_files<'a, R: Files + AllocGlobal>(
     Ok(link_files(rt.alloc(), inputs.as_mut_slice(), strip)?)
 }
 
-/// Writes a load file to the file named `out`, as `options` say, and returns it as it was written.
+/// Puts a load file in the place of the file named `out`, as `options` say, and returns it as it was
+/// written.
 fn write_out<'a, R: Files + AllocGlobal>(
     rt: &R,
     out: &'a str,
@@ -126,12 +133,13 @@ fn write_out<'a, R: Files + AllocGlobal>(
     ensures err { IfErr result (IsUnwritten out.entry.now) }
 {
     let file = options.trimmed(linked);
-    let output = create(rt, out)?;
-    write_file(rt.alloc(), output, &file, options.form())?;
+    let mut output = Replacement::new(rt, out);
+    let written = write_load_with(rt.alloc(), &file, options.form(), &mut output);
+    output.finish(out, as_run(written))?;
     Ok(file)
 }
 
-/// Writes the map of a load file to the file named `map_file`.
+/// Puts the map of a load file in the place of the file named `map_file`.
 fn write_map_file<'a, R: Files + AllocGlobal>(
     rt: &R,
     map_file: &'a str,
@@ -143,41 +151,30 @@ fn write_map_file<'a, R: Files + AllocGlobal>(
     ensures ok { OnOk result (HasMap (map string_bytes names.now) file.now units.now) }
     ensures err { IfErr result (IsUnmapped map_file.entry.now) }
 {
-    let output = create(rt, map_file)?;
-    match write_map_to(rt.alloc(), units, names, file, output) {
-        Ok(_) => Ok(()),
-        Err(Failure::Printing) => Err(Failure::Writing(map_file)),
-        Err(failure) => Err(failure),
+    let mut output = Replacement::new(rt, map_file);
+    let written = write_map_to(units, names, file, &mut output);
+    match output.finish(map_file, as_run(written)) {
+        Ok(()) => Ok(()),
+        Err(failure) => Err(map_failure(map_file, failure)),
     }
 }
 
-/// Writes the map of a load file that [`link_files`] linked, through a buffer, and returns `output`,
-/// flushed. In the map, the files have these names.
+/// Why a map is not in its place, if what it was written to tells this failure: a failed write names MAP.
+fn map_failure<'a>(map_file: &'a str, failure: Failure<'a>) -> Failure<'a>
+    ensures { result ≡ map_failure map_file.entry failure.entry }
+{
+    match failure {
+        Failure::Printing | Failure::Tool(ToolFault::Output { .. }) => Failure::Writing(map_file),
+        failure => failure,
+    }
+}
+
+/// Writes the map of a load file that [`link_files`] linked. In the map, the files have these names.
 ///
 /// # Errors
 ///
-/// - [`Failure::Printing`] if `output` did not take everything that was written to it.
-/// - [`Failure::Tool`] with out of memory, before anything was written.
-pub fn write_map_to<'a, O: Write + Drop>(
-    alloc: Global,
-    units: &ObjectFiles,
-    names: &[String],
-    file: &LoadFile,
-    output: O,
-) -> Result<O, Failure<'a>>
-    requires { length (origins units.now) ≡ length file.now }
-    ensures ok { IfOk result (λ after. Appends (O.contents output) (O.contents after) (map_text (map string_bytes names.now) file.now units.now)) }
-    ensures err { IfErr result IsCutShort }
-{
-    let mut writer = buffered(alloc, output)?;
-    match write_whole_map(units, names, file, &mut writer) {
-        Ok(()) => flushed(writer),
-        Err(_) => Err(Failure::Printing),
-    }
-}
-
-/// Writes that map.
-fn write_whole_map<W: Sink>(
+/// [`WriteFault::Device`] if a write failed or took no byte.
+pub fn write_map_to<W: Sink>(
     units: &ObjectFiles,
     names: &[String],
     file: &LoadFile,
@@ -189,4 +186,11 @@ fn write_whole_map<W: Sink>(
     let mut text = Text::new(writer);
     write_map(&mut text, units, names, file);
     text.finish()
+}
+
+/// What a write returned, as a run returns it.
+fn as_run(written: Result<(), WriteFault>) -> Result<(), ToolFault>
+    ensures { result ≡ run_of written }
+{
+    Ok(written?)
 }

@@ -8,6 +8,9 @@ use Rattle.hunk_words.specs.declared.due.Due.TheVariants as due_is
 use Rattle.hunk_words.specs.declared.kinds.BlockType.{BlockType}
 use Rattle.hunk_words.specs.declared.kinds.BlockType.TheVariants as block
 use Rattle.hunk_words.specs.declared.kinds.HunkKind.TheVariants.{Code, Data, Bss}
+use Rattle.hunk_words.specs.Kinds.{low, type_of}
+use Rattle.hunk_base.specs.declared.fault.Reason.{Reason}
+use Rattle.hunk_base.specs.declared.fault.Reason.TheVariants.{WrongStart}
 use Rattle.hunk_files.specs.Path.{is_type}
 use Rattle.hunk_files.specs.declared.explanation.Explanation.{Explanation}
 use Rattle.hunk_files.specs.declared.explanation.Found.{Found}
@@ -114,9 +117,22 @@ due_text due_is.ShortHunk = codes "16-bit words, first the number of a hunk"
 due_text due_is.ShortOffset = codes "16-bit words, first the offset of a relocation"
 due_text due_is.ShortPad = codes "16-bit words, first a pad"
 
--- four lines: where in bytes, what was found, in which unit, hunk and block, and what was due
+-- the line that tells the kind of a file that begins with a block of this type
+abbrev pub first_type_text : BlockType → List ℕ
+first_type_text block.Unit = codes "  kind: object file\n"
+first_type_text block.Header = codes "  kind: load file\n"
+first_type_text type = []
+
+-- the line that tells the kind of a file that begins as one of the other kind does
+abbrev pub kind_text : Reason → Found → List ℕ
+kind_text WrongStart (Longword word) = first_type_text (type_of (low word))
+kind_text reason found = []
+
+-- four lines: where in bytes, what was found, in which unit, hunk and block, and what was due; and the
+-- line that tells the other kind
 abbrev pub explanation_text : Explanation → List ℕ
 explanation_text e =
     line (codes "  at byte " ++ decimal e.offset ++ codes " (" ++ eight_digits e.offset ++ codes ")\n  found " ++ found_text e.found
     ++ codes "\n  path: " ++ unit_text e.path ++ hunk_text e.path ++ side_text e.path e.due ++ block_name e.path
     ++ codes "\n  due: " ++ due_text e.due)
+    ++ kind_text e.fault.reason e.found

@@ -20,7 +20,8 @@ pub enum Found {
 /// The first offence of a file.
 #[derive(Clone, Copy, Debug)]
 pub struct Explanation {
-    fault: Fault,
+    /// Its place and its reason.
+    pub(crate) fault: Fault,
     /// The offset of the offence in its file, in bytes.
     pub(crate) offset: u32,
     /// What is in its place.

@@ -2,23 +2,24 @@
 
 ghost use Rattle.std.specs.Prelude.{◌≡◌};
 ghost use Rattle.hunk_base.specs.Text.{Puts};
-ghost use Rattle.hunk_files.specs.ExplanationText.{block_name, due_text, end_text, explanation_text, found_text, hunk_place, hunk_text, side_text, unit_text};
+ghost use Rattle.hunk_files.specs.ExplanationText.{block_name, due_text, end_text, explanation_text, first_type_text, found_text, hunk_place, hunk_text, kind_text, side_text, unit_text};
 
 use crate::explanation::{Explanation, Found};
 use crate::path::{Path, is_type};
-use hunk_words::{BlockType, Due, HunkKind, Sink, Text};
+use hunk_words::{BlockType, Due, HunkKind, Reason, Sink, Text};
 
 /// Writes four lines, each after two spaces: where the offence is, in bytes from 0; what is there; in
-/// which unit, hunk and block it is, or after which; and what was due. It does not allocate.
+/// which unit, hunk and block it is, or after which; and what was due. A fifth line follows if the file
+/// begins as one of the other kind does, and tells that kind. It does not allocate.
 pub fn write_explanation<W: Sink>(text: &mut Text<'_, W>, explanation: &Explanation)
     ensures { Puts W.taken W.failed text.old text.new (explanation_text explanation.now) }
 {
     let Explanation {
+        fault,
         offset,
         found,
         due,
         path,
-        ..
     } = *explanation;
     text.put(b"  at byte ");
     text.put_decimal(u64::from(offset));
@@ -34,6 +35,31 @@ pub fn write_explanation<W: Sink>(text: &mut Text<'_, W>, explanation: &Explanat
     text.put(b"\n  due: ");
     text.put(due_text(due).as_bytes());
     text.end_line();
+    text.put(kind_text(fault.reason, found).as_bytes());
+}
+
+/// The line that tells the kind of a file whose first longword was found to begin one of the other
+/// kind; nothing of any other file.
+fn kind_text(reason: Reason, found: Found) -> &'static str
+    ensures { result.now ≡ kind_text reason found }
+{
+    match (reason, found) {
+        (Reason::WrongStart, Found::Longword(word)) => first_type_text(BlockType::of_longword(
+            word,
+        )),
+        _ => "",
+    }
+}
+
+/// The line that tells the kind of a file that begins with a block of this type, if there is one.
+fn first_type_text(first: BlockType) -> &'static str
+    ensures { result.now ≡ first_type_text first }
+{
+    match first {
+        BlockType::Unit => "  kind: object file\n",
+        BlockType::Header => "  kind: load file\n",
+        _ => "",
+    }
 }
 
 /// Writes what was found.

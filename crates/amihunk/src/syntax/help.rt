@@ -16,9 +16,11 @@ unit and the hunk that it is from, and below it a line for each name that the hu
 For example, this writes a short and trimmed load file without symbols and debug blocks:
   amihunk link --out program --strip --short --trim startup.o main.o
 
+OUT and MAP are each replaced in one step: whatever fails, each is the old file or the whole new one.
+
 The exit status is 0 if everything was written, 1 if a FILE is not an object file or the units do not
-link, 2 if the command line is not understood or OUT and MAP are the same, 3 if a FILE cannot be read
-or OUT or MAP cannot be written, and 4 if memory runs out.";
+link, 2 if the command line is not understood, or MAP is OUT or one of the FILEs, 3 if a FILE cannot be
+read or OUT or MAP cannot be written, and 4 if memory runs out.";
 
 /// The usage of `load`.
 pub const LOAD_USAGE: &str = "amihunk load [OPTIONS] <--at <LIST>|--at-file <FILE>> <FILE>";

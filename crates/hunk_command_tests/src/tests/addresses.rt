@@ -1,7 +1,8 @@
 //! Addresses in a list, and in a file.
 
 use super::asserts::{equals, equals_at, holds};
-use crate::fake_files::{FakeFiles, Log};
+use crate::fake_files::FakeFiles;
+use crate::fake_log::Log;
 use crate::samples::Broken;
 use hunk_commands::addresses::read_addresses;
 use hunk_commands::{Addresses, Failure, LoadText, Request, answer};
@@ -69,8 +70,8 @@ fn ends(
     let mut errors = Watched::new(Vec::new(alloc));
     equals(rt, answer(&(files, alloc), &mut errors, request), status);
     equals(rt, errors.into_inner().as_slice(), line.as_bytes());
-    let written = log.written.try_borrow().ok().ok_or("written")?;
-    equals(rt, written.as_slice(), printed.as_bytes());
+    let told = log.printed.try_borrow().ok().ok_or("printed")?;
+    equals(rt, told.as_slice(), printed.as_bytes());
     Ok(())
 }
 

@@ -1,7 +1,8 @@
 //! What is told of a failure after its line.
 
 use super::asserts::{equals, equals_at, holds};
-use crate::fake_files::{FakeFiles, Log};
+use crate::fake_files::FakeFiles;
+use crate::fake_log::Log;
 use crate::samples::{Broken, CALLEE, MISTYPED, PLAIN, TRAILING, UNENDED};
 use hunk_commands::explain::{Command, explanation_of};
 use hunk_commands::{Addresses, LoadText, Request, answer};
@@ -11,18 +12,21 @@ use std::alloc::{AllocError, Global};
 use std::process::Abort;
 use std::test::Fail;
 
-// What is asked for, but for `--explain`.
+/// What is asked for, but for `--explain`.
 #[derive(Clone, Copy, Debug, PartialEq, Eq)]
-enum Asked {
+pub(super) enum Asked {
+    /// `link --out out` of these files.
     Link(&'static [&'static str]),
+    /// `link --out` this, of `caller` and `callee`.
+    LinkTo(&'static str),
     Image(Addresses<'static>, &'static [&'static str]),
     Load(Addresses<'static>, &'static str),
     Check(&'static str),
     Show(&'static str),
 }
 
-// What is asked for, the line of its failure, and what is told after it.
-type Row = (Asked, &'static str, &'static str);
+/// What is asked for, the line of its failure, and what is told after it.
+pub(super) type Row = (Asked, &'static str, &'static str);
 
 static REFUSED: [Row; 10] = [
     (
@@ -54,7 +58,7 @@ static REFUSED: [Row; 10] = [
         Asked::Load(Addresses::List("10000"), "caller"),
         "amihunk: caller: longword 0: wrong first longword\n",
         "  at byte 0 (00000000)\n  found 000003e7\n  path: start of the file\n  \
-         due: HUNK_HEADER, which begins a load file\n",
+         due: HUNK_HEADER, which begins a load file\n  kind: object file\n",
     ),
     (
         Asked::Load(Addresses::File("addresses-pipe"), "trailing"),
@@ -72,7 +76,7 @@ static REFUSED: [Row; 10] = [
         Asked::Link(&["program"]),
         "amihunk: program: longword 0: wrong first longword\n",
         "  at byte 0 (00000000)\n  found 000003f3\n  path: start of the file\n  \
-         due: HUNK_UNIT, which begins an object file\n",
+         due: HUNK_UNIT, which begins an object file\n  kind: load file\n",
     ),
     (
         Asked::Image(Addresses::List("0"), &["caller", "unended"]),
@@ -140,7 +144,7 @@ static UNLINKED: [Row; 3] = [
 ];
 
 // Failures of which nothing is told after their lines.
-static UNEXPLAINED: [(Asked, u8, &str); 11] = [
+static UNEXPLAINED: [(Asked, u8, &str); 8] = [
     (
         Asked::Link(&["pipe", "caller"]),
         1,
@@ -176,30 +180,25 @@ static UNEXPLAINED: [(Asked, u8, &str); 11] = [
         2,
         "amihunk: --at: part 1 is not 1 to 8 hexadecimal digits\n",
     ),
-    (Asked::Check("x"), 3, "amihunk: x: cannot be opened\n"),
-    (
-        Asked::Show("directory"),
-        3,
-        "amihunk: directory: read failed\n",
-    ),
     (Asked::Check("caller"), 3, "amihunk: output: write failed\n"),
-    (
-        Asked::Link(&["caller", "x"]),
-        3,
-        "amihunk: x: cannot be opened\n",
-    ),
 ];
+
+// The request for a link of these files.
+fn link_of(out: &'static str, explain: bool, files: Vec<&'static str>) -> Request<'static> {
+    Request::Link {
+        out,
+        map: None,
+        options: PLAIN,
+        explain,
+        files,
+    }
+}
 
 // The request for it, with `--explain` or without.
 fn request_of(alloc: Global, asked: Asked, explain: bool) -> Result<Request<'static>, AllocError> {
     Ok(match asked {
-        Asked::Link(files) => Request::Link {
-            out: "out",
-            map: None,
-            options: PLAIN,
-            explain,
-            files: files.to_vec(alloc)?,
-        },
+        Asked::Link(files) => link_of("out", explain, files.to_vec(alloc)?),
+        Asked::LinkTo(out) => link_of(out, explain, ["caller", "callee"].to_vec(alloc)?),
         Asked::Image(addresses, files) => Request::Image {
             addresses,
             form: ImageForm::Report,
@@ -231,7 +230,7 @@ fn status_of<W: Sink>(
     good_reads: usize,
 ) -> Result<u8, AllocError> {
     let log = Log::new(alloc);
-    log.good_reads.set(good_reads);
+    log.faults.good_reads.set(good_reads);
     let system = FakeFiles {
         openings,
         log: &log,
@@ -240,8 +239,8 @@ fn status_of<W: Sink>(
     Ok(answer(&(system, alloc), errors, request))
 }
 
-// The request ends with this status, and exactly this is told.
-fn ends(
+/// The request ends with this status, and exactly this is told.
+pub(super) fn ends(
     rt: &impl Abort,
     alloc: Global,
     asked: Asked,
@@ -257,15 +256,16 @@ fn ends(
     Ok(())
 }
 
-// The two texts, one after the other.
-fn both(alloc: Global, line: &str, more: &str) -> Result<Vec<u8>, AllocError> {
+/// The two texts, one after the other.
+pub(super) fn both(alloc: Global, line: &str, more: &str) -> Result<Vec<u8>, AllocError> {
     let mut bytes = Vec::new(alloc);
     bytes.extend_from_slice(line.as_bytes())?;
     bytes.extend_from_slice(more.as_bytes())?;
     Ok(bytes)
 }
 
-const ALL: (usize, usize) = (40, usize::MAX);
+/// More openings and reads than a test needs.
+pub(super) const ALL: (usize, usize) = (40, usize::MAX);
 
 #[test]
 fn tells_more_if_it_is_asked_to(rt: HostRuntime) -> Result<(), Fail> {

@@ -2,12 +2,26 @@
 ghost use Rattle.hunk_commands.specs.Failure.{IsOfFiles};
 
 use super::asserts::equals;
-use hunk_commands::{Addresses, Failure, report_failure};
+use hunk_commands::{Addresses, Failure, OpenFault, report_failure};
 use hunk_tool::ToolFault;
 use hunk_words::{Room, Watched};
 use std::alloc::Global;
 use std::process::Abort;
 use std::test::Fail;
+
+/// Every reason why a file cannot be opened. The line is the same for each.
+static REASONS: [OpenFault; 10] = [
+    OpenFault::NotFound,
+    OpenFault::NotAllowed,
+    OpenFault::Directory,
+    OpenFault::NoDirectory,
+    OpenFault::TooManyLinks,
+    OpenFault::ReadOnly,
+    OpenFault::TooManyFiles,
+    OpenFault::Other(0),
+    OpenFault::Other(u32::MAX),
+    OpenFault::Unknown,
+];
 
 // The failure of a request for the file `x` is told in this line.
 fn is_told(
@@ -47,13 +61,18 @@ fn tells_which_part_is_no_address(rt: HostRuntime) -> Result<(), Fail> {
 fn names_the_file_that_failed(rt: HostRuntime) -> Result<(), Fail> {
     let alloc = rt.alloc();
     let opening = "amihunk: x: cannot be opened\n";
-    is_told(&rt, alloc, &Failure::Opening("x"), opening, 3)?;
+    for reason in REASONS {
+        let failure = Failure::Opening("x", reason);
+        is_told(&rt, alloc, &failure, opening, 3)?;
+    }
     let reading = "amihunk: y: read failed\n";
     is_told(&rt, alloc, &Failure::Reading("y"), reading, 3)?;
     let writing = "amihunk: y: write failed\n";
     is_told(&rt, alloc, &Failure::Writing("y"), writing, 3)?;
     let one_file = "amihunk: y: given for both --out and --map\n";
-    is_told(&rt, alloc, &Failure::SameFile("y"), one_file, 2)
+    is_told(&rt, alloc, &Failure::SameFile("y"), one_file, 2)?;
+    let over_file = "amihunk: y: given for both --map and FILE\n";
+    is_told(&rt, alloc, &Failure::MapOverFile("y"), over_file, 2)
 }
 
 #[test]

@@ -1,8 +1,9 @@
 //! Files that are open at once.
 
 use super::asserts::{equals, equals_at, holds};
-use crate::fake_files::{FakeFiles, Log};
-use hunk_commands::{Failure, open_inputs};
+use crate::fake_files::FakeFiles;
+use crate::fake_log::Log;
+use hunk_commands::{Failure, OpenFault, open_inputs};
 use hunk_words::Source;
 use std::alloc::Global;
 use std::process::Abort;
@@ -68,7 +69,11 @@ fn the_first_file_that_cannot_be_opened_decides_before_any_is_read(rt: HostRunti
         log: &log,
     };
     let inputs = open_inputs(&files, alloc, &["directory", "x", "y", "loop"]);
-    equals(&rt, inputs.err(), Some(Failure::Opening("x")));
+    equals(
+        &rt,
+        inputs.err(),
+        Some(Failure::Opening("x", OpenFault::NotFound)),
+    );
     equals(&rt, log.opened.get(), 1);
     equals(&rt, log.reads.get(), 0);
     equals(&rt, log.open.get(), 0);

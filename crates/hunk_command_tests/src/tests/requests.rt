@@ -1,7 +1,8 @@
 //! The status of each request, and the line of its failure.
 
 use super::asserts::equals;
-use crate::fake_files::{FakeFiles, Log};
+use crate::fake_files::FakeFiles;
+use crate::fake_log::Log;
 use crate::samples::PLAIN;
 use hunk_commands::{Addresses, Request, answer};
 use hunk_tool::ImageForm;
@@ -10,11 +11,11 @@ use std::alloc::Global;
 use std::process::Abort;
 use std::test::Fail;
 
-// `link --out OUT FILE...` ends with this status and this line.
+// `link --out OUT FILE...`, with `--map MAP` or without, ends with this status and this line.
 fn link_ends<'a>(
     rt: &impl Abort,
     alloc: Global,
-    out: &'a str,
+    (out, map): (&'a str, Option<&'a str>),
     files: &[&'a str],
     status: u8,
     line: &str,
@@ -26,7 +27,7 @@ fn link_ends<'a>(
     };
     let request = Request::Link {
         out,
-        map: None,
+        map,
         options: PLAIN,
         explain: false,
         files: files.to_vec(alloc)?,
@@ -41,17 +42,40 @@ fn link_ends<'a>(
 fn tells_how_a_link_ended(rt: HostRuntime) -> Result<(), Fail> {
     let alloc = rt.alloc();
     let linked = ["caller", "callee"];
-    link_ends(&rt, alloc, "out", &linked, 0, "")?;
+    let out = ("out", None);
+    link_ends(&rt, alloc, out, &linked, 0, "")?;
     let undefined = "amihunk: link: unit 0 hunk 0: \"foo\" not defined\n";
-    link_ends(&rt, alloc, "out", &["caller"], 1, undefined)?;
+    link_ends(&rt, alloc, out, &["caller"], 1, undefined)?;
     let missing = "amihunk: x: cannot be opened\n";
-    link_ends(&rt, alloc, "out", &["caller", "x"], 3, missing)?;
+    link_ends(&rt, alloc, out, &["caller", "x"], 3, missing)?;
     let unread = "amihunk: directory: read failed\n";
-    link_ends(&rt, alloc, "out", &["callee", "directory"], 3, unread)?;
+    link_ends(&rt, alloc, out, &["callee", "directory"], 3, unread)?;
     let uncreated = "amihunk: directory: cannot be opened\n";
-    link_ends(&rt, alloc, "directory", &linked, 3, uncreated)?;
+    link_ends(&rt, alloc, ("directory", None), &linked, 3, uncreated)?;
     let unwritten = "amihunk: output: write failed\n";
-    link_ends(&rt, alloc, "full", &linked, 3, unwritten)
+    link_ends(&rt, alloc, ("full", None), &linked, 3, unwritten)
+}
+
+#[test]
+fn tells_how_a_link_with_a_map_ended(rt: HostRuntime) -> Result<(), Fail> {
+    let alloc = rt.alloc();
+    let linked = ["caller", "callee"];
+    link_ends(&rt, alloc, ("out", Some("map")), &linked, 0, "")?;
+    let one_file = "amihunk: out: given for both --out and --map\n";
+    link_ends(&rt, alloc, ("out", Some("out")), &linked, 2, one_file)?;
+    let over_file = "amihunk: callee: given for both --map and FILE\n";
+    link_ends(&rt, alloc, ("out", Some("callee")), &linked, 2, over_file)?;
+    let uncreated = "amihunk: directory: cannot be opened\n";
+    link_ends(
+        &rt,
+        alloc,
+        ("out", Some("directory")),
+        &linked,
+        3,
+        uncreated,
+    )?;
+    let unwritten = "amihunk: full: write failed\n";
+    link_ends(&rt, alloc, ("out", Some("full")), &linked, 3, unwritten)
 }
 
 #[test]

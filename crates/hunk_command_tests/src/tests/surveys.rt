@@ -1,7 +1,8 @@
 //! What a survey tells of files.
 
 use super::asserts::{equals, holds};
-use crate::fake_files::{FakeFiles, Log};
+use crate::fake_files::FakeFiles;
+use crate::fake_log::Log;
 use crate::samples::Broken;
 use hunk_commands::survey::survey_to;
 use hunk_commands::{Failure, Request, answer};

@@ -1,7 +1,8 @@
 //! The version of the program.
 
 use super::asserts::{equals, holds};
-use crate::fake_files::{FakeFiles, Log};
+use crate::fake_files::FakeFiles;
+use crate::fake_log::Log;
 use crate::samples::Broken;
 use hunk_commands::{Failure, Request, VERSION, answer, write_version};
 use hunk_words::Watched;

@@ -25,7 +25,7 @@ enum As {
 // A file, as what it is read, and what is told of it.
 type Row = (As, &'static [u32], &'static [u8], &'static str);
 
-static ROWS: [Row; 12] = [
+static ROWS: [Row; 13] = [
     (
         As::Either,
         &[0x3E7, 0, 0x3E9, 1, 0x4E714E71, 0x3FF],
@@ -98,7 +98,14 @@ static ROWS: [Row; 12] = [
         &[0x3E7, 0],
         &[],
         "  at byte 0 (00000000)\n  found 000003e7\n  path: start of the file\n  \
-         due: HUNK_HEADER, which begins a load file\n",
+         due: HUNK_HEADER, which begins a load file\n  kind: object file\n",
+    ),
+    (
+        As::Object,
+        &[0x3F3, 0, 1, 0, 0, 0, 0x3EB, 0],
+        &[],
+        "  at byte 0 (00000000)\n  found 000003f3\n  path: start of the file\n  \
+         due: HUNK_UNIT, which begins an object file\n  kind: load file\n",
     ),
     (As::Either, &DEFINES, &[], ""),
     (As::Load, &TWO_HUNKS, &[], ""),

@@ -11,3 +11,6 @@ returns-else-failed g c = record { told = tells_nothing g.W.Sink.taken g.W.Sink.
 
 pub returns-else-failed-2 : goal.returns-else-failed-2
 returns-else-failed-2 g c = record { told = tells_nothing g.W.Sink.taken g.W.Sink.failed c.args.errors.now _; silent = λ failing. refl }
+
+pub returns-in_default-get-2-clause-told : goal.returns-in_default-get-2-clause-told
+returns-in_default-get-2-clause-told g c = tells_nothing g.W.Sink.taken g.W.Sink.failed c.args.errors.now _

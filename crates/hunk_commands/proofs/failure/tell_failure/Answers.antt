@@ -13,3 +13,13 @@ pub returns-in-Printing : goal.returns-in-Printing
 returns-in-Printing g c =
     subst (λ failure. TellsLine g.W.Sink.taken g.W.Sink.failed c.args.errors.now c.tell_fault.new.errors (failure_line (map string_bytes c.args.files.now) failure)) (sym c.in-Printing.is)
     c.tell_fault.ensures
+
+pub returns-in-MapOverFile : goal.returns-in-MapOverFile
+returns-in-MapOverFile g c =
+    subst (λ failure. TellsLine g.W.Sink.taken g.W.Sink.failed c.args.errors.now c.tell_about-in-MapOverFile.new.errors (failure_line (map string_bytes c.args.files.now) failure)) (sym c.in-MapOverFile.is)
+    c.tell_about-in-MapOverFile.ensures
+
+pub returns-in-Opening : goal.returns-in-Opening
+returns-in-Opening g c =
+    subst (λ failure. TellsLine g.W.Sink.taken g.W.Sink.failed c.args.errors.now c.tell_about.new.errors (failure_line (map string_bytes c.args.files.now) failure)) (sym c.in-Opening.is)
+    c.tell_about.ensures

@@ -13,7 +13,7 @@ returns-in_err-file-clause-err g c =
     let p = err_from_is_err_and c.from_residual-in_err-file.result c.from_residual-in_err-file.ensures.1 in
     let linked = c.in_ok-units.linked in
     let links = DoLinkTo-files c.args.options.strip c.in_ok-units.units linked (file_names c.args.files.now) c.in_ok-units.ensures.ok in
-    rw (p.1, p.2) (inr (inl (inr (linked, links, c.in_err-file.ensures.err))))
+    rw (p.1, p.2) (inr (inr (inl (linked, links, c.in_err-file.ensures.err))))
 
 pub returns-in_err-write_map_file-clause-err : goal.returns-in_err-write_map_file-clause-err
 returns-in_err-write_map_file-clause-err g c =
@@ -21,7 +21,7 @@ returns-in_err-write_map_file-clause-err g c =
     let linked = c.in_ok-units.linked in
     let links = DoLinkTo-files c.args.options.strip c.in_ok-units.units linked (file_names c.args.files.now) c.in_ok-units.ensures.ok in
     let made = IsMade-written c.args.options linked c.in_ok-file.file c.in_ok-units.ensures.short c.in_ok-file.ensures.ok (file_names c.args.files.now) links in
-    rw (p.1, p.2) (inr (inr (made, c.in_err-write_map_file.ensures.err)))
+    rw (p.1, p.2) (inr (inr (inr (made, c.in_err-write_map_file.ensures.err))))
 
 pub returns-clause-ok : goal.returns-clause-ok
 returns-clause-ok g c =

@@ -1,6 +1,6 @@
 -- The map is put into a text that is finished.
 use Rattle.std.proofs.Common.{[], rules}
-use Rattle.hunk_commands.proofs.link.write_whole_map.Goals as goal
+use Rattle.hunk_commands.proofs.link.write_map_to.Goals as goal
 
 pub returns : goal.returns
 returns g c =

@@ -1,0 +1,38 @@
+-- Why a file cannot be opened or created, and the line that tells it.
+use Rattle.std.specs.Prelude.{◌≡◌, ◌++◌, ℕ, List, [], codes, decimal}
+use Rattle.std_io.specs.declared.io.kind.ErrorKind.{ErrorKind}
+use Rattle.std_io.specs.declared.io.kind.ErrorKind.TheVariants as kind
+use Rattle.hunk_base.specs.Text.{line}
+use Rattle.hunk_commands.specs.declared.open_fault.OpenFault.{OpenFault}
+use Rattle.hunk_commands.specs.declared.open_fault.OpenFault.TheVariants.{Directory, NoDirectory, NotAllowed, NotFound, Other, ReadOnly, TooManyFiles, TooManyLinks, Unknown}
+
+-- the reason for an error of this kind: each of six kinds has its own, and any other has one by its number
+abbrev pub IsReasonFor : ErrorKind → OpenFault → Type 0
+IsReasonFor kind.NotFound reason = reason ≡ NotFound
+IsReasonFor kind.PermissionDenied reason = reason ≡ NotAllowed
+IsReasonFor kind.IsADirectory reason = reason ≡ Directory
+IsReasonFor kind.NotADirectory reason = reason ≡ NoDirectory
+IsReasonFor kind.FilesystemLoop reason = reason ≡ TooManyLinks
+IsReasonFor kind.ReadOnlyFilesystem reason = reason ≡ ReadOnly
+IsReasonFor _ TooManyFiles = Unit {0}
+IsReasonFor _ (Other number) = Unit {0}
+IsReasonFor _ Unknown = Unit {0}
+IsReasonFor _ reason = ⊥
+
+-- the words for it, if it has a name
+abbrev pub reason_text : OpenFault → List ℕ
+reason_text NotFound = codes "no such file or directory"
+reason_text NotAllowed = codes "not allowed"
+reason_text Directory = codes "it is a directory"
+reason_text NoDirectory = codes "a part of its path is no directory"
+reason_text TooManyLinks = codes "too many symbolic links"
+reason_text ReadOnly = codes "the file system is read-only"
+reason_text TooManyFiles = codes "too many open files"
+reason_text (Other number) = []
+reason_text Unknown = []
+
+-- the line that tells it, after two spaces; nothing if there is nothing to tell
+abbrev pub reason_line : OpenFault → List ℕ
+reason_line Unknown = []
+reason_line (Other number) = line (codes "  reason: system error " ++ decimal number)
+reason_line reason = line (codes "  reason: " ++ reason_text reason)
