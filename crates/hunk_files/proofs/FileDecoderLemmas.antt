@@ -2,16 +2,20 @@
 use Rattle.std.proofs.Common.{◌≡◌, ℕ, ◌<◌, ◌≤◌, ◌⊎◌, List, [], ◌∷◌, ◌++◌, length, take, drop, Option, Bool, IsTrue, inl, inr, append_assoc, refl, sym, ap, ◌∙◌, subst, arith}
 use Rattle.std.proofs.lemmas.List.{length-append, length-take, take-append-drop, take_at}
 use Rattle.hunk_words.specs.Decoder.{RefusesInput}
+use Rattle.hunk_words.proofs.FilesReadingLemmas.{read-front}
 use Rattle.hunk_words.specs.FirstOffence.{FirstOffence}
 use Rattle.hunk_words.specs.FirstOffence.FirstOffence.{longword_offends, end_offends}
 use Rattle.hunk_base.specs.Longwords.{longwords, unfinished}
 use Rattle.hunk_base.specs.Streams.{HasRead}
+use Rattle.hunk_words.specs.Reading.{initial_progress}
+use Rattle.hunk_words.specs.Files.{IsValidPrefix}
 use Rattle.hunk_words.specs.declared.event.FileKind.{FileKind}
+use Rattle.hunk_words.specs.declared.event.FileKind.TheVariants as kind_is
 use Rattle.hunk_base.specs.declared.fault.ReadFault.TheVariants as read_fault
 use Rattle.hunk_base.specs.declared.fault.Refusal.{Refusal}
 use Rattle.hunk_base.specs.declared.fault.Refusal.TheVariants as refusal_is
 use Rattle.hunk_base.proofs.StreamsLemmas.{HasRead-weaker}
-use Rattle.hunk_files.specs.FileDecoder.{IsReadFault, IsRefused, KindStandsFor, StandsFor}
+use Rattle.hunk_files.specs.FileDecoder.{IsReadFault, IsRefused, KindBegins, KindStandsFor, StandsFor}
 use Rattle.hunk_files.specs.FileValue.{kind_of_bytes}
 use Rattle.hunk_files.specs.declared.file_decoder.Decoders.{Decoders}
 use Rattle.hunk_files.specs.declared.file_decoder.FileDecoder.{FileDecoder}
@@ -61,6 +65,25 @@ stands-begun object_kind object load_kind load before after old front bytes piec
   where
     whole-is : old ≡ bytes → front ++ rest ≡ bytes ++ piece
     whole-is same = rw (is, rest_is, same, append_assoc bytes (take taken piece) (drop taken piece), take-append-drop taken piece) refl
+
+-- fewer than four bytes may be the beginning of an object file
+no-longwords : IsValidPrefix kind_is.Object []
+no-longwords = read-front kind_is.Object [] (initial_progress kind_is.Object) tt (omega arith) refl
+
+pub front-few : (bytes : List ℕ) → length bytes < 4 → IsValidPrefix (kind_of_bytes bytes) (longwords bytes)
+front-few [] few = no-longwords
+front-few (a ∷ []) few = no-longwords
+front-few (a ∷ b ∷ []) few = no-longwords
+front-few (a ∷ b ∷ c ∷ []) few = no-longwords
+front-few (a ∷ b ∷ c ∷ d ∷ bytes) few = absurd (omega (arith, few))
+
+-- what a decoder that holds these first bytes took without an error
+pub begins-begun : {O L : Type 0} (object_kind : FileKind) (object : O → List ℕ → Type 0) (load_kind : FileKind) (load : L → List ℕ → Type 0) (object_begins load_begins : List ℕ → Type 0) (after : Decoders O L) (front bytes : List ℕ) (kind : FileKind)
+    → StandsFor object_kind object load_kind load (holding front after) bytes → 4 ≤ length bytes → kind ≡ kind_of_bytes front
+    → (KindStandsFor object_kind object load_kind load kind after bytes → KindBegins object_begins load_begins kind bytes) → KindBegins object_begins load_begins (kind_of_bytes bytes) bytes
+begins-begun object_kind object load_kind load object_begins load_begins after front bytes kind stands long kind_is begins =
+    let same : kind ≡ kind_of_bytes bytes = kind_is ∙ ap kind_of_bytes stands.front ∙ kind-take bytes long in
+    subst (λ k. KindBegins object_begins load_begins k bytes) same (begins (subst (λ k. KindStandsFor object_kind object load_kind load k after bytes) (sym same) (stands.fed long)))
 
 -- ---- the end
 

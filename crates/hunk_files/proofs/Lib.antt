@@ -2,3 +2,4 @@ pub mod CountersLemmas
 pub mod FileDecoderLemmas
 pub mod PathLemmas
 pub mod FollowerLemmas
+pub mod HunkFileLemmas

@@ -34,6 +34,11 @@ abbrev pub KindStandsFor : {O L : Type 0} (object_kind : FileKind) (object : O �
 KindStandsFor object_kind object load_kind load kind_is.Object decoders bytes = (object_kind ≡ kind_is.Object) × object decoders.object bytes
 KindStandsFor object_kind object load_kind load kind_is.Load decoders bytes = (load_kind ≡ kind_is.Load) × load decoders.load bytes
 
+-- what is known of bytes that the decoder of this kind took without an error
+abbrev pub KindBegins : (object load : List ℕ → Type 0) → FileKind → List ℕ → Type 0
+KindBegins object load kind_is.Object bytes = object bytes
+KindBegins object load kind_is.Load bytes = load bytes
+
 -- It holds the first four bytes. While there are fewer, its decoders have none; after that, the one
 -- of the kind that they tell has all.
 pub record StandsFor {O L : Type 0} (object_kind : FileKind) (object : O → List ℕ → Type 0) (load_kind : FileKind) (load : L → List ℕ → Type 0) (decoder : FileDecoder O L) (bytes : List ℕ) : Type 0 where

@@ -1,12 +1,14 @@
 //! Reads a file of either kind: its first four bytes tell which.
 
-ghost use Rattle.std.specs.Prelude.{◌≡◌, ℕ, ◌+◌, ◌<◌, ◌^◌, List, [], ◌++◌, length, IfOk, IfErr, OnOk, IsTrue};
+ghost use Rattle.std.specs.Prelude.{◌≡◌, ℕ, ◌+◌, ◌<◌, ◌≤◌, ◌^◌, List, [], ◌++◌, length, IfOk, IfErr, OnOk, IsTrue};
 ghost use Rattle.hunk_words.specs.Decoder.{RefusesBytes, RefusesInput, StandsFor as DecoderStandsFor};
+ghost use Rattle.hunk_base.specs.Longwords.{longwords};
 ghost use Rattle.hunk_base.specs.Streams.{HasRead};
+ghost use Rattle.hunk_words.specs.Files.{IsValidPrefix};
 ghost use Rattle.hunk_words.specs.declared.event.FileKind.{FileKind};
 ghost use Rattle.hunk_words.specs.declared.event.FileKind.TheVariants.{Object, Load};
 ghost use Rattle.hunk_base.specs.declared.fault.Refusal.{Refusal};
-ghost use Rattle.hunk_files.specs.FileDecoder.{inner, IsFileOf, IsReadFault, KindStandsFor, RefusesFed, StandsFor};
+ghost use Rattle.hunk_files.specs.FileDecoder.{inner, IsFileOf, IsReadFault, KindBegins, KindStandsFor, RefusesFed, StandsFor};
 ghost use Rattle.hunk_files.specs.FileValue.{kind_of_bytes};
 
 use crate::first_bytes::{FirstBytes, LONGWORD};
@@ -24,6 +26,9 @@ pub(crate) trait KindDecoder: Drop {
 
     ghost KIND: { FileKind };
 
+    // What is known of bytes that it took without an error.
+    ghost begins: { List ℕ → Type 0 };
+
     // The value is that of the file that the bytes are.
     ghost is_value: { Self.Value → List ℕ → Type 0 };
 
@@ -37,6 +42,7 @@ pub(crate) trait KindDecoder: Drop {
     /// The first offence of all bytes; or `OutOfMemory` only if an allocation failed.
     fn feed(&mut self, piece: &[u8]) -> Result<(), Refusal>
         ensures stands { (bytes : List ℕ) → stands_for self.old bytes → stands_for self.new (bytes ++ piece.now) }
+        ensures front { OnOk result ((bytes : List ℕ) → stands_for self.new bytes → begins bytes) }
         ensures refused { IfErr result (λ refusal. (bytes : List ℕ) → stands_for self.new bytes → RefusesBytes KIND bytes refusal) }
         ensures bounded { OnOk result ((bytes : List ℕ) → stands_for self.new bytes → length bytes < 2 ^ 30 + 4) };
 
@@ -54,6 +60,8 @@ impl<B: Builder> KindDecoder for ValueDecoder<B> {
     ghost stands_for = { λ d bytes. DecoderStandsFor B.KIND B.stands_for d bytes };
 
     ghost KIND = { B.KIND };
+
+    ghost begins = { λ bytes. IsValidPrefix B.KIND (longwords bytes) };
 
     ghost is_value = { B.is_value };
 
@@ -110,6 +118,7 @@ impl<O: KindDecoder, L: KindDecoder> Decoders<O, L> {
     // Takes the next bytes of a file of this kind.
     fn feed(&mut self, kind: FileKind, piece: &[u8]) -> Result<(), Refusal>
         ensures stands { (bytes : List ℕ) → KindStandsFor O.KIND O.stands_for L.KIND L.stands_for kind self.old bytes → KindStandsFor O.KIND O.stands_for L.KIND L.stands_for kind self.new (bytes ++ piece.now) }
+        ensures front { OnOk result ((bytes : List ℕ) → KindStandsFor O.KIND O.stands_for L.KIND L.stands_for kind self.new bytes → KindBegins O.begins L.begins kind bytes) }
         ensures refused { IfErr result (λ refusal. (bytes : List ℕ) → KindStandsFor O.KIND O.stands_for L.KIND L.stands_for kind self.new bytes → RefusesBytes kind bytes refusal) }
         ensures bounded { OnOk result ((bytes : List ℕ) → KindStandsFor O.KIND O.stands_for L.KIND L.stands_for kind self.new bytes → length bytes < 2 ^ 30 + 4) }
     {
@@ -159,6 +168,32 @@ impl<O: KindDecoder, L: KindDecoder> FileDecoder<O, L> {
         }
     }
 
+    /// Takes the next bytes.
+    ///
+    /// # Errors
+    ///
+    /// The first offence of all bytes; or `OutOfMemory` only if an allocation failed.
+    pub(crate) fn feed(&mut self, piece: &[u8]) -> Result<(), Refusal>
+        ensures stands { (bytes : List ℕ) → StandsFor O.KIND O.stands_for L.KIND L.stands_for self.old bytes → StandsFor O.KIND O.stands_for L.KIND L.stands_for self.new (bytes ++ piece.now) }
+        ensures front { OnOk result ((bytes : List ℕ) → StandsFor O.KIND O.stands_for L.KIND L.stands_for self.new bytes → 4 ≤ length bytes → KindBegins O.begins L.begins (kind_of_bytes bytes) bytes) }
+        ensures refused { IfErr result (RefusesFed O.KIND O.stands_for L.KIND L.stands_for self.new) }
+        ensures bounded { OnOk result ((bytes : List ℕ) → StandsFor O.KIND O.stands_for L.KIND L.stands_for self.new bytes → length bytes < 2 ^ 30 + 4) }
+    {
+        if self.front.as_bytes().len() == LONGWORD {
+            let kind = kind_of(self.front.as_bytes());
+            return self.decoders.feed(kind, piece);
+        }
+        let taken = self.front.take(piece);
+        let front = self.front.as_bytes();
+        if front.len() < LONGWORD {
+            return Ok(());
+        }
+        let kind = kind_of(front);
+        // an error is kept, and returned for the bytes that follow
+        let _ = self.decoders.feed(kind, front);
+        self.decoders.feed(kind, &piece[taken..])
+    }
+
     /// What the whole file is. One of fewer than four bytes is read as an object file.
     pub(crate) fn finish(self) -> Result<File<O::Value, L::Value>, Refusal>
         ensures value { IfOk result (λ file. (bytes : List ℕ) → StandsFor O.KIND O.stands_for L.KIND L.stands_for self bytes → IsFileOf O.is_value L.is_value (kind_of_bytes bytes) file bytes) }
@@ -181,19 +216,7 @@ impl<O: KindDecoder, L: KindDecoder> Feed for FileDecoder<O, L> {
     ghost refused = { λ d refusal. RefusesFed O.KIND O.stands_for L.KIND L.stands_for d refusal };
 
     fn feed(&mut self, piece: &[u8]) -> Result<(), Refusal> {
-        if self.front.as_bytes().len() == LONGWORD {
-            let kind = kind_of(self.front.as_bytes());
-            return self.decoders.feed(kind, piece);
-        }
-        let taken = self.front.take(piece);
-        let front = self.front.as_bytes();
-        if front.len() < LONGWORD {
-            return Ok(());
-        }
-        let kind = kind_of(front);
-        // an error is kept, and returned for the bytes that follow
-        let _ = self.decoders.feed(kind, front);
-        self.decoders.feed(kind, &piece[taken..])
+        self.feed(piece)
     }
 }
 

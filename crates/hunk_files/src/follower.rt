@@ -1,6 +1,6 @@
 //! Follows the longwords of a file up to its first offence.
 
-ghost use Rattle.std.specs.Prelude.{◌≡◌, ◌+◌, ◌<◌, ◌^◌, ℕ, List, [], ◌∷◌, ◌++◌, length, Some, None, IfOk, IfErr, OnOk};
+ghost use Rattle.std.specs.Prelude.{⊤, ◌≡◌, ◌+◌, ◌<◌, ◌^◌, ℕ, List, [], ◌∷◌, ◌++◌, length, Some, None, IfOk, IfErr, OnOk};
 ghost use Rattle.hunk_words.specs.Decoder.{RefusesBytes};
 ghost use Rattle.hunk_words.specs.DecoderCore.{Keeps};
 ghost use Rattle.hunk_base.specs.declared.fault.Refusal.{Refusal};
@@ -151,6 +151,9 @@ impl<T: Taker> KindDecoder for Follower<T> {
     ghost stands_for = { λ f bytes. StandsFor T.KIND T.stands_for f bytes };
 
     ghost KIND = { T.KIND };
+
+    // It goes on after an offence.
+    ghost begins = { λ _. ⊤ };
 
     ghost is_value = { λ given bytes. IsExplained T.KIND given bytes };
 

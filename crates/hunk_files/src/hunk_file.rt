@@ -1,15 +1,18 @@
 //! Files of either kind, as values.
 
-ghost use Rattle.std.specs.Prelude.{IsTrue, OnOk, IfOk, IfErr};
+ghost use Rattle.std.specs.Prelude.{ℕ, List, [], ◌++◌, IsTrue, OnOk, IfOk, IfErr};
+ghost use Rattle.hunk_base.specs.Longwords.{longwords};
 ghost use Rattle.hunk_base.specs.Streams.{HasRead};
 ghost use Rattle.hunk_files.specs.FileDecoder.{IsReadFault};
-ghost use Rattle.hunk_files.specs.FileValue.{IsOfItsKind};
-ghost use Rattle.hunk_files.specs.HunkFile.{value_of};
+ghost use Rattle.hunk_files.specs.FileValue.{IsOfItsKind, kind_of_bytes};
+ghost use Rattle.hunk_files.specs.HunkFile.{StandsFor, value_of};
+ghost use Rattle.hunk_words.specs.Decoder.{RefusesBytes, RefusesInput};
+ghost use Rattle.hunk_words.specs.Files.{IsValidPrefix};
 
-use crate::file_decoder::{File, read_file};
+use crate::file_decoder::{File, FileDecoder, read_file};
 use hunk_loadfile::{LoadDecoder, LoadFile};
 use hunk_objects::{ObjectDecoder, ProgramUnit};
-use hunk_words::{ReadFault, Source};
+use hunk_words::{ReadFault, Refusal, Source};
 use std::alloc::{Allocator, Global};
 
 /// What is in a hunk file: the units of an object file, or a load file.
@@ -35,4 +38,52 @@ pub fn read_hunk_file<A: Allocator + Copy, R: Source>(
     ensures refused { IfErr result (IsReadFault (R.left reader.old) (R.left reader.new) (R.failed reader.new) (R.ended reader.new)) }
 {
     read_file(reader, ObjectDecoder::new(alloc), LoadDecoder::new(alloc))
+}
+
+/// Decodes the bytes of a file of either kind, in pieces of any size, to what is in it.
+///
+/// The kind is that of [`read_hunk_file`]. It allocates only for longwords that have come: no number
+/// in the file reserves memory.
+#[derive(Drop)]
+pub struct HunkFileDecoder<A: Allocator + Copy = Global> {
+    decoder: FileDecoder<ObjectDecoder<A>, LoadDecoder<A>>,
+}
+
+impl<A: Allocator + Copy> HunkFileDecoder<A> {
+    /// A decoder before the first byte. Does not allocate.
+    pub fn new(alloc: A) -> Self
+        ensures { StandsFor result [] }
+    {
+        HunkFileDecoder {
+            decoder: FileDecoder::new(ObjectDecoder::new(alloc), LoadDecoder::new(alloc)),
+        }
+    }
+
+    /// Takes the next bytes of the file.
+    ///
+    /// # Errors
+    ///
+    /// - [`Refusal::Fault`] with the first offence of all bytes, from the call that brings the last
+    ///   byte of the offending longword, and from every later call.
+    /// - [`Refusal::OutOfMemory`] only if an allocation failed.
+    pub fn feed(&mut self, piece: &[u8]) -> Result<(), Refusal>
+        ensures stands { (bytes : List ℕ) → StandsFor self.old bytes → StandsFor self.new (bytes ++ piece.now) }
+        ensures front { OnOk result ((bytes : List ℕ) → StandsFor self.new bytes → IsValidPrefix (kind_of_bytes bytes) (longwords bytes)) }
+        ensures refused { IfErr result (λ refusal. (bytes : List ℕ) → StandsFor self.new bytes → RefusesBytes (kind_of_bytes bytes) bytes refusal) }
+    {
+        self.decoder.feed(piece)
+    }
+
+    /// What is in the whole file. Does not allocate.
+    ///
+    /// # Errors
+    ///
+    /// [`Refusal::Fault`] with the first offence of the file, which may be that it ends too early; or
+    /// [`Refusal::OutOfMemory`] if an allocation failed before.
+    pub fn finish(self) -> Result<HunkFile<A>, Refusal>
+        ensures file { IfOk result (λ file. (bytes : List ℕ) → StandsFor self bytes → IsOfItsKind (value_of file) bytes) }
+        ensures refused { IfErr result (λ refusal. (bytes : List ℕ) → StandsFor self bytes → RefusesInput (kind_of_bytes bytes) bytes refusal) }
+    {
+        self.decoder.finish()
+    }
 }

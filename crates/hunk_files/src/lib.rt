@@ -26,4 +26,4 @@ pub use explain::{explain_file, explain_load, explain_object};
 pub use explanation::{Explanation, Found};
 pub use explanation_text::write_explanation;
 pub use file_decoder::File;
-pub use hunk_file::{HunkFile, read_hunk_file};
+pub use hunk_file::{HunkFile, HunkFileDecoder, read_hunk_file};

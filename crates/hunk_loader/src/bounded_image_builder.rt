@@ -34,12 +34,12 @@ impl<A: Allocator + Copy> Model for BoundedImageBuilder<A> {
 }
 
 impl<A: Allocator + Copy> BoundedImageBuilder<A> {
-    /// A builder for hunks at these bases, before the first event.
-    pub(crate) fn new(alloc: A, bases: Vec<u32, A>) -> Self
+    /// A builder for hunks at these bases and in these rooms, before the first event.
+    pub(crate) fn new(alloc: A, bases: Vec<u32, A>, rooms: Vec<Vec<u8, A>, A>) -> Self
         ensures { result ≡ initial_builder bases.items }
     {
         BoundedImageBuilder {
-            builder: ImageBuilder::new(alloc, bases),
+            builder: ImageBuilder::new(alloc, bases, rooms),
         }
     }
 

@@ -32,8 +32,12 @@ impl<A: Allocator + Copy> HeaderBytes<A> {
     {
         HeaderBytes {
             bytes: Vec::new(alloc),
-            // It sees no content, and is asked for no image: so it needs no bases.
-            decoder: Decoder::new(BoundedImageBuilder::new(alloc, Vec::new(alloc))),
+            // It sees no content, and is asked for no image: so it needs no bases and no rooms.
+            decoder: Decoder::new(BoundedImageBuilder::new(
+                alloc,
+                Vec::new(alloc),
+                Vec::new(alloc),
+            )),
         }
     }
 

@@ -154,6 +154,30 @@ impl<A: Allocator + Copy> HeaderLoader<A> {
         ensures incomplete { (result ≡ Err PlaceRefusal.HeaderIncomplete) ↔ (self.now.hunks ≡ None) }
         ensures refused { (fault : PlaceFault) → (result ≡ Err (PlaceRefusal.Place fault)) ↔ CannotPlace bases.now fault self.now.hunks }
     {
+        self.place_in(bases, Vec::new(self.alloc))
+    }
+
+    /// A loader of the file at these bases, as [`place`](HeaderLoader::place) gives it, that makes
+    /// the bytes of each hunk in the room with its number. What is in a room is forgotten. One that
+    /// has the capacity for its hunk, which is 4 times its size, is neither moved nor made longer:
+    /// so the memory of a machine is written where it is. Hunks for which there is no room get one.
+    ///
+    /// # Errors
+    ///
+    /// Those of [`place`](HeaderLoader::place). The rooms are dropped then.
+    pub fn place_in(
+        &self,
+        bases: &[u32],
+        rooms: Vec<Vec<u8, A>, A>,
+    ) -> Result<ImageLoader<A>, PlaceRefusal>
+        ensures stands { IfOk result (λ loader. StandsFor loader self.now.bytes) }
+        ensures given { IfOk result (λ loader. bases_of loader ≡ bases.now) }
+        ensures none { IfOk result (λ loader. refusal_of loader ≡ None) }
+        ensures placed { IsOk result → CanPlace bases.now self.now.hunks }
+        ensures stays { IsOk result → StaysPlaced bases.now self.now.bytes }
+        ensures incomplete { (result ≡ Err PlaceRefusal.HeaderIncomplete) ↔ (self.now.hunks ≡ None) }
+        ensures refused { (fault : PlaceFault) → (result ≡ Err (PlaceRefusal.Place fault)) ↔ CannotPlace bases.now fault self.now.hunks }
+    {
         let hunks = match &self.hunks {
             Some(hunks) => hunks.as_slice(),
             None => return Err(PlaceRefusal::HeaderIncomplete),
@@ -161,7 +185,7 @@ impl<A: Allocator + Copy> HeaderLoader<A> {
         if let Err(fault) = check_sizes(&hunks, bases) {
             return Err(PlaceRefusal::Place(fault));
         }
-        let mut loader = ImageLoader::new(self.alloc, bases)?;
+        let mut loader = ImageLoader::in_rooms(self.alloc, bases, rooms)?;
         match loader.feed(&self.header.bytes) {
             Ok(()) => Ok(loader),
             Err(LoadRefusal::OutOfMemory) => Err(PlaceRefusal::OutOfMemory),

@@ -13,6 +13,7 @@ use crate::placing::{Placing, decide};
 use hunk_words::{Event, SiteRefusal};
 use std::alloc::{AllocError, Allocator};
 use std::marker::Model;
+use std::mem;
 
 /// Makes the image of the hunks whose events it takes.
 ///
@@ -26,6 +27,8 @@ use std::marker::Model;
 pub(crate) struct ImageBuilder<A: Allocator + Copy> {
     alloc: A,
     bases: Vec<u32, A>,
+    // where the bytes of the hunks go, by their numbers; those of the other hunks are allocated
+    rooms: Vec<Vec<u8, A>, A>,
     sizes: Vec<u32, A>,
     placing: Placing,
     ended: usize,
@@ -43,13 +46,14 @@ impl<A: Allocator + Copy> Model for ImageBuilder<A> {
 }
 
 impl<A: Allocator + Copy> ImageBuilder<A> {
-    /// A builder for hunks at these bases, before the first event.
-    pub(crate) fn new(alloc: A, bases: Vec<u32, A>) -> Self
+    /// A builder for hunks at these bases and in these rooms, before the first event.
+    pub(crate) fn new(alloc: A, bases: Vec<u32, A>, rooms: Vec<Vec<u8, A>, A>) -> Self
         ensures { result ≡ initial_builder bases.items }
     {
         ImageBuilder {
             alloc,
             bases,
+            rooms,
             sizes: Vec::new(alloc),
             placing: Placing::Unknown,
             ended: 0,
@@ -105,10 +109,11 @@ impl<A: Allocator + Copy> ImageBuilder<A> {
         }
         let placing = self.settled();
         let keeps = matches!(placing, Placing::Placed);
-        match OpenImage::new(self.alloc, keeps, self.sizes[self.ended], self.sizes.len()) {
-            Ok(current) => {
+        let (own, count) = (self.sizes[self.ended], self.sizes.len());
+        match take_room(self.alloc, &mut self.rooms, self.ended, keeps, own) {
+            Ok(room) => {
                 self.placing = placing;
-                self.current = Some(current);
+                self.current = Some(OpenImage::new(self.alloc, own, count, room));
                 Ok(())
             }
             Err(_) => Err(SiteRefusal::OutOfMemory),
@@ -246,5 +251,23 @@ impl<A: Allocator + Copy> ImageBuilder<A> {
             Some(size) => *size,
             None => 0,
         }
+    }
+}
+
+/// Where the bytes of the hunk with this number go, which has this size in longwords: the room that
+/// was given for it, or a new one. It has no memory if they are not kept.
+fn take_room<A: Allocator + Copy>(
+    alloc: A,
+    rooms: &mut Vec<Vec<u8, A>, A>,
+    number: usize,
+    keeps: bool,
+    size: u32,
+) -> Result<Vec<u8, A>, AllocError> {
+    if !keeps {
+        return Ok(Vec::new(alloc));
+    }
+    match rooms.get_mut(number) {
+        Some(room) => Ok(mem::replace(room, Vec::new(alloc))),
+        None => Ok(Vec::with_capacity(alloc, 4 * size as usize)?),
     }
 }

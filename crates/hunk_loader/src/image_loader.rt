@@ -40,10 +40,21 @@ impl<A: Allocator + Copy> ImageLoader<A> {
         ensures given { IfOk result (λ loader. bases_of loader ≡ bases.now) }
         ensures none { IfOk result (λ loader. refusal_of loader ≡ None) }
     {
+        Self::in_rooms(alloc, bases, Vec::new(alloc))
+    }
+
+    /// The same; the bytes of a hunk are made in the room with its number, if there is one.
+    pub(crate) fn in_rooms(
+        alloc: A,
+        bases: &[u32],
+        rooms: Vec<Vec<u8, A>, A>,
+    ) -> Result<Self, AllocError>
+        ensures { IfOk result (λ loader. StandsFor loader [] × (bases_of loader ≡ bases.now) × (refusal_of loader ≡ None)) }
+    {
         let mut copy = Vec::with_capacity(alloc, bases.len())?;
         copy.extend_from_slice(bases)?;
         Ok(ImageLoader {
-            decoder: Decoder::new(BoundedImageBuilder::new(alloc, copy)),
+            decoder: Decoder::new(BoundedImageBuilder::new(alloc, copy, rooms)),
         })
     }
 

@@ -32,15 +32,14 @@ impl<A: Allocator + Copy> Model for OpenImage<A> {
 }
 
 impl<A: Allocator + Copy> OpenImage<A> {
-    /// A hunk of this size, in longwords, whose content begins. Allocates its bytes if they are
-    /// kept.
-    pub(crate) fn new(alloc: A, keeps: bool, size: u32, count: usize) -> Result<Self, AllocError>
-        ensures { IfOk result (λ o. o ≡ record { partial = begun_hunk (4 * size); count = count }) }
+    /// A hunk of this size, in longwords, whose content begins, in this room.
+    pub(crate) fn new(alloc: A, size: u32, count: usize, room: Vec<u8, A>) -> Self
+        ensures { result ≡ record { partial = begun_hunk (4 * size); count = count } }
     {
-        let limit = 4 * u64::from(size);
-        let capacity = if keeps { limit as usize } else { 0 };
-        let partial = PartialHunk::with_capacity(alloc, limit, capacity)?;
-        Ok(OpenImage { partial, count })
+        OpenImage {
+            partial: PartialHunk::in_room(alloc, 4 * u64::from(size), room),
+            count,
+        }
     }
 
     /// The next word is not content.

@@ -49,8 +49,8 @@ pub use check::check_run;
 pub use fault_line::write_fault;
 pub use file_system::FileSystem;
 pub use hunk_files::{
-    CountedFile, Explanation, File, Found, HunkFile, LoadCounter, ObjectCounter, count_file,
-    explain_file, explain_load, explain_object, read_hunk_file, write_explanation,
+    CountedFile, Explanation, File, Found, HunkFile, HunkFileDecoder, LoadCounter, ObjectCounter,
+    count_file, explain_file, explain_load, explain_object, read_hunk_file, write_explanation,
 };
 pub use hunk_loader::PlaceFault;
 pub use hunk_memory::{

@@ -1,5 +1,5 @@
 //! The current hunk of a reader: its sites, and its content so far.
-ghost use Rattle.std.specs.Prelude.{◌≡◌, ℕ, ◌<◌, ◌≤◌, ◌↔◌, List, [], ◌∷◌, length, false, IfOk, OnOk, OnErr, IsTrue, IsFalse};
+ghost use Rattle.std.specs.Prelude.{◌≡◌, ℕ, ◌<◌, ◌≤◌, ◌↔◌, List, [], ◌∷◌, length, false, OnOk, OnErr, IsTrue, IsFalse};
 ghost use Rattle.hunk_words.specs.PartialHunk.{HoldsSites, begun_hunk, filled_hunk, hunk_with_bytes, hunk_with_site, hunk_with_word, initial_hunk};
 ghost use Rattle.hunk_base.specs.Sites.{AreApart};
 ghost use Rattle.hunk_words.specs.Taker.{JudgesSite};
@@ -45,21 +45,18 @@ impl<T: Copy, A: Allocator + Copy> PartialHunk<T, A> {
         }
     }
 
-    /// A hunk whose content begins, with this limit in bytes, and with memory for `capacity` bytes
-    /// of content.
-    ///
-    /// # Errors
-    ///
-    /// [`AllocError`] only if the allocation failed.
-    pub fn with_capacity(alloc: A, limit: u64, capacity: usize) -> Result<Self, AllocError>
-        ensures { IfOk result (λ hunk. hunk ≡ begun_hunk limit) }
+    /// A hunk whose content begins, with this limit in bytes. Its content is made in this room, whose
+    /// bytes are forgotten: none is allocated for it as long as the room has the capacity.
+    pub fn in_room(alloc: A, limit: u64, room: Vec<u8, A>) -> Self
+        ensures { result ≡ begun_hunk limit }
     {
-        let content = Vec::with_capacity(alloc, capacity)?;
-        Ok(PartialHunk {
+        let mut content = room;
+        content.clear();
+        PartialHunk {
             content,
             sites: Sites::new(alloc, limit),
             in_content: true,
-        })
+        }
     }
 
     /// Begins the content, and sets the limit in bytes. Does not allocate: the content grows as its

@@ -27,7 +27,8 @@ fn begins_once(rt: HostRuntime) -> Result<(), Fail> {
     equals(&rt, hunk.add_site(0, 'a'), Ok(()));
     assert!(rt; !hunk.begin_content(rt.alloc(), 8));
     equals(&rt, hunk.limit(), 4);
-    let mut hunk = PartialHunk::<char>::with_capacity(rt.alloc(), 4, 4)?;
+    let room = Vec::with_capacity(rt.alloc(), 4)?;
+    let mut hunk = PartialHunk::<char>::in_room(rt.alloc(), 4, room);
     hunk.add_word(1)?;
     assert!(rt; !hunk.begin_content(rt.alloc(), 8));
     equals(&rt, hunk.add_site(1, 'b'), Err(SiteRefusal::Outside));
@@ -36,7 +37,8 @@ fn begins_once(rt: HostRuntime) -> Result<(), Fail> {
 
 #[test]
 fn content_stays_below_the_limit(rt: HostRuntime) -> Result<(), Fail> {
-    let mut hunk = PartialHunk::<u32>::with_capacity(rt.alloc(), 6, 0)?;
+    let room = Vec::from_slice(rt.alloc(), &[9, 9, 9])?;
+    let mut hunk = PartialHunk::<u32>::in_room(rt.alloc(), 6, room);
     hunk.add_word(0x0102_0304)?;
     assert!(rt; hunk.add_word(0x0506_0708).is_err());
     hunk.fill()?;

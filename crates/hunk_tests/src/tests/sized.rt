@@ -4,7 +4,7 @@ use super::asserts::{equals, equals_at, holds};
 use hunk_loader::{HeaderHunk, HeaderLoader, Image, LoadRefusal, PlaceFault, PlaceRefusal};
 use hunk_loadfile::Memory;
 use hunk_test_support::load_words::TWO_HUNKS;
-use hunk_test_support::{CHUNKS, FILE, bytes_of};
+use hunk_test_support::{CHUNKS, FILE, Refusing, bytes_of};
 use hunk_words::{Fault, Reason};
 use std::alloc::{Allocator, Global};
 use std::process::Abort;
@@ -180,7 +180,7 @@ fn places_a_whole_header_alone(rt: HostRuntime) -> Result<(), Fail> {
 }
 
 // The bytes at offsets 2 to 5 of the first hunk: the base of the second one.
-fn is_at(rt: &impl Abort, image: &Image, base: u32, wanted: [u8; 4]) {
+fn is_at<A: Allocator + Copy>(rt: &impl Abort, image: &Image<A>, base: u32, wanted: [u8; 4]) {
     for (offset, want) in (2u32..).zip(wanted) {
         equals(rt, image.byte(base.wrapping_add(offset)), Some(want));
     }
@@ -204,6 +204,45 @@ fn loads_a_file_twice(rt: HostRuntime) -> Result<(), Fail> {
             }
             Err(refusal) => holds(&rt, &refusal, false),
         }
+    }
+    Ok(())
+}
+
+// Loads the rest of `TWO_HUNKS` in these rooms, and returns how many allocations that takes.
+fn allocations<'a>(
+    rt: &impl Abort,
+    heap: &'a Refusing<Global>,
+    header: &HeaderLoader<&'a Refusing<Global>>,
+    rest: &[u8],
+    rooms: Vec<Vec<u8, &'a Refusing<Global>>, &'a Refusing<Global>>,
+) -> Result<u64, Fail> {
+    let before = heap.asked();
+    let placed = header.place_in(&[0x1000, 0x0002_0000], rooms);
+    let mut loader = placed.ok().ok_or("not placed")?;
+    loader.feed(rest)?;
+    let image = loader.finish()?;
+    is_at(rt, &image, 0x1000, [0, 2, 0, 0]);
+    Ok(heap.asked().wrapping_sub(before))
+}
+
+#[test]
+fn makes_hunks_in_rooms(rt: HostRuntime) -> Result<(), Fail> {
+    let bytes = bytes_of(rt.alloc(), &TWO_HUNKS, &[])?;
+    let heap = Refusing::new(rt.alloc(), u64::MAX);
+    let mut header: HeaderLoader<&Refusing<Global>> = HeaderLoader::new(&heap);
+    let taken = header.feed(&bytes)?;
+    let rest = bytes.get(taken..).ok_or("no rest")?;
+    let alone = allocations(&rt, &heap, &header, rest, Vec::new(&heap))?;
+    for given in [1, 2] {
+        let mut rooms = Vec::new(&heap);
+        for hunk in header.hunks().ok_or("no hunks")?.iter().take(given) {
+            let mut room = Vec::with_capacity(&heap, 4 * hunk.size as usize)?;
+            room.resize(4 * hunk.size as usize, 0xFF)?;
+            rooms.push(room)?;
+        }
+        // Each of the two hunks has bytes, and takes one allocation where it has no room.
+        let beside = allocations(&rt, &heap, &header, rest, rooms)?;
+        equals(&rt, alone.wrapping_sub(beside), given as u64);
     }
     Ok(())
 }

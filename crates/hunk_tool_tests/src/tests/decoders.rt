@@ -6,7 +6,7 @@ use hunk_loader::{ImageLoader, LoadRefusal, PlaceFault};
 use hunk_loadfile::{LoadDecoder, read_load};
 use hunk_objects::{ObjectDecoder, read_object};
 use hunk_test_support::{BASE, CHUNKS, LATER_PIECES, ROOM};
-use hunk_tool::{LoadCounter, ObjectCounter, ToolFault, load_run};
+use hunk_tool::{HunkFileDecoder, LoadCounter, ObjectCounter, ToolFault, load_run};
 use hunk_words::FileKind::{Load, Object};
 use hunk_words::{Decoder, Fault, FileKind, Pieces, ReadFault, Reason, Refusal, Room, Taker};
 use std::alloc::{Allocator, Global};
@@ -48,6 +48,17 @@ impl<A: Allocator + Copy> Judge for ObjectDecoder<A> {
 }
 
 impl<A: Allocator + Copy> Judge for LoadDecoder<A> {
+    fn judge(&mut self, piece: &[u8]) -> Result<(), LoadRefusal> {
+        Ok(self.feed(piece)?)
+    }
+
+    fn close(self) -> Result<(), LoadRefusal> {
+        self.finish()?;
+        Ok(())
+    }
+}
+
+impl<A: Allocator + Copy> Judge for HunkFileDecoder<A> {
     fn judge(&mut self, piece: &[u8]) -> Result<(), LoadRefusal> {
         Ok(self.feed(piece)?)
     }
@@ -203,7 +214,8 @@ fn is_text_so(
     Ok(())
 }
 
-// Both texts about the file have this result, if the first four bytes tell a file of this kind.
+// A decoder of either kind, and both texts about the file, have this result, if the first four bytes
+// tell a file of this kind.
 fn is_told_so(
     rt: &impl Abort,
     alloc: Global,
@@ -215,6 +227,15 @@ fn is_told_so(
     if is_told_load(bytes) != (kind == Load) {
         return Ok(());
     }
+    assert!(rt; 1 <= chunk);
+    answers_in_time(
+        rt,
+        HunkFileDecoder::new(alloc),
+        bytes,
+        chunk,
+        answer,
+        Ok(()),
+    );
     is_text_so(rt, alloc, Text::Check, bytes, chunk, answer)?;
     is_text_so(rt, alloc, Text::Show, bytes, chunk, answer)
 }

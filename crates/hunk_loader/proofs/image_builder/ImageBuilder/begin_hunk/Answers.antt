@@ -13,5 +13,5 @@ returns-in-Ok g c =
     rw (sym c.self.view_is)
     (TakesEvent-begin _ _ _ _ _ _ c.in-None.is (omega arith)
     (subst (λ (m : BuilderState). Settled m.placing m.sizes m.bases c.settled-placing.result) (sym c.self.view_is) c.settled-placing.ensures)
-    (begun-is m _ _ _ _ c.in-Ok.ensures
+    (begun-is m _ _ _ _ c.new.ensures
     (get_or_read_under c.self.inside.sizes.items c.self.inside.ended (length c.self.inside.sizes.items) c.index.result.now 0 c.index.ensures (omega arith) refl) (omega arith)))

@@ -9,18 +9,18 @@ use Rattle.hunk_loader.specs.ImageLoader.{IsNotPlaced, StandsFor}
 use Rattle.hunk_loader.specs.Places.{IsFirstRefusal}
 use Rattle.hunk_loader.proofs.HeaderBytesLemmas.{prefix-no-offence}
 use Rattle.hunk_loader.proofs.HeaderLoaderLemmas.{cannot-place, not-placed, sound-whole}
-use Rattle.hunk_loader.proofs.header_loader.HeaderLoader.place.Goals as goal
+use Rattle.hunk_loader.proofs.header_loader.HeaderLoader.place_in.Goals as goal
 
 pub unreachable-requires : goal.unreachable-requires
 unreachable-requires g c =
     let header = sound-whole c.self.inside.header _ _ c.in-Some.hunks.items c.self.invariant (ap (λ hunks. hunks_told hunks) c.in-Some.is) in
     let begins = subst (λ bytes. IsValidPrefix Load (longwords bytes)) (sym c.deref.ensures.value) header.begins in
-    prefix-no-offence _ _ _ begins (rw c.in-Err-File.field-0-is at (c.in-Err-File.ensures.fed _ (c.in-Err-File.ensures.stands [] c.in_ok-loader.ensures.stands)))
+    prefix-no-offence _ _ _ begins (rw c.in-Err-File.field-0-is at (c.in-Err-File.ensures.fed _ (c.in-Err-File.ensures.stands [] c.in_ok-loader.ensures.0)))
 
 pub returns-in-Ok-clause-stands : goal.returns-in-Ok-clause-stands
 returns-in-Ok-clause-stands g c =
     let bytes = c.deref.ensures.value ∙ ap (λ state. state.bytes) c.self.view_is in
-    subst (λ bs. StandsFor c.feed.new.self bs) bytes (c.in-Ok.ensures.stands [] c.in_ok-loader.ensures.stands)
+    subst (λ bs. StandsFor c.feed.new.self bs) bytes (c.in-Ok.ensures.stands [] c.in_ok-loader.ensures.0)
 
 pub returns-in-Ok-clause-stays : goal.returns-in-Ok-clause-stays
 returns-in-Ok-clause-stays g c = λ ok more fault no.
