@@ -1,61 +1,13 @@
 /*
- * The seam between amihunk.h and the exports of crates/amihunk_c: it says which memory a call
- * takes, and passes no NULL on. All else is done, and proved, by the exports.
+ * The seam between amihunk.h and the exports of crates/amihunk_c: memory, loaders and linkers.
  */
-#include "amihunk.h"
+#include "seam.h"
 
 #include <string.h>
 
-/*
- * The exports. A handle is one pointer; items are a pointer that is never NULL, and their number.
- */
-struct span {
-    const uint8_t *bytes;
-    uint64_t size;
-};
+_Thread_local const amihunk_memory *current;
 
-uint32_t amihunk_c_open(void **session, const uint32_t *bases, size_t count);
-uint32_t amihunk_c_begin(void **session);
-uint32_t amihunk_c_feed_header(void **session, const uint8_t *piece, size_t size, uint64_t *taken,
-                               amihunk_answer *answer);
-uint32_t amihunk_c_table(void **session, uint64_t hunk, amihunk_table *told);
-uint32_t amihunk_c_place(void **session, const uint32_t *bases, size_t count,
-                         amihunk_answer *answer);
-uint32_t amihunk_c_feed(void **session, const uint8_t *piece, size_t size, amihunk_answer *answer);
-uint32_t amihunk_c_finish(void **session, amihunk_answer *answer);
-uint64_t amihunk_c_hunk_count(void **session);
-uint32_t amihunk_c_get_hunk(void **session, uint64_t hunk, struct span *span, uint32_t *base);
-uint64_t amihunk_c_read(void **session, uint64_t hunk, uint64_t offset, uint8_t *into, size_t size);
-void amihunk_c_close(void **session);
-uint32_t amihunk_c_check_places(const uint32_t *sizes, size_t size_count, const uint32_t *bases,
-                                size_t base_count, amihunk_answer *answer);
-uint32_t amihunk_c_open_linker(void **session, bool strip, bool short_form, bool trim);
-uint32_t amihunk_c_feed_input(void **session, const uint8_t *piece, size_t size,
-                              amihunk_answer *answer);
-uint32_t amihunk_c_end_input(void **session, amihunk_answer *answer);
-uint32_t amihunk_c_link(void **session, amihunk_answer *answer);
-uint32_t amihunk_c_get_linked(void **session, struct span *span);
-uint64_t amihunk_c_read_linked(void **session, uint64_t offset, uint8_t *into, size_t size);
-uint64_t amihunk_c_refusal_name(void **session, uint8_t *into, size_t size);
-uint64_t amihunk_c_refusal_line(void **session, const uint8_t *file, size_t file_size,
-                                uint8_t *into, size_t size);
-
-/* The memory of the handle whose call runs on this thread. */
-static _Thread_local const amihunk_memory *current;
-
-/* Makes a memory the current one, and returns the one before, which `leave` puts back. */
-static const amihunk_memory *enter(const amihunk_memory *memory)
-{
-    const amihunk_memory *before = current;
-    current = memory;
-    return before;
-}
-
-static uint64_t leave(const amihunk_memory *before, uint64_t result)
-{
-    current = before;
-    return result;
-}
+uint32_t none[1];
 
 /* What the exports get when they ask for memory: whether there is some, and where; never NULL. */
 struct taken {
@@ -74,36 +26,27 @@ struct taken rattle_alloc(size_t size, size_t align)
     return taken(current->allocate(current->context, size != 0 ? size : align, align));
 }
 
-struct taken rattle_realloc(void *block, size_t kept, size_t size, size_t align)
+void *resized(const amihunk_memory *memory, void *block, size_t kept, size_t size, size_t align)
 {
-    size = size != 0 ? size : align;
-    if (current->resize != NULL) {
-        return taken(current->resize(current->context, block, kept, size, align));
+    if (memory->resize != NULL) {
+        return memory->resize(memory->context, block, kept, size, align);
     }
-    void *moved = current->allocate(current->context, size, align);
+    void *moved = memory->allocate(memory->context, size, align);
     if (moved != NULL) {
         memcpy(moved, block, kept);
-        current->release(current->context, block);
+        memory->release(memory->context, block);
     }
-    return taken(moved);
+    return moved;
+}
+
+struct taken rattle_realloc(void *block, size_t kept, size_t size, size_t align)
+{
+    return taken(resized(current, block, kept, size != 0 ? size : align, align));
 }
 
 void rattle_dealloc(void *block)
 {
     current->release(current->context, block);
-}
-
-/* Where no items are, and where none are written. */
-static uint32_t none[1];
-
-static const void *items(const void *given)
-{
-    return given != NULL ? given : none;
-}
-
-static void *room(void *given)
-{
-    return given != NULL ? given : none;
 }
 
 /* Of the room for a text, what is left without the zero byte after it. */
@@ -126,8 +69,8 @@ static size_t end_text(char *into, size_t size, uint64_t length)
  * memory of the handle. The buffer is an array of bytes, and buffer.c uses it as such; the exports,
  * which keep other types in its blocks, are not C, and C's rules on types do not bind them.
  */
-static size_t write_line(void **session, const amihunk_memory *memory, const char *file, char *into,
-                         size_t size)
+size_t write_line(void **session, const amihunk_memory *memory, const char *file, char *into,
+                  size_t size)
 {
     char buffer[2048];
     amihunk_memory short_line = amihunk_in_buffer(buffer, sizeof(buffer));
@@ -143,12 +86,18 @@ static size_t write_line(void **session, const amihunk_memory *memory, const cha
     return end_text(into, size, leave(before, length));
 }
 
-static void close_handle(void **session, amihunk_memory *memory)
+void close_handle(void **session, amihunk_memory *memory)
 {
     const amihunk_memory *before = enter(memory);
     amihunk_c_close(session);
     leave(before, 0);
+    forget_lent(memory);
     *memory = (amihunk_memory){0};
+}
+
+const char *amihunk_version(void)
+{
+    return AMIHUNK_VERSION;
 }
 
 amihunk_status amihunk_loader_open(amihunk_loader *loader, amihunk_memory memory,
@@ -231,6 +180,13 @@ amihunk_status amihunk_loader_get_hunk(amihunk_loader *loader, size_t hunk, amih
     uint32_t status = leave(before, amihunk_c_get_hunk(&loader->session, hunk, &span, &base));
     *told = (amihunk_hunk){span.bytes, span.size, base};
     return status;
+}
+
+amihunk_status amihunk_loader_find(amihunk_loader *loader, uint32_t address, amihunk_point *told)
+{
+    *told = (amihunk_point){0};
+    const amihunk_memory *before = enter(&loader->memory);
+    return leave(before, amihunk_c_find(&loader->session, address, told));
 }
 
 size_t amihunk_loader_read(amihunk_loader *loader, size_t hunk, uint64_t offset, void *into,

@@ -1,13 +1,16 @@
 /*
- * amihunk.h: loads Amiga load files into memory, and links object files into load files.
+ * amihunk.h: loads Amiga load files into memory, links object files into load files, and tells what
+ * is in either.
  *
- * A load file is what LoadSeg reads, and an object file is what assemblers write. Two handles do
+ * A load file is what LoadSeg reads, and an object file is what assemblers write. Three handles do
  * the work:
  *
  *   amihunk_loader   takes the bytes of a load file, in pieces of any size, and makes the memory of
  *                    its hunks at the addresses that you give, relocated;
  *   amihunk_linker   takes object files, one after another and in pieces of any size, and makes one
- *                    load file of them.
+ *                    load file of them;
+ *   amihunk_file     takes a file of either kind, in pieces of any size, and tells what is in it:
+ *                    hunks, their bytes, relocations, symbols and names.
  *
  *     uint32_t bases[] = {0x10000};
  *     amihunk_loader loader = {0};
@@ -32,6 +35,8 @@
  *     }
  *     amihunk_loader_finish(&loader, &answer);
  *
+ * amihunk_loader_place_into does the same in memory of yours, such as the RAM of an emulator.
+ *
  * A handle that is refused answers the same to every later call that feeds or finishes it, so it is
  * enough to look at the answer of the last one.
  *
@@ -54,8 +59,9 @@
  *   you do not want it; no other pointer may be NULL. What a call writes to overlaps nothing else
  *   that it is passed, and not the memory of a handle.
  *
- *   The pointers in an amihunk_hunk and in an amihunk_bytes lead into the memory of the handle, and
- *   hold until it is closed. Do not write there: what is read later would be what you wrote.
+ *   The pointers in what a call tells, such as an amihunk_hunk, lead into the memory of the handle,
+ *   and hold until it is closed. They are not NULL, also if there are no bytes. Do not write there:
+ *   what is read later would be what you wrote.
  *
  * Time
  *
@@ -79,6 +85,18 @@
 #ifdef __cplusplus
 extern "C" {
 #endif
+
+/* The version of this header. */
+#define AMIHUNK_VERSION "0.1.0"
+
+/* The version of the library: AMIHUNK_VERSION of the header that belongs to it. */
+const char *amihunk_version(void);
+
+/* Bytes in the memory of a handle. */
+typedef struct amihunk_bytes {
+    const uint8_t *bytes;
+    uint64_t size;
+} amihunk_bytes;
 
 /* -------------------------------------------- Memory ----------------------------------------- */
 
@@ -170,7 +188,7 @@ typedef enum amihunk_status {
     AMIHUNK_OUT_OF_MEMORY = 11,
     /* The call is out of turn. The handle is as it was. */
     AMIHUNK_WRONG_STATE = 12,
-    /* There is no hunk with this number. */
+    /* There is nothing with this number. */
     AMIHUNK_OUT_OF_RANGE = 13,
     /* The header of the file is whole, and the bases of its hunks are due. */
     AMIHUNK_NEEDS_BASES = 14
@@ -332,6 +350,31 @@ amihunk_status amihunk_loader_table(amihunk_loader *loader, size_t hunk, amihunk
 amihunk_status amihunk_loader_place(amihunk_loader *loader, const uint32_t *bases, size_t count,
                                     amihunk_answer *answer);
 
+/* Where a hunk is to be: its address, and the memory of yours for its bytes. */
+typedef struct amihunk_place {
+    void *bytes;   /* 4 bytes for each longword of its size; NULL if it has none */
+    uint32_t base; /* the address of the first one */
+} amihunk_place;
+
+/*
+ * As amihunk_loader_place, and the bytes of hunk number i are made at places[i].bytes, where
+ * amihunk_loader_get_hunk tells them. Nothing of a hunk is kept elsewhere, or twice. The bytes may
+ * be at any address. No two hunks share one, and none is part of another memory of the loader.
+ *
+ * With AMIHUNK_OK they are the loader's until it is closed: do not write there, and read there only
+ * once the loader is loaded. If the file is refused, they may hold anything. No byte outside them
+ * is touched. With any other status they are yours again, and may hold anything.
+ *
+ * A hunk of no longwords needs no bytes; one that has some, and NULL for them, takes them from the
+ * memory of the loader. It keeps a pointer for each hunk. The time is that of amihunk_loader_place,
+ * and grows as n log n with the number of hunks; so does that of a close, or of a call that
+ * refuses.
+ *
+ * The status is one of those of amihunk_loader_place.
+ */
+amihunk_status amihunk_loader_place_into(amihunk_loader *loader, const amihunk_place *places,
+                                         size_t count, amihunk_answer *answer);
+
 /*
  * Takes the next `size` bytes of the file. The time of all these calls together grows with the
  * bytes of the file and of its hunks in memory; one of them also takes the time of
@@ -375,6 +418,23 @@ size_t amihunk_loader_hunk_count(amihunk_loader *loader);
  * With the last two, `told` is all zeros.
  */
 amihunk_status amihunk_loader_get_hunk(amihunk_loader *loader, size_t hunk, amihunk_hunk *told);
+
+/* A byte of a hunk. */
+typedef struct amihunk_point {
+    uint64_t hunk;   /* the number of the hunk */
+    uint32_t offset; /* how many bytes of the hunk come before it */
+} amihunk_point;
+
+/*
+ * Tells which byte of which hunk is at an address. The time grows with the number of hunks.
+ *
+ * AMIHUNK_OK: `told` is that byte.
+ * AMIHUNK_OUT_OF_RANGE: no hunk has a byte there.
+ * AMIHUNK_WRONG_STATE: the loader is not loaded.
+ *
+ * With the last two, `told` is all zeros.
+ */
+amihunk_status amihunk_loader_find(amihunk_loader *loader, uint32_t address, amihunk_point *told);
 
 /*
  * Copies the bytes of a hunk from `offset` on, as many as there are and at most `size`, and returns
@@ -426,12 +486,6 @@ typedef struct amihunk_linker {
     void *session;
     amihunk_memory memory;
 } amihunk_linker;
-
-/* Bytes in the memory of a handle. */
-typedef struct amihunk_bytes {
-    const uint8_t *bytes;
-    uint64_t size;
-} amihunk_bytes;
 
 /*
  * How object files are linked, and how their load file is written. Whatever is chosen, it has the
@@ -535,6 +589,194 @@ size_t amihunk_linker_line(amihunk_linker *linker, const char *file, char *into,
  * its blocks.
  */
 void amihunk_linker_close(amihunk_linker *linker);
+
+/* --------------------------------------- Looking into files ---------------------------------- */
+
+/* A file to look into. It is closed, reading, read or refused. Leave its fields alone. */
+typedef struct amihunk_file {
+    void *session;
+    amihunk_memory memory;
+} amihunk_file;
+
+/* Which kind of file it is. */
+typedef enum amihunk_file_kind {
+    AMIHUNK_OBJECT_FILE = 0,
+    AMIHUNK_LOAD_FILE = 1
+} amihunk_file_kind;
+
+/* What a file has. */
+typedef struct amihunk_contents {
+    uint64_t units; /* how many program units; 1 of a load file, whose hunks count as those of one */
+    uint32_t kind;  /* an amihunk_file_kind */
+} amihunk_contents;
+
+/* A program unit of an object file, or all hunks of a load file. */
+typedef struct amihunk_unit {
+    amihunk_bytes name; /* of a load file: no bytes */
+    uint64_t hunks;     /* how many hunks it has */
+} amihunk_unit;
+
+/* What a hunk holds. */
+typedef enum amihunk_hunk_kind {
+    AMIHUNK_CODE = 0,
+    AMIHUNK_DATA = 1,
+    /* Zeros, of which the file has none. */
+    AMIHUNK_BSS = 2
+} amihunk_hunk_kind;
+
+/* A hunk as it is in a file. */
+typedef struct amihunk_file_hunk {
+    amihunk_bytes name;    /* of an object file; no bytes if it has none, and in a load file */
+    amihunk_bytes stored;  /* the bytes that the file has for it; zeros follow them in memory */
+    uint64_t sites;        /* how many relocations and references it has */
+    uint64_t symbols;      /* how many symbols for a debugger */
+    uint64_t definitions;  /* how many names it defines; in a load file 0 */
+    uint64_t references;   /* how many names it refers to; in a load file 0 */
+    uint64_t debug_blocks; /* how many debug blocks */
+    uint32_t size;         /* its size in longwords, in memory */
+    uint32_t kind;         /* an amihunk_hunk_kind */
+    uint32_t memory;       /* an amihunk_memory_kind */
+} amihunk_file_hunk;
+
+/* What is added to the longword at a site. */
+typedef enum amihunk_site_kind {
+    /* The base of a hunk. */
+    AMIHUNK_ADDS_HUNK = 0,
+    /* What a name stands for. */
+    AMIHUNK_ADDS_NAME = 1
+} amihunk_site_kind;
+
+/* A longword of a hunk to which something is added when the hunk is linked or loaded. */
+typedef struct amihunk_site {
+    uint32_t offset; /* of its first byte in the hunk */
+    uint32_t kind;   /* an amihunk_site_kind */
+    uint32_t target; /* the number of the hunk, in its unit or load file; or of the reference of
+                        this hunk, whose name it is */
+} amihunk_site;
+
+/* A symbol for a debugger. */
+typedef struct amihunk_symbol {
+    amihunk_bytes name;
+    uint32_t value; /* most often an offset in the hunk, in bytes */
+} amihunk_symbol;
+
+/* A name that a hunk defines. */
+typedef struct amihunk_definition {
+    amihunk_bytes name;
+    uint32_t value;    /* what it stands for: an offset in the hunk, in bytes, or a number */
+    uint32_t absolute; /* 1 for a number, else 0 */
+} amihunk_definition;
+
+/* A debug block. */
+typedef struct amihunk_debug {
+    const uint32_t *longwords; /* as numbers of this machine */
+    uint64_t size;             /* how many these are */
+} amihunk_debug;
+
+/*
+ * Opens a closed file. The time is constant.
+ *
+ * AMIHUNK_OK: the file is reading.
+ * AMIHUNK_OUT_OF_MEMORY: it is still closed.
+ * AMIHUNK_WRONG_STATE: it was not closed.
+ */
+amihunk_status amihunk_file_open(amihunk_file *file, amihunk_memory memory);
+
+/*
+ * Takes the next `size` bytes of the file. It is a load file if its first longword is that of one,
+ * and an object file otherwise. The time of all these calls together grows with the bytes of the
+ * file.
+ *
+ * AMIHUNK_OK: the bytes so far may be the beginning of a file.
+ * AMIHUNK_BAD_FILE: they are not. This comes with the last byte of the longword at the place.
+ * AMIHUNK_OUT_OF_MEMORY: an allocation failed.
+ * AMIHUNK_WRONG_STATE: the file is closed or read.
+ *
+ * With AMIHUNK_BAD_FILE and AMIHUNK_OUT_OF_MEMORY the file is refused from then on: every later
+ * feed and finish gives the same answer.
+ */
+amihunk_status amihunk_file_feed(amihunk_file *file, const void *piece, size_t size,
+                                 amihunk_answer *answer);
+
+/*
+ * Ends the file, and makes what is in it known. The time grows with the number of its hunks and
+ * sites.
+ *
+ * AMIHUNK_OK: the file is read.
+ * AMIHUNK_BAD_FILE: it ends too early.
+ * AMIHUNK_OUT_OF_MEMORY: an allocation failed.
+ * AMIHUNK_WRONG_STATE: the file is closed or read.
+ *
+ * With AMIHUNK_BAD_FILE and AMIHUNK_OUT_OF_MEMORY the file is refused from then on. One that was
+ * refused before gives the same answer as then.
+ */
+amihunk_status amihunk_file_finish(amihunk_file *file, amihunk_answer *answer);
+
+/*
+ * These calls tell what is in a file. Units, hunks and what a hunk has are numbered from 0, in the
+ * order of the file; sites by rising offset. The time of each is constant.
+ *
+ * AMIHUNK_OK: `told` is that.
+ * AMIHUNK_OUT_OF_RANGE: there is no such unit, no such hunk, or nothing with this index.
+ * AMIHUNK_WRONG_STATE: the file is not read.
+ *
+ * With the last two, `told` is all zeros.
+ */
+amihunk_status amihunk_file_get_contents(amihunk_file *file, amihunk_contents *told);
+amihunk_status amihunk_file_get_unit(amihunk_file *file, size_t unit, amihunk_unit *told);
+amihunk_status amihunk_file_get_hunk(amihunk_file *file, size_t unit, size_t hunk,
+                                     amihunk_file_hunk *told);
+amihunk_status amihunk_file_get_site(amihunk_file *file, size_t unit, size_t hunk, size_t index,
+                                     amihunk_site *told);
+amihunk_status amihunk_file_get_symbol(amihunk_file *file, size_t unit, size_t hunk, size_t index,
+                                       amihunk_symbol *told);
+amihunk_status amihunk_file_get_definition(amihunk_file *file, size_t unit, size_t hunk,
+                                           size_t index, amihunk_definition *told);
+amihunk_status amihunk_file_get_reference(amihunk_file *file, size_t unit, size_t hunk,
+                                          size_t index, amihunk_bytes *told);
+amihunk_status amihunk_file_get_debug(amihunk_file *file, size_t unit, size_t hunk, size_t index,
+                                      amihunk_debug *told);
+
+/*
+ * Tells the symbol of a hunk at `offset` or before it: of those whose value is at most that, the
+ * one with the highest value, and of several with this value the first. With amihunk_loader_find it
+ * names an address. The time grows with the number of symbols of the hunk.
+ *
+ * AMIHUNK_OUT_OF_RANGE: there is no such unit, no such hunk, or no such symbol. Otherwise it is as
+ * of the calls above.
+ */
+amihunk_status amihunk_file_symbol_before(amihunk_file *file, size_t unit, size_t hunk,
+                                          uint32_t offset, amihunk_symbol *told);
+
+/*
+ * Writes why the file is refused, as amihunk_loader_line does.
+ *
+ *     amihunk: hello: longword 7: block longer than its hunk
+ */
+size_t amihunk_file_line(amihunk_file *file, const char *name, char *into, size_t size);
+
+/*
+ * Closes a file, whatever it is doing, and releases its memory. The time grows with the number of
+ * its blocks.
+ */
+void amihunk_file_close(amihunk_file *file);
+
+/*
+ * Opens a closed loader, and loads a load file that was read, without reading it again: hunk number
+ * i at address bases[i]. The file stays as it is, and may be closed before the loader. The time
+ * grows with that of amihunk_check_places, and with the bytes of the hunks in memory and their
+ * sites.
+ *
+ * AMIHUNK_OK: the loader is loaded.
+ * AMIHUNK_WRONG_COUNT, AMIHUNK_PAST_END, AMIHUNK_OVERLAP: the hunks cannot be placed at the bases.
+ * AMIHUNK_OUT_OF_MEMORY: an allocation failed.
+ * AMIHUNK_WRONG_STATE: the loader was not closed, or the file is not read, or no load file.
+ *
+ * With all but the first, the loader is as it was.
+ */
+amihunk_status amihunk_loader_load(amihunk_loader *loader, amihunk_memory memory,
+                                   amihunk_file *file, const uint32_t *bases, size_t count,
+                                   amihunk_answer *answer);
 
 #ifdef __cplusplus
 }

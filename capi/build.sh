@@ -12,13 +12,14 @@ flags=(-std=c11 -O2 -fPIC -ffunction-sections -Wall -Wextra -Werror)
 rm -rf out
 mkdir -p out/parts
 ./archive.sh "$@" > out/parts/archive.log 2>&1 || { cat out/parts/archive.log >&2; exit 1; }
-for part in amihunk buffer malloc; do
+for part in amihunk lent file buffer malloc; do
     "$cc" "${flags[@]}" -c "$part.c" -o "out/parts/$part.o"
 done
 
 # The seam, the buffers and the exports become one object, in which only the calls of the header stay global.
-ld -r -o out/parts/joined.o out/parts/amihunk.o out/parts/buffer.o "$crate/out/libamihunk_c.a"
-nm -g --defined-only out/parts/amihunk.o out/parts/buffer.o | awk '$3 ~ /^amihunk_/ { print $3 }' > out/parts/calls
+parts=(out/parts/amihunk.o out/parts/lent.o out/parts/file.o out/parts/buffer.o)
+ld -r -o out/parts/joined.o "${parts[@]}" "$crate/out/libamihunk_c.a"
+nm -g --defined-only "${parts[@]}" | awk '$3 ~ /^amihunk_/ { print $3 }' > out/parts/calls
 objcopy --keep-global-symbols=out/parts/calls --strip-unneeded out/parts/joined.o out/parts/amihunk.o
 
 ar rcsD out/libamihunk.a out/parts/amihunk.o out/parts/malloc.o

@@ -2,3 +2,9 @@ pub mod HandleLemmas
 pub mod LinkerLemmas
 pub mod LinkingLemmas
 pub mod SizingLemmas
+pub mod SiteListsLemmas
+pub mod SymbolBeforeLemmas
+pub mod ReadingLemmas
+pub mod LoadReadLemmas
+pub mod PointsLemmas
+pub mod AskedLemmas

@@ -1,7 +1,9 @@
--- The numbers of statuses and reasons, as C knows them: the one table of them.
+-- The numbers of statuses, reasons and kinds of memory, as C knows them: the one table of them.
 use Rattle.std.specs.Prelude.{ℕ}
 use Rattle.hunk_base.specs.declared.fault.Reason.{Reason}
 use Rattle.hunk_base.specs.declared.fault.Reason.TheVariants.{PartialLongword, UnexpectedEnd, WrongStart, UnknownType, MisplacedType, UnsupportedBlock, UnsupportedExt, BothMemoryBits, ResidentNames, HunkTable, TooLarge, ContentTooLong, NoSuchHunk, SiteOutside, SiteOverlap, SymbolKind, TrailingData}
+use Rattle.hunk_words.specs.declared.kinds.Memory.{Memory}
+use Rattle.hunk_words.specs.declared.kinds.Memory.TheVariants.{Any, Chip, Fast}
 use Rattle.hunk_loader.specs.declared.places.PlaceFault.{PlaceFault}
 use Rattle.hunk_loader.specs.declared.places.PlaceFault.TheVariants as place
 use Rattle.hunk_link.specs.declared.refusal.LinkRefusal.{LinkRefusal}
@@ -84,3 +86,10 @@ reason_number HunkTable = 0
 reason_number TooLarge = 0
 reason_number ContentTooLong = 0
 reason_number TrailingData = 0
+
+-- ---- kinds of memory
+
+abbrev pub memory_code : Memory → ℕ
+memory_code Any = 0
+memory_code Chip = 1
+memory_code Fast = 2

@@ -1,20 +1,12 @@
 -- What C is told of the hunks in a header.
 use Rattle.std.specs.Prelude.{◌≡◌, ℕ, List, length, Option, None, Some, slice_get}
-use Rattle.hunk_words.specs.declared.kinds.Memory.{Memory}
-use Rattle.hunk_words.specs.declared.kinds.Memory.TheVariants.{Any, Chip, Fast}
 use Rattle.hunk_loader.specs.declared.header_hunks.HeaderHunk.{HeaderHunk}
-use Rattle.amihunk_c.specs.Codes.{status_code}
+use Rattle.amihunk_c.specs.Codes.{memory_code, status_code}
 use Rattle.amihunk_c.specs.declared.codes.Status.{Status}
 use Rattle.amihunk_c.specs.declared.codes.Status.TheVariants as status
 use Rattle.amihunk_c.specs.declared.session.Session.{Session}
 use Rattle.amihunk_c.specs.declared.session.Session.TheVariants.{Sizing}
 use Rattle.amihunk_c.specs.declared.table.TableHunk.{TableHunk}
-
--- a kind of memory, as C knows it
-abbrev pub memory_code : Memory → ℕ
-memory_code Any = 0
-memory_code Chip = 1
-memory_code Fast = 2
 
 -- one of so many hunks
 abbrev pub table_hunk : ℕ → HeaderHunk → TableHunk

@@ -1,10 +1,10 @@
 //! The numbers of statuses and reasons, as C knows them.
 ghost use Rattle.std.specs.Prelude.{◌≡◌};
-ghost use Rattle.amihunk_c.specs.Codes.{place_status, reason_code, reason_number, link_status, status_code};
+ghost use Rattle.amihunk_c.specs.Codes.{memory_code, place_status, reason_code, reason_number, link_status, status_code};
 
 use hunk_link::LinkRefusal;
 use hunk_loader::PlaceFault;
-use hunk_words::Reason;
+use hunk_words::{Memory, Reason};
 
 /// What became of a call.
 #[derive(Clone, Copy)]
@@ -35,7 +35,7 @@ pub enum Status {
     OutOfMemory,
     /// The call is out of turn.
     WrongState,
-    /// There is no hunk with that number.
+    /// There is nothing with that number.
     OutOfRange,
     /// The header is whole, and its hunks are to be placed.
     NeedsBases,
@@ -122,5 +122,16 @@ pub(crate) fn reason_number(reason: Reason) -> u32
         | Reason::TooLarge
         | Reason::ContentTooLong
         | Reason::TrailingData => 0,
+    }
+}
+
+/// The number of a kind of memory, as C knows it.
+pub(crate) fn memory_code(memory: Memory) -> u32
+    ensures { result ≡ memory_code memory }
+{
+    match memory {
+        Memory::Any => 0,
+        Memory::Chip => 1,
+        Memory::Fast => 2,
     }
 }

@@ -31,7 +31,7 @@ pub(crate) fn finish_loader(session: &mut Session) -> Answer
             Ok(image) => keep(session, Session::Loaded(image)),
             Err(refusal) => refuse(session, Refused::load(refusal)),
         },
-        Session::Sizing(header) => refuse(session, Refused::load(header.finish())),
+        Session::Sizing(header) => refuse(session, Refused::load(header.into_loader().finish())),
         Session::Stopped(refused) => refuse(session, refused),
         other => {
             set(session, other);

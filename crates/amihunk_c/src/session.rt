@@ -6,18 +6,25 @@ ghost use Rattle.amihunk_c.specs.declared.codes.Status.{Status};
 use crate::answer::Answer;
 use crate::codes::Status;
 use crate::linker::Linker;
+use crate::looked::Looked;
 use crate::refused::Refused;
-use hunk_loader::{HeaderLoader, Image, ImageLoader};
+use crate::rooms::Header;
+use hunk_loader::{Image, ImageLoader};
+use hunk_tool::HunkFileDecoder;
 
 /// What a handle is at. A call that its stage does not allow changes nothing.
 #[derive(Drop)]
 pub enum Session {
     /// The header of a load file is being fed, or its hunks are to be placed.
-    Sizing(HeaderLoader),
+    Sizing(Header),
     /// A load file is being fed.
     Loading(ImageLoader),
     /// A load file is loaded.
     Loaded(Image),
+    /// A file to look into is being fed.
+    Reading(HunkFileDecoder),
+    /// A file to look into was read.
+    Read(Looked),
     /// Object files are being fed.
     Linking(Linker),
     /// Object files are linked, to the bytes of this load file.

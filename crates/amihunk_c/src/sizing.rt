@@ -1,5 +1,6 @@
 //! The calls that tell the sizes of hunks before they have addresses.
 ghost use Rattle.std.specs.Prelude.{◌≡◌};
+ghost use Rattle.amihunk_c.specs.Rooms.{TellsRoom};
 ghost use Rattle.amihunk_c.specs.Sessions.{OpensHandle, StepsHandle};
 ghost use Rattle.amihunk_c.specs.Sizing.{BeginsHeader, FeedsHeader, PlacesHunks};
 ghost use Rattle.amihunk_c.specs.Tables.{TellsHandleHunk};
@@ -7,10 +8,10 @@ ghost use Rattle.amihunk_c.specs.Tables.{TellsHandleHunk};
 use crate::answer::Answer;
 use crate::codes::Status;
 use crate::handle::Handle;
-use crate::header::{feed_header, place_hunks};
+use crate::header::{add_room, feed_header, forget_rooms, place_hunks, reserve_rooms};
+use crate::rooms::Header;
 use crate::session::Session;
 use crate::table::{TableHunk, tell_hunk};
-use hunk_loader::HeaderLoader;
 use std::alloc::Global;
 
 /// Begins to load a file whose hunks have no addresses yet. The handle has no session yet.
@@ -26,7 +27,7 @@ pub extern "C" fn amihunk_c_begin(alloc: Global, handle: &mut Handle) -> u32
             handle.put(session);
             Status::WrongState
         }
-        None => handle.begin(alloc, Session::Sizing(HeaderLoader::new(alloc))),
+        None => handle.begin(alloc, Session::Sizing(Header::new(alloc))),
     };
     begun.code()
 }
@@ -88,7 +89,8 @@ pub extern "C" fn amihunk_c_table(
 }
 
 /// Goes on to load the file at these bases, which are addresses, one for each hunk. The bases are
-/// copied.
+/// copied. The hunks are made in the rooms that were added, each in that with its number, and the
+/// others in new memory. The rooms are the file's then, or free if the hunks are not placed.
 ///
 /// It answers `OK`, and the bytes behind the header are due; `WRONG_COUNT`, `PAST_END` or `OVERLAP` if
 /// the hunks cannot be placed at the bases, or `OUT_OF_MEMORY`, and then other bases can be tried. It
@@ -105,11 +107,64 @@ pub extern "C" fn amihunk_c_place(
 {
     *answer = match handle.take(alloc) {
         Some(mut session) => {
-            let told = place_hunks(&mut session, bases);
+            let told = place_hunks(&mut session, alloc, bases);
             handle.put(session);
             told
         }
         None => Answer::plain(Status::WrongState),
     };
     answer.status
+}
+
+/// Forgets the rooms of hunks that were added, and makes a list for one for each hunk.
+///
+/// It answers `OK` or `OUT_OF_MEMORY`; `WRONG_STATE` if the handle does not read a header, or it is
+/// not whole.
+#[unsafe(no_mangle)]
+pub extern "C" fn amihunk_c_reserve_rooms(alloc: Global, handle: &mut Handle) -> u32
+    ensures session { handle.new.session ≡ handle.old.session }
+    ensures status { TellsRoom handle.old.session result }
+{
+    let status = match handle.take(alloc) {
+        Some(mut session) => {
+            let status = reserve_rooms(&mut session, alloc);
+            handle.put(session);
+            status
+        }
+        None => Status::WrongState,
+    };
+    status.code()
+}
+
+/// Adds the room of the next hunk: memory for its bytes, by one allocation of 4 bytes for each
+/// longword of its size, and by none if it has no longwords. The list of rooms must have been made,
+/// or it may allocate too.
+///
+/// It answers `OK` or `OUT_OF_MEMORY`; `OUT_OF_RANGE` if each hunk has a room; `WRONG_STATE` if the
+/// handle does not read a header, or it is not whole.
+#[unsafe(no_mangle)]
+pub extern "C" fn amihunk_c_add_room(alloc: Global, handle: &mut Handle) -> u32
+    ensures session { handle.new.session ≡ handle.old.session }
+    ensures status { TellsRoom handle.old.session result }
+{
+    let status = match handle.take(alloc) {
+        Some(mut session) => {
+            let status = add_room(&mut session, alloc);
+            handle.put(session);
+            status
+        }
+        None => Status::WrongState,
+    };
+    status.code()
+}
+
+/// Forgets the rooms that were added.
+#[unsafe(no_mangle)]
+pub extern "C" fn amihunk_c_forget_rooms(alloc: Global, handle: &mut Handle)
+    ensures { handle.new.session ≡ handle.old.session }
+{
+    if let Some(mut session) = handle.take(alloc) {
+        forget_rooms(&mut session, alloc);
+        handle.put(session);
+    }
 }

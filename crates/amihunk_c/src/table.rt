@@ -1,11 +1,10 @@
 //! What C is told of the hunks in a header.
 ghost use Rattle.std.specs.Prelude.{◌≡◌};
-ghost use Rattle.amihunk_c.specs.Tables.{TellsHunk, memory_code, table_hunk};
+ghost use Rattle.amihunk_c.specs.Tables.{TellsHunk, table_hunk};
 
-use crate::codes::Status;
+use crate::codes::{Status, memory_code};
 use crate::session::Session;
 use hunk_loader::HeaderHunk;
-use hunk_words::Memory;
 
 /// A hunk in a header, in numbers.
 #[repr(C)]
@@ -32,23 +31,12 @@ impl TableHunk {
     }
 }
 
-/// The number of a kind of memory, as C knows it.
-fn memory_code(memory: Memory) -> u32
-    ensures { result ≡ memory_code memory }
-{
-    match memory {
-        Memory::Any => 0,
-        Memory::Chip => 1,
-        Memory::Fast => 2,
-    }
-}
-
 /// Tells of the hunk with this number, if the header is whole and has one.
 pub(crate) fn tell_hunk(session: &Session, number: u64, told: &mut TableHunk) -> Status
     ensures { TellsHunk session.now number told.old told.new result }
 {
     let hunks = match session {
-        Session::Sizing(header) => header.hunks(),
+        Session::Sizing(header) => header.loader.hunks(),
         _ => None,
     };
     match hunks {

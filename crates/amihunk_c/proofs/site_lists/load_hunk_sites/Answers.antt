@@ -1,0 +1,13 @@
+-- One more site.
+use Rattle.amihunk_c.specs.Facts.{load_site}
+use Rattle.amihunk_c.proofs.SiteListsLemmas.{Told-more}
+use Rattle.amihunk_c.proofs.site_lists.load_hunk_sites.Goals as goal
+
+pub loop-offset-preserved : goal.loop-offset-preserved
+loop-offset-preserved c = record {
+  can_next = tt;
+  is_finite = tt;
+  told = rw c.in_ok-push.ensures.items
+      (Told-more load_site c.loop-offset.sites.items c.loop-offset.offset-iterator c.args.hunk.now.sites.entries c.next.new.self c.of_load.result (c.in-Some.offset, c.in-Some.target.now)
+      c.loop-offset.invariant.told c.in-Some.ensures.steps c.of_load.ensures);
+}
