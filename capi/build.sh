@@ -1,8 +1,9 @@
 #!/usr/bin/env bash
-# Makes capi/out: libamihunk.a, amihunk.h and amihunk.pc, for `cc` and for pkg-config. The arguments are handed to
-# archive.sh, which proves and builds crates/amihunk_c. It needs the toolchain, a C compiler ($CC, or cc) and binutils.
+# Makes capi/out: libamihunk.a, libamihunk.so with its versions, amihunk.h and amihunk.pc, for `cc` and for pkg-config. The
+# arguments are handed to archive.sh, which proves and builds crates/amihunk_c. It needs the toolchain, a C compiler ($CC, or
+# cc) and binutils.
 #
-# Of the library no names are global but the calls of amihunk.h.
+# Of both libraries no names are global but the calls of amihunk.h.
 set -eu
 cd "$(dirname "$0")"
 crate=../crates/amihunk_c
@@ -23,14 +24,17 @@ nm -g --defined-only "${parts[@]}" | awk '$3 ~ /^amihunk_/ { print $3 }' > out/p
 objcopy --keep-global-symbols=out/parts/calls --strip-unneeded out/parts/joined.o out/parts/amihunk.o
 
 ar rcsD out/libamihunk.a out/parts/amihunk.o out/parts/malloc.o
+./shared.sh out
 cp amihunk.h out/amihunk.h
 version="$(sed -n 's/^## \([0-9.]*\).*/\1/p' ../CHANGELOG.md | sed -n 1p)"
 cat > out/amihunk.pc << END
 prefix=\${pcfiledir}
+includedir=\${prefix}
+libdir=\${prefix}
 
 Name: amihunk
 Description: Loads Amiga load files into memory, and links object files
 Version: $version
-Cflags: -I\${prefix}
-Libs: -L\${prefix} -lamihunk
+Cflags: -I\${includedir}
+Libs: -L\${libdir} -lamihunk
 END
