@@ -1,5 +1,6 @@
 #!/usr/bin/env bash
-# Installs the program, its man page and completions, and the library for C, and builds what of them is missing.
+# Installs the program, its man page and completions, the libraries for C, and the module for Python, and builds what of them
+# is missing.
 #
 #     ./install.sh [--prefix DIR] [--destdir DIR] [--uninstall]
 #
@@ -7,14 +8,25 @@
 # --destdir    puts all of it below this folder, as packagers do; what is installed does not name it
 # --uninstall  removes what an earlier run installed there, and the folders that it made
 #
-# The tree may be moved afterwards: amihunk.pc finds the header and the library from where it stands itself. The status is 0
+# The tree may be moved afterwards: amihunk.pc finds the header and the libraries from where it stands itself. The status is 0
 # if all was done, 1 if something could not be done, and 2 if the command line is not understood.
 set -eu
 export LC_ALL=C
 top="$(cd "$(dirname "${BASH_SOURCE[0]}")" && pwd)"
 
+# The lines of the module for Python: all of its name in python/, but what Python itself leaves there.
+python_parts() {
+    [ ! -d "$top/python" ] || (cd "$top/python" && find . -name __pycache__ -prune -o -type f -path './amihunk*' \
+        -printf '644 python/%P lib/python3/site-packages/%P\n') | sort
+}
+
+version="$(sed -n 's/^## \([0-9.]*\).*/\1/p' "$top/CHANGELOG.md" | sed -n 1p)"
+shared="libamihunk.so.$version"
+soname="libamihunk.so.${version%%.*}"
+
 # What is installed: MODE SOURCE TARGET, the source below this folder and the target below the prefix. A source with a `?`
-# may be missing. To install another file, add its line.
+# may be missing. In place of its mode a link has the word `link`, and its source is where it leads to. To install another file,
+# add its line.
 parts="
 755 crates/amihunk/out/amihunk bin/amihunk
 644 docs/amihunk.1             share/man/man1/amihunk.1
@@ -22,8 +34,12 @@ parts="
 644 completions/_amihunk       share/zsh/site-functions/_amihunk
 644 capi/out/amihunk.h         include/amihunk.h
 644 capi/out/libamihunk.a      lib/libamihunk.a
+755 capi/out/$shared           lib/$shared
+link $shared                   lib/$soname
+link $soname                   lib/libamihunk.so
 644 capi/out/amihunk.pc        lib/pkgconfig/amihunk.pc
 644 LICENSE?                   share/doc/amihunk/LICENSE
+$(python_parts)
 "
 # What the files and folders of an installation are, for the next run and for --uninstall.
 record=share/amihunk/installed
@@ -78,13 +94,25 @@ recorded_lines() {
     fi
 }
 
+remove() { # TARGET, with what Python made of it when it was imported
+    local name
+    case "$1" in
+        *.py)
+            name="${1##*/}"
+            rm -f -- "$root/${1%/*}/__pycache__/${name%.py}".*.pyc
+            rmdir -- "$root/${1%/*}/__pycache__" 2> /dev/null || true
+            ;;
+    esac
+    rm -f -- "$root/$1"
+}
+
 if [ "$uninstall" = yes ]; then
     [ -f "$root/$record" ] || refuse 1 "nothing is installed in $root"
     mapfile -t files < <(recorded_lines file)
     mapfile -t folders < <(recorded_lines folder | sort -r)
     mapfile -t above < <(recorded_lines above | sort -r)
     for file in "${files[@]#file }" "$record"; do
-        rm -f -- "$root/$file" || refuse 1 "cannot remove $root/$file"
+        remove "$file" || refuse 1 "cannot remove $root/$file"
     done
     # A folder stays if something else is in it. Those above the prefix are theirs only as long as the tree was not moved.
     for folder in "${folders[@]#folder }"; do
@@ -98,7 +126,7 @@ if [ "$uninstall" = yes ]; then
 fi
 
 build() { # what of the parts is missing
-    if [ -e "$top/crates/amihunk/out/amihunk" ] && [ -e "$top/capi/out/libamihunk.a" ]; then
+    if [ -e "$top/crates/amihunk/out/amihunk" ] && [ -e "$top/capi/out/amihunk.pc" ] && [ -e "$top/capi/out/$shared" ]; then
         return
     fi
     command -v rt > /dev/null || refuse 1 "not everything is built, and there is no rt to build it"
@@ -106,9 +134,9 @@ build() { # what of the parts is missing
         echo "The program is proved and built first, which takes about half an hour."
         (cd "$top/crates/amihunk" && rt run -- --version) || refuse 1 "the program was not built"
     fi
-    if [ ! -e "$top/capi/out/libamihunk.a" ]; then
-        echo "The library for C is proved and built first."
-        "$top/capi/build.sh" || refuse 1 "the library was not built"
+    if [ ! -e "$top/capi/out/amihunk.pc" ] || [ ! -e "$top/capi/out/$shared" ]; then
+        echo "The libraries for C are proved and built first."
+        "$top/capi/build.sh" || refuse 1 "the libraries were not built"
     fi
 }
 
@@ -129,10 +157,16 @@ make_folder() { # PATH, with the folders above it
     esac
 }
 
-put() { # MODE SOURCE TARGET: a whole file, or none
+put() { # MODE SOURCE TARGET: a whole file or link, or none
     local new="$root/$3.new"
     make_folder "$(dirname "$root/$3")"
-    { cp -- "$2" "$new" && chmod "$1" -- "$new" && mv -f -- "$new" "$root/$3"; } || {
+    {
+        if [ "$1" = link ]; then
+            ln -sf -- "$2" "$new"
+        else
+            cp -- "$2" "$new" && chmod "$1" -- "$new"
+        fi && mv -fT -- "$new" "$root/$3"
+    } || {
         rm -f -- "$new"
         refuse 1 "cannot write $root/$3"
     }
@@ -165,11 +199,11 @@ while read -r mode source target; do
     if [ "${source%\?}" != "$source" ] && [ ! -e "$top/${source%\?}" ]; then
         continue
     fi
-    source="$top/${source%\?}"
+    [ "$mode" = link ] || source="$top/${source%\?}"
     if [ "$target" = lib/pkgconfig/amihunk.pc ]; then
-        # In the build the three files stand side by side; here they have folders of their own.
-        sed -e 's|^prefix=.*|prefix=${pcfiledir}/../..|' -e 's|^Cflags:.*|Cflags: -I${prefix}/include|' \
-            -e 's|^Libs:.*|Libs: -L${prefix}/lib -lamihunk|' "$source" > "$work/amihunk.pc"
+        # In the build the files stand side by side; here they have folders of their own.
+        sed -e 's|^prefix=.*|prefix=${pcfiledir}/../..|' -e 's|^includedir=.*|includedir=${prefix}/include|' \
+            -e 's|^libdir=.*|libdir=${prefix}/lib|' "$source" > "$work/amihunk.pc"
         source="$work/amihunk.pc"
     fi
     put "$mode" "$source" "$target"
@@ -179,7 +213,7 @@ done <<< "$parts"
 # What an earlier version installed, and this one does not.
 while read -r _ file; do
     if [ -n "$file" ] && ! printf '%s\n' "${put_files[@]}" | grep -qxF -- "$file"; then
-        rm -f -- "$root/$file"
+        remove "$file"
     fi
 done <<< "$files_before"
 files_before=
