@@ -23,8 +23,8 @@ oldest="$(find "$work/$name" -type f \( -path '*/bin/*' -o -name '*.so*' \) -exe
     | sed -n 's/.*[( ]GLIBC_\([0-9.]*\)[) ].*/\1/p' | sort -uV | tail -n 1)"
 [ -n "$oldest" ] || { echo "dist.sh: the program asks for no C library" >&2; exit 1; }
 cat > "$work/$name/README" << END
-amihunk $version for Linux on x86-64 (level v2): bin/amihunk --help lists its commands, share/man has its page, and lib/pkgconfig serves C.
-Nothing has to be installed, and the folder may stand anywhere. It needs the GNU C library $oldest or newer, and nothing else.
+amihunk $version for Linux on x86-64 (level v2): bin/amihunk --help lists its commands, share/man has its page, lib/pkgconfig serves C, and lib/python3/site-packages is for PYTHONPATH.
+Nothing has to be installed, and the folder may stand anywhere. It needs the GNU C library $oldest or newer, and nothing else but Python 3 for its module.
 END
 
 tar --create --directory "$work" --format=ustar --sort=name --mtime="@$time" --owner=0 --group=0 --numeric-owner \

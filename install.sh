@@ -25,8 +25,8 @@ shared="libamihunk.so.$version"
 soname="libamihunk.so.${version%%.*}"
 
 # What is installed: MODE SOURCE TARGET, the source below this folder and the target below the prefix. A source with a `?`
-# may be missing. In place of its mode a link has the word `link`, and its source is where it leads to. To install another file,
-# add its line.
+# may be missing. A link has the word `link` for its mode, and for its source what it leads to. To install another file, add
+# its line.
 parts="
 755 crates/amihunk/out/amihunk bin/amihunk
 644 docs/amihunk.1             share/man/man1/amihunk.1

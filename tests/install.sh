@@ -3,13 +3,15 @@
 # an empty root file system with a C library alone. What needs root is left out where it is not there, and so told.
 #
 # The last line is 'N passed, M failed', and the status is 0 if M is 0. It needs what was built by rt ci and capi/check.sh, a C
-# compiler ($CC, or cc), GNU tar and binutils.
+# compiler ($CC, or cc), python3, GNU tar and binutils.
 set -u
 export LC_ALL=C
 top="$(cd "$(dirname "$0")/.." && pwd)"
 cc="${CC:-cc}"
 version="$(sed -n 's/^## \([0-9.]*\).*/\1/p' "$top/CHANGELOG.md" | sed -n 1p)"
 name="amihunk-$version-x86_64-linux"
+shared="libamihunk.so.$version"
+soname="libamihunk.so.${version%%.*}"
 work="$(mktemp -d)"
 trap 'rm -rf "$work"' EXIT
 chmod 755 "$work"
@@ -38,12 +40,30 @@ ends() {
     [ "$status" -eq "$wanted" ]
 }
 
-# Everything in a folder but the folder itself: the paths, with their modes and sums.
+# Everything in a folder but the folder itself: the paths, with their modes, where links lead to, and sums.
 tree_of() {
-    (cd "$1" && find . -mindepth 1 -printf '%P %y %m\n' | sort && find . -type f -exec sha256sum {} + | sort)
+    (cd "$1" && find . -mindepth 1 -printf '%P %y %m %l\n' | sort && find . -type f -exec sha256sum {} + | sort)
 }
 
-# Whether the program, the page, the completions and the library that are installed in a folder can be used: FOLDER
+# Builds the emulator, and runs it where it needs as many shared libraries of ours: NEEDED WORDS.., of the compiler.
+emulates() {
+    local needed="$1"
+    shift
+    "$cc" "$top/examples/c/emulator.c" -o "$work/emulator" "$@"
+    objdump -p "$work/emulator" > "$work/emulator needs"
+    [ "$(grep -cE "NEEDED +$soname\$" "$work/emulator needs")" = "$needed" ]
+    "$work/emulator" "$top/examples/two-hunks.load" 10000 20000 | grep -qx 'the machine starts at 00010000: 207c'
+}
+
+# Runs python3 with the modules of a tree, and with no other library than it finds from there: FOLDER WORDS..
+python_of() {
+    local there="$1"
+    shift
+    env -u PYTHONDONTWRITEBYTECODE -u PYTHONPYCACHEPREFIX -u AMIHUNK_LIBRARY PYTHONPATH="$there/lib/python3/site-packages" \
+        python3 "$@"
+}
+
+# Whether all that is installed in a folder can be used: FOLDER
 is_usable() {
     local there="$1" flags
     [ "$("$there/bin/amihunk" --version)" = "amihunk $version" ]
@@ -53,14 +73,22 @@ is_usable() {
     bash -n "$there/share/bash-completion/completions/amihunk"
     grep -qx '#compdef amihunk' "$there/share/zsh/site-functions/_amihunk"
     grep -q AMIHUNK_H "$there/include/amihunk.h"
+    [ "$(readlink "$there/lib/libamihunk.so")" = "$soname" ]
+    [ "$(readlink "$there/lib/$soname")" = "$shared" ]
+    emulates 1 -I"$there/include" "$there/lib/libamihunk.so" "-Wl,-rpath,$there/lib"
+    emulates 0 -I"$there/include" "$there/lib/libamihunk.a"
     if command -v pkg-config > /dev/null; then
-        [ "$(PKG_CONFIG_PATH="$there/lib/pkgconfig" pkg-config --modversion amihunk)" = "$version" ]
-        flags="$(PKG_CONFIG_PATH="$there/lib/pkgconfig" pkg-config --cflags --libs amihunk)"
-        eval "\"$cc\" \"$top/examples/c/emulator.c\" -o \"$work/emulator\" $flags"
-    else
-        "$cc" -I"$there/include" "$top/examples/c/emulator.c" -o "$work/emulator" "$there/lib/libamihunk.a"
+        local -x PKG_CONFIG_PATH="$there/lib/pkgconfig"
+        [ "$(pkg-config --modversion amihunk)" = "$version" ]
+        eval "flags=($(pkg-config --cflags --libs amihunk))"
+        [ "$(realpath "${flags[0]#-I}" "${flags[1]#-L}")" = "$(realpath "$there/include" "$there/lib")" ]
+        emulates 1 "${flags[@]}" "-Wl,-rpath,$there/lib"
+        emulates 0 -Wl,-Bstatic "${flags[@]}" -Wl,-Bdynamic
     fi
-    "$work/emulator" "$top/examples/two-hunks.load" 10000 20000 | grep -qx 'the machine starts at 00010000: 207c'
+    python_of "$there" -B -c 'import amihunk; print(amihunk.VERSION, amihunk.__file__, open("/proc/self/maps").read())' \
+        > "$work/python says"
+    head -n 1 "$work/python says" | grep -qF "$version $there/lib/python3/site-packages/amihunk"
+    grep -qF "$(realpath "$there")/lib/$shared" "$work/python says"
 }
 
 install_twice() {
@@ -87,6 +115,8 @@ uninstall_moved() {
 uninstall_leaves_nothing() {
     "$top/install.sh" --prefix "$work/new/deep/folder"
     "$top/install.sh" --prefix "$work/new/deep/folder"
+    python_of "$work/new/deep/folder" -c 'import amihunk'
+    [ -n "$(find "$work/new" -name '*.pyc')" ]
     "$top/install.sh" --prefix "$work/new/deep/folder" --uninstall
     [ ! -e "$work/new" ]
 }
@@ -104,10 +134,34 @@ uninstall_leaves_what_is_not_ours() {
     tree_of "$there" | diff "$work/before" -
 }
 
+# Installs a checkout with a licence, and with modules among files of Python's own and of others; and then with less of it.
+licence_and_module() {
+    local checkout="$work/check out" there="$work/licensed" modules
+    modules="$there/lib/python3/site-packages"
+    mkdir -p "$checkout/python/amihunk/__pycache__" "$checkout/python/tests"
+    ln -s "$top/crates" "$top/capi" "$top/docs" "$top/completions" "$top/CHANGELOG.md" "$checkout"
+    cp "$top/install.sh" "$checkout"
+    echo licence > "$checkout/LICENSE"
+    for file in amihunk/{__init__.py,_part.py,__pycache__/_part.cpython-311.pyc} amihunk_more.py tests/other.py; do
+        echo "number = 1" > "$checkout/python/$file"
+    done
+    "$checkout/install.sh" --prefix "$there"
+    [ "$(cat "$there/share/doc/amihunk/LICENSE")" = licence ]
+    [ "$(cd "$modules" && find . -type f | sort | paste -sd ' ')" = \
+        './amihunk/__init__.py ./amihunk/_part.py ./amihunk_more.py' ]
+    python_of "$there" -c 'import amihunk._part, amihunk_more'
+    [ "$(find "$modules" -name '*.pyc' | wc -l)" -eq 3 ]
+    rm "$checkout/python/amihunk/_part.py" "$checkout/LICENSE"
+    "$checkout/install.sh" --prefix "$there"
+    [ -z "$(find "$there" -name '*_part*' -o -name LICENSE)" ]
+    "$checkout/install.sh" --prefix "$there" --uninstall
+    [ ! -e "$there" ]
+}
+
 destdir_is_not_named() {
     "$top/install.sh" --destdir "$work/dest dir" --prefix /srv/amihunk
     is_usable "$work/dest dir/srv/amihunk"
-    ends 1 grep -rlF "dest dir" "$work/dest dir/srv/amihunk/lib/pkgconfig" "$work/dest dir/srv/amihunk/bin"
+    ends 1 grep -rlF "dest dir" "$work/dest dir/srv/amihunk/lib" "$work/dest dir/srv/amihunk/bin"
     "$top/install.sh" --destdir "$work/dest dir" --prefix /srv/amihunk --uninstall
     [ ! -e "$work/dest dir" ]
 }
@@ -159,16 +213,17 @@ archive_is_whole() {
     [ "$(wc -l < "$work/unpacked/$name/README")" -eq 2 ]
     "$top/install.sh" --prefix "$work/installed"
     rm -r "$work/installed/share/amihunk"
-    diff -r -x README "$work/installed" "$work/unpacked/$name"
+    diff -r --no-dereference -x README "$work/installed" "$work/unpacked/$name"
 }
 
-# Whether the program asks for no library but C's, and for no newer one than the archive says.
+# Whether the program and the shared library ask for no library but C's, and for no newer one than the archive says.
 needs_the_c_library_alone() {
-    local program="$work/unpacked/$name/bin/amihunk" told
-    objdump -p "$program" | sed -n 's/^ *NEEDED *//p' > "$work/needed"
+    local there="$work/unpacked/$name" told
+    objdump -p "$there/bin/amihunk" "$there/lib/$shared" | sed -n 's/^ *NEEDED *//p' > "$work/needed"
     ends 1 grep -vxE 'lib(c|m|pthread|dl|rt)\.so\.[0-9]+|ld-linux-x86-64\.so\.2' "$work/needed"
-    told="$(sed -n 's/.*GNU C library \([0-9.]*\) or newer.*/\1/p' "$work/unpacked/$name/README")"
-    objdump -T "$program" | grep -oE 'GLIBC_[0-9.]+' | sed 's/GLIBC_//' | sort -uV | tail -n 1 | grep -qxF "$told"
+    told="$(sed -n 's/.*GNU C library \([0-9.]*\) or newer.*/\1/p' "$there/README")"
+    objdump -T "$there/bin/amihunk" "$there/lib/$shared" | grep -oE 'GLIBC_[0-9.]+' | sed 's/GLIBC_//' | sort -uV | tail -n 1 \
+        | grep -qxF "$told"
     grep -qF "GNU C library $told or newer" "$top/README.md"
 }
 
@@ -190,15 +245,17 @@ empty_root() {
     [ -s "$work/loaded" ]
 }
 
-export top cc version name work
-export -f ends tree_of is_usable install_twice move uninstall_moved uninstall_leaves_nothing uninstall_leaves_what_is_not_ours \
-    destdir_is_not_named wrong_arguments nothing_is_built as_nobody archives_are_the_same archive_is_whole needs_the_c_library_alone empty_root
+export top cc version name shared soname work
+export -f ends tree_of emulates python_of is_usable install_twice move uninstall_moved uninstall_leaves_nothing \
+    uninstall_leaves_what_is_not_ours licence_and_module destdir_is_not_named wrong_arguments nothing_is_built as_nobody \
+    archives_are_the_same archive_is_whole needs_the_c_library_alone empty_root
 if attempt "a tree in a path with spaces, installed twice, is used" install_twice; then
     attempt "a tree that was moved is used" move
     attempt "a tree that was moved is uninstalled" uninstall_moved
 fi
 attempt "uninstalling leaves nothing" uninstall_leaves_nothing
 attempt "uninstalling leaves what is not ours" uninstall_leaves_what_is_not_ours
+attempt "a licence and a module are installed, and what is no part of them any more is removed" licence_and_module
 attempt "a destination is not named in what is installed" destdir_is_not_named
 attempt "wrong arguments are refused" wrong_arguments
 if ! env PATH=/usr/bin:/bin sh -c 'command -v rt' > /dev/null; then
