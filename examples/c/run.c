@@ -15,7 +15,7 @@
 
 #define COUNT(array) (sizeof(array) / sizeof((array)[0]))
 
-/* Has a number, and asks for its digits. At each 00000000 an address is added. */
+/* Has a number, and asks for its digits. To the 00000000 in instructions an address is added. */
 static const uint32_t main_object[] = {
     0x3E7, 1, 0x6D61696E,                   /* UNIT main */
     0x3E9, 4,                               /* hunk 0, CODE: 4 longwords */
