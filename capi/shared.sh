@@ -1,7 +1,7 @@
 #!/usr/bin/env bash
 # Links FOLDER/libamihunk.a into a shared library beside it: libamihunk.so.VERSION, with the link by which programs find it
 # and the one by which they are linked. It exports the calls of amihunk.h and nothing else, for the archive has no other
-# global names. The same archive gives the same bytes, in any folder.
+# global names. The same archive and compiler make the same bytes, in any folder.
 #
 #     capi/shared.sh FOLDER
 #
