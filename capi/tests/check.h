@@ -130,6 +130,7 @@ static inline int same(struct file file, const void *bytes, size_t size)
  */
 struct counted {
     size_t asked;   /* allocations that were asked for, those that were refused too */
+    size_t bytes;   /* their sizes, added up */
     size_t blocks;  /* blocks that are not released */
     size_t refused; /* 0: none */
     int all;
@@ -155,6 +156,7 @@ static inline void *counted_allocate(void *context, size_t size, size_t align)
     struct counted *counted = context;
     CHECK(size != 0);
     CHECK(align == 1 || align == 2 || align == 4 || align == 8 || align == 16);
+    counted->bytes += size;
     if (counted_refuses(counted)) {
         return NULL;
     }
@@ -236,7 +238,35 @@ static inline amihunk_answer load_pieces(amihunk_loader *loader, struct file fil
     return last;
 }
 
-/* The same with object files, each ended, and linked. */
+/* A header of 20 bytes and 4 for each hunk. */
+enum { FRONT = 20 };
+
+/* Feeds the header in pieces of `most` bytes, and counts what is taken. 0: in one piece. */
+static inline amihunk_answer feed_header(amihunk_loader *loader, struct file file, size_t most,
+                                         size_t *taken)
+{
+    amihunk_answer answer = unwritten();
+    *taken = 0;
+    do {
+        size_t rest = file.size - *taken, size = most == 0 || rest < most ? rest : most;
+        size_t count = SIZE_MAX;
+        amihunk_status status =
+            amihunk_loader_feed_header(loader, file.bytes + *taken, size, &count, &answer);
+        CHECK(status == answer.status);
+        CHECK(status == AMIHUNK_NEEDS_BASES ? count <= size
+                                            : count == (status == AMIHUNK_OK ? size : 0));
+        *taken += status == AMIHUNK_OK || status == AMIHUNK_NEEDS_BASES ? count : 0;
+    } while (answer.status == AMIHUNK_OK && *taken < file.size);
+    return answer;
+}
+
+/* What follows the bytes of a file that were taken. It is freed with the file. */
+static inline struct file rest_of(struct file file, size_t taken)
+{
+    return (struct file){file.bytes + taken, file.size - taken};
+}
+
+/* Feeds object files as load_pieces does, ends each, and links them. */
 static inline amihunk_answer link_pieces(amihunk_linker *linker, const struct file *files,
                                          size_t count, size_t most)
 {
@@ -259,6 +289,19 @@ static inline amihunk_answer link_pieces(amihunk_linker *linker, const struct fi
     CHECK(ended == last.status);
     CHECK(status == AMIHUNK_OK || same_answer(&answer, &last));
     return last;
+}
+
+/* Whether both loaders have the same hunks. */
+static inline void check_same_hunks(amihunk_loader *one, amihunk_loader *other)
+{
+    CHECK(amihunk_loader_hunk_count(one) == amihunk_loader_hunk_count(other));
+    for (size_t hunk = 0; hunk < amihunk_loader_hunk_count(one); hunk++) {
+        amihunk_hunk first, second;
+        CHECK(amihunk_loader_get_hunk(one, hunk, &first) == AMIHUNK_OK);
+        CHECK(amihunk_loader_get_hunk(other, hunk, &second) == AMIHUNK_OK);
+        CHECK(first.base == second.base && first.size == second.size &&
+              memcmp(first.bytes, second.bytes, first.size) == 0);
+    }
 }
 
 #endif

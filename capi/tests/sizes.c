@@ -7,29 +7,7 @@
 static const uint32_t bases[] = {0x10000, 0x20000};
 static const size_t pieces[] = {0, 1, 3, 5};
 
-/* A header of 20 bytes and 4 for each hunk. */
-enum { FRONT = 20 };
-
-/* Feeds the header in pieces of `most` bytes, and counts what is taken. 0: in one piece. */
-static amihunk_answer feed_header(amihunk_loader *loader, struct file file, size_t most,
-                                  size_t *taken)
-{
-    amihunk_answer answer = unwritten();
-    *taken = 0;
-    do {
-        size_t rest = file.size - *taken, size = most == 0 || rest < most ? rest : most;
-        size_t count = SIZE_MAX;
-        amihunk_status status =
-            amihunk_loader_feed_header(loader, file.bytes + *taken, size, &count, &answer);
-        CHECK(status == answer.status);
-        CHECK(status == AMIHUNK_NEEDS_BASES ? count <= size
-                                            : count == (status == AMIHUNK_OK ? size : 0));
-        *taken += status == AMIHUNK_OK || status == AMIHUNK_NEEDS_BASES ? count : 0;
-    } while (answer.status == AMIHUNK_OK && *taken < file.size);
-    return answer;
-}
-
-/* Loads a file so, up to the first refusal, and finishes. */
+/* Loads a file by its sizes, up to the first refusal, and finishes. */
 static amihunk_answer load_by_sizes(amihunk_loader *loader, struct file file, size_t most,
                                     const uint32_t *at, size_t count)
 {
@@ -41,24 +19,12 @@ static amihunk_answer load_by_sizes(amihunk_loader *loader, struct file file, si
         if (answer.status != AMIHUNK_OK) {
             return answer;
         }
-        return load_pieces(loader, (struct file){file.bytes + taken, file.size - taken}, most);
+        return load_pieces(loader, rest_of(file, taken), most);
     }
     amihunk_answer last = unwritten();
     CHECK(amihunk_loader_finish(loader, &last) == last.status);
     CHECK(answer.status == AMIHUNK_OK || same_answer(&answer, &last));
     return last;
-}
-
-static void check_same_hunks(amihunk_loader *one, amihunk_loader *other)
-{
-    CHECK(amihunk_loader_hunk_count(one) == amihunk_loader_hunk_count(other));
-    for (size_t hunk = 0; hunk < amihunk_loader_hunk_count(one); hunk++) {
-        amihunk_hunk first, second;
-        CHECK(amihunk_loader_get_hunk(one, hunk, &first) == AMIHUNK_OK);
-        CHECK(amihunk_loader_get_hunk(other, hunk, &second) == AMIHUNK_OK);
-        CHECK(first.base == second.base && first.size == second.size &&
-              memcmp(first.bytes, second.bytes, first.size) == 0);
-    }
 }
 
 /* In any pieces, the file is loaded or refused as by a loader that was opened with these bases. */
@@ -189,8 +155,7 @@ static void other_bases_can_be_tried(void)
     CHECK(amihunk_loader_line(&loader, "x", NULL, 0) == 0);
     CHECK(amihunk_loader_place(&loader, bases, 2, &answer) == AMIHUNK_OK);
     CHECK(amihunk_loader_place(&loader, bases, 2, &answer) == AMIHUNK_WRONG_STATE);
-    CHECK(load_pieces(&loader, (struct file){file.bytes + taken, file.size - taken}, 0).status ==
-          AMIHUNK_OK);
+    CHECK(load_pieces(&loader, rest_of(file, taken), 0).status == AMIHUNK_OK);
     uint8_t bytes[16];
     CHECK(amihunk_loader_read(&loader, 0, 0, bytes, 16) == 16 &&
           memcmp(bytes, two_hunks_first, 16) == 0);
@@ -217,8 +182,7 @@ static void each_allocation_is_refused(void)
             if (status == AMIHUNK_OUT_OF_MEMORY &&
                 amihunk_loader_place(&loader, bases, 2, NULL) == AMIHUNK_OK) {
                 size_t taken = FRONT + 4 * 2;
-                CHECK(load_pieces(&loader, (struct file){file.bytes + taken, file.size - taken}, 0)
-                          .status == AMIHUNK_OK);
+                CHECK(load_pieces(&loader, rest_of(file, taken), 0).status == AMIHUNK_OK);
             }
             asked = counted.asked < n ? counted.asked : asked;
             amihunk_loader_close(&loader);
