@@ -98,7 +98,7 @@ static void every_address_is_that_of_one_hunk_or_of_none(void)
     struct file file = four_hunks();
     for (size_t i = 0; i < COUNT(orders); i++) {
         for (uint32_t gap = 0; gap < 3; gap++) {
-            uint32_t at[4], next = 0xFFFFFFC0;
+            uint32_t at[4], next = -(24 + 3 * gap); /* so that the last byte is that of 2^32 - 1 */
             amihunk_loader loader = {0};
             for (size_t k = 0; k < 4; k++) {
                 at[orders[i][k]] = next;
