@@ -114,6 +114,8 @@ static void a_memory_may_use_other_handles(void)
     memory.resize = NULL;
     CHECK(load(memory, 1) == AMIHUNK_OK);
     CHECK(link_two(memory, 1) == AMIHUNK_OK);
+    CHECK(place(memory, 1) == AMIHUNK_OK);
+    CHECK(reload(memory, 1) == AMIHUNK_OK);
     CHECK(counted.blocks == 0 && counted.asked != 0);
 }
 
@@ -122,6 +124,8 @@ static void *load_often(void *context)
     for (size_t i = 0; i < 500; i++) {
         CHECK(load(counted_memory(context), i % 6) == AMIHUNK_OK);
         CHECK(link_two(counted_memory(context), i % 6) == AMIHUNK_OK);
+        CHECK(place(counted_memory(context), i % 6) == AMIHUNK_OK);
+        CHECK(reload(counted_memory(context), i % 6) == AMIHUNK_OK);
     }
     return NULL;
 }
@@ -161,6 +165,9 @@ static void *load_and_link(void *context)
     CHECK(load(counted_memory(context), 1) == AMIHUNK_OK);
     CHECK(link_two(counted_memory(context), 1) == AMIHUNK_OK);
     CHECK(link_clash(counted_memory(context), 1) == AMIHUNK_DUPLICATE_NAME);
+    CHECK(place(counted_memory(context), 1) == AMIHUNK_OK);
+    CHECK(look_into_object(counted_memory(context), 1) == AMIHUNK_OK);
+    CHECK(reload(counted_memory(context), 1) == AMIHUNK_OK);
     return NULL;
 }
 

@@ -41,6 +41,22 @@ static void each_allocation_of_a_refused_link_is_refused(void)
     refuse_each(link_clash, AMIHUNK_DUPLICATE_NAME);
 }
 
+static void each_allocation_of_a_look_is_refused(void)
+{
+    refuse_each(look_into_object, AMIHUNK_OK);
+    refuse_each(look_into_load, AMIHUNK_OK);
+}
+
+static void each_allocation_of_a_load_from_a_file_is_refused(void)
+{
+    refuse_each(reload, AMIHUNK_OK);
+}
+
+static void each_allocation_of_a_load_into_places_is_refused(void)
+{
+    refuse_each(place, AMIHUNK_OK);
+}
+
 static void blocks_that_cannot_be_resized_are_copied(void)
 {
     struct counted counted = {0};
@@ -48,6 +64,9 @@ static void blocks_that_cannot_be_resized_are_copied(void)
     memory.resize = NULL;
     CHECK(load(memory, 1) == AMIHUNK_OK);
     CHECK(link_two(memory, 1) == AMIHUNK_OK);
+    CHECK(place(memory, 1) == AMIHUNK_OK);
+    CHECK(look_into_object(memory, 1) == AMIHUNK_OK);
+    CHECK(reload(memory, 1) == AMIHUNK_OK);
     CHECK(counted.blocks == 0);
     for (size_t n = 1; n <= 8; n++) {
         counted = (struct counted){.refused = n};
@@ -125,6 +144,18 @@ static void each_buffer_refuses_a_name_or_is_too_small(void)
     in_each_buffer(link_clash, AMIHUNK_DUPLICATE_NAME);
 }
 
+static void each_buffer_tells_of_a_file_or_is_too_small(void)
+{
+    in_each_buffer(look_into_object, AMIHUNK_OK);
+    in_each_buffer(look_into_load, AMIHUNK_OK);
+}
+
+static void each_buffer_loads_a_file_that_was_read_or_is_too_small(void)
+{
+    in_each_buffer(reload, AMIHUNK_OK);
+    in_each_buffer(place, AMIHUNK_OK);
+}
+
 static void a_buffer_is_used_again(void)
 {
     static uint8_t room[MOST];
@@ -132,6 +163,8 @@ static void a_buffer_is_used_again(void)
     for (int i = 0; i < 1000; i++) {
         CHECK(load(memory, (size_t)i % 4) == AMIHUNK_OK);
         CHECK(link_two(memory, (size_t)i % 4) == AMIHUNK_OK);
+        CHECK(place(memory, (size_t)i % 4) == AMIHUNK_OK);
+        CHECK(reload(memory, (size_t)i % 4) == AMIHUNK_OK);
     }
 }
 
@@ -141,11 +174,16 @@ int main(void)
         TEST(each_allocation_of_a_load_is_refused),
         TEST(each_allocation_of_a_link_is_refused),
         TEST(each_allocation_of_a_refused_link_is_refused),
+        TEST(each_allocation_of_a_look_is_refused),
+        TEST(each_allocation_of_a_load_from_a_file_is_refused),
+        TEST(each_allocation_of_a_load_into_places_is_refused),
         TEST(blocks_that_cannot_be_resized_are_copied),
         TEST(lines_need_little_memory),
         TEST(each_buffer_loads_or_is_too_small),
         TEST(each_buffer_links_or_is_too_small),
         TEST(each_buffer_refuses_a_name_or_is_too_small),
+        TEST(each_buffer_tells_of_a_file_or_is_too_small),
+        TEST(each_buffer_loads_a_file_that_was_read_or_is_too_small),
         TEST(a_buffer_is_used_again),
     };
     return run_tests(tests, COUNT(tests));

@@ -5,6 +5,7 @@
 #ifndef RUNS_H
 #define RUNS_H
 
+#include "facts.h"
 #include "files.h"
 
 static const uint32_t bases[] = {0x10000, 0x20000};
@@ -94,6 +95,99 @@ static inline amihunk_status link_clash(amihunk_memory memory, size_t piece)
     free(files[0].bytes);
     free(files[1].bytes);
     return (amihunk_status)answer.status;
+}
+
+/* Loads the file of two hunks into memory of the caller. */
+static inline amihunk_status place(amihunk_memory memory, size_t piece)
+{
+    uint8_t first[16], second[8];
+    const amihunk_place places[] = {{first, bases[0]}, {second, bases[1]}};
+    struct file file = two_hunks();
+    amihunk_loader loader = {0};
+    size_t taken = 0;
+    amihunk_status status = amihunk_loader_begin(&loader, memory);
+    if (status == AMIHUNK_OK) {
+        status = (amihunk_status)feed_header(&loader, file, piece, &taken).status;
+    }
+    if (status == AMIHUNK_NEEDS_BASES) {
+        status = amihunk_loader_place_into(&loader, places, 2, NULL);
+    }
+    if (status == AMIHUNK_OK) {
+        status = (amihunk_status)load_pieces(&loader, rest_of(file, taken), piece).status;
+    }
+    CHECK(status == AMIHUNK_OK || status == AMIHUNK_OUT_OF_MEMORY);
+    CHECK(status != AMIHUNK_OK || (memcmp(first, two_hunks_first, sizeof(first)) == 0 &&
+                                   memcmp(second, two_hunks_second, sizeof(second)) == 0));
+    amihunk_loader_close(&loader);
+    free(file.bytes);
+    return status;
+}
+
+/* Reads a file, and checks what is in it. */
+static inline amihunk_status look(amihunk_memory memory, size_t piece, struct file bytes,
+                                  const struct facts *facts)
+{
+    amihunk_file file = {0};
+    amihunk_answer answer = {.status = amihunk_file_open(&file, memory)};
+    if (answer.status == AMIHUNK_OK) {
+        answer = read_pieces(&file, bytes, piece);
+    } else {
+        CHECK(file.session == NULL);
+    }
+    if (answer.status == AMIHUNK_OK) {
+        check_facts(&file, facts);
+    } else {
+        CHECK(same_answer(&answer, &(amihunk_answer){.status = AMIHUNK_OUT_OF_MEMORY}));
+        if (file.session != NULL) {
+            char line[80];
+            amihunk_contents told;
+            amihunk_answer again = read_pieces(&file, bytes, 0);
+            CHECK(same_answer(&answer, &again));
+            CHECK(amihunk_file_get_contents(&file, &told) == AMIHUNK_WRONG_STATE);
+            CHECK(amihunk_file_line(&file, "x", line, sizeof(line)) == 23);
+            CHECK(strcmp(line, "amihunk: out of memory\n") == 0);
+        }
+    }
+    amihunk_file_close(&file);
+    free(bytes.bytes);
+    return (amihunk_status)answer.status;
+}
+
+static inline amihunk_status look_into_object(amihunk_memory memory, size_t piece)
+{
+    return look(memory, piece, object_of_all(), &object_facts);
+}
+
+static inline amihunk_status look_into_load(amihunk_memory memory, size_t piece)
+{
+    return look(memory, piece, load_of_all(), &load_facts);
+}
+
+/* Reads the file of two hunks, and loads it from there by the same memory. */
+static inline amihunk_status reload(amihunk_memory memory, size_t piece)
+{
+    struct file bytes = two_hunks();
+    amihunk_file file = {0};
+    amihunk_loader loader = {0};
+    amihunk_status status = amihunk_file_open(&file, memory);
+    if (status == AMIHUNK_OK) {
+        status = (amihunk_status)read_pieces(&file, bytes, piece).status;
+    }
+    if (status == AMIHUNK_OK) {
+        status = amihunk_loader_load(&loader, memory, &file, bases, 2, NULL);
+    }
+    if (status == AMIHUNK_OK) {
+        uint8_t first[16];
+        amihunk_file_close(&file);
+        CHECK(amihunk_loader_read(&loader, 0, 0, first, 16) == 16);
+        CHECK(memcmp(first, two_hunks_first, 16) == 0);
+    } else {
+        CHECK(status == AMIHUNK_OUT_OF_MEMORY && loader.session == NULL);
+    }
+    amihunk_file_close(&file);
+    amihunk_loader_close(&loader);
+    free(bytes.bytes);
+    return status;
 }
 
 #endif
