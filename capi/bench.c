@@ -3,10 +3,14 @@
  *
  *   read    it is loaded while it is read, as a file of one hunk;
  *   load    it is read, and then loaded from memory five times; prints the least microseconds;
- *   link    it is read, and then linked from memory five times; prints the same.
+ *   link    it is read, and then linked from memory five times; prints the same;
+ *   place   as load, but its hunk is made in memory of the caller, the same each time;
+ *   asked   as place, but once; prints how many bytes the loader asked of its memory;
+ *   copy    it is read, and then copied five times to the same memory, as load reads it: no loader.
  *
  * The second word says where the handle takes its memory from: malloc, or buffer, which is one of
- * 512 MiB.
+ * 512 MiB. The pages of that, and of memory of the caller, are there from the second time on, and
+ * those of malloc are new each time: so place is to be compared with load in a buffer.
  */
 #include "amihunk.h"
 
@@ -65,6 +69,54 @@ static int load_bytes(amihunk_memory memory, struct bytes file)
     return finish(&loader);
 }
 
+/* Memory of the caller, at least as long as it was last asked for. */
+static unsigned char *room_of(size_t size)
+{
+    static unsigned char *room;
+    static size_t length;
+    if (length < size || room == NULL) {
+        free(room);
+        room = malloc(size);
+        length = size;
+    }
+    return room;
+}
+
+/* Loads a file of one hunk into memory of the caller. Whether it is there. */
+static int place_bytes(amihunk_memory memory, struct bytes file)
+{
+    amihunk_loader loader = {0};
+    amihunk_table table = {0};
+    amihunk_hunk hunk = {0};
+    size_t start = 0;
+    amihunk_loader_begin(&loader, memory);
+    amihunk_loader_feed_header(&loader, file.bytes, file.size, &start, NULL);
+    amihunk_loader_table(&loader, 0, &table);
+    const amihunk_place place = {room_of(4 * (size_t)table.size + 1), base};
+    amihunk_loader_place_into(&loader, &place, 1, NULL);
+    while (start < file.size) {
+        size_t rest = file.size - start, size = rest < PIECE ? rest : PIECE;
+        amihunk_loader_feed(&loader, file.bytes + start, size, NULL);
+        start += size;
+    }
+    int good = amihunk_loader_finish(&loader, NULL) == AMIHUNK_OK &&
+               amihunk_loader_get_hunk(&loader, 0, &hunk) == AMIHUNK_OK;
+    amihunk_loader_close(&loader);
+    return good && hunk.bytes == place.bytes && hunk.size == 4 * (uint64_t)table.size;
+}
+
+/* Copies a file as a load reads it. The copy is read, so that it is made. */
+static int copy_bytes(amihunk_memory memory, struct bytes file)
+{
+    unsigned char *room = room_of(file.size);
+    (void)memory;
+    for (size_t start = 0; room != NULL && start < file.size; start += PIECE) {
+        size_t rest = file.size - start;
+        memcpy(room + start, file.bytes + start, rest < PIECE ? rest : PIECE);
+    }
+    return room != NULL && memcmp(room + file.size / 2, file.bytes + file.size / 2, 1) == 0;
+}
+
 /* Links an object file. Whether there is a load file. */
 static int link_bytes(amihunk_memory memory, struct bytes file)
 {
@@ -115,6 +167,39 @@ static int measure(int (*run)(amihunk_memory, struct bytes), amihunk_memory memo
     return least >= 0;
 }
 
+/* A memory that takes its blocks from malloc, and adds up what it is asked for. */
+static void *count_allocate(void *context, size_t size, size_t align)
+{
+    (void)align;
+    *(size_t *)context += size;
+    return malloc(size);
+}
+
+static void *count_resize(void *context, void *block, size_t kept, size_t size, size_t align)
+{
+    (void)kept;
+    (void)align;
+    *(size_t *)context += size;
+    return realloc(block, size);
+}
+
+static void count_release(void *context, void *block)
+{
+    (void)context;
+    free(block);
+}
+
+static int print_asked(FILE *file)
+{
+    size_t asked = 0;
+    struct bytes whole = whole_file(file);
+    const amihunk_memory memory = {count_allocate, count_resize, count_release, &asked};
+    int good = whole.bytes != NULL && place_bytes(memory, whole);
+    free(whole.bytes);
+    printf("%zu\n", asked);
+    return good;
+}
+
 static int run(const char *what, amihunk_memory memory, FILE *file)
 {
     if (strcmp(what, "read") == 0) {
@@ -123,6 +208,12 @@ static int run(const char *what, amihunk_memory memory, FILE *file)
         return measure(load_bytes, memory, file);
     } else if (strcmp(what, "link") == 0) {
         return measure(link_bytes, memory, file);
+    } else if (strcmp(what, "place") == 0) {
+        return measure(place_bytes, memory, file);
+    } else if (strcmp(what, "asked") == 0) {
+        return print_asked(file);
+    } else if (strcmp(what, "copy") == 0) {
+        return measure(copy_bytes, memory, file);
     }
     return 0;
 }
