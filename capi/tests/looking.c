@@ -67,6 +67,16 @@ static void a_unit_may_have_no_hunks(void)
     check_file(no_units_but_one, &facts);
 }
 
+static struct file other_first_longword(void)
+{
+    return with(load_of_all(), 0, 0xC00003F3);
+}
+
+static void upper_bits_of_the_first_longword_are_ignored(void)
+{
+    check_file(other_first_longword, &load_facts);
+}
+
 /* ------------------------------ Out of range ------------------------------ */
 
 /* What is added to a count: so that it is just out of range, or wraps if it is multiplied. */
@@ -204,6 +214,7 @@ int main(void)
         TEST(everything_in_an_object_file_is_told),
         TEST(everything_in_a_load_file_is_told),
         TEST(a_unit_may_have_no_hunks),
+        TEST(upper_bits_of_the_first_longword_are_ignored),
         TEST(nothing_past_the_last_is_told),
         TEST(pointers_hold_until_the_file_is_closed),
         TEST(longwords_of_debug_blocks_are_aligned),
