@@ -17,6 +17,11 @@ struct rooms {
     size_t count;
 };
 
+static inline uint32_t longword_at(const uint8_t *bytes)
+{
+    return (uint32_t)bytes[0] << 24 | (uint32_t)bytes[1] << 16 | (uint32_t)bytes[2] << 8 | bytes[3];
+}
+
 /* Forgets what is in the rooms. */
 static inline void fill_rooms(struct rooms *rooms)
 {

@@ -260,15 +260,13 @@ static void check_many(amihunk_loader *loader, const uint32_t *sizes, const amih
     CHECK(amihunk_loader_hunk_count(loader) == MANY);
     for (size_t i = 0; i < MANY; i++) {
         uint32_t sum = (uint32_t)i + places[(i + 1) % MANY].base;
-        const uint8_t first[] = {(uint8_t)(sum >> 24), (uint8_t)(sum >> 16), (uint8_t)(sum >> 8),
-                                 (uint8_t)sum};
         amihunk_hunk told = {0};
         CHECK(amihunk_loader_get_hunk(loader, i, &told) == AMIHUNK_OK);
         CHECK(told.bytes != NULL);
         CHECK(places[i].bytes == NULL || told.bytes == places[i].bytes);
         CHECK(told.base == places[i].base && told.size == 4 * sizes[i]);
         if (told.size == 4 * sizes[i] && told.size != 0) {
-            CHECK(memcmp(told.bytes, first, 4) == 0);
+            CHECK(longword_at(told.bytes) == sum);
             CHECK(memcmp(told.bytes + 4, zeros, told.size - 4) == 0);
         }
     }
@@ -298,6 +296,42 @@ static void many_hunks_stand_in_any_order(void)
     }
 }
 
+/* As many hunks as a file may have, in memory that their numbers jump about in. */
+static void the_most_hunks_are_placed(void)
+{
+    enum { HUNKS = 65535, JUMP = 7919 /* it has no factor of HUNKS */ };
+    uint32_t *longwords = some(calloc(5 + 4 * HUNKS, 4));
+    uint8_t *memory = some(malloc(4 * HUNKS));
+    amihunk_place *places = some(malloc(HUNKS * sizeof(amihunk_place)));
+    const uint32_t header[] = {0x3F3, 0, HUNKS, 0, HUNKS - 1};
+    memcpy(longwords, header, sizeof(header));
+    for (size_t i = 0; i < HUNKS; i++) {
+        const uint32_t hunk[] = {0x3EB, 1, 0x3F2};
+        longwords[5 + i] = 1;
+        memcpy(&longwords[5 + HUNKS + 3 * i], hunk, sizeof(hunk));
+        places[i] = (amihunk_place){memory + 4 * (i * JUMP % HUNKS), (uint32_t)(4 * i)};
+    }
+    struct file file = file_of(longwords, 5 + 4 * HUNKS);
+    struct counted counted = {0};
+    amihunk_loader loader = {0};
+    memset(memory, FORGOTTEN, 4 * HUNKS);
+    load_there(&loader, counted_memory(&counted), file, places, HUNKS, 1000);
+    size_t wrong = 0;
+    for (size_t i = 0; i < HUNKS; i++) {
+        amihunk_hunk told = {0};
+        wrong += amihunk_loader_get_hunk(&loader, i, &told) != AMIHUNK_OK ||
+                 told.bytes != places[i].bytes || told.size != 4 || told.base != 4 * i ||
+                 longword_at(told.bytes) != 0;
+    }
+    CHECK(wrong == 0);
+    amihunk_loader_close(&loader);
+    CHECK(counted.blocks == 0);
+    free(file.bytes);
+    free(places);
+    free(memory);
+    free(longwords);
+}
+
 int main(void)
 {
     static const struct test tests[] = {
@@ -309,6 +343,7 @@ int main(void)
         TEST(a_hunk_without_a_room_is_in_memory_of_the_loader),
         TEST(a_hunk_of_no_longwords_needs_no_room),
         TEST(many_hunks_stand_in_any_order),
+        TEST(the_most_hunks_are_placed),
     };
     return run_tests(tests, COUNT(tests));
 }

@@ -313,11 +313,6 @@ static struct file large_hunks(uint32_t longwords)
     return file;
 }
 
-static uint32_t longword_at(const uint8_t *bytes)
-{
-    return (uint32_t)bytes[0] << 24 | (uint32_t)bytes[1] << 16 | (uint32_t)bytes[2] << 8 | bytes[3];
-}
-
 /* Loads such a file at 0 and 80000000 into rooms, and frees it. */
 static void load_large(amihunk_memory memory, uint32_t longwords, size_t piece)
 {
