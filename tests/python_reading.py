@@ -8,7 +8,7 @@ import unittest
 
 import model
 from json_documents import name_value
-from model import ABS, BSS, CODE, DATA, DEBUG, DEF, END, HEADER, RELOC32, SYMBOL, Hunk, Unit, words
+from model import ABS, BSS, CODE, DATA, DEBUG, DEF, END, HEADER, RELOC32, SYMBOL, UNIT, Hunk, Unit, words
 from python_setup import PROGRAM, TOP, Pieces, amihunk, ended, example, run
 from amihunk import Definition, HunkBase, HunkKind, LoadFile, MemoryKind, ObjectFile, Reference, Site, Symbol, symbol_before
 
@@ -116,6 +116,9 @@ class Reading(unittest.TestCase):
         file = words(HEADER, 0, 1, 0, 0, 2 << 30 | 3, 1000, 1) + b"CODE" + words(BSS, 1, RELOC32, 1, 0, 8, 0, DEBUG, 0, END)
         hunk = amihunk.Hunk(b"", HunkKind.BSS, MemoryKind.FAST, 3, b"", (Site(8, HunkBase(0)),), (), (), (), (b"",))
         self.assertEqual(amihunk.read_file(file), LoadFile((hunk,)))
+        # The two upper bits of the first longword do not count, here either.
+        self.assertEqual(amihunk.read_file(words(3 << 30 | HEADER) + file[4:]), LoadFile((hunk,)))
+        self.assertEqual(amihunk.read_file(words(1 << 30 | UNIT, 0)), ObjectFile((amihunk.Unit(b"", ()),)))
 
     def test_every_file_of_the_examples_is_read_as_the_program_shows_it(self):
         accepted = []
