@@ -105,7 +105,7 @@ static void lines_need_little_memory(void)
 
 /* ------------------------------ Buffers ------------------------------ */
 
-enum { MOST = 4096, GUARD = 32 };
+enum { MOST = 8192, GUARD = 32 };
 
 /* A run in each size of buffer, at each of 16 addresses in turn. */
 static void in_each_buffer(amihunk_status (*run)(amihunk_memory, size_t), amihunk_status whole)

@@ -294,14 +294,14 @@ static void each_allocation_is_refused(void)
 
 /*
  * A file of two hunks of `longwords` longwords: content that counts up from 1, and zeros. To the
- * last longword of each, the base of the other is added.
+ * first longword of each, the base of the other is added: a loader takes memory for relocations at
+ * high offsets, which is none of what these tests count.
  */
 static struct file large_hunks(uint32_t longwords)
 {
-    uint32_t last = 4 * (longwords - 1);
     const uint32_t front[] = {0x3F3, 0, 2, 0, 1, longwords, longwords, 0x3EA, longwords};
-    const uint32_t back[] = {0x3EC,     1,     1, last, 0,    0x3F2, 0x3EB,
-                             longwords, 0x3EC, 1, 0,    last, 0,     0x3F2};
+    const uint32_t back[] = {0x3EC,     1,     1, 0, 0, 0x3F2, 0x3EB,
+                             longwords, 0x3EC, 1, 0, 0, 0,     0x3F2};
     uint32_t *all = some(malloc(sizeof(front) + 4 * (size_t)longwords + sizeof(back)));
     memcpy(all, front, sizeof(front));
     for (uint32_t i = 0; i < longwords; i++) {
@@ -326,7 +326,7 @@ static void load_large(amihunk_memory memory, uint32_t longwords, size_t piece)
     check_in_rooms(&loader, &rooms);
     size_t wrong = 0;
     for (uint32_t i = 0; i < longwords; i++) {
-        uint32_t first = i + 1 < longwords ? i + 1 : i + 1 + at[1];
+        uint32_t first = i == 0 ? 1 + at[1] : i + 1;
         wrong += longword_at((uint8_t *)rooms.places[0].bytes + 4 * (size_t)i) != first;
         wrong += longword_at((uint8_t *)rooms.places[1].bytes + 4 * (size_t)i) != 0;
     }
