@@ -266,12 +266,8 @@ class Examples(unittest.TestCase):
         self.assertEqual(run_python(text), (0, wanted.encode(), b""))
 
     def test_the_examples_of_the_manual_do_what_it_says(self):
-        texts = []
-        for path in ("docs/CALLING.md", "python/CALLING-section.md"):
-            if os.path.exists(os.path.join(TOP, path)):
-                with open(os.path.join(TOP, path), encoding="utf-8") as file:
-                    texts.append(file.read())
-        manual = "".join(texts)
+        with open(os.path.join(TOP, "docs/CALLING.md"), encoding="utf-8") as file:
+            manual = file.read()
         self.assertIn(f"```python\n{FIRST}```\n\nprints\n\n{textwrap.indent(FIRST_PRINTS, '    ')}\n", manual)
         self.assertEqual(run_python(FIRST), (0, FIRST_PRINTS.encode(), b""))
         self.assertIn(f"```python\n{SECOND}```\n", manual)
