@@ -14,7 +14,7 @@ name="libamihunk.so.${version%%.*}"
 
 # Nothing runs when it is loaded or unloaded, so that it needs no start files, and with them no names but those of the C
 # library. Its calls call each other directly, whatever else a process calls so.
-flags=(-shared -nostartfiles -s "-Wl,-soname,$name" -Wl,-Bsymbolic-functions -Wl,--gc-sections)
+flags=(-shared -nostartfiles -s "-Wl,-soname,$name" -Wl,-Bsymbolic-functions)
 flags+=(-Wl,-z,defs -Wl,-z,text -Wl,-z,relro -Wl,-z,now -Wl,-z,noexecstack -Wl,--as-needed -Wl,--build-id=none)
 "${CC:-cc}" "${flags[@]}" -Wl,--whole-archive "$folder/libamihunk.a" -Wl,--no-whole-archive -o "$folder/$file"
 ln -sf "$file" "$folder/$name"
