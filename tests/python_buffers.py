@@ -115,22 +115,23 @@ class Buffers(unittest.TestCase):
         # Reading the header takes six reads of four bytes, and what follows nine, and one for the end.
         self.assertEqual(tried, ["resized"] * 6 + ["kept"] * 10)
         self.assertEqual(buffer[:4], words(0x4E754F71))
-        # An exception that is kept does not keep the buffers.
-        kept = []
-        for content in (file[:-1], file + words(0), file[:24] + words(CODE, 2)):
-            with self.assertRaises(amihunk.BadFile) as caught:
-                amihunk.load_into(content, lambda _: [Place(0, buffer)])
-            kept.append(caught.exception)
+    def test_an_exception_that_is_kept_does_not_keep_the_buffers(self):
+        buffer, kept = bytearray(4), []
+        even = memoryview(bytearray(8))[::2]
+        for file, bases, memories in (
+            (ONE_HUNK[:-1], [0], [buffer]),
+            (ONE_HUNK + words(0), [0], [buffer]),
+            (ONE_HUNK[:24] + words(CODE, 2), [0], [buffer]),
+            (ONE_HUNK, [0, 4], [buffer, buffer]),
+            (ONE_HUNK, [0xFFFFFFFF], [buffer]),
+            (THREE_HUNKS, [0, 4, 0], [buffer, buffer, None]),
+            (THREE_HUNKS, [0, 4, 0], [buffer, None, None]),
+            (THREE_HUNKS, [0, 4, 0], [buffer, even, None]),
+        ):
+            try:
+                amihunk.load_into(file, lambda _: [Place(base, memory) for base, memory in zip(bases, memories)])
+            except (amihunk.AmihunkError, TypeError, ValueError) as error:
+                kept.append(error)
             buffer.append(0)
-        for places in ([Place(0, buffer)] * 2, [Place(0xFFFFFFFF, buffer)]):
-            with self.assertRaises(amihunk.BadPlaces) as caught:
-                amihunk.load_into(file, lambda _: places)
-            kept.append(caught.exception)
-            buffer.append(0)
-        self.assertEqual(len(kept), 5)
-        for memory in (memoryview(buffer)[::2], memoryview(buffer)[:3], memoryview(buffer).toreadonly()):
-            with self.assertRaises(ValueError) as caught:
-                amihunk.load_into(file, lambda _: [Place(0, memory)])
-            kept.append(caught.exception)
-            memory.release()
-        buffer.append(0)
+        kinds = [amihunk.BadFile] * 3 + [amihunk.BadPlaces] * 2 + [ValueError, TypeError, ValueError]
+        self.assertEqual([type(error) for error in kept], kinds)

@@ -9,7 +9,7 @@ import unittest
 from array import array
 
 import model
-from model import CODE, END, HEADER, words
+from model import CODE, END, HEADER, UNIT, words
 from python_setup import ONE_HUNK, THREE_HUNKS, Pieces, amihunk, ended, example, loaded
 from amihunk import HeaderHunk, Image, LoadedHunk, MemoryKind
 
@@ -63,6 +63,9 @@ class Loading(unittest.TestCase):
         for file in files:
             self.assertEqual(amihunk.load(file, BASES), IMAGE, file)
             self.assertEqual(amihunk.load(file, lambda _: BASES), IMAGE, file)
+        # It may have no dimensions: this is a unit without hunks.
+        number = ctypes.c_uint64.from_buffer_copy(words(UNIT, 0))
+        self.assertEqual(amihunk.read_file(number), amihunk.ObjectFile((amihunk.Unit(b"", ()),)))
 
     def test_a_file_may_be_a_file_object(self):
         with tempfile.TemporaryFile() as file:

@@ -1,8 +1,10 @@
 """What the calls of the module for Python raise: each exception with all its fields, which were worked out by hand."""
+import ctypes
 import io
 import pathlib
 import pickle
 import unittest
+import unittest.mock
 
 from model import BSS, CODE, DATA, END, EXT, HEADER, RELOC32, SYMBOL, UNIT, words
 from python_setup import ONE_HUNK, THREE_HUNKS, Pieces, amihunk, ended, loaded, run_python
@@ -93,6 +95,10 @@ class Refusals(unittest.TestCase):
             file = Pieces(bad, 3)
             self.assertEqual(ended(call, file), refused(0, Reason.WRONG_START, 0, "wrong first longword"))
             self.assertEqual(file.told, 6)
+        # After a file that ends too early, the next one is not begun.
+        file = Pieces(words(UNIT, 0), 3)
+        self.assertEqual(ended(amihunk.link, [b"", file]), refused(0, Reason.UNEXPECTED_END, 0, "file ends too early"))
+        self.assertEqual(file.told, 0)
 
     def test_hunks_that_cannot_be_placed_are_refused(self):
         # The sizes are 1, 2 and 0 longwords.
@@ -220,7 +226,58 @@ for limit in (pages * resource.getpagesize() + (8 << 20), resource.RLIM_INFINITY
 """
 
 
+class Heap:
+    """A memory of the library that hands out so many blocks, and then none; and knows which are not released."""
+
+    def __init__(self, most):
+        self.left, self.blocks, libc = most, set(), ctypes.CDLL(None)
+        libc.malloc.restype, libc.malloc.argtypes, libc.free.argtypes = ctypes.c_void_p, [ctypes.c_size_t], [ctypes.c_void_p]
+
+        def allocate(_, size, align):
+            self.left -= 1
+            if self.left < 0:
+                return None
+            self.blocks.add(block := libc.malloc(size))
+            return block
+
+        def release(_, block):
+            self.blocks.remove(block)
+            libc.free(block)
+
+        self.calls = (ctypes.CFUNCTYPE(ctypes.c_void_p, ctypes.c_void_p, ctypes.c_size_t, ctypes.c_size_t)(allocate),
+                      ctypes.CFUNCTYPE(None, ctypes.c_void_p, ctypes.c_void_p)(release))
+        allocate_at, release_at = (ctypes.cast(it, ctypes.c_void_p).value for it in self.calls)
+        self.memory = amihunk._library.Memory(allocate_at, None, release_at, None)
+
+
 class LittleMemory(unittest.TestCase):
+    def test_each_allocation_is_refused_in_turn_and_all_blocks_are_released(self):
+        object_file, buffer = words(UNIT, 0, CODE, 1, 7, RELOC32, 1, 0, 0, 0, SYMBOL, 1, 0x61626364, 0, 0, END), bytearray(4)
+        load_file = amihunk.link([object_file])
+        refused = amihunk.OutOfMemory, ("amihunk: out of memory",)
+        for module, call in (
+            ("_loading", lambda: amihunk.load(load_file, [0])),
+            ("_loading", lambda: amihunk.load(load_file, lambda _: [0])),
+            ("_loading", lambda: amihunk.load_into(load_file, lambda _: [Place(0, buffer)])),
+            ("_loading", lambda: amihunk.load(load_file[:-1], [0])),
+            ("_loading", lambda: amihunk.load_into(load_file, lambda _: [Place(0, buffer)] * 2)),
+            ("_linking", lambda: amihunk.link([object_file, object_file])),
+            ("_linking", lambda: amihunk.link([object_file, load_file])),
+            ("_reading", lambda: amihunk.read_file(object_file)),
+            ("_reading", lambda: amihunk.read_file(load_file)),
+            ("_reading", lambda: amihunk.read_file(load_file[:-1])),
+        ):
+            wanted, most, told = ended(call), 0, None
+            while most == 0 or told == refused:
+                heap = Heap(most)
+                with unittest.mock.patch.object(getattr(amihunk, module), "MEMORY", heap.memory):
+                    told = ended(call)
+                self.assertEqual(heap.blocks, set())
+                most += 1
+            self.assertEqual(told, wanted)
+            # At least one was refused before.
+            self.assertGreater(most, 2)
+
     def test_no_memory_is_an_exception_and_nothing_more(self):
         refused = b"OutOfMemory: amihunk: out of memory\n"
         # What is loaded into a buffer needs no memory beside it.
