@@ -119,6 +119,7 @@ class Buffers(unittest.TestCase):
         buffer, kept = bytearray(4), []
         even = memoryview(bytearray(8))[::2]
         for file, bases, memories in (
+            (TWO_HUNKS, [0, 0x100], [buffer, None]),
             (ONE_HUNK[:-1], [0], [buffer]),
             (ONE_HUNK + words(0), [0], [buffer]),
             (ONE_HUNK[:24] + words(CODE, 2), [0], [buffer]),
@@ -133,5 +134,5 @@ class Buffers(unittest.TestCase):
             except (amihunk.AmihunkError, TypeError, ValueError) as error:
                 kept.append(error)
             buffer.append(0)
-        kinds = [amihunk.BadFile] * 3 + [amihunk.BadPlaces] * 2 + [ValueError, TypeError, ValueError]
+        kinds = [ValueError] + [amihunk.BadFile] * 3 + [amihunk.BadPlaces] * 2 + [ValueError, TypeError, ValueError]
         self.assertEqual([type(error) for error in kept], kinds)
