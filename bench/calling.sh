@@ -1,7 +1,7 @@
 #!/usr/bin/env bash
 # Compares the code in docs/CALLING.md and README.md with what it quotes: that in Rattle with crates/hunk_uses, and that in
 # C with examples/c. It prints each block by its first line, and ends with status 1 where one does not stand there word for
-# word, or where a document quotes nothing.
+# word, or where a document quotes nothing. The blocks in Python are left to the tests of its module, which run them.
 set -eu
 top="$(cd "$(dirname "${BASH_SOURCE[0]}")/.." && pwd)"
 declare -A quoted=([rust]=crates/hunk_uses/src/*.rt [c]=examples/c/*.c)
@@ -31,7 +31,7 @@ compare() { # the blocks of DOCUMENT between ``` with a language of these and ``
     local line block='' language='' count=0
     while IFS= read -r line; do
         if [ -n "$language" ] && [ "$line" = '```' ]; then
-            tell "$1" "$language" "${block%$'\n'}"
+            [ "$language" = python ] || tell "$1" "$language" "${block%$'\n'}"
             language='' count=$((count + 1))
         elif [ -n "$language" ]; then
             block+="$line"$'\n'
