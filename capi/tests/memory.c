@@ -105,20 +105,21 @@ static void lines_need_little_memory(void)
 
 /* ------------------------------ Buffers ------------------------------ */
 
-enum { MOST = 8192, GUARD = 32 };
+enum { MOST = 4096, LARGE = 8192, GUARD = 32 };
 
-/* A run in each size of buffer, at each of 16 addresses in turn. */
-static void in_each_buffer(amihunk_status (*run)(amihunk_memory, size_t), amihunk_status whole)
+/* A run in each size of buffer up to one that is enough, at each of 16 addresses in turn. */
+static void in_each_buffer(amihunk_status (*run)(amihunk_memory, size_t), amihunk_status whole,
+                           size_t most)
 {
-    static uint8_t room[MOST + 2 * GUARD];
+    static uint8_t room[LARGE + 2 * GUARD];
     amihunk_status status = AMIHUNK_OUT_OF_MEMORY;
-    for (size_t size = 0; size <= MOST; size++) {
+    for (size_t size = 0; size <= most; size++) {
         uint8_t *buffer = room + GUARD - size % 16;
         memset(room, 0xCC, sizeof(room));
         status = run(amihunk_in_buffer(buffer, size), size % 7);
         CHECK(status == whole || status == AMIHUNK_OUT_OF_MEMORY);
         CHECK(size > 64 || status == AMIHUNK_OUT_OF_MEMORY);
-        for (uint8_t *byte = room; byte < room + sizeof(room); byte++) {
+        for (uint8_t *byte = room; byte < room + most + 2 * GUARD; byte++) {
             if ((byte < buffer || byte >= buffer + size) && *byte != 0xCC) {
                 CHECK(!"a byte outside the buffer is written");
             }
@@ -126,34 +127,34 @@ static void in_each_buffer(amihunk_status (*run)(amihunk_memory, size_t), amihun
     }
     CHECK(status == whole);
     CHECK(run(amihunk_in_buffer(NULL, 0), 0) == AMIHUNK_OUT_OF_MEMORY);
-    CHECK(run(amihunk_in_buffer(NULL, MOST), 0) == AMIHUNK_OUT_OF_MEMORY);
+    CHECK(run(amihunk_in_buffer(NULL, most), 0) == AMIHUNK_OUT_OF_MEMORY);
 }
 
 static void each_buffer_loads_or_is_too_small(void)
 {
-    in_each_buffer(load, AMIHUNK_OK);
+    in_each_buffer(load, AMIHUNK_OK, MOST);
 }
 
 static void each_buffer_links_or_is_too_small(void)
 {
-    in_each_buffer(link_two, AMIHUNK_OK);
+    in_each_buffer(link_two, AMIHUNK_OK, MOST);
 }
 
 static void each_buffer_refuses_a_name_or_is_too_small(void)
 {
-    in_each_buffer(link_clash, AMIHUNK_DUPLICATE_NAME);
+    in_each_buffer(link_clash, AMIHUNK_DUPLICATE_NAME, MOST);
 }
 
 static void each_buffer_tells_of_a_file_or_is_too_small(void)
 {
-    in_each_buffer(look_into_object, AMIHUNK_OK);
-    in_each_buffer(look_into_load, AMIHUNK_OK);
+    in_each_buffer(look_into_object, AMIHUNK_OK, LARGE);
+    in_each_buffer(look_into_load, AMIHUNK_OK, MOST);
 }
 
 static void each_buffer_loads_a_file_that_was_read_or_is_too_small(void)
 {
-    in_each_buffer(reload, AMIHUNK_OK);
-    in_each_buffer(place, AMIHUNK_OK);
+    in_each_buffer(reload, AMIHUNK_OK, MOST);
+    in_each_buffer(place, AMIHUNK_OK, MOST);
 }
 
 static void a_buffer_is_used_again(void)

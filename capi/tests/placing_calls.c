@@ -293,31 +293,38 @@ static void each_allocation_is_refused(void)
 }
 
 /*
- * A file of two hunks of `longwords` longwords: content that counts up from 1, and zeros. To the
- * first longword of each, the base of the other is added: a loader takes memory for relocations at
- * high offsets, which is none of what these tests count.
+ * A file of two hunks of `longwords` longwords: content that counts up from 1, and zeros. If there
+ * are sites, the base of the other hunk is added to the last longword of each.
  */
-static struct file large_hunks(uint32_t longwords)
+static struct file large_hunks(uint32_t longwords, int sites)
 {
+    uint32_t last = 4 * (longwords - 1);
     const uint32_t front[] = {0x3F3, 0, 2, 0, 1, longwords, longwords, 0x3EA, longwords};
-    const uint32_t back[] = {0x3EC,     1,     1, 0, 0, 0x3F2, 0x3EB,
-                             longwords, 0x3EC, 1, 0, 0, 0,     0x3F2};
-    uint32_t *all = some(malloc(sizeof(front) + 4 * (size_t)longwords + sizeof(back)));
-    memcpy(all, front, sizeof(front));
+    const uint32_t first[] = {0x3EC, 1, 1, last, 0}, second[] = {0x3EC, 1, 0, last, 0};
+    const uint32_t between[] = {0x3F2, 0x3EB, longwords};
+    uint32_t *all = some(malloc(4 * ((size_t)longwords + 32))), *next = all;
+    memcpy(next, front, sizeof(front));
+    next += COUNT(front);
     for (uint32_t i = 0; i < longwords; i++) {
-        all[COUNT(front) + i] = i + 1;
+        *next++ = i + 1;
     }
-    memcpy(all + COUNT(front) + longwords, back, sizeof(back));
-    struct file file = file_of(all, COUNT(front) + longwords + COUNT(back));
+    memcpy(next, first, sizeof(first));
+    next += sites ? COUNT(first) : 0;
+    memcpy(next, between, sizeof(between));
+    next += COUNT(between);
+    memcpy(next, second, sizeof(second));
+    next += sites ? COUNT(second) : 0;
+    *next++ = 0x3F2;
+    struct file file = file_of(all, (size_t)(next - all));
     free(all);
     return file;
 }
 
 /* Loads such a file at 0 and 80000000 into rooms, and frees it. */
-static void load_large(amihunk_memory memory, uint32_t longwords, size_t piece)
+static void load_large(amihunk_memory memory, uint32_t longwords, int sites, size_t piece)
 {
     static const uint32_t at[] = {0, 0x80000000};
-    struct file file = large_hunks(longwords);
+    struct file file = large_hunks(longwords, sites);
     struct rooms rooms = make_rooms(at, (const uint32_t[]){longwords, longwords}, 2);
     amihunk_loader loader = {0};
     begin_two_hunks(&loader, memory, file);
@@ -326,7 +333,7 @@ static void load_large(amihunk_memory memory, uint32_t longwords, size_t piece)
     check_in_rooms(&loader, &rooms);
     size_t wrong = 0;
     for (uint32_t i = 0; i < longwords; i++) {
-        uint32_t first = i == 0 ? 1 + at[1] : i + 1;
+        uint32_t first = i + 1 + (sites && i + 1 == longwords ? at[1] : 0);
         wrong += longword_at((uint8_t *)rooms.places[0].bytes + 4 * (size_t)i) != first;
         wrong += longword_at((uint8_t *)rooms.places[1].bytes + 4 * (size_t)i) != 0;
     }
@@ -336,24 +343,29 @@ static void load_large(amihunk_memory memory, uint32_t longwords, size_t piece)
     free(file.bytes);
 }
 
-/* With hunks of 4 MiB it takes the memory that it takes with hunks of a few bytes. */
+/*
+ * With hunks of 4 MiB it takes the memory that it takes with hunks of a few bytes; but for their
+ * relocations, while the hunk is read, and that is little, wherever they are.
+ */
 static void no_memory_is_taken_for_what_is_in_a_room(void)
 {
     static const size_t pieces[] = {0, 1000, 65536};
     for (size_t i = 0; i < COUNT(pieces); i++) {
-        struct counted small = {0}, large = {0};
-        load_large(counted_memory(&small), 1, pieces[i]);
-        load_large(counted_memory(&large), 1 << 20, pieces[i]);
-        CHECK(small.blocks == 0 && large.blocks == 0);
+        struct counted small = {0}, large = {0}, relocated = {0};
+        load_large(counted_memory(&small), 1, 0, pieces[i]);
+        load_large(counted_memory(&large), 1 << 20, 0, pieces[i]);
+        load_large(counted_memory(&relocated), 1 << 20, 1, pieces[i]);
+        CHECK(small.blocks == 0 && large.blocks == 0 && relocated.blocks == 0);
         CHECK(large.bytes == small.bytes && large.asked == small.asked);
-        CHECK(large.bytes < 65536);
+        CHECK(large.bytes < 4096 && relocated.bytes < 65536);
     }
 }
 
 static void a_small_buffer_is_enough_for_large_hunks(void)
 {
-    static uint8_t buffer[4096];
-    load_large(amihunk_in_buffer(buffer, sizeof(buffer)), 1 << 20, 65536);
+    static uint8_t buffer[65536];
+    load_large(amihunk_in_buffer(buffer, 2048), 1 << 20, 0, 65536);
+    load_large(amihunk_in_buffer(buffer, sizeof(buffer)), 1 << 20, 1, 65536);
 }
 
 static void blocks_need_not_be_resized(void)
@@ -361,7 +373,7 @@ static void blocks_need_not_be_resized(void)
     struct counted counted = {0};
     amihunk_memory memory = counted_memory(&counted);
     memory.resize = NULL;
-    load_large(memory, 1000, 1);
+    load_large(memory, 1000, 1, 1);
     CHECK(counted.asked != 0 && counted.blocks == 0);
 }
 
