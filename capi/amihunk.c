@@ -178,7 +178,8 @@ amihunk_status amihunk_loader_get_hunk(amihunk_loader *loader, size_t hunk, amih
     uint32_t base = 0;
     const amihunk_memory *before = enter(&loader->memory);
     uint32_t status = leave(before, amihunk_c_get_hunk(&loader->session, hunk, &span, &base));
-    *told = (amihunk_hunk){span.bytes, span.size, base};
+    const bool empty = status == AMIHUNK_OK && span.size == 0;
+    *told = (amihunk_hunk){empty ? items(NULL) : span.bytes, span.size, base};
     return status;
 }
 

@@ -54,14 +54,14 @@
  * Pointers
  *
  *   What you pass is read or written during that call alone. Of what you pass nothing is kept but
- *   the functions and the context of an amihunk_memory, which have to stay good until the handle is
- *   closed. A pointer to items may be NULL if their number is 0, and the pointer to an answer if
- *   you do not want it; no other pointer may be NULL. What a call writes to overlaps nothing else
- *   that it is passed, and not the memory of a handle.
+ *   the functions and the context of an amihunk_memory, and the bytes of amihunk_loader_place_into.
+ *   They have to stay good until the handle is closed. A pointer to items may be NULL if their
+ *   number is 0, and the pointer to an answer if you do not want it; no other pointer may be NULL.
+ *   What a call writes to overlaps nothing else that it is passed, and not the memory of a handle.
  *
  *   The pointers in what a call tells, such as an amihunk_hunk, lead into the memory of the handle,
- *   and hold until it is closed. They are not NULL, also if there are no bytes. Do not write there:
- *   what is read later would be what you wrote.
+ *   or into those bytes, and hold until it is closed. They are not NULL, also if there are no
+ *   bytes. Do not write there: what is read later would be what you wrote.
  *
  * Time
  *
@@ -188,7 +188,7 @@ typedef enum amihunk_status {
     AMIHUNK_OUT_OF_MEMORY = 11,
     /* The call is out of turn. The handle is as it was. */
     AMIHUNK_WRONG_STATE = 12,
-    /* There is nothing with this number. */
+    /* There is nothing with this number, or at this address. */
     AMIHUNK_OUT_OF_RANGE = 13,
     /* The header of the file is whole, and the bases of its hunks are due. */
     AMIHUNK_NEEDS_BASES = 14
@@ -352,23 +352,26 @@ amihunk_status amihunk_loader_place(amihunk_loader *loader, const uint32_t *base
 
 /* Where a hunk is to be: its address, and the memory of yours for its bytes. */
 typedef struct amihunk_place {
-    void *bytes;   /* 4 bytes for each longword of its size; NULL if it has none */
+    void *bytes;   /* 4 bytes for each longword of its size; NULL: take memory of the loader */
     uint32_t base; /* the address of the first one */
 } amihunk_place;
 
 /*
  * As amihunk_loader_place, and the bytes of hunk number i are made at places[i].bytes, where
  * amihunk_loader_get_hunk tells them. Nothing of a hunk is kept elsewhere, or twice. The bytes may
- * be at any address. No two hunks share one, and none is part of another memory of the loader.
+ * be at any address. No two hunks share one, none is part of a block of the loader's memory, and no
+ * piece that is fed overlaps them. While a hunk is read, its relocations take memory of the loader:
+ * 24 bytes for each 4 KiB of the hunk up to the last of them, and more for each.
  *
  * With AMIHUNK_OK they are the loader's until it is closed: do not write there, and read there only
  * once the loader is loaded. If the file is refused, they may hold anything. No byte outside them
  * is touched. With any other status they are yours again, and may hold anything.
  *
- * A hunk of no longwords needs no bytes; one that has some, and NULL for them, takes them from the
- * memory of the loader. It keeps a pointer for each hunk. The time is that of amihunk_loader_place,
- * and grows as n log n with the number of hunks; so does that of a close, or of a call that
- * refuses.
+ * A hunk of no longwords needs no bytes: what is given for it is not kept, and
+ * amihunk_loader_get_hunk tells another place. One that has some, and NULL for them, takes them
+ * from the memory of the loader. It keeps a pointer for each hunk. The time is that of
+ * amihunk_loader_place, and grows as n log n with the number of hunks; so does that of a close, or
+ * of a call that refuses.
  *
  * The status is one of those of amihunk_loader_place.
  */
@@ -451,12 +454,12 @@ size_t amihunk_loader_read(amihunk_loader *loader, size_t hunk, uint64_t offset,
  *     amihunk: places: hunks 0 and 1 overlap
  *     amihunk: out of memory
  *
- * `file` is what the file is called: a text that ends with a zero byte, or NULL for an empty one.
- * If `size` is not 0, as much of the line as fits is written, at most `size` - 1 bytes, and a zero
- * byte after it. Returns the length of the whole line, as snprintf does, so that something is
- * missing if that is `size` or more. The line is empty if the loader is not refused. One of up to
- * 500 bytes needs no memory; a longer one is empty too if the loader's memory has no room for it.
- * The time grows with the length of the line.
+ * `file` is what the file is called: bytes of any encoding that end with a zero byte, or NULL for
+ * an empty name. If `size` is not 0, as much of the line as fits is written, at most `size` - 1
+ * bytes, and a zero byte after it. Returns the length of the whole line, as snprintf does, so that
+ * something is missing if that is `size` or more. The line is empty if the loader is not refused.
+ * One of up to 500 bytes needs no memory; a longer one is empty too if the loader's memory has no
+ * room for it. The time grows with the length of the line.
  */
 size_t amihunk_loader_line(amihunk_loader *loader, const char *file, char *into, size_t size);
 
@@ -606,7 +609,7 @@ typedef enum amihunk_file_kind {
 
 /* What a file has. */
 typedef struct amihunk_contents {
-    uint64_t units; /* how many program units; 1 of a load file, whose hunks count as those of one */
+    uint64_t units; /* how many program units; a load file counts as one */
     uint32_t kind;  /* an amihunk_file_kind */
 } amihunk_contents;
 
@@ -650,8 +653,9 @@ typedef enum amihunk_site_kind {
 typedef struct amihunk_site {
     uint32_t offset; /* of its first byte in the hunk */
     uint32_t kind;   /* an amihunk_site_kind */
-    uint32_t target; /* the number of the hunk, in its unit or load file; or of the reference of
-                        this hunk, whose name it is */
+    uint32_t target; /* the number of the hunk, in its unit or load file; an object file may name
+                        one that its unit does not have. Or the index of the reference of this
+                        hunk, whose name it is */
 } amihunk_site;
 
 /* A symbol for a debugger. */
@@ -663,7 +667,8 @@ typedef struct amihunk_symbol {
 /* A name that a hunk defines. */
 typedef struct amihunk_definition {
     amihunk_bytes name;
-    uint32_t value;    /* what it stands for: an offset in the hunk, in bytes, or a number */
+    uint32_t value;    /* what it stands for: an offset in the hunk, in bytes, which may lie past
+                          it; or a number */
     uint32_t absolute; /* 1 for a number, else 0 */
 } amihunk_definition;
 
@@ -684,8 +689,8 @@ amihunk_status amihunk_file_open(amihunk_file *file, amihunk_memory memory);
 
 /*
  * Takes the next `size` bytes of the file. It is a load file if its first longword is that of one,
- * and an object file otherwise. The time of all these calls together grows with the bytes of the
- * file.
+ * whose upper two bits do not count, and an object file otherwise. The time of all these calls
+ * together grows with the bytes of the file.
  *
  * AMIHUNK_OK: the bytes so far may be the beginning of a file.
  * AMIHUNK_BAD_FILE: they are not. This comes with the last byte of the longword at the place.
@@ -740,7 +745,8 @@ amihunk_status amihunk_file_get_debug(amihunk_file *file, size_t unit, size_t hu
 /*
  * Tells the symbol of a hunk at `offset` or before it: of those whose value is at most that, the
  * one with the highest value, and of several with this value the first. With amihunk_loader_find it
- * names an address. The time grows with the number of symbols of the hunk.
+ * names an address; the unit of a load file is 0. The time grows with the number of symbols of the
+ * hunk.
  *
  * AMIHUNK_OUT_OF_RANGE: there is no such unit, no such hunk, or no such symbol. Otherwise it is as
  * of the calls above.
@@ -770,9 +776,10 @@ void amihunk_file_close(amihunk_file *file);
  * AMIHUNK_OK: the loader is loaded.
  * AMIHUNK_WRONG_COUNT, AMIHUNK_PAST_END, AMIHUNK_OVERLAP: the hunks cannot be placed at the bases.
  * AMIHUNK_OUT_OF_MEMORY: an allocation failed.
- * AMIHUNK_WRONG_STATE: the loader was not closed, or the file is not read, or no load file.
+ * AMIHUNK_WRONG_STATE: the loader was not closed, or the file is not read, or no load file, which
+ * amihunk_file_get_contents tells.
  *
- * With all but the first, the loader is as it was.
+ * With all but the first, the loader is as it was, so that amihunk_loader_line tells nothing.
  */
 amihunk_status amihunk_loader_load(amihunk_loader *loader, amihunk_memory memory,
                                    amihunk_file *file, const uint32_t *bases, size_t count,
