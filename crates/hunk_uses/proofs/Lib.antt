@@ -1,2 +1,3 @@
 pub mod AssemblerLemmas
+pub mod BootLemmas
 pub mod MachineLemmas

@@ -43,7 +43,7 @@ misplaced-from first file bases bytes more None fault read parts chosen cannot =
 misplaced-from first file bases bytes more (Some hunks) fault read parts chosen cannot =
     record { header = bytes; more = more; parts = parts; hunks = hunks; is_header = read; first_fault = subst (λ bs. IsFirstRefusal (told_sizes hunks) bs fault) (chosen hunks refl) cannot }
 
-told_sizes-of : (file : List FileHunk) → told_sizes (map told_of file) ≡ sizes_of file
+pub told_sizes-of : (file : List FileHunk) → told_sizes (map told_of file) ≡ sizes_of file
 told_sizes-of [] = refl
 told_sizes-of (hunk ∷ file) = ap (λ sizes. hunk.size ∷ sizes) (told_sizes-of file)
 

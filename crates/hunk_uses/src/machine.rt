@@ -55,7 +55,7 @@ fn chosen_bases<'b>(
 
 /// Addresses for these hunks, one after another from `first` on; past the end of memory, its last
 /// address.
-fn bases_for<'b>(
+pub(crate) fn bases_for<'b>(
     budget: &'b LocalHeap,
     first: u32,
     hunks: &[HeaderHunk],

@@ -123,9 +123,30 @@ fn a_refusal_says_what_is_wrong(rt: HostRuntime) -> Result<(), Fail> {
         place: 21,
         reason: Reason::UnexpectedEnd,
     }));
+    let in_header = ImageFault::Refused(LoadRefusal::File(Fault {
+        place: 6,
+        reason: Reason::UnexpectedEnd,
+    }));
     let past = ImageFault::Refused(LoadRefusal::Place(PlaceFault::PastEnd(1)));
     let memory = ImageFault::Refused(LoadRefusal::OutOfMemory);
     is_refused(&rt, alloc, (&PROGRAM[..84], None), BUDGET, 0x1000, early)?;
+    is_refused(
+        &rt,
+        alloc,
+        (&PROGRAM[..24], None),
+        BUDGET,
+        0x1000,
+        in_header,
+    )?;
+    // The file comes before the addresses.
+    is_refused(
+        &rt,
+        alloc,
+        (&PROGRAM[..84], None),
+        BUDGET,
+        0xFFFF_FFF8,
+        early,
+    )?;
     is_refused(&rt, alloc, (PROGRAM, None), BUDGET, 0xFFFF_FFF8, past)?;
     is_refused(&rt, alloc, (PROGRAM, None), 64, 0x1000, memory)?;
     is_refused(
