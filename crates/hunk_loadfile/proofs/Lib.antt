@@ -1,7 +1,11 @@
 pub mod LoadHunkLemmas
 pub mod PatchingLemmas
 pub mod RulesLemmas
+pub mod MappedLemmas
+pub mod MappedRulesLemmas
 pub mod TrimmingLemmas
+pub mod StrippingLemmas
+pub mod NormalFormLemmas
 pub mod PatchingTwiceLemmas
 pub mod LoadFileLemmas
 pub mod LoadFormLemmas

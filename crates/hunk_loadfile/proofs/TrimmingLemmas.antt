@@ -1,17 +1,16 @@
 -- What holds of content whose last zeros are cut.
-use Rattle.std.proofs.Common.{◌≡◌, ◌==◌, ◌≤◌, ◌<◌, ◌+◌, ◌*◌, ◌%◌, ◌||◌, ◌++◌, ◌∙◌, Bool, true, false, not, inl, inr, ℕ, zero, suc, min, max, Option, Some, None, List, [], ◌∷◌, length, map, take, drop, set, get_or, slice_index, length-take, append-nil, refl, sym, ap, subst, sum, sum_by, arith}
-use Rattle.std.specs.List.{All}
+use Rattle.std.proofs.Common.{◌≡◌, ◌==◌, ◌≤◌, ◌<◌, ◌+◌, ◌*◌, ◌%◌, ◌||◌, ◌∙◌, Bool, true, false, not, inl, inr, ℕ, zero, suc, min, max, Option, Some, None, List, [], ◌∷◌, length, take, slice_index, length-take, refl, sym, ap, arith}
 use Rattle.std.specs.Option.{is_some}
 use Rattle.std.proofs.Math.Path.{fun_ext}
 use Rattle.std.proofs.lemmas.Bool.{both_ways, cases_Bool, cases_eq, cases_lt, eqb-true, not-false}
-use Rattle.std.proofs.lemmas.List.{drop_all, get_or_past, get_or-take, length-map, length-take-le, take_all}
-use Rattle.std.proofs.lemmas.List.Elements.{All-map, All-take, All-weaker}
-use Rattle.std.proofs.lemmas.List.Sums.{sum-map}
+use Rattle.std.proofs.lemmas.List.{get_or_past, get_or-take, length-take-le}
+use Rattle.std.proofs.lemmas.List.Elements.{All-take}
 use Rattle.hunk_loadfile.specs.LoadHunk.{FileHunk}
 use Rattle.hunk_loadfile.specs.Laws.{IsZeroFrom}
 use Rattle.hunk_loadfile.specs.Patching.{byte_or_zero, holds, patched_bytes, patched_in, site_over}
-use Rattle.hunk_loadfile.specs.Rules.{IsLoadFile, IsLoadHunk, carried_by, carried_longwords, most_carried}
+use Rattle.hunk_loadfile.specs.Rules.{IsLoadFile, IsLoadHunk, carried_longwords, most_carried}
 use Rattle.hunk_loadfile.specs.Trimming.{is_kept, kept_end, kept_length, trimmed, trimmed_hunk}
+use Rattle.hunk_loadfile.proofs.MappedRulesLemmas.{KeepsRules, IsLoadFile-mapped, carried_longwords-mapped}
 use Rattle.hunk_loadfile.proofs.PatchingLemmas.{big_from-same, holds-behind, holds-below, holds-inside, patched_bytes-same}
 
 -- ---- the end of what is kept
@@ -33,7 +32,7 @@ kept_end-behind kept (suc n) i low high = elim (cases_Bool (kept n)) [
 ]
 
 -- It is the least such place.
-kept_end-least : (kept : ℕ → Bool) (n place : ℕ) → ((i : ℕ) → place ≤ i → i < n → kept i ≡ false) → kept_end kept n ≤ place
+pub kept_end-least : (kept : ℕ → Bool) (n place : ℕ) → ((i : ℕ) → place ≤ i → i < n → kept i ≡ false) → kept_end kept n ≤ place
 kept_end-least kept zero place behind = omega arith
 kept_end-least kept (suc n) place behind = elim (cases_Bool (kept n)) [
   | inl stays ↦ elim (cases_lt n place) [
@@ -44,12 +43,12 @@ kept_end-least kept (suc n) place behind = elim (cases_Bool (kept n)) [
 ]
 
 -- where nothing is kept
-kept_end-none : (n : ℕ) → kept_end (λ i. false) n ≡ 0
+pub kept_end-none : (n : ℕ) → kept_end (λ i. false) n ≡ 0
 kept_end-none zero = refl
 kept_end-none (suc n) = kept_end-none n
 
 -- what is kept for either of two reasons
-kept_end-either : (one other : ℕ → Bool) (n : ℕ) → kept_end (λ i. one i || other i) n ≡ max (kept_end one n) (kept_end other n)
+pub kept_end-either : (one other : ℕ → Bool) (n : ℕ) → kept_end (λ i. one i || other i) n ≡ max (kept_end one n) (kept_end other n)
 kept_end-either one other zero = refl
 kept_end-either one other (suc n) = elim (cases_Bool (one n)) [
   | inl stays ↦ elim (cases_Bool (other n)) [
@@ -135,7 +134,7 @@ zero-behind content sites i past = elim (cases_lt i (length content)) [
 ]
 
 -- so no byte changes
-slice_index-trimmed : {T : Type 0} (content : List ℕ) (sites : List (ℕ × T)) (i : ℕ) → slice_index (take (kept_length content sites) content) i ≡ slice_index content i
+pub slice_index-trimmed : {T : Type 0} (content : List ℕ) (sites : List (ℕ × T)) (i : ℕ) → slice_index (take (kept_length content sites) content) i ≡ slice_index content i
 slice_index-trimmed content sites i = elim (cases_lt i (kept_length content sites)) [
   | inl low ↦ get_or-take (kept_length content sites) content i 0 low
   | inr past ↦
@@ -176,57 +175,27 @@ trimmed-shortest hunk longwords zeros =
 
 -- ---- the rules
 
-IsLoadHunk-trimmed : (count : ℕ) (hunk : FileHunk) → IsLoadHunk count hunk → IsLoadHunk count (trimmed_hunk hunk)
-IsLoadHunk-trimmed count hunk valid =
-    let kept : ℕ = kept_length hunk.content hunk.sites.entries in
-    let counted : length (take kept hunk.content) ≡ kept = length-take-le kept hunk.content (kept_length-le hunk.content hunk.sites.entries valid.whole) in
+-- a hunk whose content is cut after a longword
+pub IsLoadHunk-cut : (count kept : ℕ) (hunk : FileHunk) → kept % 4 ≡ 0 → kept ≤ length hunk.content → IsLoadHunk count hunk → IsLoadHunk count (record hunk { content = take kept hunk.content })
+IsLoadHunk-cut count kept hunk even low valid =
+    let counted : length (take kept hunk.content) ≡ kept = length-take-le kept hunk.content low in
     record {
       typed = record { bytes = All-take (λ b. b < 256) kept hunk.content valid.typed.bytes; apart = valid.typed.apart; symbols = valid.typed.symbols; debugs = valid.typed.debugs };
       whole = omega (arith, counted);
-      content = omega (arith, counted, valid.content, kept_length-le hunk.content hunk.sites.entries valid.whole);
+      content = omega (arith, counted, valid.content);
       limit = valid.limit;
       targets = valid.targets;
       names = valid.names;
     }
 
--- what the content does not change
-map-trimmed : (f : FileHunk → ℕ) → ((hunk : FileHunk) → f (trimmed_hunk hunk) ≡ f hunk) → (hunks : List FileHunk) → map f (trimmed hunks) ≡ map f hunks
-map-trimmed f same [] = refl
-map-trimmed f same (hunk ∷ hunks) = ap (λ n. n ∷ map f (trimmed hunks)) (same hunk) ∙ ap (λ ns. f hunk ∷ ns) (map-trimmed f same hunks)
+IsLoadHunk-trimmed : (count : ℕ) (hunk : FileHunk) → IsLoadHunk count hunk → IsLoadHunk count (trimmed_hunk hunk)
+IsLoadHunk-trimmed count hunk valid = IsLoadHunk-cut count (kept_length hunk.content hunk.sites.entries) hunk (omega arith) (kept_length-le hunk.content hunk.sites.entries valid.whole) valid
 
-sum_by-trimmed : (f : FileHunk → ℕ) → ((hunk : FileHunk) → f (trimmed_hunk hunk) ≡ f hunk) → (hunks : List FileHunk) → sum_by f (trimmed hunks) ≡ sum_by f hunks
-sum_by-trimmed f same hunks = sym (sum-map f (trimmed hunks)) ∙ ap sum (map-trimmed f same hunks) ∙ sum-map f hunks
+pub KeepsRules-trimmed : KeepsRules trimmed_hunk
+KeepsRules-trimmed = record { size = λ hunk. refl; carries = λ hunk. omega arith; each = IsLoadHunk-trimmed }
 
 pub IsLoadFile-trimmed : (hunks : List FileHunk) → IsLoadFile hunks → IsLoadFile (trimmed hunks)
-IsLoadFile-trimmed hunks valid =
-    let counted : length (trimmed hunks) ≡ length hunks = length-map hunks trimmed_hunk in
-    let each : All (λ hunk. IsLoadHunk (length hunks) (trimmed_hunk hunk)) hunks = All-weaker (IsLoadHunk (length hunks)) (λ hunk. IsLoadHunk (length hunks) (trimmed_hunk hunk)) (IsLoadHunk-trimmed (length hunks)) hunks valid.each in
-    record {
-      some = omega (arith, counted, valid.some);
-      few = omega (arith, counted, valid.few);
-      small = omega (arith, sum_by-trimmed (λ hunk. hunk.size) (λ hunk. refl) hunks, valid.small);
-      carries = omega (arith, sum_by-trimmed carried_by (λ hunk. refl) hunks, valid.carries);
-      each = subst (λ count. All (IsLoadHunk count) (trimmed hunks)) (sym counted) (All-map (IsLoadHunk (length hunks)) trimmed_hunk hunks each);
-    }
+IsLoadFile-trimmed = IsLoadFile-mapped trimmed_hunk KeepsRules-trimmed
 
 pub carried_longwords-trimmed : (hunks : List FileHunk) → carried_longwords hunks ≤ most_carried → carried_longwords (trimmed hunks) ≤ most_carried
-carried_longwords-trimmed hunks few = omega (arith, few, sum_by-trimmed carried_by (λ hunk. refl) hunks)
-
--- ---- hunks that are trimmed one after another
-
--- the first hunks are trimmed
-abbrev pub trimmed_to : ℕ → List FileHunk → List FileHunk
-trimmed_to count hunks = trimmed (take count hunks) ++ drop count hunks
-
-pub trimmed_to-at : (hunks : List FileHunk) (i : ℕ) (d : FileHunk) → i < length hunks → get_or (trimmed_to i hunks) i d ≡ get_or hunks i d
-trimmed_to-at [] i d low = absurd (omega arith)
-trimmed_to-at (hunk ∷ hunks) zero d low = refl
-trimmed_to-at (hunk ∷ hunks) (suc i) d low = trimmed_to-at hunks i d (omega arith)
-
-pub trimmed_to-more : (hunks : List FileHunk) (i : ℕ) (d : FileHunk) → i < length hunks → set (trimmed_to i hunks) i (trimmed_hunk (get_or hunks i d)) ≡ trimmed_to (suc i) hunks
-trimmed_to-more [] i d low = absurd (omega arith)
-trimmed_to-more (hunk ∷ hunks) zero d low = refl
-trimmed_to-more (hunk ∷ hunks) (suc i) d low = ap (λ hs. trimmed_hunk hunk ∷ hs) (trimmed_to-more hunks i d (omega arith))
-
-pub trimmed_to-all : (hunks : List FileHunk) (count : ℕ) → length hunks ≤ count → trimmed_to count hunks ≡ trimmed hunks
-trimmed_to-all hunks count all = rw (take_all count hunks all, drop_all count hunks all) (append-nil (trimmed hunks))
+carried_longwords-trimmed hunks few = omega (arith, few, carried_longwords-mapped trimmed_hunk KeepsRules-trimmed hunks)

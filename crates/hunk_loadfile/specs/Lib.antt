@@ -5,6 +5,8 @@ pub mod Partial
 pub mod Patching
 pub mod Rules
 pub mod Trimming
+pub mod Stripping
+pub mod NormalForm
 pub mod LoadForm
 pub mod NumberWidth
 pub mod WrittenForm

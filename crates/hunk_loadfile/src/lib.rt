@@ -15,6 +15,8 @@
 //! - `longword_writer`: writes longwords and other numbers of a text.
 //! - `patching`: adding numbers to the longwords at sites.
 //! - `trimming`: cutting the zeros at the end of contents.
+//! - `stripping`: leaving out symbols and debug blocks.
+//! - `normal_form`: the least that a file can have for the same memory.
 //! - `laws`: laws about load files, their written forms, trimming and patching.
 #![tactic(auto)]
 
@@ -27,11 +29,13 @@ pub mod load_form;
 pub mod load_hunk;
 pub mod load_writer;
 mod longword_writer;
+mod normal_form;
 mod number_width;
 mod open_hunk;
 pub mod patching;
 mod relocation_writer;
 pub mod rules;
+mod stripping;
 mod trimming;
 pub mod written_form;
 

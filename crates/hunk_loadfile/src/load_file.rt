@@ -1,10 +1,14 @@
 //! A load file, made of hunks.
 ghost use Rattle.std.specs.Prelude.{◌≡◌, IfOk, IfErr};
+ghost use Rattle.hunk_loadfile.specs.NormalForm.{normal_form};
 ghost use Rattle.hunk_loadfile.specs.Rules.{IsLoadFile, build_fault};
+ghost use Rattle.hunk_loadfile.specs.Stripping.{stripped};
 ghost use Rattle.hunk_loadfile.specs.Trimming.{trimmed};
 
 use crate::load_hunk::LoadHunk;
+use crate::normal_form::normalize;
 use crate::rules::{BuildRefusal, build_fault};
+use crate::stripping::strip;
 use crate::trimming::trim;
 use std::alloc::{Allocator, Global};
 use std::marker::Model;
@@ -80,6 +84,26 @@ impl<A: Allocator + Copy> LoadFile<A> {
     {
         let mut hunks = self.into_hunks();
         trim(&mut hunks);
+        Self::of_hunks(hunks)
+    }
+    /// The file without its symbols and debug blocks, which only debuggers read: memory is the same.
+    /// Does not allocate.
+    pub fn stripped(self) -> Self
+        ensures { result ≡ stripped self }
+    {
+        let mut hunks = self.into_hunks();
+        strip(&mut hunks);
+        Self::of_hunks(hunks)
+    }
+
+    /// The normal form of the file: it has no symbols and no debug blocks, and each content ends with
+    /// its last longword that is not 0, whether or not there are sites after it. Memory is the same, and
+    /// two files that mean the same have one normal form. Does not allocate.
+    pub fn normal_form(self) -> Self
+        ensures { result ≡ normal_form self }
+    {
+        let mut hunks = self.into_hunks();
+        normalize(&mut hunks);
         Self::of_hunks(hunks)
     }
 }

@@ -47,7 +47,7 @@ fn kept_length<A: Allocator + Copy>(content: &[u8], sites: &Sites<u32, A>) -> us
 }
 
 /// The place, in bytes, after the last byte that is not zero.
-fn nonzero_end(content: &[u8]) -> usize
+pub(crate) fn nonzero_end(content: &[u8]) -> usize
     ensures { result ≡ kept_end (λ i. not (byte_or_zero content.now i == 0)) (length content.now) }
 {
     let mut end = content.len();

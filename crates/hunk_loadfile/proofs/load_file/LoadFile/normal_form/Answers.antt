@@ -1,0 +1,22 @@
+use Rattle.std.proofs.Common.{◌≡◌, ◌++◌, ◌∙◌, List, length, take, drop, ap, subst, sym, arith}
+use Rattle.std.proofs.lemmas.Grind.{common_steps}
+use Rattle.std.proofs.lemmas.List.{take_at}
+use Rattle.hunk_loadfile.specs.LoadHunk.{FileHunk}
+use Rattle.hunk_loadfile.specs.Rules.{IsLoadFile}
+use Rattle.hunk_loadfile.specs.NormalForm.{normal_form}
+use Rattle.hunk_loadfile.proofs.NormalFormLemmas.{IsLoadFile-normal}
+use Rattle.hunk_loadfile.proofs.load_file.LoadFile.normal_form.Goals as goal
+
+pub of_hunks-requires : goal.of_hunks-requires
+of_hunks-requires g c =
+    let new : List FileHunk = c.normalize.new.hunks in
+    let made = c.into_hunks-hunks in
+    let whole : take made.result.len (new ++ drop (length new) made.result.items) ≡ new = take_at new (drop (length new) made.result.items) made.result.len (c.normalize.auto.hunks ∙ c.deref_mut.ensures.len) in
+    subst IsLoadFile (sym (whole ∙ c.normalize.ensures ∙ ap normal_form (c.deref_mut.ensures.value ∙ made.ensures.value))) (IsLoadFile-normal c.args.self made.ensures.valid)
+
+-- `grind` at once: `search`, which Rattle tries before it, is slow here
+pub normalize-requires : goal.normalize-requires
+normalize-requires g c = grind (arith, common_steps)
+
+pub returns : goal.returns
+returns g c = grind (arith, common_steps)
