@@ -6,6 +6,12 @@ pub mod MappedRulesLemmas
 pub mod TrimmingLemmas
 pub mod StrippingLemmas
 pub mod NormalFormLemmas
+pub mod LowestLemmas
+pub mod DifferenceLemmas
+pub mod FirstDifferenceLemmas
+pub mod MeaningLemmas
+pub mod NormalMeaningLemmas
+pub mod DifferenceLawLemmas
 pub mod PatchingTwiceLemmas
 pub mod LoadFileLemmas
 pub mod LoadFormLemmas

@@ -1,12 +1,15 @@
 pub mod LoadFile
 pub mod LoadHunk
 pub mod Laws
+pub mod MeaningLaws
 pub mod Partial
 pub mod Patching
 pub mod Rules
 pub mod Trimming
 pub mod Stripping
 pub mod NormalForm
+pub mod Meaning
+pub mod Difference
 pub mod LoadForm
 pub mod NumberWidth
 pub mod WrittenForm

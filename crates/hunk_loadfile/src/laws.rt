@@ -1,5 +1,7 @@
-//! Laws about load files, their written forms, trimming and patching, each a function without a body.
+//! Laws about load files, their written forms, what they mean, trimming and patching, each a function
+//! without a body.
 ghost use Rattle.hunk_loadfile.specs.Laws.{AcceptedIsShort, OneLoad, OnlyZerosAreTrimmed, PatchedTwice, ShortNumbersFit, TrimmedIsShortest, WholeIsPartial, WrittenIsLoad, WrittenIsShort};
+ghost use Rattle.hunk_loadfile.specs.MeaningLaws.{NoDifference, NormalIsShortest, NormalMeansTheSame, NormalOnce, OneNormalForm, StrippedAndTrimmedOnce, StrippedMeansTheSame, StrippedOnce, TrimmedMeansTheSame, TrimmedOnce};
 
 /// Decoding is unambiguous: no longwords are the load files of two values.
 pub fn longwords_tell_load_file()
@@ -43,4 +45,37 @@ pub fn trimmed_is_shortest()
 /// Adding numbers at sites twice, the second time only at some of them, is adding their sums once.
 pub fn patched_twice<T, U>()
     ensures { PatchedTwice T U }
+{}
+
+/// Stripping, trimming and making the normal form change nothing the second time, nor does trimming
+/// what was stripped.
+pub fn done_once()
+    ensures stripped { StrippedOnce }
+    ensures trimmed { TrimmedOnce }
+    ensures both { StrippedAndTrimmedOnce }
+    ensures normal { NormalOnce }
+{}
+
+/// A stripped file, a trimmed one and a normal form mean the same as the file that they are made of.
+pub fn meaning_is_kept()
+    ensures stripped { StrippedMeansTheSame }
+    ensures trimmed { TrimmedMeansTheSame }
+    ensures normal { NormalMeansTheSame }
+{}
+
+/// Two load files mean the same exactly if their normal forms are written as the same longwords.
+pub fn meaning_has_one_normal_form()
+    ensures { OneNormalForm }
+{}
+
+/// [`LoadFile::normal_form`](crate::LoadFile::normal_form) cuts each content to its shortest
+/// beginning, in whole longwords, after which there are only zeros.
+pub fn normal_form_is_shortest()
+    ensures { NormalIsShortest }
+{}
+
+/// Two load files mean the same exactly if [`first_difference`](crate::first_difference) finds
+/// nothing.
+pub fn no_difference_means_the_same()
+    ensures { NoDifference }
 {}

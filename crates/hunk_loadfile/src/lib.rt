@@ -17,10 +17,12 @@
 //! - `trimming`: cutting the zeros at the end of contents.
 //! - `stripping`: leaving out symbols and debug blocks.
 //! - `normal_form`: the least that a file can have for the same memory.
-//! - `laws`: laws about load files, their written forms, trimming and patching.
+//! - `difference`: where two load files first differ in what they mean.
+//! - `laws`: laws about load files, their written forms, what they mean, trimming and patching.
 #![tactic(auto)]
 
 mod debug_writer;
+pub mod difference;
 pub mod laws;
 mod load_builder;
 pub mod load_decoder;
@@ -39,6 +41,7 @@ mod stripping;
 mod trimming;
 pub mod written_form;
 
+pub use difference::{Difference, first_difference};
 pub use hunk_words::{HunkKind, Memory};
 pub use load_decoder::{LoadDecoder, read_load};
 pub use load_file::LoadFile;

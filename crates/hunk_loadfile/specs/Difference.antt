@@ -1,0 +1,92 @@
+-- Where two load files first differ in what they mean, and in what debuggers read of them.
+use Rattle.std.specs.Prelude.{◌≡◌, ℕ, ◌+◌, ◌*◌, ◌≤◌, ◌==◌, ◌&&◌, not, Bool, true, false, if◌then◌else◌, List, ◌∷◌, length, Option, Some, None}
+use Rattle.std.specs.List.{position_from, range_with_len}
+use Rattle.std.specs.Option.{option_eq, option_map, option_or}
+use Rattle.hunk_base.specs.Sites.{target_at}
+use Rattle.hunk_words.specs.declared.kinds.HunkKind.{HunkKind}
+use Rattle.hunk_words.specs.declared.kinds.HunkKind.TheVariants.{Code, Data, Bss}
+use Rattle.hunk_words.specs.declared.kinds.Memory.{Memory}
+use Rattle.hunk_words.specs.declared.kinds.Memory.TheVariants.{Any, Chip, Fast}
+use Rattle.hunk_loadfile.specs.LoadHunk.{FileHunk}
+use Rattle.hunk_loadfile.specs.Patching.{byte_or_zero}
+use Rattle.hunk_loadfile.specs.Rules.{most_size}
+use Rattle.hunk_loadfile.specs.declared.difference.Difference.{Difference}
+use Rattle.hunk_loadfile.specs.declared.difference.Difference.TheVariants as difference_is
+
+-- ---- what two hunks have in common
+
+abbrev pub is_same_kind : HunkKind → HunkKind → Bool
+is_same_kind Code Code = true
+is_same_kind Data Data = true
+is_same_kind Bss Bss = true
+is_same_kind _ _ = false
+
+abbrev pub is_same_memory : Memory → Memory → Bool
+is_same_memory Any Any = true
+is_same_memory Chip Chip = true
+is_same_memory Fast Fast = true
+is_same_memory _ _ = false
+
+-- the byte at an offset, zeros after the content
+abbrev pub byte_of : FileHunk → ℕ → ℕ
+byte_of hunk offset = byte_or_zero hunk.content offset
+
+-- the hunk whose base is added at an offset, if there is a site
+abbrev pub target_of : FileHunk → ℕ → Option ℕ
+target_of hunk offset = target_at hunk.sites.entries offset
+
+abbrev pub has_same_byte : List ℕ → List ℕ → ℕ → Bool
+has_same_byte first second offset = byte_or_zero first offset == byte_or_zero second offset
+
+abbrev pub has_same_target : List (ℕ × ℕ) → List (ℕ × ℕ) → ℕ → Bool
+has_same_target first second offset = option_eq ◌==◌ (target_at first offset) (target_at second offset)
+
+-- ---- where two hunks differ
+
+-- the lowest of `count` numbers, from `start` on, that passes
+abbrev pub lowest : (ℕ → Bool) → ℕ → ℕ → Option ℕ
+lowest passes start count = position_from passes start (range_with_len start count)
+
+-- the lowest offset with another byte or another target
+abbrev pub first_offset : FileHunk → FileHunk → Option ℕ
+first_offset first second =
+    lowest (λ offset. not (has_same_byte first.content second.content offset && has_same_target first.sites.entries second.sites.entries offset)) 0 (4 * first.size)
+
+-- what differs at an offset, the byte before the target
+abbrev pub difference_at : ℕ → FileHunk → FileHunk → ℕ → Difference
+difference_at number first second offset =
+    if has_same_byte first.content second.content offset
+    then difference_is.Site number offset (target_of first offset) (target_of second offset)
+    else difference_is.Byte number offset (byte_of first offset) (byte_of second offset)
+
+-- the difference, unless the test passes; else the next one
+abbrev pub unless : Bool → Difference → Option Difference → Option Difference
+unless true difference next = next
+unless false difference next = Some difference
+
+-- of the hunks with this number
+abbrev pub hunk_difference : ℕ → FileHunk → FileHunk → Option Difference
+hunk_difference number first second =
+    unless (is_same_kind first.kind second.kind) (difference_is.Kind number first.kind second.kind)
+    (unless (is_same_memory first.memory second.memory) (difference_is.Memory number first.memory second.memory)
+    (unless (first.size == second.size) (difference_is.Size number first.size second.size)
+    (option_map (difference_at number first second) (first_offset first second))))
+
+-- ---- where two files differ
+
+-- The first difference of hunks in the same places, which are numbered from this number on.
+abbrev pub hunks_difference : ℕ → List FileHunk → List FileHunk → Option Difference
+hunks_difference number (first ∷ firsts) (second ∷ seconds) = option_or (hunk_difference number first second) (hunks_difference (number + 1) firsts seconds)
+hunks_difference number _ _ = None
+
+abbrev pub first_difference : List FileHunk → List FileHunk → Option Difference
+first_difference first second =
+    unless (length first == length second) (difference_is.HunkCount (length first) (length second)) (hunks_difference 0 first second)
+
+-- ---- what holds of the hunks of each load file
+
+-- The content and the sites lie in the hunk, which is no larger than a load file may be.
+pub record LiesInItsSize (hunk : FileHunk) : Type 0 where
+  pub content : length hunk.content ≤ 4 * hunk.size
+  pub limit : hunk.sites.limit ≡ 4 * hunk.size
+  pub small : hunk.size ≤ most_size
