@@ -9,6 +9,7 @@ pub mod NormalFormLemmas
 pub mod LowestLemmas
 pub mod DifferenceLemmas
 pub mod FirstDifferenceLemmas
+pub mod InfoDifferenceLemmas
 pub mod MeaningLemmas
 pub mod NormalMeaningLemmas
 pub mod DifferenceLawLemmas

@@ -10,6 +10,7 @@ pub mod Stripping
 pub mod NormalForm
 pub mod Meaning
 pub mod Difference
+pub mod InfoDifference
 pub mod LoadForm
 pub mod NumberWidth
 pub mod WrittenForm

@@ -18,11 +18,13 @@
 //! - `stripping`: leaving out symbols and debug blocks.
 //! - `normal_form`: the least that a file can have for the same memory.
 //! - `difference`: where two load files first differ in what they mean.
+//! - `info_difference`: where two load files first differ in what only debuggers read.
 //! - `laws`: laws about load files, their written forms, what they mean, trimming and patching.
 #![tactic(auto)]
 
 mod debug_writer;
 pub mod difference;
+pub mod info_difference;
 pub mod laws;
 mod load_builder;
 pub mod load_decoder;
@@ -43,6 +45,7 @@ pub mod written_form;
 
 pub use difference::{Difference, first_difference};
 pub use hunk_words::{HunkKind, Memory};
+pub use info_difference::{InfoDifference, first_info_difference};
 pub use load_decoder::{LoadDecoder, read_load};
 pub use load_file::LoadFile;
 pub use load_form::LoadForm;
