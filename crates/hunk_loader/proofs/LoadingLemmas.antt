@@ -1,13 +1,15 @@
 -- Hunks that are loaded one after another.
-use Rattle.std.proofs.Common.{◌≡◌, ℕ, ◌+◌, ◌-◌, ◌*◌, ◌<◌, ◌≤◌, List, [], ◌∷◌, ◌++◌, length, map, drop, replicate, slice_index, Vec, refl, sym, ap, ◌∙◌, arith}
+use Rattle.std.proofs.Common.{◌≡◌, ℕ, ◌+◌, ◌-◌, ◌*◌, ◌<◌, ◌≤◌, List, [], ◌∷◌, ◌++◌, length, map, take, drop, replicate, slice_index, Vec, refl, sym, ap, ◌∙◌, arith}
 use Rattle.std.specs.List.{zip}
 use Rattle.std.proofs.lemmas.List.{append-nil, append_assoc, drop_all, drop_more, length-append, length-replicate, map-append}
 use Rattle.hunk_base.specs.Sites.{StandFrom}
 use Rattle.hunk_loadfile.specs.LoadHunk.{FileHunk}
 use Rattle.hunk_loadfile.specs.Patching.{patched_bytes}
-use Rattle.hunk_loadfile.specs.Trimming.{trimmed}
-use Rattle.hunk_loadfile.proofs.PatchingLemmas.{patched_bytes-filled}
-use Rattle.hunk_loadfile.proofs.TrimmingLemmas.{patched_bytes-trimmed}
+use Rattle.hunk_loadfile.specs.NormalForm.{nonzero_length, normal_form, normal_hunk}
+use Rattle.hunk_loadfile.specs.Stripping.{stripped, stripped_hunk}
+use Rattle.hunk_loadfile.specs.Trimming.{trimmed, trimmed_hunk}
+use Rattle.hunk_loadfile.proofs.PatchingLemmas.{patched_bytes-alike, patched_bytes-filled}
+use Rattle.hunk_loadfile.proofs.TrimmingLemmas.{patched_bytes-trimmed, slice_index-trimmed}
 use Rattle.hunk_loader.specs.Image.{hunks_of}
 use Rattle.hunk_loader.specs.Loading.{loaded_bytes}
 use Rattle.hunk_loader.specs.Sizes.{sizes_of}
@@ -52,15 +54,41 @@ loaded_from-more {A = A} bases all left rest made base hunk bytes i is_base at_b
     ∙ ap (λ bs. hunks_of made ++ loaded_from bases bs left) (sym bases_left)
     ∙ is
 
--- ---- trimmed hunks
+-- ---- hunks that are changed and have the same bytes in memory
+
+module _ (change : FileHunk → FileHunk) (same : (all : List ℕ) (hunk : FileHunk) → loaded_bytes all (change hunk) ≡ loaded_bytes all hunk) (size : (hunk : FileHunk) → (change hunk).size ≡ hunk.size) where
+  loaded-changed : (all bases : List ℕ) (hunks : List FileHunk) → loaded_from all bases (map change hunks) ≡ loaded_from all bases hunks
+  loaded-changed all [] hunks = refl
+  loaded-changed all (base ∷ bases) [] = refl
+  loaded-changed all (base ∷ bases) (hunk ∷ hunks) =
+      ap (λ bytes. (base, bytes) ∷ loaded_from all bases (map change hunks)) (same all hunk)
+      ∙ ap (λ others. (base, loaded_bytes all hunk) ∷ others) (loaded-changed all bases hunks)
+
+  sizes_of-changed : (hunks : List FileHunk) → sizes_of (map change hunks) ≡ sizes_of hunks
+  sizes_of-changed [] = refl
+  sizes_of-changed (hunk ∷ hunks) = ap (λ n. n ∷ sizes_of (map change hunks)) (size hunk) ∙ ap (λ sizes. hunk.size ∷ sizes) (sizes_of-changed hunks)
+
+trimmed_bytes : (all : List ℕ) (hunk : FileHunk) → loaded_bytes all (trimmed_hunk hunk) ≡ loaded_bytes all hunk
+trimmed_bytes all hunk = patched_bytes-trimmed (4 * hunk.size) hunk.content hunk.sites.entries (slice_index all)
 
 pub loaded-trimmed : (all bases : List ℕ) (hunks : List FileHunk) → loaded_from all bases (trimmed hunks) ≡ loaded_from all bases hunks
-loaded-trimmed all [] hunks = refl
-loaded-trimmed all (base ∷ bases) [] = refl
-loaded-trimmed all (base ∷ bases) (hunk ∷ hunks) =
-    ap (λ bytes. (base, bytes) ∷ loaded_from all bases (trimmed hunks)) (patched_bytes-trimmed (4 * hunk.size) hunk.content hunk.sites.entries (slice_index all))
-    ∙ ap (λ others. (base, loaded_bytes all hunk) ∷ others) (loaded-trimmed all bases hunks)
+loaded-trimmed = loaded-changed trimmed_hunk trimmed_bytes (λ hunk. refl)
 
 pub sizes_of-trimmed : (hunks : List FileHunk) → sizes_of (trimmed hunks) ≡ sizes_of hunks
-sizes_of-trimmed [] = refl
-sizes_of-trimmed (hunk ∷ hunks) = ap (λ sizes. hunk.size ∷ sizes) (sizes_of-trimmed hunks)
+sizes_of-trimmed = sizes_of-changed trimmed_hunk trimmed_bytes (λ hunk. refl)
+
+pub loaded-stripped : (all bases : List ℕ) (hunks : List FileHunk) → loaded_from all bases (stripped hunks) ≡ loaded_from all bases hunks
+loaded-stripped = loaded-changed stripped_hunk (λ all hunk. refl) (λ hunk. refl)
+
+pub sizes_of-stripped : (hunks : List FileHunk) → sizes_of (stripped hunks) ≡ sizes_of hunks
+sizes_of-stripped = sizes_of-changed stripped_hunk (λ all hunk. refl) (λ hunk. refl)
+
+normal_bytes : (all : List ℕ) (hunk : FileHunk) → loaded_bytes all (normal_hunk hunk) ≡ loaded_bytes all hunk
+normal_bytes all hunk =
+    patched_bytes-alike (4 * hunk.size) (take (nonzero_length hunk.content) hunk.content) hunk.content hunk.sites.entries (slice_index all) (slice_index-trimmed {T = ℕ} hunk.content [])
+
+pub loaded-normal : (all bases : List ℕ) (hunks : List FileHunk) → loaded_from all bases (normal_form hunks) ≡ loaded_from all bases hunks
+loaded-normal = loaded-changed normal_hunk normal_bytes (λ hunk. refl)
+
+pub sizes_of-normal : (hunks : List FileHunk) → sizes_of (normal_form hunks) ≡ sizes_of hunks
+sizes_of-normal = sizes_of-changed normal_hunk normal_bytes (λ hunk. refl)

@@ -1,7 +1,9 @@
 -- What a loaded file is in memory, address by address.
 use Rattle.std.specs.Prelude.{◌≡◌, ◌⊎◌, ℕ, ◌+◌, ◌*◌, ◌^◌, ◌<◌, List, Some, None, slice_get, slice_index, EachIndex}
 use Rattle.hunk_loadfile.specs.LoadHunk.{FileHunk}
+use Rattle.hunk_loadfile.specs.NormalForm.{normal_form}
 use Rattle.hunk_loadfile.specs.Patching.{patched}
+use Rattle.hunk_loadfile.specs.Stripping.{stripped}
 use Rattle.hunk_loadfile.specs.Trimming.{trimmed}
 use Rattle.hunk_loader.specs.Image.{memory_map}
 use Rattle.hunk_loader.specs.Loading.{loaded}
@@ -28,6 +30,20 @@ TrimmedIsLoaded = (hunks : List FileHunk) (bases : List ℕ) → loaded (trimmed
 -- and no size, so the same bases are allowed.
 abbrev pub TrimmedHasSizes : Type 0
 TrimmedHasSizes = (hunks : List FileHunk) → sizes_of (trimmed hunks) ≡ sizes_of hunks
+
+-- The same holds of what is stripped,
+abbrev pub StrippedIsLoaded : Type 0
+StrippedIsLoaded = (hunks : List FileHunk) (bases : List ℕ) → loaded (stripped hunks) bases ≡ loaded hunks bases
+
+abbrev pub StrippedHasSizes : Type 0
+StrippedHasSizes = (hunks : List FileHunk) → sizes_of (stripped hunks) ≡ sizes_of hunks
+
+-- and of what is in normal form.
+abbrev pub NormalIsLoaded : Type 0
+NormalIsLoaded = (hunks : List FileHunk) (bases : List ℕ) → loaded (normal_form hunks) bases ≡ loaded hunks bases
+
+abbrev pub NormalHasSizes : Type 0
+NormalHasSizes = (hunks : List FileHunk) → sizes_of (normal_form hunks) ≡ sizes_of hunks
 
 -- Hunks are placed at addresses, or there is a first fault.
 abbrev pub PlacedOrRefused : Type 0

@@ -1,6 +1,6 @@
 //! Laws about the definitions of loading, each a function without a body.
 
-ghost use Rattle.hunk_loader.specs.Laws.{HunkIsLoaded, NothingElseIsLoaded, PlacedOrRefused, TrimmedHasSizes, TrimmedIsLoaded};
+ghost use Rattle.hunk_loader.specs.Laws.{HunkIsLoaded, NormalHasSizes, NormalIsLoaded, NothingElseIsLoaded, PlacedOrRefused, StrippedHasSizes, StrippedIsLoaded, TrimmedHasSizes, TrimmedIsLoaded};
 
 /// The memory of a load file whose hunks are placed: each byte of each hunk at its address, and
 /// nothing else.
@@ -14,6 +14,18 @@ pub fn memory_is_loaded()
 pub fn trimmed_is_loaded()
     ensures memory { TrimmedIsLoaded }
     ensures sizes { TrimmedHasSizes }
+{}
+
+/// So is a stripped one. See [`LoadFile::stripped`](hunk_loadfile::LoadFile::stripped).
+pub fn stripped_is_loaded()
+    ensures memory { StrippedIsLoaded }
+    ensures sizes { StrippedHasSizes }
+{}
+
+/// So is one in normal form. See [`LoadFile::normal_form`](hunk_loadfile::LoadFile::normal_form).
+pub fn normal_form_is_loaded()
+    ensures memory { NormalIsLoaded }
+    ensures sizes { NormalHasSizes }
 {}
 
 /// Hunks are placed at addresses, or there is a first fault, as

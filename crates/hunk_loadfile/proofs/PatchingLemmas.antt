@@ -1,5 +1,5 @@
 -- What holds of bytes to whose longwords numbers are added.
-use Rattle.std.proofs.Common.{◌≡◌, ℕ, ◌+◌, ◌-◌, ◌%◌, ◌^◌, ◌<◌, ◌≤◌, true, false, inl, inr, List, [], ◌∷◌, ◌++◌, length, map, replicate, take, drop, zero, suc, add-zero, append-nil, length-take, length-drop, slice_index, None, refl, sym, ap, subst, ◌∙◌, zero-add, arith}
+use Rattle.std.proofs.Common.{◌≡◌, ℕ, ◌+◌, ◌-◌, ◌%◌, ◌^◌, ◌<◌, ◌≤◌, true, false, inl, inr, List, [], ◌∷◌, ◌++◌, length, map, replicate, take, drop, zero, suc, add-zero, append-nil, length-take, length-drop, slice_index, Option, Some, None, refl, sym, ap, subst, ◌∙◌, zero-add, arith}
 use Rattle.std.specs.List.{All, AllByRecursion, range_with_len}
 use Rattle.std.proofs.lemmas.Bool.{cases_lt}
 use Rattle.std.proofs.lemmas.Bool.Decides.{nat_tests}
@@ -83,6 +83,17 @@ big_from-same (suc n) from some others h =
     let byte = h from (omega arith) in
     let rest = big_from-same n (suc from) some others (λ i low. h i (omega arith)) in
     rw (byte, rest) refl
+
+-- bytes that are the same make the same sums
+patched_in-alike : {T : Type 0} (some others : List ℕ) (addend : T → ℕ) (site : Option (ℕ × T)) (i : ℕ) → ((k : ℕ) → slice_index some k ≡ slice_index others k)
+    → patched_in some addend site i ≡ patched_in others addend site i
+patched_in-alike some others addend None i same = same i
+patched_in-alike some others addend (Some site) i same = rw (big_from-same 4 site.0 some others (λ k low. same k)) refl
+
+pub patched_bytes-alike : {T : Type 0} (count : ℕ) (some others : List ℕ) (sites : List (ℕ × T)) (addend : T → ℕ) → ((k : ℕ) → slice_index some k ≡ slice_index others k)
+    → patched_bytes count some sites addend ≡ patched_bytes count others sites addend
+patched_bytes-alike count some others sites addend same =
+    patched_bytes-same count some others sites addend sites addend (λ i. patched_in-alike some others addend (site_over sites i) i same)
 
 -- ---- one site
 

@@ -7,11 +7,11 @@ use Rattle.std.proofs.lemmas.List.{get_or_past, get_or-take, length-take-le}
 use Rattle.std.proofs.lemmas.List.Elements.{All-take}
 use Rattle.hunk_loadfile.specs.LoadHunk.{FileHunk}
 use Rattle.hunk_loadfile.specs.Laws.{IsZeroFrom}
-use Rattle.hunk_loadfile.specs.Patching.{byte_or_zero, holds, patched_bytes, patched_in, site_over}
+use Rattle.hunk_loadfile.specs.Patching.{byte_or_zero, holds, patched_bytes, site_over}
 use Rattle.hunk_loadfile.specs.Rules.{IsLoadFile, IsLoadHunk, carried_longwords, most_carried}
 use Rattle.hunk_loadfile.specs.Trimming.{is_kept, kept_end, kept_length, trimmed, trimmed_hunk}
 use Rattle.hunk_loadfile.proofs.MappedRulesLemmas.{KeepsRules, IsLoadFile-mapped, carried_longwords-mapped}
-use Rattle.hunk_loadfile.proofs.PatchingLemmas.{big_from-same, holds-behind, holds-below, holds-inside, patched_bytes-same}
+use Rattle.hunk_loadfile.proofs.PatchingLemmas.{holds-behind, holds-below, holds-inside, patched_bytes-alike}
 
 -- ---- the end of what is kept
 
@@ -142,17 +142,10 @@ slice_index-trimmed content sites i = elim (cases_lt i (kept_length content site
       ∙ sym (zero-behind content sites i past)
 ]
 
--- the same bytes, patched
-patched_in-same : {T : Type 0} (some others : List ℕ) (addend : T → ℕ) (site : Option (ℕ × T)) (i : ℕ) → ((k : ℕ) → slice_index some k ≡ slice_index others k)
-    → patched_in some addend site i ≡ patched_in others addend site i
-patched_in-same some others addend None i same = same i
-patched_in-same some others addend (Some site) i same = rw (big_from-same 4 site.0 some others (λ k low. same k)) refl
-
 pub patched_bytes-trimmed : {T : Type 0} (count : ℕ) (content : List ℕ) (sites : List (ℕ × T)) (addend : T → ℕ)
     → patched_bytes count (take (kept_length content sites) content) sites addend ≡ patched_bytes count content sites addend
 patched_bytes-trimmed count content sites addend =
-    patched_bytes-same count (take (kept_length content sites) content) content sites addend sites addend
-    (λ i. patched_in-same (take (kept_length content sites) content) content addend (site_over sites i) i (slice_index-trimmed content sites))
+    patched_bytes-alike count (take (kept_length content sites) content) content sites addend (slice_index-trimmed content sites)
 
 -- ---- what is cut
 
