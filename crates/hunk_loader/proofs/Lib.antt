@@ -11,3 +11,6 @@ pub mod ImageLemmas
 pub mod OpenImageLemmas
 pub mod PlacesLemmas
 pub mod PlacesOrderLemmas
+pub mod StackedLemmas
+pub mod MovedBaseLemmas
+pub mod SameMemoryLemmas

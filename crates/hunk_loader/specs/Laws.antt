@@ -1,8 +1,10 @@
 -- What a loaded file is in memory, address by address.
-use Rattle.std.specs.Prelude.{◌≡◌, ◌⊎◌, ℕ, ◌+◌, ◌*◌, ◌^◌, ◌<◌, List, Some, None, slice_get, slice_index, EachIndex}
+use Rattle.std.specs.Prelude.{◌≡◌, ◌↔◌, ◌⊎◌, ℕ, ◌+◌, ◌*◌, ◌^◌, ◌<◌, List, map, Some, None, slice_get, slice_index, EachIndex}
 use Rattle.hunk_loadfile.specs.LoadHunk.{FileHunk}
+use Rattle.hunk_loadfile.specs.Meaning.{meaning}
 use Rattle.hunk_loadfile.specs.NormalForm.{normal_form}
 use Rattle.hunk_loadfile.specs.Patching.{patched}
+use Rattle.hunk_loadfile.specs.Rules.{IsLoadFile}
 use Rattle.hunk_loadfile.specs.Stripping.{stripped}
 use Rattle.hunk_loadfile.specs.Trimming.{trimmed}
 use Rattle.hunk_loader.specs.Image.{memory_map}
@@ -44,6 +46,17 @@ NormalIsLoaded = (hunks : List FileHunk) (bases : List ℕ) → loaded (normal_f
 
 abbrev pub NormalHasSizes : Type 0
 NormalHasSizes = (hunks : List FileHunk) → sizes_of (normal_form hunks) ≡ sizes_of hunks
+
+-- what a hunk is before it is placed: its bytes up to its size, and its sites
+abbrev pub before_placing : FileHunk → List ℕ × List (ℕ × ℕ)
+before_placing hunk = ((meaning hunk).bytes, (meaning hunk).sites)
+
+-- Two load files whose hunks have the same sizes load to the same memory, wherever the hunks are placed,
+-- exactly if the hunks are the same before they are placed.
+abbrev pub SameMemoryTellsHunks : Type 0
+SameMemoryTellsHunks =
+    (first second : List FileHunk) → IsLoadFile first → IsLoadFile second → sizes_of first ≡ sizes_of second
+    → ((bases : List ℕ) → Placed (sizes_of first) bases → loaded first bases ≡ loaded second bases) ↔ (map before_placing first ≡ map before_placing second)
 
 -- Hunks are placed at addresses, or there is a first fault.
 abbrev pub PlacedOrRefused : Type 0

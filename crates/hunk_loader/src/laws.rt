@@ -1,6 +1,6 @@
 //! Laws about the definitions of loading, each a function without a body.
 
-ghost use Rattle.hunk_loader.specs.Laws.{HunkIsLoaded, NormalHasSizes, NormalIsLoaded, NothingElseIsLoaded, PlacedOrRefused, StrippedHasSizes, StrippedIsLoaded, TrimmedHasSizes, TrimmedIsLoaded};
+ghost use Rattle.hunk_loader.specs.Laws.{HunkIsLoaded, NormalHasSizes, NormalIsLoaded, NothingElseIsLoaded, PlacedOrRefused, SameMemoryTellsHunks, StrippedHasSizes, StrippedIsLoaded, TrimmedHasSizes, TrimmedIsLoaded};
 
 /// The memory of a load file whose hunks are placed: each byte of each hunk at its address, and
 /// nothing else.
@@ -26,6 +26,12 @@ pub fn stripped_is_loaded()
 pub fn normal_form_is_loaded()
     ensures memory { NormalIsLoaded }
     ensures sizes { NormalHasSizes }
+{}
+
+/// Two load files whose hunks have the same sizes load to the same memory, wherever their hunks are
+/// placed, exactly if the hunks have the same bytes and the same sites before that.
+pub fn memory_tells_bytes_and_sites()
+    ensures { SameMemoryTellsHunks }
 {}
 
 /// Hunks are placed at addresses, or there is a first fault, as

@@ -18,8 +18,8 @@ use Rattle.hunk_loadfile.specs.Meaning.{Meaning, meaning}
 use Rattle.hunk_loadfile.specs.MeaningLaws.{NoDifference}
 use Rattle.hunk_loadfile.specs.Patching.{byte_or_zero}
 use Rattle.hunk_loadfile.specs.Rules.{IsLoadHunk}
-use Rattle.hunk_loadfile.proofs.DifferenceLemmas.{IsLowest-unlike_site, both-true, unlike_site, unlike_site-none}
-use Rattle.hunk_loadfile.proofs.LowestLemmas.{IsLowest, IsLowest-lowest, IsLowest-one, lowest-is}
+use Rattle.hunk_loadfile.proofs.DifferenceLemmas.{both-true, sites-same}
+use Rattle.hunk_loadfile.proofs.LowestLemmas.{IsLowest, IsLowest-lowest, lowest-is}
 
 -- ---- kinds and memories
 
@@ -45,7 +45,7 @@ same_memory-itself Any = refl
 same_memory-itself Chip = refl
 same_memory-itself Fast = refl
 
-option_eq-itself : (target : Option ℕ) → option_eq ◌==◌ target target ≡ true
+pub option_eq-itself : (target : Option ℕ) → option_eq ◌==◌ target target ≡ true
 option_eq-itself None = refl
 option_eq-itself (Some t) = eq-eqb t t refl
 
@@ -68,7 +68,7 @@ option_or-none (Some x) other none = absurd (cc)
 
 -- ---- bytes and sites
 
-bytes-same : (first second : List ℕ) (count : ℕ) → ((i : ℕ) → i < count → has_same_byte first second i ≡ true) → map (byte_or_zero first) (range_with_len 0 count) ≡ map (byte_or_zero second) (range_with_len 0 count)
+pub bytes-same : (first second : List ℕ) (count : ℕ) → ((i : ℕ) → i < count → has_same_byte first second i ≡ true) → map (byte_or_zero first) (range_with_len 0 count) ≡ map (byte_or_zero second) (range_with_len 0 count)
 bytes-same first second count same =
     let counted : (bytes : List ℕ) → length (map (byte_or_zero bytes) (range_with_len 0 count)) ≡ count = λ bytes. length-map-range_with_len (byte_or_zero bytes) 0 count in
     let at : (bytes : List ℕ) (i : ℕ) → i < count → slice_index (map (byte_or_zero bytes) (range_with_len 0 count)) i ≡ byte_or_zero bytes i = λ bytes i low. get_or-map-range_with_len (byte_or_zero bytes) 0 count i i 0 low (zero-add i) in
@@ -81,13 +81,11 @@ bytes-from first second count same i low =
     eq-eqb (byte_or_zero first i) (byte_or_zero second i) (sym (at first) ∙ ap (λ bytes. slice_index bytes i) same ∙ at second)
 
 module _ (count others : ℕ) (first second : FileHunk) (valid : IsLoadHunk count first) (validated : IsLoadHunk others second) where
-  sites-same : first.size ≡ second.size → ((i : ℕ) → i < 4 * first.size → has_same_target first.sites.entries second.sites.entries i ≡ true) → first.sites.entries ≡ second.sites.entries
-  sites-same size same =
+  entries-same : first.size ≡ second.size → ((i : ℕ) → i < 4 * first.size → has_same_target first.sites.entries second.sites.entries i ≡ true) → first.sites.entries ≡ second.sites.entries
+  entries-same size same =
       let limits : first.sites.limit ≡ second.sites.limit = valid.limit ∙ ap (λ n. 4 * n) size ∙ sym validated.limit in
-      let walked = IsLowest-unlike_site 0 0 first.sites.limit first.sites.entries second.sites.entries valid.typed.apart (subst (λ limit. StandFrom 0 limit second.sites.entries) (sym limits) validated.typed.apart) in
-      unlike_site-none first.sites.entries second.sites.entries
-      (IsLowest-one (λ i. not (has_same_target first.sites.entries second.sites.entries i)) 0 first.sites.limit (unlike_site first.sites.entries second.sites.entries) None walked
-      (λ i low high. ap not (same i (omega (arith, valid.limit)))))
+      sites-same first.sites.limit first.sites.entries second.sites.entries valid.typed.apart (subst (λ limit. StandFrom 0 limit second.sites.entries) (sym limits) validated.typed.apart)
+      (λ i low. same i (omega (arith, valid.limit)))
 
   pub meaning-same : (number : ℕ) → hunk_difference number first second ≡ None → meaning first ≡ meaning second
   meaning-same number none =
@@ -101,7 +99,7 @@ module _ (count others : ℕ) (first second : FileHunk) (valid : IsLoadHunk coun
       let both : (i : ℕ) → i < 4 * first.size → (has_same_byte first.content second.content i ≡ true) × (has_same_target first.sites.entries second.sites.entries i ≡ true) =
       λ i low. both-true (has_same_byte first.content second.content i) (has_same_target first.sites.entries second.sites.entries i) (not-false _ (same i (omega arith) (omega arith))) in
       let bytes = bytes-same first.content second.content (4 * first.size) (λ i low. (both i low).0) ∙ ap (λ n. map (byte_or_zero second.content) (range_with_len 0 (4 * n))) size in
-      let sites = sites-same size (λ i low. (both i low).1) in
+      let sites = entries-same size (λ i low. (both i low).1) in
       let of : HunkKind → Memory → ℕ → List ℕ → List (ℕ × ℕ) → Meaning = λ kind memory size bytes sites. record { kind = kind; memory = memory; size = size; bytes = bytes; sites = sites } in
       ap (λ kind. of kind first.memory first.size (meaning first).bytes first.sites.entries) (same_kind-true first.kind second.kind kinds.0)
       ∙ ap (λ memory. of second.kind memory first.size (meaning first).bytes first.sites.entries) (same_memory-true first.memory second.memory memories.0)

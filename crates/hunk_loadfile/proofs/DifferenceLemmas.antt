@@ -13,7 +13,7 @@ use Rattle.hunk_loadfile.specs.Difference.{LiesInItsSize, has_same_target}
 use Rattle.hunk_loadfile.specs.LoadHunk.{FileHunk}
 use Rattle.hunk_loadfile.specs.Rules.{IsLoadFile}
 use Rattle.hunk_loadfile.proofs.LoadHunkLemmas.{most_content-le}
-use Rattle.hunk_loadfile.proofs.LowestLemmas.{IsLowest, IsLowest-same}
+use Rattle.hunk_loadfile.proofs.LowestLemmas.{IsLowest, IsLowest-one, IsLowest-same}
 
 pub both-true : (one other : Bool) → (one && other) ≡ true → (one ≡ true) × (other ≡ true)
 both-true true other h = (refl, h)
@@ -28,13 +28,13 @@ target_at-below from limit i (site ∷ sites) apart low =
     rw (is_at-apart i site.0 (λ same. absurd (omega (arith, apart.0, same)))) (target_at-below (site.0 + 4) limit i sites apart.2 (omega (arith, apart.0)))
 
 -- the first site is found at its offset
-target_at-here : {T : Type 0} (site : ℕ × T) (sites : List (ℕ × T)) (offset : ℕ) → offset ≡ site.0 → target_at (site ∷ sites) offset ≡ Some site.1
+pub target_at-here : {T : Type 0} (site : ℕ × T) (sites : List (ℕ × T)) (offset : ℕ) → offset ≡ site.0 → target_at (site ∷ sites) offset ≡ Some site.1
 target_at-here site sites offset same =
     let equal : nat_cmp offset site.0 ≡ Equal = sym (nat_cmp_is offset site.0 Equal same) in
     rw equal refl
 
 -- and nowhere else
-target_at-apart : {T : Type 0} (site : ℕ × T) (sites : List (ℕ × T)) (offset : ℕ) → (offset ≡ site.0 → ⊥) → target_at (site ∷ sites) offset ≡ target_at sites offset
+pub target_at-apart : {T : Type 0} (site : ℕ × T) (sites : List (ℕ × T)) (offset : ℕ) → (offset ≡ site.0 → ⊥) → target_at (site ∷ sites) offset ≡ target_at sites offset
 target_at-apart site sites offset apart = rw (is_at-apart offset site.0 apart) refl
 
 -- ---- the sites of two hunks
@@ -130,6 +130,12 @@ unlike_site-none (x ∷ xs) (y ∷ ys) none = elim (cases_Bool (x.0 == y.0 && x.
       ap (λ site. site ∷ xs) pair ∙ ap (λ sites. y ∷ sites) rest
   | inr unequal ↦ let no = rw unequal at none in absurd (cc)
 ]
+
+-- maps with the same look-ups have the same sites
+pub sites-same : (limit : ℕ) (first second : List (ℕ × ℕ)) → StandFrom 0 limit first → StandFrom 0 limit second → ((i : ℕ) → i < limit → has_same_target first second i ≡ true) → first ≡ second
+sites-same limit first second apart others same =
+    unlike_site-none first second
+    (IsLowest-one (is_unlike first second) 0 limit (unlike_site first second) None (IsLowest-unlike_site 0 0 limit first second apart others) (λ i low high. ap not (same i high)))
 
 -- ---- the hunks of a load file
 

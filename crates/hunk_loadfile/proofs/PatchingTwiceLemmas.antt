@@ -20,13 +20,13 @@ site_over-past from limit (site ∷ sites) i apart past =
     rw (holds-behind site.0 i (omega (arith, apart.1))) (site_over-past (site.0 + 4) limit sites i apart.2 past)
 
 -- a site that is over a byte, among sites from here on
-record Over {T : Type 0} (from : ℕ) (sites : List (ℕ × T)) (i : ℕ) (site : ℕ × T) : Type 0 where
-  starts : from ≤ site.0
-  low : site.0 ≤ i
-  high : i < site.0 + 4
-  everywhere : (k : ℕ) → site.0 ≤ k → k < site.0 + 4 → site_over sites k ≡ Some site
+pub record Over {T : Type 0} (from : ℕ) (sites : List (ℕ × T)) (i : ℕ) (site : ℕ × T) : Type 0 where
+  pub starts : from ≤ site.0
+  pub low : site.0 ≤ i
+  pub high : i < site.0 + 4
+  pub everywhere : (k : ℕ) → site.0 ≤ k → k < site.0 + 4 → site_over sites k ≡ Some site
 
-site_over-is : {T : Type 0} (from limit : ℕ) (sites : List (ℕ × T)) (i : ℕ) (site : ℕ × T) → StandFrom from limit sites → site_over sites i ≡ Some site → Over from sites i site
+pub site_over-is : {T : Type 0} (from limit : ℕ) (sites : List (ℕ × T)) (i : ℕ) (site : ℕ × T) → StandFrom from limit sites → site_over sites i ≡ Some site → Over from sites i site
 site_over-is from limit [] i site apart is = absurd (cc)
 site_over-is {T = T} from limit (first ∷ sites) i site apart is =
     go (side first.0 i) (λ rest. site_over-is (first.0 + 4) limit sites i site apart.2 rest)
