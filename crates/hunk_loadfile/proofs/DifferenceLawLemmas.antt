@@ -58,11 +58,11 @@ unless-none false difference next none = absurd (cc)
 unless-neither : (test : Bool) (difference : Difference) (next : Option Difference) → test ≡ true → next ≡ None → unless test difference next ≡ None
 unless-neither test difference next passes none = rw passes none
 
-option_map-none : {X Y : Type 0} (f : X → Y) (item : Option X) → option_map f item ≡ None → item ≡ None
+pub option_map-none : {X Y : Type 0} (f : X → Y) (item : Option X) → option_map f item ≡ None → item ≡ None
 option_map-none f None none = refl
 option_map-none f (Some x) none = absurd (cc)
 
-option_or-none : {X : Type 0} (one other : Option X) → option_or one other ≡ None → (one ≡ None) × (other ≡ None)
+pub option_or-none : {X : Type 0} (one other : Option X) → option_or one other ≡ None → (one ≡ None) × (other ≡ None)
 option_or-none None other none = (refl, none)
 option_or-none (Some x) other none = absurd (cc)
 

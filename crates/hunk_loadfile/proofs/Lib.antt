@@ -13,6 +13,7 @@ pub mod InfoDifferenceLemmas
 pub mod MeaningLemmas
 pub mod NormalMeaningLemmas
 pub mod DifferenceLawLemmas
+pub mod InfoDifferenceLawLemmas
 pub mod PatchingTwiceLemmas
 pub mod LoadFileLemmas
 pub mod LoadFormLemmas

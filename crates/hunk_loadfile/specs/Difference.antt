@@ -1,4 +1,4 @@
--- Where two load files first differ in what they mean, and in what debuggers read of them.
+-- Where two load files first differ in what they mean.
 use Rattle.std.specs.Prelude.{◌≡◌, ℕ, ◌+◌, ◌*◌, ◌≤◌, ◌==◌, ◌&&◌, not, Bool, true, false, if◌then◌else◌, List, ◌∷◌, length, Option, Some, None}
 use Rattle.std.specs.List.{position_from, range_with_len}
 use Rattle.std.specs.Option.{option_eq, option_map, option_or}

@@ -7,6 +7,10 @@ use Rattle.hunk_loadfile.specs.LoadHunk.{FileHunk}
 use Rattle.hunk_loadfile.specs.declared.info_difference.InfoDifference.{InfoDifference}
 use Rattle.hunk_loadfile.specs.declared.info_difference.InfoDifference.TheVariants.{Symbol, Debug}
 
+-- what only debuggers read of a hunk
+abbrev pub info : FileHunk → List (List ℕ × ℕ) × List (List ℕ)
+info hunk = (hunk.symbols, hunk.debugs)
+
 -- two symbols with one name and one value
 abbrev pub is_same_symbol : List ℕ × ℕ → List ℕ × ℕ → Bool
 is_same_symbol first second = pointwise ◌==◌ first.0 second.0 && first.1 == second.1

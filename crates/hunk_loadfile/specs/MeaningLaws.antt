@@ -1,6 +1,7 @@
 -- Laws about what load files mean: what keeps it, and what tells it.
-use Rattle.std.specs.Prelude.{◌≡◌, ◌↔◌, ℕ, ◌*◌, ◌<◌, ◌≤◌, List, length, None}
+use Rattle.std.specs.Prelude.{◌≡◌, ◌↔◌, ℕ, ◌*◌, ◌<◌, ◌≤◌, List, length, map, None}
 use Rattle.hunk_loadfile.specs.Difference.{first_difference}
+use Rattle.hunk_loadfile.specs.InfoDifference.{first_info_difference, info}
 use Rattle.hunk_loadfile.specs.LoadHunk.{FileHunk}
 use Rattle.hunk_loadfile.specs.Meaning.{MeansTheSame}
 use Rattle.hunk_loadfile.specs.NormalForm.{normal_form, normal_hunk}
@@ -54,6 +55,13 @@ abbrev pub NoDifference : Type 0
 NoDifference =
     (first second : List FileHunk) → IsLoadFile first → IsLoadFile second
     → (first_difference first second ≡ None) ↔ MeansTheSame first second
+
+-- Two load files with equally many hunks have the same symbols and debug blocks exactly if there is no first
+-- difference in them.
+abbrev pub NoInfoDifference : Type 0
+NoInfoDifference =
+    (first second : List FileHunk) → length first ≡ length second
+    → (first_info_difference first second ≡ None) ↔ (map info first ≡ map info second)
 
 -- No beginning of a content in whole longwords after which all bytes are 0 is shorter than that of the normal form.
 abbrev pub NormalIsShortest : Type 0

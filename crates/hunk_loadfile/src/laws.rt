@@ -1,7 +1,7 @@
 //! Laws about load files, their written forms, what they mean, trimming and patching, each a function
 //! without a body.
 ghost use Rattle.hunk_loadfile.specs.Laws.{AcceptedIsShort, OneLoad, OnlyZerosAreTrimmed, PatchedTwice, ShortNumbersFit, TrimmedIsShortest, WholeIsPartial, WrittenIsLoad, WrittenIsShort};
-ghost use Rattle.hunk_loadfile.specs.MeaningLaws.{NoDifference, NormalIsShortest, NormalMeansTheSame, NormalOnce, OneNormalForm, StrippedAndTrimmedOnce, StrippedMeansTheSame, StrippedOnce, TrimmedMeansTheSame, TrimmedOnce};
+ghost use Rattle.hunk_loadfile.specs.MeaningLaws.{NoDifference, NoInfoDifference, NormalIsShortest, NormalMeansTheSame, NormalOnce, OneNormalForm, StrippedAndTrimmedOnce, StrippedMeansTheSame, StrippedOnce, TrimmedMeansTheSame, TrimmedOnce};
 
 /// Decoding is unambiguous: no longwords are the load files of two values.
 pub fn longwords_tell_load_file()
@@ -78,4 +78,10 @@ pub fn normal_form_is_shortest()
 /// nothing.
 pub fn no_difference_means_the_same()
     ensures { NoDifference }
+{}
+
+/// Two load files with equally many hunks have the same symbols and debug blocks exactly if
+/// [`first_info_difference`](crate::first_info_difference) finds nothing.
+pub fn no_info_difference_is_the_same_info()
+    ensures { NoInfoDifference }
 {}
