@@ -2,6 +2,7 @@
 //!
 //! - `asserts`: assertions as functions.
 //! - `builds`: hunks that make a load file, and hunks that don't.
+//! - `compared`: load files that are compared, stripped or in normal form.
 //! - `decoded`: load files as values.
 //! - `failed_reads`: reads of object files and load files that fail.
 //! - `growths`: allocations that fail in the calls on load files.
@@ -25,6 +26,7 @@
 
 mod asserts;
 mod builds;
+mod compared;
 mod decoded;
 mod failed_reads;
 mod growths;
