@@ -2,9 +2,11 @@
 //!
 //! - `tests`: files, standard outputs and standard errors, by public calls only.
 //! - `samples`: files and a device for the tests.
-//! - `fake_files`: a file system in memory for the tests, with its open files in `fake_handle`, what was
-//!   done and what is to fail in `fake_log`, the files that were written in `fake_disk`, and those that it
-//!   has from the start in `named_files`.
+//! - `fake_files`: a file system in memory for the tests.
+//! - `fake_handle`: its open files.
+//! - `fake_log`: what was done, and what is to fail.
+//! - `fake_disk`: the files that were written.
+//! - `named_files`: the files that it has from the start.
 #![tactic(auto)]
 
 #[cfg(test)]

@@ -8,13 +8,11 @@ use Rattle.hunk_base.specs.Streams.{WroteAll, WroteText}
 use Rattle.hunk_loadfile.specs.LoadFile.{IsLoadOf}
 use Rattle.hunk_loadfile.specs.LoadHunk.{FileHunk}
 use Rattle.hunk_loadfile.specs.Rules.{IsLoadFile}
-use Rattle.hunk_loadfile.specs.Trimming.{trimmed_hunk}
 use Rattle.hunk_loadfile.specs.WrittenForm.{IsShortEnough, written_in}
 use Rattle.hunk_base.specs.declared.fault.WriteFault.{WriteFault}
 use Rattle.hunk_base.specs.declared.fault.WriteFault.TheVariants as write_fault
 use Rattle.hunk_base.specs.declared.fault.WriteFault.TheVariants.{Device}
 use Rattle.hunk_objects.specs.ProgramUnit.{ObjectUnit}
-use Rattle.hunk_tool.specs.FaultLine.{IsOfInputs}
 use Rattle.hunk_tool.specs.Inputs.{HaveRead, Input, file_names, inputs_of}
 use Rattle.hunk_tool.specs.Link.{DoLink, IsLinkCutShort, IsLinkFault, IsLinked, LinkTo, Taken}
 use Rattle.hunk_tool.specs.LinkOptions.{form_of, trimmed_if}
@@ -26,31 +24,11 @@ use Rattle.hunk_tool.specs.declared.tool_fault.ToolFault.TheVariants as tool_fau
 use Rattle.hunk_tool.specs.declared.tool_fault.ToolFault.TheVariants.{OutOfMemory}
 use Rattle.hunk_tool.proofs.InputsLemmas.{HaveRead-weaker, length-inputs_of}
 use Rattle.hunk_tool.proofs.LinkLemmas.{linked_bytes-are_load}
-use Rattle.hunk_commands.specs.Failure.{IsOfFiles}
 use Rattle.hunk_commands.specs.Link.{DoLinkAll, DoLinkFiles, DoLinkTo, HasMap, HasRunFault, IsLinkFailure, IsLinkedWithMap, IsMade, IsMapped, IsUndone, IsUnmapped, IsUnwritten, IsWrittenOut, map_failure}
 use Rattle.hunk_commands.specs.Replacement.{HasRun, IsCauseOf, IsUnplaced, IsWriteFault, run_of}
 use Rattle.hunk_commands.specs.declared.failure.Failure.{Failure}
 use Rattle.hunk_commands.proofs.InputsLemmas.{OfInputs-readers, OfInputs-weaker}
 use Rattle.hunk_commands.specs.declared.failure.Failure.TheVariants.{BadNumber, MapOverFile, Opening, Printing, Reading, SameFile, Tool, Writing}
-
--- ---- why what a run wrote is not in its place
-
--- the files of a failure to put something in its place are none
-IsOfFiles-unplaced : (n : ℕ) (name : List ℕ) (failure : Failure) → IsUnplaced name failure → IsOfFiles n failure
-IsOfFiles-unplaced n name (BadNumber addresses index) is = absurd is
-IsOfFiles-unplaced n name (Opening file reason) is = tt
-IsOfFiles-unplaced n name (Reading file) is = absurd is
-IsOfFiles-unplaced n name (Writing file) is = absurd is
-IsOfFiles-unplaced n name (SameFile file) is = absurd is
-IsOfFiles-unplaced n name (MapOverFile file) is = absurd is
-IsOfFiles-unplaced n name Printing is = tt
-IsOfFiles-unplaced n name (Tool fault) is = subst (λ f. IsOfFiles n (Tool f)) (sym is) tt
-
--- the files of a failure are those of the run
-pub IsOfFiles-cause : (n : ℕ) (name : List ℕ) (failure : Failure) (ran : Result (Unit {0}) (ToolFault Global)) → IfErr ran (IsOfInputs n) → IsCauseOf ran name failure → IsOfFiles n failure
-IsOfFiles-cause n name failure (Ok done) of is = IsOfFiles-unplaced n name failure is
-IsOfFiles-cause n name failure (Err fault) of (inl same) = subst (IsOfFiles n) (sym same) of
-IsOfFiles-cause n name failure (Err fault) of (inr (write, is)) = IsOfFiles-unplaced n name failure is
 
 -- inputs of files link, since they did so for a run
 DoLinkAll-inputs : (strip : Bool) (names : List (List ℕ)) (inputs : List Input) (Holds : List (List ℕ) → Type 0) → length inputs ≡ length names
@@ -215,7 +193,3 @@ module _ (options : LinkOptions) (units : List FileUnit) (linked file : List Fil
 pub IsUndone-memory : (options : LinkOptions) (files : List (List ℕ)) (out : List ℕ) (map : Option (List ℕ)) → IsUndone options files out map (Tool (OutOfMemory 0))
 IsUndone-memory options files out None = inl refl
 IsUndone-memory options files out (Some map) = inr (inl (inl refl))
-
-pub length-trimmed_if : (trim : Bool) (linked file : List FileHunk) → file ≡ trimmed_if trim linked → length linked ≡ length file
-length-trimmed_if true linked file is = sym (ap (λ (hunks : List FileHunk). length hunks) is ∙ length-map linked trimmed_hunk)
-length-trimmed_if false linked file is = sym (ap (λ (hunks : List FileHunk). length hunks) is)

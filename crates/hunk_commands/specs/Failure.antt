@@ -1,11 +1,11 @@
 -- The exit status of the program for each failure, and the line that tells it.
 use Rattle.std.specs.declared.alloc.Global.{Global}
-use Rattle.std.specs.Prelude.{◌≡◌, ◌⊎◌, ◌++◌, ℕ, List, Bool, Option, ⊤, codes, decimal}
+use Rattle.std.specs.Prelude.{◌≡◌, ◌⊎◌, ◌++◌, ℕ, List, Bool, Option, codes, decimal}
 use Rattle.std.specs.Io.KnownBytes.{Appends}
 use Rattle.hunk_base.specs.Streams.{WriteStopped}
 use Rattle.hunk_base.specs.Text.{line}
 use Rattle.hunk_base.specs.declared.fault.WriteFault.TheVariants.{Device}
-use Rattle.hunk_tool.specs.FaultLine.{fault_line, IsOfInputs}
+use Rattle.hunk_tool.specs.FaultLine.{fault_line}
 use Rattle.hunk_tool.specs.declared.tool_fault.ToolFault.TheVariants.{Output}
 use Rattle.hunk_tool.specs.ToolFault.{status}
 use Rattle.hunk_commands.specs.declared.failure.Failure.{Failure}
@@ -25,11 +25,6 @@ status_of (SameFile file) = 2
 status_of (MapOverFile file) = 2
 status_of Printing = 3
 status_of (Tool fault) = status fault
-
--- what `hunk_tool` returned refers to at most n files
-abbrev pub IsOfFiles : ℕ → Failure → Type 0
-IsOfFiles n (Tool fault) = IsOfInputs n fault
-IsOfFiles n _ = ⊤
 
 -- what the line about bad addresses names: the option of the list, or the file
 abbrev pub origin_name : Origin → List ℕ

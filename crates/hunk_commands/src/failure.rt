@@ -1,10 +1,10 @@
 //! Why a request failed: the line that reports it, and the exit status.
-ghost use Rattle.std.specs.Prelude.{◌≡◌, length, map};
+ghost use Rattle.std.specs.Prelude.{◌≡◌, map};
 ghost use Rattle.std.specs.String.{string_bytes};
-ghost use Rattle.hunk_tool.specs.FaultLine.{fault_line, IsOfInputs};
+ghost use Rattle.hunk_tool.specs.FaultLine.{fault_line};
 ghost use Rattle.hunk_commands.specs.Addresses.{origin_of};
 ghost use Rattle.hunk_commands.specs.Failure.{about_line, bad_number_line, failure_line, origin_name};
-ghost use Rattle.hunk_commands.specs.Failure.{status_of, IsOfFiles, TellsLine};
+ghost use Rattle.hunk_commands.specs.Failure.{status_of, TellsLine};
 
 use crate::addresses::Addresses;
 use crate::open_fault::OpenFault;
@@ -84,7 +84,6 @@ impl From<ToolFault> for Failure<'_> {
 /// The line is appended to `errors`, or a write failed: then it has taken the first bytes of the
 /// line, and nothing more is written.
 pub fn report_failure<W: Sink>(errors: &mut W, files: &[String], failure: &Failure<'_>) -> u8
-    requires { IsOfFiles (length files.now) failure.now }
     ensures status { result ≡ status_of failure.now }
     ensures line { TellsLine W.taken W.failed errors.old errors.new (failure_line (map string_bytes files.now) failure.now) }
 {
@@ -108,7 +107,6 @@ pub(crate) fn report_refusal<W: Sink>(errors: &mut W, told: &str) -> u8
 
 /// Writes the line of a failure.
 fn tell_failure<W: Sink>(errors: &mut W, files: &[String], failure: &Failure<'_>)
-    requires { IsOfFiles (length files.now) failure.now }
     ensures { TellsLine W.taken W.failed errors.old errors.new (failure_line (map string_bytes files.now) failure.now) }
 {
     match failure {
@@ -165,7 +163,6 @@ fn tell_about<W: Sink>(errors: &mut W, file: &str, told: &[u8])
 
 /// Writes the line for what `hunk_tool` returned.
 fn tell_fault<W: Sink>(errors: &mut W, files: &[String], fault: &ToolFault)
-    requires { IsOfInputs (length files.now) fault.now }
     ensures { TellsLine W.taken W.failed errors.old errors.new (fault_line (map string_bytes files.now) fault.now) }
 {
     let _ = write_fault(files, fault, errors);

@@ -1,9 +1,8 @@
 //! The request `image`: the memory that object files define at given addresses.
-ghost use Rattle.std.specs.Prelude.{IfOk, IfErr, OnOk, length};
+ghost use Rattle.std.specs.Prelude.{IfOk, IfErr, OnOk};
 ghost use Rattle.hunk_tool.specs.Image.{IsImaged};
 ghost use Rattle.hunk_tool.specs.Inputs.{HaveRead, inputs_of, file_names};
 ghost use Rattle.hunk_commands.specs.Addresses.{origin_of};
-ghost use Rattle.hunk_commands.specs.Failure.{IsOfFiles};
 ghost use Rattle.hunk_commands.specs.Image.{AreImaged, IsImageFailure, IsUnprinted};
 
 use crate::addresses::{Addresses, addresses_of};
@@ -33,7 +32,6 @@ pub fn image<'a, R: Files + Print + AllocGlobal>(
 ) -> Result<(), Failure<'a>>
     ensures ok { OnOk result (AreImaged form (origin_of addresses.entry) (file_names files.entry.now)) }
     ensures err { IfErr result (IsImageFailure form (origin_of addresses.entry) (file_names files.entry.now)) }
-    ensures of_files { IfErr result (IsOfFiles (length files.entry.now)) }
 {
     let bases = addresses_of(rt, addresses)?;
     let mut inputs = open_inputs(rt, rt.alloc(), files)?;
@@ -64,7 +62,6 @@ pub fn image_to<'a, I: Source, O: Write + Drop>(
     ensures ok { IfOk result (λ after. HaveRead (inputs_of I.left I.failed I.ended inputs.old inputs.new)
         (IsImaged form bases.now (O.contents output) (O.contents after))) }
     ensures err { IfErr result (IsUnprinted form bases.now (inputs_of I.left I.failed I.ended inputs.old inputs.new) (O.contents output)) }
-    ensures of_files { IfErr result (IsOfFiles (length inputs.old)) }
 {
     let mut writer = buffered(alloc, output)?;
     image_run_with(alloc, inputs, bases, form, &mut writer)?;

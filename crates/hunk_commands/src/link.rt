@@ -6,7 +6,6 @@ ghost use Rattle.hunk_loadfile.specs.WrittenForm.{IsShortEnough};
 ghost use Rattle.hunk_tool.specs.Inputs.{file_names};
 ghost use Rattle.hunk_tool.specs.Map.{map_text};
 ghost use Rattle.hunk_tool.specs.Origins.{origins};
-ghost use Rattle.hunk_commands.specs.Failure.{IsOfFiles};
 ghost use Rattle.hunk_commands.specs.Replacement.{run_of};
 ghost use Rattle.hunk_commands.specs.Link.{AreUnlinked, DoLinkFiles, DoLinkTo, HasMap, IsLinkFailure, IsMade, IsMapFailure, IsMapped, IsUnmapped, IsUnwritten, IsWrittenOut, map_failure};
 
@@ -42,7 +41,6 @@ pub fn link<'a, R: Files + AllocGlobal>(
 ) -> Result<(), Failure<'a>>
     ensures ok { OnOk result (IsMade options (file_names files.entry.now)) }
     ensures err { IfErr result (IsLinkFailure options (file_names files.entry.now) out.entry.now) }
-    ensures of_files { IfErr result (IsOfFiles (length files.entry.now)) }
 {
     let mut inputs = open_inputs(rt, rt.alloc(), files)?;
     let mut output = Replacement::new(rt, out);
@@ -75,7 +73,6 @@ pub fn link_with_map<'a, R: Files + AllocGlobal>(
     ensures ok { OnOk result (IsMapped options (map string_bytes names.now) (file_names files.entry.now)) }
     ensures one { out.entry.now ≡ map_file.entry.now → result ≡ Err (Failure.SameFile map_file.entry) }
     ensures err { IfErr result (IsMapFailure options (file_names files.entry.now) out.entry.now map_file.entry.now) }
-    ensures of_files { IfErr result (IsOfFiles (length files.entry.now)) }
 {
     if is_one_file(rt, out, map_file) {
         return Err(Failure::SameFile(map_file));
@@ -99,7 +96,6 @@ pub(crate) fn linked<'a, R: Files + AllocGlobal>(
     ensures ok { IfOk result (λ file. DoLinkTo strip (file_names files.entry.now) file) }
     ensures short { IfOk result (λ file. IsShortEnough file) }
     ensures err { IfErr result (AreUnlinked strip (file_names files.entry.now)) }
-    ensures of_files { IfErr result (IsOfFiles (length files.entry.now)) }
 {
     let mut inputs = open_inputs(rt, rt.alloc(), files)?;
     Ok(link_inputs(rt.alloc(), inputs.as_mut_slice(), strip)?)
@@ -115,7 +111,6 @@ fn linked_files<'a, R: Files + AllocGlobal>(
     ensures short { IfOk result (λ linked. IsShortEnough linked.1) }
     ensures matched { IfOk result (λ linked. length (origins linked.0) ≡ length linked.1) }
     ensures err { IfErr result (AreUnlinked strip (file_names files.entry.now)) }
-    ensures of_files { IfErr result (IsOfFiles (length files.entry.now)) }
 {
     let mut inputs = open_inputs(rt, rt.alloc(), files)?;
     Ok(link_files(rt.alloc(), inputs.as_mut_slice(), strip)?)

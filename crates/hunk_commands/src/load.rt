@@ -1,5 +1,5 @@
 //! The request `load`: the image or the symbols of a load file at given addresses.
-ghost use Rattle.std.specs.Prelude.{IfOk, IfErr, OnOk};
+ghost use Rattle.std.specs.Prelude.{IfOk, IfErr, IsTrue, OnOk};
 ghost use Rattle.hunk_base.specs.Streams.{HasRead};
 ghost use Rattle.hunk_tool.specs.Load.{IsFaultAt, IsWrittenAt, ends_of};
 ghost use Rattle.hunk_commands.specs.Addresses.{origin_of};
@@ -32,7 +32,8 @@ pub enum LoadText {
 ///
 /// - Those of [`addresses_of`].
 /// - [`Failure::Opening`] if the file cannot be opened.
-/// - Those of [`load_to`].
+/// - [`Failure::Tool`] with what [`load_to`] returns, or out of memory.
+/// - [`Failure::Printing`] if the output did not take the end of the text.
 pub fn load<'a, R: Files + Print + AllocGlobal>(
     rt: &R,
     addresses: Addresses<'a>,
@@ -44,18 +45,13 @@ pub fn load<'a, R: Files + Print + AllocGlobal>(
 {
     let bases = addresses_of(rt, addresses)?;
     let input = open(rt, file)?;
-    load_to(rt.alloc(), input, bases.as_slice(), text, io::writer(rt))?;
+    print_to(rt.alloc(), input, bases.as_slice(), text, io::writer(rt))?;
     Ok(())
 }
 
-/// Writes this text of the load file that is read from `input`, through a buffer, and returns
+/// Prints this text of the load file that is read from `input`, through a buffer, and returns
 /// `output`, flushed.
-///
-/// # Errors
-///
-/// - [`Failure::Tool`] with what [`load_run_with`] or [`symbols_run`] returns, or out of memory.
-/// - [`Failure::Printing`] if `output` did not take the end of the text.
-pub fn load_to<'a, I: Read + Drop, O: Write + Drop>(
+fn print_to<'a, I: Read + Drop, O: Write + Drop>(
     alloc: Global,
     input: I,
     bases: &[u32],
@@ -68,19 +64,24 @@ pub fn load_to<'a, I: Read + Drop, O: Write + Drop>(
 {
     let mut reader = Watched::new(input);
     let mut writer = buffered(alloc, output)?;
-    write_text(alloc, text, &mut reader, bases, &mut writer)?;
+    load_to(alloc, &mut reader, bases, text, &mut writer)?;
     flushed(writer)
 }
 
-/// Writes this text of the load file that is read from `reader`.
-fn write_text<R: Source, W: Sink>(
+/// Writes this text of the load file that is read from `reader`, to its end, at these addresses.
+///
+/// # Errors
+///
+/// Those of [`load_run_with`] for an image, and of [`symbols_run`] for symbols.
+pub fn load_to<R: Source, W: Sink>(
     alloc: Global,
-    text: LoadText,
     reader: &mut R,
     bases: &[u32],
+    text: LoadText,
     writer: &mut W,
 ) -> Result<(), ToolFault>
     ensures ok { OnOk result (HasRead (R.left reader.old) (R.left reader.new) (IsWrittenAt (text_of text) bases.now (W.taken writer.old) (W.taken writer.new))) }
+    ensures ended { OnOk result (IsTrue (R.ended reader.new)) }
     ensures err { IfErr result (IsFaultAt (text_of text) bases.now (ends_of
         (R.left reader.old) (R.left reader.new) (R.failed reader.new) (R.ended reader.new)
         (W.taken writer.old) (W.taken writer.new) (W.failed writer.new))) }

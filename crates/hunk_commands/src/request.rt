@@ -1,9 +1,8 @@
 //! What a command line asks for, and doing it.
-ghost use Rattle.std.specs.Prelude.{◌≡◌, IfErr, OnOk, length, map, string_bytes};
+ghost use Rattle.std.specs.Prelude.{◌≡◌, IfErr, OnOk, map, string_bytes};
 ghost use Rattle.hunk_tool.specs.Inputs.{file_names};
 ghost use Rattle.hunk_commands.specs.Addresses.{origin_of};
 ghost use Rattle.hunk_commands.specs.Explain.{AreLinesOf, IfAsked};
-ghost use Rattle.hunk_commands.specs.Failure.{IsOfFiles};
 ghost use Rattle.hunk_commands.specs.Link.{IsDone, IsUndone};
 ghost use Rattle.hunk_commands.specs.Request.{Ends, EndsImage, EndsLink, EndsLoad, EndsSurvey, EndsText, EndsVersion, IsFailed, given_text, shown};
 
@@ -152,8 +151,7 @@ fn fail<R: Files + AllocGlobal, W: Sink>(
     names: &[String],
     failure: &Failure<'_>,
 ) -> u8
-    requires named { map string_bytes names.now ≡ file_names files.now }
-    requires of_files { IsOfFiles (length names.now) failure.now }
+    requires { map string_bytes names.now ≡ file_names files.now }
     ensures { IsFailed W.taken W.failed errors.old errors.new (λ told. told ≡ failure.now) (IfAsked explain (AreLinesOf command.entry (file_names files.now))) (file_names files.now) result }
 {
     let status = report_failure(errors, names, failure);
@@ -223,7 +221,6 @@ fn link_as_asked<'a, R: Files + AllocGlobal>(
     requires { map string_bytes names.now ≡ file_names files.now }
     ensures ok { OnOk result (IsDone options (file_names files.entry.now) out.entry.now (given_text map_file.entry)) }
     ensures err { IfErr result (IsUndone options (file_names files.entry.now) out.entry.now (given_text map_file.entry)) }
-    ensures of_files { IfErr result (IsOfFiles (length files.entry.now)) }
 {
     match map_file {
         None => link(rt, out, options, files),

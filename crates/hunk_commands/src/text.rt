@@ -32,7 +32,8 @@ pub enum Text {
 /// # Errors
 ///
 /// - [`Failure::Opening`] if the file cannot be opened.
-/// - Those of [`print_text_to`].
+/// - [`Failure::Tool`] with what [`print_text_to`] returns, or out of memory.
+/// - [`Failure::Printing`] if the output did not take the end of the text.
 pub fn print_text<'a, R: Files + Print + AllocGlobal>(
     rt: &R,
     text: Text,
@@ -42,18 +43,13 @@ pub fn print_text<'a, R: Files + Print + AllocGlobal>(
     ensures err { IfErr result (IsTextFailure text file.entry.now) }
 {
     let input = open(rt, file)?;
-    print_text_to(rt.alloc(), text, input, io::writer(rt))?;
+    print_to(rt.alloc(), text, input, io::writer(rt))?;
     Ok(())
 }
 
-/// Writes the text about the file that is read from `input`, through a buffer, and returns
+/// Prints the text about the file that is read from `input`, through a buffer, and returns
 /// `output`, flushed.
-///
-/// # Errors
-///
-/// - [`Failure::Tool`] with what [`check_run`], [`show_run`] or [`json_run`] returns, or out of memory.
-/// - [`Failure::Printing`] if `output` did not take the end of the text.
-pub fn print_text_to<'a, I: Read + Drop, O: Write + Drop>(
+fn print_to<'a, I: Read + Drop, O: Write + Drop>(
     alloc: Global,
     text: Text,
     input: I,
@@ -65,18 +61,24 @@ pub fn print_text_to<'a, I: Read + Drop, O: Write + Drop>(
 {
     let mut reader = Watched::new(input);
     let mut writer = buffered(alloc, output)?;
-    write_text(alloc, text, &mut reader, &mut writer)?;
+    print_text_to(alloc, text, &mut reader, &mut writer)?;
     flushed(writer)
 }
 
-/// Writes the text about the file that is read from `reader`.
-fn write_text<R: Source, W: Sink>(
+/// Writes the text about the file that is read from `reader`, to its end.
+///
+/// # Errors
+///
+/// Those of [`check_run`] for a line, of [`show_run`] for a listing, and of [`json_run`] for a
+/// document.
+pub fn print_text_to<R: Source, W: Sink>(
     alloc: Global,
     text: Text,
     reader: &mut R,
     writer: &mut W,
 ) -> Result<(), ToolFault>
     ensures ok { OnOk result (HasRead (R.left reader.old) (R.left reader.new) (IsWritten (text_of text) (W.taken writer.old) (W.taken writer.new))) }
+    ensures ended { OnOk result (IsTrue (R.ended reader.new)) }
     ensures err { IfErr result (IsTextFault (text_of text) (ends_of
         (R.left reader.old) (R.left reader.new) (R.failed reader.new) (R.ended reader.new)
         (W.taken writer.old) (W.taken writer.new) (W.failed writer.new))) }

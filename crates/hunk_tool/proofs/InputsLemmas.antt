@@ -1,7 +1,7 @@
 -- Reading one more input, and stopping at it.
-use Rattle.std.proofs.Common.{add-one, ◌≡◌, ℕ, ◌+◌, ◌<◌, List, [], ◌∷◌, ◌++◌, length, get_or, set, take, drop, Option, Bool, IsTrue, refl, sym, ap, ◌∙◌, min, arith}
+use Rattle.std.proofs.Common.{add-one, ◌≡◌, ℕ, ◌+◌, ◌<◌, List, [], ◌∷◌, ◌++◌, length, get_or, set, take, drop, Option, Bool, IsTrue, refl, ap, ◌∙◌, min, arith}
 use Rattle.std.specs.List.{zip}
-use Rattle.std.proofs.lemmas.List.{append-nil, append_assoc, drop-set-lt, drop_more, length-map, length-take, set_split, take-append-drop, take_more, take_more_set}
+use Rattle.std.proofs.lemmas.List.{drop-set-lt, drop_more, length-map, length-take, set_split, take-append-drop, take_more, take_more_set}
 use Rattle.std.proofs.lemmas.Slice.Zip.{length-zip}
 use Rattle.hunk_base.specs.Streams.{HasRead}
 use Rattle.hunk_words.specs.Decoder.{RefusesRead}
@@ -9,7 +9,7 @@ use Rattle.hunk_words.specs.declared.event.FileKind.TheVariants.{Object}
 use Rattle.hunk_base.specs.declared.fault.ReadFault.{ReadFault}
 use Rattle.hunk_base.specs.declared.fault.ReadFault.TheVariants as read_fault
 use Rattle.hunk_base.specs.declared.fault.Refusal.TheVariants as refusal_is
-use Rattle.hunk_objects.specs.ProgramUnit.{IsObjectOf, ObjectUnit}
+use Rattle.hunk_objects.specs.ProgramUnit.{ObjectUnit}
 use Rattle.hunk_tool.specs.Inputs.{AreObjects, HaveRead, Input, IsInputFault, IsRefusedAt, WasRead, WereRead, inputs_of}
 use Rattle.hunk_tool.specs.ToolFault.{tool_fault_of_read}
 

@@ -10,8 +10,6 @@ pub mod HeadlineLemmas
 pub mod InputsLemmas
 pub mod LinkLemmas
 pub mod ImageLemmas
-pub mod NameLengthLemmas
-pub mod IsOfInputsLemmas
 pub mod RanksLemmas
 pub mod ObjectFilesLemmas
 pub mod MapLemmas

@@ -1,8 +1,9 @@
 -- The written forms of a load file are the bytes of one, and what a fault of linking says.
-use Rattle.std.proofs.Common.{◌≡◌, ℕ, ◌/◌, ◌^◌, ◌<◌, ◌≤◌, inl, inr, List, [], ◌∷◌, length, Option, Bool, true, false, ap₂, refl, sym, subst, arith}
+use Rattle.std.proofs.Common.{◌≡◌, ◌∙◌, ℕ, ◌/◌, ◌^◌, ◌<◌, ◌≤◌, inl, inr, List, [], ◌∷◌, length, Option, Bool, true, false, ap, ap₂, refl, sym, subst, arith}
 use Rattle.std.specs.Io.KnownBytes.{Appends}
 use Rattle.std.specs.List.{All}
 use Rattle.std.proofs.KnownBytes.{Keeps-refl}
+use Rattle.std.proofs.lemmas.List.{length-map}
 use Rattle.std.proofs.lemmas.List.Elements.{All-from_recursion}
 use Rattle.hunk_base.specs.Longwords.{AllLong}
 use Rattle.hunk_words.specs.Files.{IsFileOf, most_longwords}
@@ -20,7 +21,7 @@ use Rattle.hunk_words.proofs.FilesPrefixLemmas.{end_of, spelling-read, start}
 use Rattle.hunk_base.proofs.LongwordsByteLemmas.{bytes_of-IsWhole, longwords-bytes_of}
 use Rattle.hunk_objects.specs.ProgramUnit.{ObjectUnit}
 use Rattle.hunk_loadfile.specs.LoadFile.{IsLoad, IsLoadOf}
-use Rattle.hunk_loadfile.specs.Trimming.{trimmed}
+use Rattle.hunk_loadfile.specs.Trimming.{trimmed, trimmed_hunk}
 use Rattle.hunk_loadfile.specs.declared.load_form.LoadForm.{LoadForm}
 use Rattle.hunk_loadfile.specs.LoadHunk.{FileHunk}
 use Rattle.hunk_loadfile.specs.Rules.{IsLoadFile}
@@ -141,3 +142,9 @@ pub IsLinkFault-written : (A : Type 0) {W : Type 0} (taken : W → Option (List 
     → IsLinkFault options inputs (record { old = taken old; new = taken new; failed = failed new }) (tool_fault_of_write {A = A} fault)
 IsLinkFault-written A taken failed old new options inputs file (write_fault.Device written) read stopped = (cut_short inputs options file (taken old) (taken new) written read stopped.0, stopped.1)
 IsLinkFault-written A taken failed old new options inputs file (write_fault.OutOfMemory written) read stopped = inr (cut_short inputs options file (taken old) (taken new) written read stopped.0)
+
+-- ---- trimming
+
+pub length-trimmed_if : (trim : Bool) (linked file : List FileHunk) → file ≡ trimmed_if trim linked → length linked ≡ length file
+length-trimmed_if true linked file is = sym (ap (λ (hunks : List FileHunk). length hunks) is ∙ length-map linked trimmed_hunk)
+length-trimmed_if false linked file is = sym (ap (λ (hunks : List FileHunk). length hunks) is)

@@ -1,5 +1,5 @@
 -- The lines of a map, one hunk after another.
-use Rattle.std.proofs.Common.{◌≡◌, ◌∙◌, ℕ, ◌+◌, ◌<◌, ◌≤◌, List, [], ◌∷◌, ◌++◌, length, drop, get_or, map, sum_by, take, ◌-◌, add-zero, refl, sym, ap, ap₂, append-nil, append_assoc, arith}
+use Rattle.std.proofs.Common.{◌≡◌, ◌∙◌, ℕ, ◌+◌, ◌<◌, ◌≤◌, Bool, List, [], ◌∷◌, ◌++◌, length, drop, get_or, map, sum_by, take, ◌-◌, add-zero, refl, sym, ap, ap₂, append_assoc, arith}
 use Rattle.std.specs.List.{enumerate_from}
 use Rattle.std.proofs.lemmas.List.{drop-drop, drop_all, drop_more, get_or-map, length-append, length-drop, length-map, take_all}
 use Rattle.std.proofs.lemmas.List.Sums.{sum_by-cons}
@@ -7,6 +7,10 @@ use Rattle.std.proofs.lemmas.List.FromFn.{length-enumerate_from}
 use Rattle.hunk_objects.specs.ProgramUnit.{ObjectUnit, hunk_count}
 use Rattle.hunk_objects.specs.UnitHunk.{ObjectHunk}
 use Rattle.hunk_loadfile.specs.LoadHunk.{FileHunk}
+use Rattle.hunk_link.specs.Carried.{carried, carried_ranked}
+use Rattle.hunk_link.specs.Ranks.{RankedHunk, hunks_of}
+use Rattle.hunk_link.specs.SymbolTable.{table_of}
+use Rattle.hunk_link.proofs.RanksLemmas.{length-hunks_of}
 use Rattle.hunk_tool.specs.Map.{map_from, map_lines}
 use Rattle.hunk_tool.specs.ObjectFiles.{FileUnit, units_of}
 use Rattle.hunk_tool.specs.Origins.{Origin, origins, origins_from, unit_origins}
@@ -134,6 +138,13 @@ length-origins (unit ∷ units) =
       length-origins units,
       sum_by-cons hunk_count unit.1 (units_of units),
     )
+
+-- the load file that the units make has as many hunks
+pub length-origins-carried : (units : List FileUnit) (strip : Bool) → length (origins units) ≡ length (carried (units_of units) strip)
+length-origins-carried units strip =
+    let all : List ObjectUnit = units_of units in
+    let carries : RankedHunk → FileHunk = carried_ranked (table_of (hunks_of all)) strip in
+    length-origins units ∙ sym (length-map (hunks_of all) carries ∙ length-hunks_of all)
 
 -- the hunks of a slice that begins here
 pub rest-is : (hunks file : List FileHunk) (first : ℕ) → hunks ≡ file → take (length hunks - first) (drop first hunks) ≡ drop first file

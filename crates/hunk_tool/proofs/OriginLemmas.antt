@@ -1,15 +1,13 @@
 -- One hunk of a link, and where it is from.
-use Rattle.std.proofs.Common.{◌≡◌, ◌∙◌, ℕ, ◌<◌, ◌≤◌, List, None, Some, length, map, get_or, ap, sym, subst, arith}
+use Rattle.std.proofs.Common.{◌≡◌, ◌∙◌, ℕ, ◌<◌, ◌≤◌, List, None, Some, length, map, get_or, ap, sym, arith}
 use Rattle.std.specs.Prelude.{option_map, slice_get}
 use Rattle.std.specs.Option.{option_and_then}
-use Rattle.std.specs.List.{All}
 use Rattle.std.proofs.lemmas.List.{length-map}
-use Rattle.std.proofs.lemmas.List.Elements.{All-get_or}
 use Rattle.std.proofs.lemmas.Option.{slice_get-get_or, slice_get_past}
 use Rattle.hunk_objects.specs.ProgramUnit.{ObjectUnit}
 use Rattle.hunk_objects.specs.UnitHunk.{ObjectHunk}
-use Rattle.hunk_tool.specs.ObjectFiles.{FileUnit, IsShortHunk, IsShortUnit, units_of}
-use Rattle.hunk_tool.specs.Origins.{IsShortOrigin, Origin, hunk_at, origin_at}
+use Rattle.hunk_tool.specs.ObjectFiles.{FileUnit, units_of}
+use Rattle.hunk_tool.specs.Origins.{Origin, hunk_at, origin_at}
 use Rattle.hunk_tool.specs.declared.object_files.UnitPlace.{UnitPlace}
 use Rattle.hunk_tool.proofs.MapLemmas.{unit-is}
 
@@ -33,14 +31,3 @@ module _ (units : List FileUnit) (index : ℕ) (place : UnitPlace) (unit : Objec
   origin_at-none number past =
       let origin : ObjectHunk → Origin = λ h. record { unit = (place, unit); number = number; hunk = h } in
       ap (option_and_then (hunk_at number)) unit_at ∙ ap (option_map origin) (slice_get_past unit.hunks number past)
-
--- its names are short as those of its unit
-pub IsShortOrigin-of : (place : UnitPlace) (unit : ObjectUnit) (number : ℕ) (hunk : ObjectHunk) → IsShortUnit unit → number < length unit.hunks → hunk ≡ get_or unit.hunks number hunk
-    → IsShortOrigin (record { unit = (place, unit); number = number; hunk = hunk })
-IsShortOrigin-of place unit number hunk short inside is = record {
-  unit = short.name;
-  hunk = subst IsShortHunk (sym is) (All-get_or IsShortHunk unit.hunks number hunk inside short.hunks);
-}
-
-pub IsShortUnit-at : (units : List ObjectUnit) (index : ℕ) (unit : ObjectUnit) → All IsShortUnit units → index < length units → unit ≡ get_or units index unit → IsShortUnit unit
-IsShortUnit-at units index unit short within is = subst IsShortUnit (sym is) (All-get_or IsShortUnit units index unit within short)

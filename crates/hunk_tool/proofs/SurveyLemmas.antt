@@ -1,11 +1,9 @@
 -- What a survey finds of a file that was counted, and its lines, put together from the pieces that are
 -- written.
 use Rattle.std.proofs.Common.{◌≡◌, ◌∙◌, ℕ, zero, suc, ◌+◌, ◌<◌, List, [], ◌∷◌, ◌++◌, Bor, Option, ap₂, ap, append_assoc, append-nil, length, take, get_or, refl, subst, sym, arith}
-use Rattle.std.specs.Fmt.{decimal}
 use Rattle.std.specs.Io.KnownBytes.{Appends}
 use Rattle.std.proofs.KnownBytes.{Appends-trans}
 use Rattle.std.proofs.lemmas.List.{get_or-map, length-map}
-use Rattle.std.specs.Prelude.{codes}
 use Rattle.hunk_base.specs.Streams.{HasRead}
 use Rattle.hunk_words.specs.declared.event.FileKind.{FileKind}
 use Rattle.hunk_words.specs.declared.event.FileKind.TheVariants as kind_is
@@ -15,7 +13,7 @@ use Rattle.hunk_files.specs.FileDecoder.{IsFileOf}
 use Rattle.hunk_files.specs.FileValue.{kind_of_bytes}
 use Rattle.hunk_files.specs.FileValue.FileValue.{load_file, object_file}
 use Rattle.hunk_tool.specs.Inputs.{file_names}
-use Rattle.hunk_tool.specs.Survey.{IsFoundIn, finding_line, finding_lines, finding_text, is_load, is_object, is_refused, is_unreadable, number_of, totals_line}
+use Rattle.hunk_tool.specs.Survey.{IsFoundIn, finding_line, finding_lines}
 use Rattle.hunk_files.specs.declared.counters.LoadCounter.{LoadCounter}
 use Rattle.hunk_files.specs.declared.counters.ObjectCounter.{ObjectCounter}
 use Rattle.hunk_files.specs.declared.file_decoder.File.TheVariants as file

@@ -1,16 +1,15 @@
 -- The uses of names, one reference after another.
-use Rattle.std.proofs.Common.{◌≡◌, ◌∙◌, ℕ, suc, ◌+◌, ◌<◌, ◌^◌, ◌≤◌, Bool, true, false, cond, not, List, [], ◌∷◌, ◌++◌, Bor, Some, if◌then◌else◌, length, get_or, take, map, refl, sym, ap, subst, arith}
-use Rattle.std.specs.Prelude.{count_by, slice_get}
+use Rattle.std.proofs.Common.{◌≡◌, ◌∙◌, ℕ, suc, ◌+◌, ◌<◌, Bool, true, false, cond, not, List, [], ◌∷◌, ◌++◌, Bor, Some, if◌then◌else◌, length, get_or, take, map, refl, sym, ap, arith}
+use Rattle.std.specs.Prelude.{count_by}
 use Rattle.std.specs.Cmp.Lexicographic.{other_text, same_text}
 use Rattle.std.specs.Map.{lookup}
 use Rattle.std.proofs.lemmas.List.{map_more}
-use Rattle.std.proofs.lemmas.List.Elements.{All-cons, All-nil, All-tail, filter-append}
+use Rattle.std.proofs.lemmas.List.Elements.{filter-append}
 use Rattle.std.proofs.lemmas.List.Sums.{sum_by-append}
-use Rattle.std.proofs.lemmas.Option.{get_or_from_slice_get, slice_get_within}
 use Rattle.indexmap.specs.IndexMap.{insert_entry}
 use Rattle.hunk_tool.specs.DefinedNames.{is_defined, is_name}
 use Rattle.hunk_tool.specs.Origins.{Origin}
-use Rattle.hunk_tool.specs.Undefined.{AreShort, Reference, Use, Uses, look_up, next_use, undefined, uses_of, without}
+use Rattle.hunk_tool.specs.Undefined.{Reference, Use, Uses, look_up, next_use, undefined, uses_of, without}
 use Rattle.hunk_tool.proofs.DefinedNamesLemmas.{same_key}
 
 -- ---- names that are equal, or not
@@ -159,28 +158,6 @@ undefined-more hunks origin names i name defined within is told =
     ap (undefined hunks) (map_more reference names i name within ∙ ap (λ n. from_hunk origin (take i names) ++ reference n ∷ []) (sym is))
     ∙ filter-append test (from_hunk origin (take i names)) ((name, origin) ∷ [])
     ∙ ap (λ b. undefined hunks (from_hunk origin (take i names)) ++ cond (not b) ((name, origin) ∷ []) []) (sym told)
-
--- ---- names that are short
-
-abbrev IsShortUse : List ℕ × Use → Type 0
-IsShortUse used = length used.0 ≤ 2 ^ 30
-
-pub AreShort-inserted : (uses : Uses) (name : List ℕ) (used : Use) → length name ≤ 2 ^ 30 → AreShort uses → AreShort (inserted uses name used)
-AreShort-inserted [] name used short all = All-cons IsShortUse (name, used) [] short (All-nil IsShortUse)
-AreShort-inserted (e ∷ uses) name used short all = by (is_name name e.0) (AreShort-inserted uses name used short (All-tail IsShortUse e uses all))
-  where
-    first : IsShortUse e
-    first = all 0 e (omega arith)
-
-    others : AreShort uses
-    others = All-tail IsShortUse e uses all
-
-    by : (same : Bool) → AreShort (inserted uses name used) → AreShort (if same then (e.0, used) ∷ uses else e ∷ inserted uses name used)
-    by true more = All-cons IsShortUse (e.0, used) uses first others
-    by false more = All-cons IsShortUse e (inserted uses name used) first more
-
-pub AreShort-at : (uses : Uses) (index : ℕ) (used : List ℕ × Use) → slice_get uses index ≡ Some used → AreShort uses → IsShortUse used
-AreShort-at uses index used at all = subst IsShortUse (get_or_from_slice_get uses index used used at) (all index used (slice_get_within uses index used at))
 
 -- ---- the uses as the entries of a map, whose keys are references
 

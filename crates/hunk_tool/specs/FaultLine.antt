@@ -1,5 +1,5 @@
 -- The line that reports why an operation failed.
-use Rattle.std.specs.Prelude.{ℕ, ◌^◌, ◌<◌, ◌≤◌, List, [], ◌++◌, length, slice_index_or, codes}
+use Rattle.std.specs.Prelude.{ℕ, List, [], ◌++◌, slice_index_or, codes}
 use Rattle.std.specs.Fmt.{decimal}
 use Rattle.hunk_base.specs.declared.fault.Reason.{Reason}
 use Rattle.hunk_base.specs.declared.fault.Reason.TheVariants.{PartialLongword, UnexpectedEnd, WrongStart, UnknownType, MisplacedType, UnsupportedBlock, UnsupportedExt, BothMemoryBits, ResidentNames, HunkTable, TooLarge, ContentTooLong, NoSuchHunk, SiteOutside, SiteOverlap, SymbolKind, TrailingData}
@@ -78,18 +78,3 @@ program_line text = line (codes "amihunk: " ++ text)
 -- the whole line, if the inputs have these names
 abbrev pub fault_line : {A : Type 0} → List (List ℕ) → ToolFault A → List ℕ
 fault_line names fault = program_line (fault_text (name_of names fault) fault)
-
--- a name is no longer than an object file can have it
-abbrev pub HasShortName : {A : Type 0} → LinkRefusal A → Type 0
-HasShortName (link.DuplicateName unit hunk name) = length name ≤ 2 ^ 30
-HasShortName (link.UndefinedName unit hunk name) = length name ≤ 2 ^ 30
-HasShortName refusal = Unit {0}
-
--- a file in the fault is one of n inputs, and a name is from an object file
-abbrev pub IsOfInputs : {A : Type 0} → ℕ → ToolFault A → Type 0
-IsOfInputs count (Input file fault) = file < count
-IsOfInputs count (InputDevice file) = file < count
-IsOfInputs count (Link refusal) = HasShortName refusal
-IsOfInputs count (Place fault) = Unit {0}
-IsOfInputs count (Output written) = Unit {0}
-IsOfInputs count (OutOfMemory written) = Unit {0}

@@ -18,5 +18,6 @@ pub mod OriginText
 pub mod Map
 pub mod DefinedNames
 pub mod Undefined
+pub mod UndefinedName
 pub mod LinkExplanation
 pub mod Headline

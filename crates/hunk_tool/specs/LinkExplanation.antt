@@ -1,5 +1,5 @@
 -- What is told of units that do not link, and the lines of that.
-use Rattle.std.specs.Prelude.{ℕ, zero, suc, ◌-◌, List, [], ◌∷◌, ◌++◌, Option, None, Some, codes, length, option_map, take}
+use Rattle.std.specs.Prelude.{ℕ, zero, suc, ◌-◌, List, [], ◌++◌, Option, None, Some, codes, length, option_map, take}
 use Rattle.std.specs.Fmt.{decimal}
 use Rattle.std.specs.List.{flat_map}
 use Rattle.hunk_link.specs.declared.refusal.LinkRefusal.{LinkRefusal}

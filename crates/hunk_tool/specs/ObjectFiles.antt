@@ -1,9 +1,7 @@
 -- The units of object files, each with its place: the number of its file, and its number there.
-use Rattle.std.specs.Prelude.{◌≡◌, ℕ, ◌+◌, ◌^◌, ◌≤◌, List, [], ◌∷◌, ◌++◌, length, map}
-use Rattle.std.specs.List.{All, flat_map, range_with_len, zip}
+use Rattle.std.specs.Prelude.{◌≡◌, ℕ, ◌+◌, List, [], ◌∷◌, ◌++◌, length, map}
+use Rattle.std.specs.List.{range_with_len, zip}
 use Rattle.hunk_objects.specs.ProgramUnit.{IsObjectOf, ObjectUnit}
-use Rattle.hunk_objects.specs.UnitHunk.{ObjectHunk}
-use Rattle.hunk_text.specs.Listing.{definition_line}
 use Rattle.hunk_tool.specs.declared.object_files.UnitPlace.{UnitPlace}
 
 abbrev pub FileUnit : Type 0
@@ -31,16 +29,3 @@ AreUnitsFrom number (bytes ∷ files) units =
 
 abbrev pub AreFileUnits : List FileUnit → List (List ℕ) → Type 0
 AreFileUnits units files = AreUnitsFrom 0 files units
-
--- ---- how long their names are, as all those of object files
-
--- the name of the hunk, the names that it refers to, and the lines of its definitions
-pub record IsShortHunk (hunk : ObjectHunk) : Type 0 where
-  pub name : length hunk.name ≤ 2 ^ 30
-  pub references : All (λ name. length name ≤ 2 ^ 30) hunk.references
-  pub definitions : length (flat_map definition_line hunk.definitions) ≤ 2 ^ 60
-
--- the name of the unit, and its hunks
-pub record IsShortUnit (unit : ObjectUnit) : Type 0 where
-  pub name : length unit.name ≤ 2 ^ 30
-  pub hunks : All IsShortHunk unit.hunks

@@ -1,9 +1,9 @@
 -- Where the hunks of a link are from: their units, each with its place, and their numbers there.
-use Rattle.std.specs.Prelude.{◌^◌, ◌≤◌, ℕ, List, Option, length, map, option_map, slice_get}
+use Rattle.std.specs.Prelude.{ℕ, List, Option, map, option_map, slice_get}
 use Rattle.std.specs.List.{enumerate_from, flat_map}
 use Rattle.std.specs.Option.{option_and_then}
 use Rattle.hunk_objects.specs.UnitHunk.{ObjectHunk}
-use Rattle.hunk_tool.specs.ObjectFiles.{FileUnit, IsShortHunk}
+use Rattle.hunk_tool.specs.ObjectFiles.{FileUnit}
 
 -- a hunk, its number in its unit, and the unit with its place
 pub record Origin : Type 0 where
@@ -31,10 +31,3 @@ hunk_at number unit = option_map (λ hunk. record { unit = unit; number = number
 -- the hunk with this number of the unit with this index
 abbrev pub origin_at : List FileUnit → (unit hunk : ℕ) → Option Origin
 origin_at units unit hunk = option_and_then (hunk_at hunk) (slice_get units unit)
-
--- ---- their names
-
--- the names of the unit and of the hunk, and of what is in it, are no longer than those of object files
-pub record IsShortOrigin (origin : Origin) : Type 0 where
-  pub unit : length origin.unit.1.name ≤ 2 ^ 30
-  pub hunk : IsShortHunk origin.hunk

@@ -1,7 +1,7 @@
 -- The names that hunks refer to and no hunk defines, each with the first reference to it and the number
 -- of references.
-use Rattle.std.specs.Prelude.{◌^◌, ◌≤◌, ℕ, suc, List, [], ◌∷◌, Option, None, Some, count_by, filter, length, map, not}
-use Rattle.std.specs.List.{All, flat_map}
+use Rattle.std.specs.Prelude.{ℕ, suc, List, [], ◌∷◌, Option, None, Some, count_by, filter, map, not}
+use Rattle.std.specs.List.{flat_map}
 use Rattle.std.specs.Map.{lookup}
 use Rattle.hunk_tool.specs.DefinedNames.{is_defined, is_name}
 use Rattle.hunk_tool.specs.Origins.{Origin}
@@ -57,7 +57,3 @@ next_use (Some used) origin = record { origin = used.origin; count = suc used.co
 -- what is told of the name
 abbrev pub look_up : Uses → List ℕ → Option Use
 look_up uses name = lookup (is_name name) uses
-
--- each name is no longer than those of object files
-abbrev pub AreShort : Uses → Type 0
-AreShort uses = All (λ used. length used.0 ≤ 2 ^ 30) uses

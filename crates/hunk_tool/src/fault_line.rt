@@ -1,13 +1,13 @@
 //! The line that reports why an operation failed.
 
-ghost use Rattle.std.specs.Prelude.{◌≡◌, ◌+◌, ◌^◌, ◌≤◌, ◌++◌, ℕ, codes, length, map, IfErr};
+ghost use Rattle.std.specs.Prelude.{◌≡◌, ◌^◌, ◌<◌, ◌++◌, codes, length, map, IfErr};
 ghost use Rattle.std.specs.Fmt.{decimal};
-ghost use Rattle.std.specs.String.{string_bytes};
 ghost use Rattle.hunk_base.specs.Digits.{eight_digits};
-ghost use Rattle.hunk_base.specs.Streams.{IsDevice, WroteAll};
+ghost use Rattle.hunk_base.specs.Streams.{IsDevice, WroteAll, WroteText};
 ghost use Rattle.hunk_base.specs.Text.{Puts};
-ghost use Rattle.hunk_tool.specs.FaultLine.{fault_line, fault_text, name_of, place_text, program_line, reason_text, IsOfInputs};
+ghost use Rattle.hunk_tool.specs.FaultLine.{fault_line, fault_text, name_of, place_text, program_line, reason_text};
 
+use crate::file_name::{FileName, name_at};
 use crate::link_line::write_link_refusal;
 use crate::tool_fault::ToolFault;
 use hunk_loader::PlaceFault;
@@ -15,20 +15,20 @@ use hunk_words::{Reason, Sink, Text, WriteFault};
 use std::alloc::Allocator;
 
 /// Writes the line that reports why an operation failed. `files` are the names of its inputs: a
-/// `file` in the fault is an index into them. A name in the fault has at most 2^30 bytes, as all names
-/// of an object file have. Does not allocate.
+/// `file` in the fault is an index into them, and an input that has no name there is told without
+/// one. Does not allocate.
 ///
 /// # Errors
 ///
 /// [`WriteFault::Device`] if a write failed or took no byte, with the number of bytes of the line
-/// that were written.
-pub fn write_fault<A: Allocator + Copy, W: Sink>(
-    files: &[String],
+/// that were written, if it has fewer than 2^64.
+pub fn write_fault<N: FileName, A: Allocator + Copy, W: Sink>(
+    files: &[N],
     fault: &ToolFault<A>,
     writer: &mut W,
 ) -> Result<(), WriteFault>
-    requires { IsOfInputs (length files.now) fault.now }
-    ensures wrote { WroteAll W.taken W.failed writer.old writer.new (fault_line (map string_bytes files.now) fault.now) result }
+    ensures wrote { WroteText W.taken W.failed writer.old writer.new (fault_line (map N.bytes files.now) fault.now) result }
+    ensures counted { length (fault_line (map N.bytes files.now) fault.now) < 2 ^ 64 → WroteAll W.taken W.failed writer.old writer.new (fault_line (map N.bytes files.now) fault.now) result }
     ensures device { IfErr result IsDevice }
 {
     let name = named_file(files, fault);
@@ -37,13 +37,15 @@ pub fn write_fault<A: Allocator + Copy, W: Sink>(
     text.finish()
 }
 
-/// The name of the input that the fault is about; empty if it is about none.
-fn named_file<'a, A: Allocator + Copy>(files: &'a [String], fault: &ToolFault<A>) -> &'a [u8]
-    requires { IsOfInputs (length files.now) fault.now }
-    ensures { result.now ≡ name_of (map string_bytes files.now) fault.now }
+/// The name of the input that the fault is about; empty if it is about none, or it has none.
+fn named_file<'a, N: FileName, A: Allocator + Copy>(
+    files: &'a [N],
+    fault: &ToolFault<A>,
+) -> &'a [u8]
+    ensures { result.now ≡ name_of (map N.bytes files.now) fault.now }
 {
     match fault {
-        ToolFault::Input { file, .. } | ToolFault::InputDevice { file } => files[*file].as_bytes(),
+        ToolFault::Input { file, .. } | ToolFault::InputDevice { file } => name_at(files, *file),
         ToolFault::Link(_)
         | ToolFault::Place(_)
         | ToolFault::Output { .. }
@@ -57,8 +59,7 @@ fn write_fault_line<A: Allocator + Copy, W: Sink>(
     name: &[u8],
     fault: &ToolFault<A>,
 )
-    ensures puts { Puts W.taken W.failed text.old text.new (program_line (fault_text name.now fault.now)) }
-    ensures short { (count : ℕ) → IsOfInputs count fault.now → length (fault_text name.now fault.now) ≤ length name.now + 2 ^ 33 }
+    ensures { Puts W.taken W.failed text.old text.new (program_line (fault_text name.now fault.now)) }
 {
     text.put(b"amihunk: ");
     write_fault_text(text, name, fault);
@@ -71,8 +72,7 @@ fn write_fault_text<A: Allocator + Copy, W: Sink>(
     name: &[u8],
     fault: &ToolFault<A>,
 )
-    ensures puts { Puts W.taken W.failed text.old text.new (fault_text name.now fault.now) }
-    ensures short { (count : ℕ) → IsOfInputs count fault.now → length (fault_text name.now fault.now) ≤ length name.now + 2 ^ 33 }
+    ensures { Puts W.taken W.failed text.old text.new (fault_text name.now fault.now) }
 {
     match fault {
         ToolFault::Input { fault, .. } => {
@@ -99,8 +99,7 @@ fn write_fault_text<A: Allocator + Copy, W: Sink>(
 
 /// Writes why addresses are rejected.
 fn write_place_fault<W: Sink>(text: &mut Text<'_, W>, fault: PlaceFault)
-    ensures puts { Puts W.taken W.failed text.old text.new (place_text fault) }
-    ensures short { length (place_text fault) ≤ 64 }
+    ensures { Puts W.taken W.failed text.old text.new (place_text fault) }
 {
     match fault {
         PlaceFault::WrongCount => text.put(b"wrong number of addresses"),
@@ -116,8 +115,7 @@ fn write_place_fault<W: Sink>(text: &mut Text<'_, W>, fault: PlaceFault)
 
 /// Writes why a longword is rejected.
 pub(crate) fn write_reason<W: Sink>(text: &mut Text<'_, W>, reason: Reason)
-    ensures puts { Puts W.taken W.failed text.old text.new (reason_text reason) }
-    ensures short { length (reason_text reason) ≤ 64 }
+    ensures { Puts W.taken W.failed text.old text.new (reason_text reason) }
 {
     match reason {
         Reason::PartialLongword => text.put(b"file ends inside a longword"),
@@ -163,8 +161,7 @@ pub(crate) fn write_number<W: Sink>(
     number: u64,
     after: &[u8],
 )
-    ensures puts { Puts W.taken W.failed text.old text.new (before.now ++ decimal number ++ after.now) }
-    ensures short { length (decimal number) ≤ 20 }
+    ensures { Puts W.taken W.failed text.old text.new (before.now ++ decimal number ++ after.now) }
 {
     text.put(before);
     text.put_decimal(number);
@@ -173,8 +170,7 @@ pub(crate) fn write_number<W: Sink>(
 
 /// Writes a number in decimal digits, after a piece.
 fn write_last<W: Sink>(text: &mut Text<'_, W>, before: &[u8], number: u64)
-    ensures puts { Puts W.taken W.failed text.old text.new (before.now ++ decimal number) }
-    ensures short { length (decimal number) ≤ 20 }
+    ensures { Puts W.taken W.failed text.old text.new (before.now ++ decimal number) }
 {
     text.put(before);
     text.put_decimal(number);

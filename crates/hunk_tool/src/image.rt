@@ -1,7 +1,6 @@
 //! Writes the memory that object files define.
 
-ghost use Rattle.std.specs.Prelude.{length, OnOk, IfErr};
-ghost use Rattle.hunk_tool.specs.FaultLine.{IsOfInputs};
+ghost use Rattle.std.specs.Prelude.{OnOk, IfErr};
 ghost use Rattle.hunk_tool.specs.Image.{IsImageFault, IsImaged};
 ghost use Rattle.hunk_tool.specs.Inputs.{HaveRead, inputs_of};
 ghost use Rattle.hunk_memory.specs.declared.image_form.ImageForm.TheVariants.{Report};
@@ -25,7 +24,6 @@ pub fn image_run<A: Allocator + Copy, R: Source, W: Sink>(
     ensures ok { OnOk result (HaveRead (inputs_of R.left R.failed R.ended inputs.old inputs.new) (IsImaged Report bases.now (W.taken writer.old) (W.taken writer.new))) }
     ensures err { IfErr result (IsImageFault Report bases.now (inputs_of R.left R.failed R.ended inputs.old inputs.new)
         (record { old = W.taken writer.old; new = W.taken writer.new; failed = W.failed writer.new })) }
-    ensures writable { IfErr result (IsOfInputs (length inputs.old)) }
 {
     image_run_with(alloc, inputs, bases, ImageForm::Report, writer)
 }
@@ -58,7 +56,6 @@ pub fn image_run_with<A: Allocator + Copy, R: Source, W: Sink>(
     ensures ok { OnOk result (HaveRead (inputs_of R.left R.failed R.ended inputs.old inputs.new) (IsImaged form bases.now (W.taken writer.old) (W.taken writer.new))) }
     ensures err { IfErr result (IsImageFault form bases.now (inputs_of R.left R.failed R.ended inputs.old inputs.new)
         (record { old = W.taken writer.old; new = W.taken writer.new; failed = W.failed writer.new })) }
-    ensures writable { IfErr result (IsOfInputs (length inputs.old)) }
 {
     let file = link_inputs(alloc, inputs, true)?;
     // What `write_image` requires of the image follows from the rules for load files, which `hunks`

@@ -21,11 +21,14 @@
 //! - `link_explanation`: what is told of units that do not link; `link_explanation_text`: the lines of
 //!   that.
 //! - `defined_names`: the names that hunks define; `undefined`: those that none defines.
+//! - `undefined_name`: what callers are told of a name that none defines.
+//! - `file_name`: what files are called.
 #![tactic(auto)]
 
 pub mod check;
 mod defined_names;
 pub mod fault_line;
+pub mod file_name;
 pub mod file_system;
 pub mod image;
 pub mod laws;
@@ -44,9 +47,11 @@ pub mod survey;
 pub mod symbols;
 pub mod tool_fault;
 mod undefined;
+pub mod undefined_name;
 
 pub use check::check_run;
 pub use fault_line::write_fault;
+pub use file_name::FileName;
 pub use file_system::FileSystem;
 pub use hunk_files::{
     CountedFile, Explanation, File, Found, HunkFile, HunkFileDecoder, LoadCounter, ObjectCounter,
@@ -70,3 +75,4 @@ pub use survey::{
 };
 pub use symbols::symbols_run;
 pub use tool_fault::{ToolFault, status_of};
+pub use undefined_name::{UndefinedName, undefined_names};

@@ -1,8 +1,7 @@
 //! Links object files, and writes the load file.
 
-ghost use Rattle.std.specs.Prelude.{[], length, IfOk, OnOk, IfErr, Some};
+ghost use Rattle.std.specs.Prelude.{[], IfOk, OnOk, IfErr, Some};
 ghost use Rattle.hunk_loadfile.specs.WrittenForm.{IsShortEnough};
-ghost use Rattle.hunk_tool.specs.FaultLine.{IsOfInputs};
 ghost use Rattle.hunk_tool.specs.Inputs.{HaveRead, inputs_of};
 ghost use Rattle.hunk_tool.specs.Link.{IsLinkFault, IsLinked, IsUnlinked, LinkTo};
 
@@ -37,7 +36,6 @@ pub fn link_run<A: Allocator + Copy, R: Source, W: Sink>(
     ensures ok { OnOk result (HaveRead (inputs_of R.left R.failed R.ended inputs.old inputs.new) (IsLinked options (W.taken writer.old) (W.taken writer.new))) }
     ensures err { IfErr result (IsLinkFault options (inputs_of R.left R.failed R.ended inputs.old inputs.new)
         (record { old = W.taken writer.old; new = W.taken writer.new; failed = W.failed writer.new })) }
-    ensures writable { IfErr result (IsOfInputs (length inputs.old)) }
 {
     let linked = link_inputs(alloc, inputs, options.strip)?;
     let file = options.trimmed(linked);
@@ -59,7 +57,6 @@ pub fn link_to_vec<A: Allocator + Copy, R: Source>(
 ) -> Result<Vec<u8, A>, ToolFault<A>>
     ensures ok { IfOk result (λ bytes. HaveRead (inputs_of R.left R.failed R.ended inputs.old inputs.new) (IsLinked options (Some []) (Some bytes.items))) }
     ensures err { IfErr result (IsUnlinked options.strip (inputs_of R.left R.failed R.ended inputs.old inputs.new)) }
-    ensures writable { IfErr result (IsOfInputs (length inputs.old)) }
 {
     let linked = link_inputs(alloc, inputs, options.strip)?;
     let file = options.trimmed(linked);
@@ -81,7 +78,6 @@ pub fn link_inputs<A: Allocator + Copy, R: Source>(
     ensures linked { IfOk result (λ file. HaveRead (inputs_of R.left R.failed R.ended inputs.old inputs.new) (LinkTo strip file)) }
     ensures short { IfOk result (λ file. IsShortEnough file) }
     ensures unlinked { IfErr result (IsUnlinked strip (inputs_of R.left R.failed R.ended inputs.old inputs.new)) }
-    ensures writable { IfErr result (IsOfInputs (length inputs.old)) }
 {
     let files = read_object_files(alloc, inputs)?;
     let units = files.into_units();

@@ -1,10 +1,10 @@
 //! The lines that explain why units do not link.
 
 ghost use Rattle.std.specs.Prelude.{map};
-ghost use Rattle.std.specs.String.{string_bytes};
 ghost use Rattle.hunk_base.specs.Text.{Puts};
 ghost use Rattle.hunk_tool.specs.LinkExplanation.{first_line, known_place_line, more_line, place_line, told_text, use_line, uses_text};
 
+use crate::file_name::FileName;
 use crate::link_explanation::{LinkExplanation, Place};
 use crate::origin_text::write_origin;
 use crate::origins::Origin;
@@ -20,12 +20,12 @@ const MOST_TOLD: usize = 100;
 /// defined; and each undefined name, in the order of the first references, with the number of
 /// references, the first 100 of them and then how many more there are. `names` are those of the files.
 /// It does not allocate.
-pub fn write_link_explanation<A: Allocator + Copy, W: Sink>(
+pub fn write_link_explanation<N: FileName, A: Allocator + Copy, W: Sink>(
     text: &mut Text<'_, W>,
-    names: &[String],
+    names: &[N],
     explanation: &LinkExplanation<'_, A>,
 )
-    ensures { Puts W.taken W.failed text.old text.new (told_text (map string_bytes names.now) explanation.now) }
+    ensures { Puts W.taken W.failed text.old text.new (told_text (map N.bytes names.now) explanation.now) }
 {
     write_place(text, names, &explanation.place);
     write_first(text, names, &explanation.first);
@@ -33,12 +33,12 @@ pub fn write_link_explanation<A: Allocator + Copy, W: Sink>(
 }
 
 /// Writes the line of the hunk that a refusal is about, if it is known.
-fn write_place<A: Allocator + Copy, W: Sink>(
+fn write_place<N: FileName, A: Allocator + Copy, W: Sink>(
     text: &mut Text<'_, W>,
-    names: &[String],
+    names: &[N],
     place: &Option<Place<'_, A>>,
 )
-    ensures { Puts W.taken W.failed text.old text.new (place_line (map string_bytes names.now) place.now) }
+    ensures { Puts W.taken W.failed text.old text.new (place_line (map N.bytes names.now) place.now) }
 {
     if let Some(place) = place {
         write_known_place(text, names, place);
@@ -46,12 +46,12 @@ fn write_place<A: Allocator + Copy, W: Sink>(
 }
 
 /// Writes the line of the hunk that a refusal is about.
-fn write_known_place<A: Allocator + Copy, W: Sink>(
+fn write_known_place<N: FileName, A: Allocator + Copy, W: Sink>(
     text: &mut Text<'_, W>,
-    names: &[String],
+    names: &[N],
     place: &Place<'_, A>,
 )
-    ensures { Puts W.taken W.failed text.old text.new (known_place_line (map string_bytes names.now) place.now) }
+    ensures { Puts W.taken W.failed text.old text.new (known_place_line (map N.bytes names.now) place.now) }
 {
     text.put(b"  unit ");
     text.put_decimal(place.unit as u64);
@@ -63,12 +63,12 @@ fn write_known_place<A: Allocator + Copy, W: Sink>(
 }
 
 /// Writes the line of the first definition of a name, if there is one.
-fn write_first<A: Allocator + Copy, W: Sink>(
+fn write_first<N: FileName, A: Allocator + Copy, W: Sink>(
     text: &mut Text<'_, W>,
-    names: &[String],
+    names: &[N],
     first: &Option<Origin<'_, A>>,
 )
-    ensures { Puts W.taken W.failed text.old text.new (first_line (map string_bytes names.now) first.now) }
+    ensures { Puts W.taken W.failed text.old text.new (first_line (map N.bytes names.now) first.now) }
 {
     if let Some(origin) = first {
         text.put(b"  first defined in ");
@@ -78,12 +78,12 @@ fn write_first<A: Allocator + Copy, W: Sink>(
 }
 
 /// Writes the lines of undefined names.
-fn write_uses<A: Allocator + Copy, W: Sink>(
+fn write_uses<N: FileName, A: Allocator + Copy, W: Sink>(
     text: &mut Text<'_, W>,
-    names: &[String],
+    names: &[N],
     uses: &Uses<'_, A>,
 )
-    ensures { Puts W.taken W.failed text.old text.new (uses_text (map string_bytes names.now) uses.now) }
+    ensures { Puts W.taken W.failed text.old text.new (uses_text (map N.bytes names.now) uses.now) }
 {
     for index in 0..MOST_TOLD {
         match uses.get(index) {
@@ -95,13 +95,13 @@ fn write_uses<A: Allocator + Copy, W: Sink>(
 }
 
 /// Writes the line of an undefined name.
-fn write_use<A: Allocator + Copy, W: Sink>(
+fn write_use<N: FileName, A: Allocator + Copy, W: Sink>(
     text: &mut Text<'_, W>,
-    names: &[String],
+    names: &[N],
     name: &[u8],
     used: &Use<'_, A>,
 )
-    ensures { Puts W.taken W.failed text.old text.new (use_line (map string_bytes names.now) (name.now, used.now)) }
+    ensures { Puts W.taken W.failed text.old text.new (use_line (map N.bytes names.now) (name.now, used.now)) }
 {
     text.put(b"  ");
     text.put_quoted(name);

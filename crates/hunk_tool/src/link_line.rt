@@ -1,8 +1,7 @@
 //! The line that reports why units do not link.
 
-ghost use Rattle.std.specs.Prelude.{◌+◌, ◌^◌, ◌≤◌, length};
 ghost use Rattle.hunk_base.specs.Text.{Puts};
-ghost use Rattle.hunk_tool.specs.FaultLine.{HasShortName, hunk_of_unit, link_text};
+ghost use Rattle.hunk_tool.specs.FaultLine.{hunk_of_unit, link_text};
 
 use crate::fault_line::write_number;
 use hunk_link::LinkRefusal;
@@ -14,8 +13,7 @@ pub(crate) fn write_link_refusal<A: Allocator + Copy, W: Sink>(
     text: &mut Text<'_, W>,
     refusal: &LinkRefusal<A>,
 )
-    ensures puts { Puts W.taken W.failed text.old text.new (link_text refusal.now) }
-    ensures short { HasShortName refusal.now → length (link_text refusal.now) ≤ 2 ^ 32 + 200 }
+    ensures { Puts W.taken W.failed text.old text.new (link_text refusal.now) }
 {
     match refusal {
         LinkRefusal::NoHunks => text.put(b"no hunks"),
@@ -41,8 +39,7 @@ pub(crate) fn write_link_refusal<A: Allocator + Copy, W: Sink>(
 
 /// Writes the number of a hunk and that of its unit, before what is wrong with the hunk.
 fn write_hunk_of_unit<W: Sink>(text: &mut Text<'_, W>, unit: usize, hunk: u32)
-    ensures puts { Puts W.taken W.failed text.old text.new (hunk_of_unit unit hunk) }
-    ensures short { length (hunk_of_unit unit hunk) ≤ 64 }
+    ensures { Puts W.taken W.failed text.old text.new (hunk_of_unit unit hunk) }
 {
     text.put(b"unit ");
     text.put_decimal(unit as u64);

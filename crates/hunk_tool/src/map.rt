@@ -1,16 +1,14 @@
 //! The map of a link: where each hunk of the load file is from, and what it defines.
 
 ghost use Rattle.std.specs.Prelude.{◌≡◌, ◌+◌, ◌≤◌, ◌<◌, ◌^◌, length, map, IfOk, IfErr};
-ghost use Rattle.std.specs.String.{string_bytes};
 ghost use Rattle.hunk_loadfile.specs.WrittenForm.{IsShortEnough};
-ghost use Rattle.hunk_tool.specs.FaultLine.{IsOfInputs};
 ghost use Rattle.hunk_tool.specs.Inputs.{HaveRead, inputs_of};
 ghost use Rattle.hunk_tool.specs.Link.{IsUnlinked};
 ghost use Rattle.hunk_tool.specs.Map.{LinkFiles, map_from, map_line, map_lines, map_text};
 ghost use Rattle.hunk_base.specs.Text.{Puts};
-ghost use Rattle.hunk_tool.specs.ObjectFiles.{IsShortUnit};
 ghost use Rattle.hunk_tool.specs.Origins.{origins, unit_origins};
 
+use crate::file_name::FileName;
 use crate::object_files::{ObjectFiles, UnitPlace, read_object_files};
 use crate::origin_text::write_origin;
 use crate::origins::Origin;
@@ -37,7 +35,6 @@ pub fn link_files<A: Allocator + Copy, R: Source>(
     ensures short { IfOk result (λ linked. IsShortEnough linked.1) }
     ensures matched { IfOk result (λ linked. length (origins linked.0) ≡ length linked.1) }
     ensures unlinked { IfErr result (IsUnlinked strip (inputs_of R.left R.failed R.ended inputs.old inputs.new)) }
-    ensures writable { IfErr result (IsOfInputs (length inputs.old)) }
 {
     let files = read_object_files(alloc, inputs)?;
     let file = link(alloc, files.units(), strip)?;
@@ -48,14 +45,14 @@ pub fn link_files<A: Allocator + Copy, R: Source>(
 /// hunks, in order, a line of its number, kind, memory and size in longwords, and of the file, the
 /// unit and the hunk that it is from; and then a line for each definition of that hunk, in file
 /// order. `names` are those of the input files. It does not allocate.
-pub fn write_map<A: Allocator + Copy, W: Sink>(
+pub fn write_map<N: FileName, A: Allocator + Copy, W: Sink>(
     text: &mut Text<'_, W>,
     files: &ObjectFiles<A>,
-    names: &[String],
+    names: &[N],
     file: &LoadFile<A>,
 )
     requires { length (origins files.now) ≡ length file.now }
-    ensures { Puts W.taken W.failed text.old text.new (map_text (map string_bytes names.now) file.now files.now) }
+    ensures { Puts W.taken W.failed text.old text.new (map_text (map N.bytes names.now) file.now files.now) }
 {
     let hunks = file.hunks();
     let places = files.places();
@@ -68,18 +65,17 @@ pub fn write_map<A: Allocator + Copy, W: Sink>(
 
 /// Writes the lines of the hunks of a unit. They are the first of these hunks of the load file, which
 /// are numbered from `first`.
-fn write_unit<A: Allocator + Copy, W: Sink>(
+fn write_unit<N: FileName, A: Allocator + Copy, W: Sink>(
     text: &mut Text<'_, W>,
     hunks: &[LoadHunk<A>],
     first: usize,
-    names: &[String],
+    names: &[N],
     place: UnitPlace,
     unit: &ProgramUnit<A>,
 )
     requires counted { first + length hunks.now < 2 ^ 64 }
     requires room { length unit.now.hunks ≤ length hunks.now }
-    requires short { IsShortUnit unit.now }
-    ensures { Puts W.taken W.failed text.old text.new (map_from (map string_bytes names.now) first hunks.now (unit_origins (place, unit.now))) }
+    ensures { Puts W.taken W.failed text.old text.new (map_from (map N.bytes names.now) first hunks.now (unit_origins (place, unit.now))) }
 {
     for (number, hunk) in unit.hunks().iter().enumerate() {
         let origin = Origin {
@@ -94,28 +90,28 @@ fn write_unit<A: Allocator + Copy, W: Sink>(
 }
 
 /// Writes the lines of a hunk of the load file, which has this number.
-fn write_hunk<A: Allocator + Copy, W: Sink>(
+fn write_hunk<N: FileName, A: Allocator + Copy, W: Sink>(
     text: &mut Text<'_, W>,
     number: u64,
     hunk: &LoadHunk<A>,
-    names: &[String],
+    names: &[N],
     origin: &Origin<'_, A>,
 )
-    ensures { Puts W.taken W.failed text.old text.new (map_lines (map string_bytes names.now) (number, (hunk.now, origin.now))) }
+    ensures { Puts W.taken W.failed text.old text.new (map_lines (map N.bytes names.now) (number, (hunk.now, origin.now))) }
 {
     write_line(text, number, hunk, names, origin);
     write_definitions(text, origin.hunk.definitions());
 }
 
 /// Writes the first line of a hunk of the load file.
-fn write_line<A: Allocator + Copy, W: Sink>(
+fn write_line<N: FileName, A: Allocator + Copy, W: Sink>(
     text: &mut Text<'_, W>,
     number: u64,
     hunk: &LoadHunk<A>,
-    names: &[String],
+    names: &[N],
     origin: &Origin<'_, A>,
 )
-    ensures { Puts W.taken W.failed text.old text.new (map_line (map string_bytes names.now) number hunk.now origin.now) }
+    ensures { Puts W.taken W.failed text.old text.new (map_line (map N.bytes names.now) number hunk.now origin.now) }
 {
     write_hunk_front(text, number, hunk.kind, hunk.memory, hunk.size);
     text.put(b" ");

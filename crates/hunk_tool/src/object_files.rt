@@ -1,9 +1,8 @@
 //! The units of object files, with the places where they were read.
 
-ghost use Rattle.std.specs.Prelude.{◌≡◌, ◌++◌, map, IfOk, IfErr};
-ghost use Rattle.std.specs.List.{All};
+ghost use Rattle.std.specs.Prelude.{◌≡◌, ◌++◌, [], map, IfOk, IfErr};
 ghost use Rattle.hunk_tool.specs.Inputs.{HaveRead, IsInputFault, inputs_of};
-ghost use Rattle.hunk_tool.specs.ObjectFiles.{AreFileUnits, IsShortUnit, places_of, units_of};
+ghost use Rattle.hunk_tool.specs.ObjectFiles.{AreFileUnits, placed, places_of, units_of};
 
 use crate::tool_fault::ToolFault;
 use hunk_objects::{ProgramUnit, read_object};
@@ -18,8 +17,10 @@ pub(crate) struct UnitPlace {
     pub(crate) number: usize,
 }
 
-/// The units of object files, in order, each with its place. It is made only by [`read_object_files`]
-/// and [`link_files`](crate::link_files).
+/// The units of object files, in order, each with its place: the number of its file, and its number
+/// in that file.
+///
+/// [`read_object_files`] reads them, and [`ObjectFiles::with_file`] takes those that are read already.
 #[derive(Drop)]
 pub struct ObjectFiles<A: Allocator + Copy = Global> {
     places: Vec<UnitPlace, A>,
@@ -28,27 +29,54 @@ pub struct ObjectFiles<A: Allocator + Copy = Global> {
 
 impl<A: Allocator + Copy> Model for ObjectFiles<A> {
     ghost use Rattle.std.specs.Prelude.{◌≡◌, List, length};
-    ghost use Rattle.std.specs.List.{All, zip};
-    ghost use Rattle.hunk_tool.specs.ObjectFiles.{FileUnit, IsShortUnit};
+    ghost use Rattle.std.specs.List.{zip};
+    ghost use Rattle.hunk_tool.specs.ObjectFiles.{FileUnit};
 
     ghost Value = { List FileUnit };
 
     ghost view = { λ f. zip f.places.items f.units.items };
 
-    ghost invariant = { λ f. (length f.places.items ≡ length f.units.items) × All IsShortUnit f.units.items };
+    ghost invariant = { λ f. length f.places.items ≡ length f.units.items };
 }
 
 impl<A: Allocator + Copy> ObjectFiles<A> {
+    /// No units. Does not allocate.
+    pub fn new(alloc: A) -> Self
+        ensures { result ≡ [] }
+    {
+        ObjectFiles {
+            places: Vec::new(alloc),
+            units: Vec::new(alloc),
+        }
+    }
+
+    /// These units and after them those of one more file, which has this number, from 0.
+    ///
+    /// # Errors
+    ///
+    /// [`AllocError`] only if an allocation failed. All units are dropped then.
+    pub fn with_file(self, file: usize, units: Vec<ProgramUnit<A>, A>) -> Result<Self, AllocError>
+        ensures { IfOk result (λ files. files ≡ self ++ placed file units.items) }
+    {
+        let ObjectFiles {
+            mut places,
+            units: mut all,
+        } = self;
+        let mut more = units;
+        push_places(&mut places, file, more.len())?;
+        all.append(&mut more)?;
+        Ok(ObjectFiles { places, units: all })
+    }
+
     /// The units, in order.
     pub fn units(&self) -> &[ProgramUnit<A>]
-        ensures value { result.now ≡ units_of self.now }
-        ensures short { All IsShortUnit result.now }
+        ensures { result.now ≡ units_of self.now }
     {
         &self.units
     }
 
     /// The units, in order, moved out of it. Does not allocate.
-    pub(crate) fn into_units(self) -> Vec<ProgramUnit<A>, A>
+    pub fn into_units(self) -> Vec<ProgramUnit<A>, A>
         ensures { result.items ≡ units_of self }
     {
         self.units
@@ -80,18 +108,14 @@ pub fn read_object_files<A: Allocator + Copy, R: Source>(
     ensures read { IfOk result (λ files. HaveRead (inputs_of R.left R.failed R.ended inputs.old inputs.new) (AreFileUnits files)) }
     ensures stopped { IfErr result (IsInputFault (inputs_of R.left R.failed R.ended inputs.old inputs.new)) }
 {
-    let mut places = Vec::new(alloc);
-    let mut units = Vec::new(alloc);
+    let mut files = ObjectFiles::new(alloc);
     for file in 0..inputs.len() {
         match read_object(alloc, &mut inputs[file]) {
-            Ok(mut more) => {
-                push_places(&mut places, file, more.len())?;
-                units.append(&mut more)?;
-            }
+            Ok(units) => files = files.with_file(file, units)?,
             Err(fault) => return Err(ToolFault::of_read(file, fault)),
         }
     }
-    Ok(ObjectFiles { places, units })
+    Ok(files)
 }
 
 /// Puts the places of so many units of a file behind the others.

@@ -19,13 +19,11 @@ pub(crate) struct Origin<'a, A: Allocator + Copy = Global> {
 }
 
 impl<'a, A: Allocator + Copy> Model for Origin<'a, A> {
-    ghost use Rattle.hunk_tool.specs.Origins.{IsShortOrigin, Origin as HunkOrigin};
+    ghost use Rattle.hunk_tool.specs.Origins.{Origin as HunkOrigin};
 
     ghost Value = { HunkOrigin };
 
     ghost view = { λ o. record { unit = (o.place, o.unit.now); number = o.number; hunk = o.hunk.now } };
-
-    ghost invariant = { λ o. IsShortOrigin (record { unit = (o.place, o.unit.now); number = o.number; hunk = o.hunk.now }) };
 }
 
 impl<'a, A: Allocator + Copy> Origin<'a, A> {

@@ -1,6 +1,6 @@
 //! The names that hunks refer to and no hunk defines.
 
-ghost use Rattle.std.specs.Prelude.{◌≡◌, ◌++◌, ◌≤◌, ◌^◌, [], List, length, option_map, slice_get, IfOk, IfSome, OnOk};
+ghost use Rattle.std.specs.Prelude.{◌≡◌, ◌++◌, [], List, length, option_map, slice_get, IfOk, OnOk};
 ghost use Rattle.indexmap.specs.IndexMap.{insert_entry};
 ghost use Rattle.hunk_tool.specs.DefinedNames.{AreDefinedBy, is_name};
 ghost use Rattle.hunk_tool.specs.Origins.{Origin as HunkOrigin};
@@ -37,13 +37,11 @@ pub(crate) struct Uses<'a, A: Allocator + Copy = Global> {
 
 impl<'a, A: Allocator + Copy> Model for Uses<'a, A> {
     ghost use Rattle.std.specs.Prelude.{map};
-    ghost use Rattle.hunk_tool.specs.Undefined.{AreShort, Uses as NameUses};
+    ghost use Rattle.hunk_tool.specs.Undefined.{Uses as NameUses};
 
     ghost Value = { NameUses };
 
     ghost view = { λ u. map (λ e. (e.0.now, e.1)) u.entries.entries };
-
-    ghost invariant = { λ u. AreShort (map (λ e. (e.0.now, e.1)) u.entries.entries) };
 }
 
 impl<'a, A: Allocator + Copy> Uses<'a, A> {
@@ -81,8 +79,7 @@ impl<'a, A: Allocator + Copy> Uses<'a, A> {
 
     /// The name with this index, and its use.
     pub(crate) fn get(&self, index: usize) -> Option<(&'a [u8], &Use<'a, A>)>
-        ensures value { option_map (λ used. (used.0.now, used.1.now)) result ≡ slice_get self.now index }
-        ensures short { IfSome result (λ used. length used.0.now ≤ 2 ^ 30) }
+        ensures { option_map (λ used. (used.0.now, used.1.now)) result ≡ slice_get self.now index }
     {
         let (name, used) = self.entries.get_index(index)?;
         Some((*name, used))
@@ -107,7 +104,6 @@ impl<'a, A: Allocator + Copy> Uses<'a, A> {
 
     /// Adds a reference to a name.
     fn add(&mut self, name: &'a [u8], origin: &Origin<'a, A>) -> Result<(), AllocError>
-        requires { length name.now ≤ 2 ^ 30 }
         ensures { OnOk result (self.new ≡ insert_entry is_name self.old name.now (next_use (look_up self.old name.now) origin.now)) }
     {
         let used = self.next_use(name, origin)?;

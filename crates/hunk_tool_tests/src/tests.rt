@@ -20,6 +20,7 @@
 //! - `surveys`: what a survey finds of files, and the lines that it writes.
 //! - `symbols`: the symbols of load files, with their addresses.
 //! - `texts`: the texts that are written about files.
+//! - `undefined`: the names that no hunk defines.
 //! - `unlinked`: object files whose units do not link.
 //! - `vectors`: files of both kinds through everything that reads them.
 
@@ -43,5 +44,6 @@ mod streaming;
 mod surveys;
 mod symbols;
 mod texts;
+mod undefined;
 mod unlinked;
 mod vectors;

@@ -25,12 +25,10 @@ use Rattle.hunk_link.specs.Ranks.{IsUnit}
 use Rattle.hunk_link.specs.Linkable.{IsLinkRefusal, Linkable}
 use Rattle.hunk_link.specs.declared.refusal.LinkRefusal.{LinkRefusal}
 use Rattle.hunk_link.specs.declared.refusal.LinkRefusal.TheVariants as link_refusal
-use Rattle.hunk_tool.specs.FaultLine.{HasShortName, IsOfInputs}
 use Rattle.hunk_tool.specs.Inputs.{AreObjects}
 use Rattle.hunk_tool.specs.Link.{IsLinked, IsNotLinked as AreNotLinked}
 use Rattle.hunk_tool.specs.ToolFault.{tool_fault_of_link}
 use Rattle.hunk_tool.proofs.LinkLemmas.{linked_bytes-are_load}
-use Rattle.hunk_tool.proofs.NameLengthLemmas.{HasShortName-refused}
 use Rattle.hunk_uses.specs.Assembler.{IsNoObject, IsNotLinked, bytes_of_each, plain}
 
 -- What holds of each error of which this holds, holds of the one that there is.
@@ -101,16 +99,3 @@ IsNotLinked-refused files units refusal are first = go refusal (record { units =
     go (link_refusal.NoSuchHunk unit hunk target) is = (is, λ same. cc)
     go (link_refusal.DuplicateName unit hunk name) is = (is, λ same. cc)
     go (link_refusal.UndefinedName unit hunk name) is = (is, λ same. cc)
-
--- Its name is short enough to be printed.
-pub IsOfInputs-refused : (count : ℕ) (files : List (List ℕ)) (units : List ObjectUnit) (refusal : LinkRefusal Global) → AreObjects files units → IsLinkRefusal units false refusal → IsOfInputs count (tool_fault_of_link refusal)
-IsOfInputs-refused count files units refusal are first = go refusal (HasShortName-refused files units false refusal are first)
-  where
-    go : (refusal : LinkRefusal Global) → HasShortName refusal → IsOfInputs count (tool_fault_of_link refusal)
-    go link_refusal.OutOfMemory short = tt
-    go link_refusal.NoHunks short = short
-    go link_refusal.TooManyHunks short = short
-    go link_refusal.TooLarge short = short
-    go (link_refusal.NoSuchHunk unit hunk target) short = short
-    go (link_refusal.DuplicateName unit hunk name) short = short
-    go (link_refusal.UndefinedName unit hunk name) short = short

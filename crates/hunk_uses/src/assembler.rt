@@ -1,9 +1,8 @@
 //! An assembler that links what it has assembled, in memory.
-ghost use Rattle.std.specs.Prelude.{[], length, Some, IfOk, IfErr};
+ghost use Rattle.std.specs.Prelude.{[], Some, IfOk, IfErr};
 ghost use Rattle.hunk_words.specs.Decoder.{RefusesInput};
 ghost use Rattle.hunk_words.specs.declared.event.FileKind.TheVariants.{Object};
 ghost use Rattle.hunk_objects.specs.ProgramUnit.{IsObjectOf};
-ghost use Rattle.hunk_tool.specs.FaultLine.{IsOfInputs};
 ghost use Rattle.hunk_tool.specs.Link.{IsLinked};
 ghost use Rattle.hunk_uses.specs.Assembler.{IsNotLinked, bytes_of_each, plain};
 
@@ -25,7 +24,6 @@ use std::alloc::Global;
 pub fn link_objects(alloc: Global, objects: &[Vec<u8>]) -> Result<Vec<u8>, ToolFault>
     ensures linked { IfOk result (λ program. IsLinked plain (Some []) (Some program.items) (bytes_of_each objects.now)) }
     ensures refused { IfErr result (IsNotLinked (bytes_of_each objects.now)) }
-    ensures writable { IfErr result (IsOfInputs (length objects.now)) }
 {
     let mut units = Vec::new(alloc);
     for (file, object) in objects.iter().enumerate() {

@@ -2,56 +2,64 @@
 
 use super::asserts::equals;
 use crate::samples::{Broken, ONE_HUNK, ONE_SYMBOL};
+use hunk_commands::LoadText;
 use hunk_commands::load::load_to;
-use hunk_commands::{Failure, LoadText};
 use hunk_tool::{ImageForm, ToolFault};
-use hunk_words::{Fault, Reason};
+use hunk_words::{Fault, Reason, Watched};
+use std::alloc::Global;
+use std::io::Read;
+use std::process::Abort;
 
-#[test]
-fn prints_the_texts_of_files(rt: HostRuntime) {
-    let alloc = rt.alloc();
-    let lines = "hunk 0 at 00010000 size 4\n00010000 4e754e71\n";
-    let bases = [0x1_0000];
-    let report = LoadText::Image(ImageForm::Report);
-    let text = load_to(alloc, ONE_HUNK.as_slice(), &bases, report, Vec::new(alloc));
-    assert!(rt; text.is_ok_and(|bytes| bytes.as_slice() == lines.as_bytes()));
-    let lines = "S00A0000616D6968756E6B08\nS309000100004E754E7173\nS70500000000FA\n";
-    let records = LoadText::Image(ImageForm::SRecords);
-    let text = load_to(alloc, ONE_HUNK.as_slice(), &bases, records, Vec::new(alloc));
-    assert!(rt; text.is_ok_and(|bytes| bytes.as_slice() == lines.as_bytes()));
-    let lines = "00010002 hunk 0 \"loop\"\n";
-    let symbols = LoadText::Symbols;
-    let text = load_to(
-        alloc,
-        ONE_SYMBOL.as_slice(),
-        &bases,
-        symbols,
-        Vec::new(alloc),
-    );
-    assert!(rt; text.is_ok_and(|bytes| bytes.as_slice() == lines.as_bytes()));
+// What is written of a file at an address, and what the call returns.
+fn load_at<I: Read + Drop>(
+    alloc: Global,
+    input: I,
+    text: LoadText,
+    base: u32,
+) -> (Vec<u8>, Result<(), ToolFault>) {
+    let mut writer = Watched::new(Vec::new(alloc));
+    let got = load_to(alloc, &mut Watched::new(input), &[base], text, &mut writer);
+    (writer.into_inner(), got)
+}
+
+// Whether these lines are written of a file at the address 10000.
+fn has_text(rt: &impl Abort, alloc: Global, file: &[u8], text: LoadText, lines: &str) {
+    let (bytes, got) = load_at(alloc, file, text, 0x1_0000);
+    equals(rt, got, Ok(()));
+    equals(rt, bytes.as_slice(), lines.as_bytes());
 }
 
 #[test]
-fn tells_why_there_is_no_report(rt: HostRuntime) {
+fn writes_the_texts_of_files(rt: HostRuntime) {
     let alloc = rt.alloc();
-    let bases = [0x1_0000];
-    let form = LoadText::Image(ImageForm::Report);
-    let cut = load_to(alloc, &ONE_HUNK[..38], &bases, form, Vec::new(alloc));
+    let report = LoadText::Image(ImageForm::Report);
+    let lines = "hunk 0 at 00010000 size 4\n00010000 4e754e71\n";
+    has_text(&rt, alloc, &ONE_HUNK, report, lines);
+    let records = LoadText::Image(ImageForm::SRecords);
+    let lines = "S00A0000616D6968756E6B08\nS309000100004E754E7173\nS70500000000FA\n";
+    has_text(&rt, alloc, &ONE_HUNK, records, lines);
+    let lines = "00010002 hunk 0 \"loop\"\n";
+    has_text(&rt, alloc, &ONE_SYMBOL, LoadText::Symbols, lines);
+}
+
+#[test]
+fn tells_why_there_is_no_text_of_a_file(rt: HostRuntime) {
+    let alloc = rt.alloc();
+    let report = LoadText::Image(ImageForm::Report);
     let fault = Fault {
         place: 9,
         reason: Reason::PartialLongword,
     };
-    equals(
-        &rt,
-        cut.err(),
-        Some(Failure::Tool(ToolFault::Input { file: 0, fault })),
-    );
-    let unread = load_to(alloc, Broken, &bases, form, Vec::new(alloc));
-    equals(
-        &rt,
-        unread.err(),
-        Some(Failure::Tool(ToolFault::InputDevice { file: 0 })),
-    );
-    let unwritten = load_to(alloc, ONE_HUNK.as_slice(), &bases, form, Broken);
-    equals(&rt, unwritten.err(), Some(Failure::Printing));
+    for text in [report, LoadText::Symbols] {
+        let (bytes, got) = load_at(alloc, &ONE_HUNK[..38], text, 0x1_0000);
+        equals(&rt, got, Err(ToolFault::Input { file: 0, fault }));
+        equals(&rt, bytes.as_slice(), b"");
+        let (bytes, got) = load_at(alloc, Broken, text, 0x1_0000);
+        equals(&rt, got, Err(ToolFault::InputDevice { file: 0 }));
+        equals(&rt, bytes.as_slice(), b"");
+    }
+    let mut reader = Watched::new(ONE_HUNK.as_slice());
+    let mut writer = Watched::new(Broken);
+    let got = load_to(alloc, &mut reader, &[0x1_0000], report, &mut writer);
+    equals(&rt, got, Err(ToolFault::Output { written: 0 }));
 }

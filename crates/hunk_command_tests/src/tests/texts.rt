@@ -2,9 +2,30 @@
 
 use super::asserts::{equals, holds};
 use crate::samples::{Broken, ONE_HUNK, ONE_UNIT};
-use hunk_commands::{Failure, Text, print_text_to};
+use hunk_commands::{Text, print_text_to};
 use hunk_tool::ToolFault;
-use hunk_words::{Fault, Reason};
+use hunk_words::{Fault, Reason, Watched};
+use std::alloc::Global;
+use std::io::Read;
+use std::process::Abort;
+
+// What is written about a file, and what the call returns.
+fn text_about<I: Read + Drop>(
+    alloc: Global,
+    text: Text,
+    input: I,
+) -> (Vec<u8>, Result<(), ToolFault>) {
+    let mut writer = Watched::new(Vec::new(alloc));
+    let got = print_text_to(alloc, text, &mut Watched::new(input), &mut writer);
+    (writer.into_inner(), got)
+}
+
+// Whether this is written about a file.
+fn has_text(rt: &impl Abort, alloc: Global, file: &[u8], text: Text, lines: &str) {
+    let (bytes, got) = text_about(alloc, text, file);
+    holds(rt, &lines, got.is_ok());
+    holds(rt, &lines, bytes.as_slice() == lines.as_bytes());
+}
 
 #[test]
 fn tells_what_a_file_is(rt: HostRuntime) {
@@ -14,12 +35,7 @@ fn tells_what_a_file_is(rt: HostRuntime) {
         (&ONE_HUNK, "load file: 1 hunks\n"),
     ];
     for (file, line) in &files {
-        let text = print_text_to(alloc, Text::Line, *file, Vec::new(alloc));
-        holds(
-            &rt,
-            &line,
-            text.is_ok_and(|bytes| bytes.as_slice() == line.as_bytes()),
-        );
+        has_text(&rt, alloc, file, Text::Line, line);
     }
 }
 
@@ -40,37 +56,28 @@ fn lists_what_is_in_a_file(rt: HostRuntime) {
         ),
     ];
     for (file, lines) in &files {
-        let text = print_text_to(alloc, Text::Listing, *file, Vec::new(alloc));
-        holds(
-            &rt,
-            &lines,
-            text.is_ok_and(|bytes| bytes.as_slice() == lines.as_bytes()),
-        );
+        has_text(&rt, alloc, file, Text::Listing, lines);
     }
 }
 
 #[test]
 fn tells_why_there_is_no_text(rt: HostRuntime) {
     let alloc = rt.alloc();
-    for text in [Text::Line, Text::Listing] {
-        let cut = print_text_to(alloc, text, &ONE_UNIT[..126], Vec::new(alloc));
-        let fault = Fault {
-            place: 31,
-            reason: Reason::PartialLongword,
-        };
-        equals(
-            &rt,
-            cut.err(),
-            Some(Failure::Tool(ToolFault::Input { file: 0, fault })),
-        );
-        let unread = print_text_to(alloc, text, Broken, Vec::new(alloc));
-        equals(
-            &rt,
-            unread.err(),
-            Some(Failure::Tool(ToolFault::InputDevice { file: 0 })),
-        );
-        let unwritten = print_text_to(alloc, text, ONE_UNIT.as_slice(), Broken);
-        equals(&rt, unwritten.err(), Some(Failure::Printing));
+    let fault = Fault {
+        place: 31,
+        reason: Reason::PartialLongword,
+    };
+    for text in [Text::Line, Text::Listing, Text::Json] {
+        let (bytes, got) = text_about(alloc, text, &ONE_UNIT[..126]);
+        equals(&rt, got, Err(ToolFault::Input { file: 0, fault }));
+        equals(&rt, bytes.as_slice(), b"");
+        let (bytes, got) = text_about(alloc, text, Broken);
+        equals(&rt, got, Err(ToolFault::InputDevice { file: 0 }));
+        equals(&rt, bytes.as_slice(), b"");
+        let mut reader = Watched::new(ONE_UNIT.as_slice());
+        let mut writer = Watched::new(Broken);
+        let got = print_text_to(alloc, text, &mut reader, &mut writer);
+        equals(&rt, got, Err(ToolFault::Output { written: 0 }));
     }
 }
 
@@ -95,11 +102,6 @@ fn tells_what_is_in_a_file_as_json(rt: HostRuntime) {
         ),
     ];
     for (file, line) in &files {
-        let text = print_text_to(alloc, Text::Json, *file, Vec::new(alloc));
-        holds(
-            &rt,
-            &line,
-            text.is_ok_and(|bytes| bytes.as_slice() == line.as_bytes()),
-        );
+        has_text(&rt, alloc, file, Text::Json, line);
     }
 }

@@ -1,8 +1,5 @@
 //! Errors: their lines and their statuses.
 
-ghost use Rattle.std.specs.Prelude.{◌≤◌, ◌^◌, length};
-ghost use Rattle.hunk_tool.specs.FaultLine.{HasShortName, IsOfInputs};
-
 use super::asserts::{equals, equals_at};
 use hunk_link::LinkRefusal;
 use hunk_tool::{PlaceFault, ToolFault, status_of, write_fault};
@@ -11,18 +8,12 @@ use std::alloc::Global;
 use std::process::Abort;
 
 // The name in one longword.
-fn name_in(rt: &impl Abort, alloc: Global, word: u32) -> Name
-    ensures { length result ≤ 2 ^ 30 }
-{
-    let name = Name::from_words(alloc, &[word]).expect(rt, "a name");
-    assert!(rt; name.bytes().len() <= 4);
-    name
+fn name_in(rt: &impl Abort, alloc: Global, word: u32) -> Name {
+    Name::from_words(alloc, &[word]).expect(rt, "a name")
 }
 
 // Writes the line of a fault of the inputs `x` and `y`.
-fn is_told(rt: &impl Abort, alloc: Global, fault: ToolFault, line: &str)
-    requires { IsOfInputs 2 fault }
-{
+fn is_told(rt: &impl Abort, alloc: Global, fault: ToolFault, line: &str) {
     let files = [
         String::from_str(alloc, "x").expect(rt, "a name"),
         String::from_str(alloc, "y").expect(rt, "a name"),
@@ -32,9 +23,7 @@ fn is_told(rt: &impl Abort, alloc: Global, fault: ToolFault, line: &str)
     equals(rt, room.bytes(), line.as_bytes());
 }
 
-fn is_told_of_link(rt: &impl Abort, alloc: Global, refusal: LinkRefusal, line: &str)
-    requires { HasShortName refusal }
-{
+fn is_told_of_link(rt: &impl Abort, alloc: Global, refusal: LinkRefusal, line: &str) {
     is_told(rt, alloc, ToolFault::Link(refusal), line);
 }
 
@@ -66,6 +55,13 @@ fn tells_each_refusal(rt: HostRuntime) {
         alloc,
         ToolFault::InputDevice { file: 1 },
         "amihunk: y: read failed\n",
+    );
+    // There is no name for it.
+    is_told(
+        &rt,
+        alloc,
+        ToolFault::InputDevice { file: 2 },
+        "amihunk: : read failed\n",
     );
     is_told(
         &rt,

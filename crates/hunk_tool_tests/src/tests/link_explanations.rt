@@ -306,11 +306,12 @@ const ABOUT_NONE: [LinkRefusal; 6] = [
 #[test]
 fn tells_nothing_of_hunks_that_are_not_there(rt: HostRuntime) -> Result<(), Fail> {
     let files = files_of(&rt, rt.alloc(), &ROWS[0])?;
+    let names: [String; 0] = [];
     for refusal in &ABOUT_NONE {
         let explanation = explain_link(rt.alloc(), &files, refusal)?;
         let mut writer = Room::new(rt.alloc(), 64, ROOM, false)?;
         let mut text = Text::new(&mut writer);
-        write_link_explanation(&mut text, &[], &explanation);
+        write_link_explanation(&mut text, &names, &explanation);
         equals_at(&rt, refusal, text.finish(), Ok(()));
         equals_at(&rt, refusal, writer.bytes(), b"");
     }

@@ -113,3 +113,23 @@ pub const FAR: [u32; 14] = [
 
 /// A unit without hunks. It needs no end, and so ends with its name, which is longer than it need be.
 pub const NONE: [u32; 3] = [0x3E7, 2, 0x6E6F_6E65];
+
+/// A unit without hunks; and one of memory, and of data that refers to `go`.
+pub const LATER: [u32; 16] = [
+    0x3E7,
+    0,
+    0x3E7,
+    0,
+    0x3EB,
+    1,
+    0x3F2,
+    0x3EA,
+    1,
+    0,
+    0x3EF,
+    0x8100_0001,
+    0x676F_0000,
+    1,
+    0,
+    0,
+];

@@ -2,10 +2,9 @@
 use Rattle.std.proofs.Common.{◌≡◌, ◌∙◌, inl, length}
 use Rattle.std.proofs.lemmas.Result.{IfErr-weaker, err_from_is_err_and}
 use Rattle.hunk_tool.specs.Inputs.{file_names}
-use Rattle.hunk_commands.specs.Failure.{IsOfFiles}
 use Rattle.hunk_commands.specs.Link.{IsLinkFailure}
 use Rattle.hunk_commands.specs.Replacement.{IsCauseOf}
-use Rattle.hunk_commands.proofs.LinkLemmas.{IsLinkFailure-run, IsMade-run, IsOfFiles-cause}
+use Rattle.hunk_commands.proofs.LinkLemmas.{IsLinkFailure-run, IsMade-run}
 use Rattle.hunk_commands.proofs.link.link.Goals as goal
 
 pub returns-in_err-inputs-clause-err : goal.returns-in_err-inputs-clause-err
@@ -23,9 +22,3 @@ returns-clause-err g c =
     let count : length c.as_mut_slice.result.now ≡ length c.args.files.now = c.as_mut_slice.ensures.len ∙ c.in_ok-inputs.ensures.count in
     IfErr-weaker c.finish.result (IsCauseOf c.link_run-ran.result c.args.out.now) (IsLinkFailure c.args.options (file_names c.args.files.now) c.args.out.now)
     (λ failure is. IsLinkFailure-run c.args.options c.args.files.now c.args.out.now _ _ _ _ _ _ failure c.link_run-ran.result count c.link_run-ran.auto.inputs c.link_run-ran.ensures.ok c.link_run-ran.ensures.err is) c.finish.ensures.err
-
-pub returns-clause-of_files : goal.returns-clause-of_files
-returns-clause-of_files g c =
-    let count : length c.as_mut_slice.result.now ≡ length c.args.files.now = c.as_mut_slice.ensures.len ∙ c.in_ok-inputs.ensures.count in
-    IfErr-weaker c.finish.result (IsCauseOf c.link_run-ran.result c.args.out.now) (IsOfFiles (length c.args.files.now))
-    (λ failure is. IsOfFiles-cause (length c.args.files.now) c.args.out.now failure c.link_run-ran.result (rw count at c.link_run-ran.ensures.writable) is) c.finish.ensures.err

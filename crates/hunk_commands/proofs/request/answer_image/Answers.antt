@@ -17,5 +17,5 @@ returns g c =
     let files = file_names c.args.files.now in
     inr (IsFailed-why g.W.Sink.taken g.W.Sink.failed (IsImageFailure c.args.form (origin_of c.args.addresses) files) (IfAsked c.args.explain (AreImageLines (origin_of c.args.addresses) files)) files c.fail.result c.args.errors.now c.fail.new.errors c.in-Err.failure c.in-Err.ensures.err c.fail.ensures)
 
-pub fail-requires-clause-named : goal.fail-requires-clause-named
-fail-requires-clause-named g c = ap (map string_bytes) c.as_slice-names.ensures.value ∙ c.in-Ok.ensures
+pub fail-requires : goal.fail-requires
+fail-requires g c = ap (map string_bytes) c.as_slice-names.ensures.value ∙ c.in-Ok.ensures

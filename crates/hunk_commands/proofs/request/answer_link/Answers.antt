@@ -21,5 +21,5 @@ returns g c =
     let map = given_text c.args.map_file in
     inr (IsFailed-why g.W.Sink.taken g.W.Sink.failed (IsUndone c.args.options files c.args.out.now map) (IfAsked c.args.explain (AreLinkLines files)) files c.fail.result c.args.errors.now c.fail.new.errors c.in-Err.failure c.in-Err.ensures.err c.fail.ensures)
 
-pub fail-requires-clause-named : goal.fail-requires-clause-named
-fail-requires-clause-named g c = ap (map string_bytes) c.as_slice-names.ensures.value ∙ c.in-Ok.ensures
+pub fail-requires : goal.fail-requires
+fail-requires g c = ap (map string_bytes) c.as_slice-names.ensures.value ∙ c.in-Ok.ensures

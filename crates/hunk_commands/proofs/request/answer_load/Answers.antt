@@ -15,5 +15,5 @@ pub returns-in-Err : goal.returns-in-Err
 returns-in-Err g c =
     inr (IsFailed-why g.W.Sink.taken g.W.Sink.failed (IsLoadFailure c.args.text (origin_of c.args.addresses) c.args.file.now) (IfAsked c.args.explain (AreLoadLines (origin_of c.args.addresses) (c.args.file.now ∷ []))) (c.args.file.now ∷ []) c.fail.result c.args.errors.now c.fail.new.errors c.in-Err.failure c.in-Err.ensures.err c.fail.ensures)
 
-pub fail-requires-clause-named : goal.fail-requires-clause-named
-fail-requires-clause-named g c = ap (λ bytes. bytes ∷ []) c.in-Ok.ensures.ok
+pub fail-requires : goal.fail-requires
+fail-requires g c = ap (λ bytes. bytes ∷ []) c.in-Ok.ensures.ok

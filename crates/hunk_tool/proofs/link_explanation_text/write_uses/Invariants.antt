@@ -1,6 +1,5 @@
 -- The lines of the names so far were put, of which there are that many.
 use Rattle.std.proofs.Common.{◌≤◌, length, map}
-use Rattle.std.specs.String.{string_bytes}
 use Rattle.hunk_tool.specs.LinkExplanation.{uses_text}
 use Rattle.hunk_tool.proofs.BegunLemmas.{Begun}
 use Rattle.hunk_tool.proofs.LinkExplanationLemmas.{uses_rest}
@@ -10,6 +9,6 @@ abbrev pub invariant-loop-index : goal.invariant-loop-index
 invariant-loop-index g l = record {
   within : l.index ≤ length l.uses;
   begun :
-      let names = map string_bytes l.names in
+      let names = map g.N.FileName.bytes l.names in
       Begun g.W.Sink.taken g.W.Sink.failed l.fn.text l.text (uses_text names l.uses) (uses_rest names l.index l.uses);
 }

@@ -1,6 +1,5 @@
 -- The lines of the units so far were put, and the others have as many hunks as are left.
 use Rattle.std.proofs.Common.{◌≡◌, ◌+◌, drop, length, map}
-use Rattle.std.specs.String.{string_bytes}
 use Rattle.hunk_tool.specs.Map.{map_text}
 use Rattle.hunk_tool.specs.Origins.{origins}
 use Rattle.hunk_tool.proofs.BegunLemmas.{Begun}
@@ -11,6 +10,6 @@ abbrev pub invariant-loop-index : goal.invariant-loop-index
 invariant-loop-index g l = record {
   counted : l.first + length (origins (drop l.index l.files)) ≡ length l.file;
   begun :
-      let names = map string_bytes l.names in
+      let names = map g.N.FileName.bytes l.names in
       Begun g.W.Sink.taken g.W.Sink.failed l.fn.text l.text (map_text names l.file l.files) (units_rest names l.first l.index l.file l.files);
 }

@@ -1,11 +1,8 @@
 -- One more hunk.
-use Rattle.std.proofs.Common.{◌∙◌, ◌+◌, ◌<◌, List, ap, get_or, length, map, sym, subst, arith}
+use Rattle.std.proofs.Common.{◌∙◌, ◌<◌, List, ap, get_or, length, map, sym, arith}
 use Rattle.std.proofs.lemmas.Grind.{common_steps}
-use Rattle.std.proofs.lemmas.List.Elements.{All-get_or}
-use Rattle.std.specs.String.{string_bytes}
 use Rattle.hunk_objects.specs.UnitHunk.{ObjectHunk}
 use Rattle.hunk_tool.specs.Map.{map_from}
-use Rattle.hunk_tool.specs.ObjectFiles.{IsShortHunk}
 use Rattle.hunk_tool.specs.Origins.{unit_origins}
 use Rattle.hunk_tool.proofs.MapLemmas.{unit_rest, unit_rest-all, unit_rest-more, unit_rest-none}
 use Rattle.hunk_tool.proofs.BegunLemmas.{Begun-done, Begun-more, Begun-nothing}
@@ -13,22 +10,13 @@ use Rattle.hunk_tool.proofs.map.write_unit.Goals as goal
 
 pub loop-number-init : goal.loop-number-init
 loop-number-init g c =
-    let names = map string_bytes c.args.names.now in
+    let names = map g.N.FileName.bytes c.args.names.now in
     Begun-nothing g.W.Sink.taken g.W.Sink.failed c.args.text.now (map_from names c.args.first c.args.hunks.now (unit_origins (c.args.place, c.args.unit.now)))
     (unit_rest names c.args.first 0 c.args.hunks.now (c.args.place, c.args.unit.now)) (sym (unit_rest-all names c.args.first c.args.hunks.now (c.args.place, c.args.unit.now)))
 
-pub invariant_of-origin : goal.invariant_of-origin
-invariant_of-origin g c =
-    let own = c.hunk-item.result in
-    let number = c.loop-number.number in
-    let hunks = c.args.unit.now.hunks in
-    let at = c.hunk-item.is ∙ ap (λ (hs : List ObjectHunk). get_or hs number own) c.hunks-hunk-items.ensures.value in
-    let within : number < length hunks = omega (arith, c.loop-number-test.true, ap length c.hunks-hunk-items.ensures.value) in
-    record { unit = c.requires.short.name; hunk = subst IsShortHunk (sym at) (All-get_or IsShortHunk hunks number own within c.requires.short.hunks) }
-
 pub loop-number-preserved : goal.loop-number-preserved
 loop-number-preserved g c =
-    let names = map string_bytes c.args.names.now in
+    let names = map g.N.FileName.bytes c.args.names.now in
     let first = c.args.first in
     let number = c.loop-number.number in
     let hunks = c.args.hunks.now in
@@ -42,7 +30,7 @@ loop-number-preserved g c =
 
 pub returns : goal.returns
 returns g c =
-    let names = map string_bytes c.args.names.now in
+    let names = map g.N.FileName.bytes c.args.names.now in
     let first = c.args.first in
     let number = c.loop-number.number in
     let hunks = c.args.hunks.now in

@@ -1,6 +1,5 @@
 -- The lines of the hunks so far were put.
 use Rattle.std.proofs.Common.{map}
-use Rattle.std.specs.String.{string_bytes}
 use Rattle.hunk_tool.specs.Map.{map_from}
 use Rattle.hunk_tool.specs.Origins.{unit_origins}
 use Rattle.hunk_tool.proofs.BegunLemmas.{Begun}
@@ -9,5 +8,5 @@ use Rattle.hunk_tool.proofs.map.write_unit.Given as goal
 
 abbrev pub invariant-loop-number : goal.invariant-loop-number
 invariant-loop-number g l =
-    let names = map string_bytes l.names in
+    let names = map g.N.FileName.bytes l.names in
     Begun g.W.Sink.taken g.W.Sink.failed l.fn.text l.text (map_from names l.first l.hunks (unit_origins (l.place, l.unit))) (unit_rest names l.first l.number l.hunks (l.place, l.unit))

@@ -2,7 +2,6 @@
 use Rattle.std.proofs.Common.{◌∙◌, [], ap, map}
 use Rattle.std.specs.Prelude.{slice_index_or}
 use Rattle.std.specs.Fmt.{decimal}
-use Rattle.std.specs.String.{string_bytes}
 use Rattle.hunk_base.specs.QuotedName.{quoted}
 use Rattle.hunk_base.proofs.TextLemmas.{◌⨾◌, Puts-as}
 use Rattle.hunk_tool.specs.Origins.{Origin}
@@ -10,9 +9,9 @@ use Rattle.hunk_tool.proofs.origin_text.write_origin.Goals as goal
 
 pub returns : goal.returns
 returns g c =
-    let names = map string_bytes c.args.names.now in
+    let names = map g.N.FileName.bytes c.args.names.now in
     let is = c.origin.view_is in
-    let file = Puts-as (c.file_name.ensures ∙ ap (λ (o : Origin). slice_index_or names o.unit.0.file []) is) c.put.ensures in
+    let file = Puts-as (c.name_at.ensures ∙ ap (λ (o : Origin). slice_index_or names o.unit.0.file []) is) c.put.ensures in
     let unit = Puts-as (ap (λ (o : Origin). decimal o.unit.0.number) is) c.put_decimal.ensures in
     let name = Puts-as (ap quoted (c.bytes.ensures.value ∙ c.name.ensures ∙ ap (λ (o : Origin). o.unit.1.name) is)) c.put_quoted.ensures in
     let number = Puts-as (ap (λ (o : Origin). decimal o.number) is) c.put_decimal-2.ensures in

@@ -5,7 +5,7 @@ use Rattle.hunk_objects.specs.ProgramUnit.{ObjectUnit}
 use Rattle.hunk_objects.specs.UnitHunk.{ObjectHunk}
 use Rattle.hunk_tool.specs.ObjectFiles.{units_of}
 use Rattle.hunk_tool.specs.declared.object_files.UnitPlace.{UnitPlace}
-use Rattle.hunk_tool.proofs.OriginLemmas.{IsShortOrigin-of, IsShortUnit-at, origin_at-none, origin_at-some}
+use Rattle.hunk_tool.proofs.OriginLemmas.{origin_at-none, origin_at-some}
 use Rattle.hunk_tool.proofs.origins.origin_at.Goals as goal
 
 pub returns-in_err-own : goal.returns-in_err-own
@@ -14,23 +14,12 @@ returns-in_err-own g c =
     let index = c.args.unit in
     let place = c.in_ok-place.field-0.now in
     let unit = c.in_ok-unit.unit.now in
-    let within : index < length (units_of units) = omega (arith, c.in_ok-unit.ensures.lookup.3.0, ap length c.units.ensures.value) in
+    let within : index < length (units_of units) = omega (arith, c.in_ok-unit.ensures.lookup.3.0, ap length c.units.ensures) in
     c.from_residual-in_err-own.ensures
     ∙ sym (origin_at-none units index place unit within
     (c.in_ok-place.ensures.lookup.3.1 place ∙ ap (λ (ps : List UnitPlace). get_or ps index place) c.places.ensures)
-    (c.in_ok-unit.ensures.lookup.3.1 unit ∙ ap (λ (us : List ObjectUnit). get_or us index unit) c.units.ensures.value)
+    (c.in_ok-unit.ensures.lookup.3.1 unit ∙ ap (λ (us : List ObjectUnit). get_or us index unit) c.units.ensures)
     c.args.hunk (omega (arith, c.in_err-own.ensures.lookup.3, ap length c.hunks.ensures.value)))
-
-pub invariant_of-result : goal.invariant_of-result
-invariant_of-result g c =
-    let index = c.args.unit in
-    let place = c.in_ok-place.field-0.now in
-    let unit = c.in_ok-unit.unit.now in
-    let own = c.in_ok-own.own.now in
-    IsShortOrigin-of place unit c.args.hunk own
-    (IsShortUnit-at c.units.result.now index unit c.units.ensures.short c.in_ok-unit.ensures.lookup.3.0 (c.in_ok-unit.ensures.lookup.3.1 unit))
-    (omega (arith, c.in_ok-own.ensures.lookup.3.0, ap length c.hunks.ensures.value))
-    (c.in_ok-own.ensures.lookup.3.1 own ∙ ap (λ (hs : List ObjectHunk). get_or hs c.args.hunk own) c.hunks.ensures.value)
 
 pub returns : goal.returns
 returns g c =
@@ -39,10 +28,10 @@ returns g c =
     let place = c.in_ok-place.field-0.now in
     let unit = c.in_ok-unit.unit.now in
     let own = c.in_ok-own.own.now in
-    let within : index < length (units_of units) = omega (arith, c.in_ok-unit.ensures.lookup.3.0, ap length c.units.ensures.value) in
+    let within : index < length (units_of units) = omega (arith, c.in_ok-unit.ensures.lookup.3.0, ap length c.units.ensures) in
     sym (origin_at-some units index place unit within
     (c.in_ok-place.ensures.lookup.3.1 place ∙ ap (λ (ps : List UnitPlace). get_or ps index place) c.places.ensures)
-    (c.in_ok-unit.ensures.lookup.3.1 unit ∙ ap (λ (us : List ObjectUnit). get_or us index unit) c.units.ensures.value)
+    (c.in_ok-unit.ensures.lookup.3.1 unit ∙ ap (λ (us : List ObjectUnit). get_or us index unit) c.units.ensures)
     c.args.hunk own (omega (arith, c.in_ok-own.ensures.lookup.3.0, ap length c.hunks.ensures.value))
     (c.in_ok-own.ensures.lookup.3.1 own ∙ ap (λ (hs : List ObjectHunk). get_or hs c.args.hunk own) c.hunks.ensures.value))
 

@@ -7,18 +7,7 @@ use Rattle.hunk_objects.specs.UnitHunk.{ObjectHunk}
 use Rattle.hunk_tool.specs.ObjectFiles.{FileUnit}
 use Rattle.hunk_tool.specs.Origins.{Origin, origins, origins_from}
 use Rattle.hunk_tool.proofs.MapLemmas.{next_unit, no_place}
-use Rattle.hunk_tool.proofs.OriginLemmas.{IsShortOrigin-of, IsShortUnit-at}
 use Rattle.hunk_tool.proofs.origins.origins.Goals as goal
-
-pub invariant_of-push : goal.invariant_of-push
-invariant_of-push g c =
-    let place = get_or c.places-places.result.now c.loop-index.index no_place in
-    let unit = c.unit-item.result in
-    let own = c.hunk-item.result in
-    IsShortOrigin-of place unit c.loop-number.number own
-    (IsShortUnit-at c.units-unit-items.result.now c.loop-index.index unit c.units-unit-items.ensures.short c.loop-index-test.true c.unit-item.is)
-    (omega (arith, c.loop-number-test.true, ap length c.hunks-hunk-items.ensures.value))
-    (c.hunk-item.is ∙ ap (λ (hs : List ObjectHunk). get_or hs c.loop-number.number own) c.hunks-hunk-items.ensures.value)
 
 pub loop-index-init : goal.loop-index-init
 loop-index-init g c = ap (λ (all : List Origin). all ++ origins c.args.files.now) c.new-all.ensures.items
@@ -30,7 +19,7 @@ loop-number-init g c =
     let unit = c.unit-item.result in
     let place = get_or c.places-places.result.now index no_place in
     let all = c.loop-index.all.items in
-    let left = next_unit files c.places-places.result.now c.units-unit-items.result.now index unit c.places-places.ensures c.units-unit-items.ensures.value c.loop-index-test.true c.unit-item.is in
+    let left = next_unit files c.places-places.result.now c.units-unit-items.result.now index unit c.places-places.ensures c.units-unit-items.ensures c.loop-index-test.true c.unit-item.is in
     ap (λ (hs : List ObjectHunk). all ++ (origins_from (place, unit) 0 hs ++ origins (drop (index + 1) files))) c.hunks-hunk-items.ensures.value
     ∙ sym (ap (λ (us : List FileUnit). all ++ origins us) left) ∙ c.loop-index.invariant
 
@@ -66,7 +55,7 @@ returns g c =
     let files = c.args.files.now in
     let unit : FileUnit → ObjectUnit = λ u. u.1 in
     let all = c.loop-index.all.items in
-    let ended : length files ≤ c.loop-index.index = omega (arith, c.loop-index-test.false, ap length c.units-unit-items.ensures.value, length-map files unit) in
+    let ended : length files ≤ c.loop-index.index = omega (arith, c.loop-index-test.false, ap length c.units-unit-items.ensures, length-map files unit) in
     sym (append-nil all) ∙ sym (ap (λ (us : List FileUnit). all ++ origins us) (drop_all c.loop-index.index files ended)) ∙ c.loop-index.invariant
 
 -- `grind` at once: `search`, which Rattle tries before it, is slow here

@@ -1,8 +1,7 @@
 -- The listing of its kind is that of the file.
-use Rattle.std.proofs.Common.{◌∙◌, ◌<◌, ◌^◌, ap, length, subst, sum_by, sym}
+use Rattle.std.proofs.Common.{◌∙◌, ◌<◌, ◌^◌, ap, length, subst, sym}
 use Rattle.hunk_base.proofs.TextLemmas.{Puts-as}
 use Rattle.hunk_files.specs.HunkFile.{value_of}
-use Rattle.hunk_objects.specs.ProgramUnit.{hunk_count}
 use Rattle.hunk_text.specs.Listing.{load_listing, object_listing}
 use Rattle.hunk_text.proofs.ListingLemmas.{hunk_count-fits}
 use Rattle.hunk_tool.specs.Show.{show_text}

@@ -8,7 +8,7 @@ use Rattle.hunk_objects.specs.ProgramUnit.{IsObjectOf, ObjectUnit}
 use Rattle.hunk_loadfile.specs.Rules.{IsLoadFile}
 use Rattle.hunk_tool.specs.Inputs.{AreObjects}
 use Rattle.hunk_uses.specs.Assembler.{bytes_of_each}
-use Rattle.hunk_uses.proofs.AssemblerLemmas.{AreObjects-all, AreObjects-next, IsLinked-written, IsNoObject-next, IsNotLinked-refused, IsOfInputs-refused}
+use Rattle.hunk_uses.proofs.AssemblerLemmas.{AreObjects-all, AreObjects-next, IsLinked-written, IsNoObject-next, IsNotLinked-refused}
 use Rattle.hunk_uses.proofs.assembler.link_objects.Goals as goal
 
 pub returns-in-Err-Fault-clause-refused : goal.returns-in-Err-Fault-clause-refused
@@ -34,12 +34,6 @@ returns-in_err-program-clause-refused c =
     let p = err_from_is_err_and c.from_residual-in_err-program.result c.from_residual-in_err-program.ensures.1 in
     let are = AreObjects-all c.args.objects.now c.loop-file.file c.loop-file.units.items c.loop-file-test.false c.loop-file.invariant in
     rw (p.1, p.2) (IsNotLinked-refused _ c.loop-file.units.items c.in_err-program.field-0.0 are c.in_err-program.ensures.refused)
-
-pub returns-in_err-program-clause-writable : goal.returns-in_err-program-clause-writable
-returns-in_err-program-clause-writable c =
-    let p = err_from_is_err_and c.from_residual-in_err-program.result c.from_residual-in_err-program.ensures.1 in
-    let are = AreObjects-all c.args.objects.now c.loop-file.file c.loop-file.units.items c.loop-file-test.false c.loop-file.invariant in
-    rw (p.1, p.2) (IsOfInputs-refused _ (bytes_of_each c.args.objects.now) c.loop-file.units.items c.in_err-program.field-0.0 are c.in_err-program.ensures.refused)
 
 pub returns-clause-linked : goal.returns-clause-linked
 returns-clause-linked c =

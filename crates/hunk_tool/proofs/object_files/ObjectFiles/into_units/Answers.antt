@@ -5,4 +5,4 @@ use Rattle.hunk_tool.specs.ObjectFiles.{units_of}
 use Rattle.hunk_tool.proofs.object_files.ObjectFiles.into_units.Goals as goal
 
 pub returns : goal.returns
-returns g c = sym (seconds-zip c.self.inside.places.items c.self.inside.units.items (sym c.self.invariant.0)) ∙ ap units_of c.self.view_is
+returns g c = sym (seconds-zip c.self.inside.places.items c.self.inside.units.items (sym c.self.invariant)) ∙ ap units_of c.self.view_is

@@ -8,4 +8,4 @@ use Rattle.hunk_tool.proofs.object_files.ObjectFiles.places.Goals as goal
 pub returns : goal.returns
 returns g c =
     let place : FileUnit → UnitPlace = λ unit. unit.0 in
-    c.deref.ensures.value ∙ sym (firsts-zip c.self.inside.places.items c.self.inside.units.items (sym c.self.invariant.0)) ∙ ap (map place) c.self.view_is
+    c.deref.ensures.value ∙ sym (firsts-zip c.self.inside.places.items c.self.inside.units.items (sym c.self.invariant)) ∙ ap (map place) c.self.view_is
