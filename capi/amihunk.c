@@ -178,8 +178,7 @@ amihunk_status amihunk_loader_get_hunk(amihunk_loader *loader, size_t hunk, amih
     uint32_t base = 0;
     const amihunk_memory *before = enter(&loader->memory);
     uint32_t status = leave(before, amihunk_c_get_hunk(&loader->session, hunk, &span, &base));
-    const bool empty = status == AMIHUNK_OK && span.size == 0;
-    *told = (amihunk_hunk){empty ? items(NULL) : span.bytes, span.size, base};
+    *told = (amihunk_hunk){span.bytes, span.size, base};
     return status;
 }
 
@@ -219,8 +218,9 @@ amihunk_status amihunk_linker_open(amihunk_linker *linker, amihunk_memory memory
                                    amihunk_options options)
 {
     const amihunk_memory *before = enter(&memory);
-    uint32_t status = leave(before, amihunk_c_open_linker(&linker->session, options.strip,
-                                                          options.short_form, options.trim));
+    uint32_t status =
+        leave(before, amihunk_c_open_linker(&linker->session, options.strip, options.short_form,
+                                            options.trim, options.keep));
     if (status == AMIHUNK_OK) {
         linker->memory = memory;
     }
@@ -277,6 +277,61 @@ size_t amihunk_linker_name(amihunk_linker *linker, char *into, size_t size)
 size_t amihunk_linker_line(amihunk_linker *linker, const char *file, char *into, size_t size)
 {
     return write_line(&linker->session, &linker->memory, file, into, size);
+}
+
+amihunk_status amihunk_linker_get_undefined(amihunk_linker *linker, size_t index,
+                                            amihunk_undefined *told)
+{
+    *told = (amihunk_undefined){0};
+    const amihunk_memory *before = enter(&linker->memory);
+    return leave(before, amihunk_c_undefined(&linker->session, index, told));
+}
+
+/* How many bytes the names take, each with the zero byte after it. */
+static size_t names_size(const char *const *names, size_t count)
+{
+    size_t size = 0;
+    for (size_t i = 0; i < count; i++) {
+        size += 1 + (names[i] != NULL ? strlen(names[i]) : 0);
+    }
+    return size;
+}
+
+/* Puts the names one after another, each with the zero byte after it. */
+static void join_names(const char *const *names, size_t count, char *joined)
+{
+    for (size_t i = 0; i < count; i++) {
+        size_t length = names[i] != NULL ? strlen(names[i]) : 0;
+        if (length != 0) {
+            memcpy(joined, names[i], length);
+        }
+        joined[length] = 0;
+        joined += length + 1;
+    }
+}
+
+size_t amihunk_linker_map(amihunk_linker *linker, const char *const *names, size_t count,
+                          char *into, size_t size)
+{
+    const amihunk_memory *memory = &linker->memory;
+    size_t joined_size = names != NULL ? names_size(names, count) : 0;
+    char *joined = NULL;
+    if (linker->session != NULL && joined_size != 0) {
+        joined = memory->allocate(memory->context, joined_size, 1);
+        if (joined == NULL) {
+            return end_text(into, size, 0);
+        }
+        join_names(names, count, joined);
+    }
+    const amihunk_memory *before = enter(memory);
+    uint64_t length =
+        leave(before, amihunk_c_map(&linker->session, items(joined),
+                                    joined != NULL ? joined_size : 0, room(into),
+                                    text_room(size)));
+    if (joined != NULL) {
+        memory->release(memory->context, joined);
+    }
+    return end_text(into, size, length);
 }
 
 void amihunk_linker_close(amihunk_linker *linker)

@@ -498,7 +498,18 @@ typedef struct amihunk_options {
     bool strip;      /* leaves out symbols and debug blocks */
     bool short_form; /* writes relocations at offsets up to 65,535 in 16 bits (block type 1020) */
     bool trim;       /* leaves out zero longwords at the end of contents that are not relocated */
+    bool keep;       /* keeps what is in the object files when they are linked, which
+                        amihunk_linker_map and amihunk_linker_get_undefined tell */
 } amihunk_options;
+
+/* A name that hunks refer to and no hunk of the object files defines. */
+typedef struct amihunk_undefined {
+    amihunk_bytes name;
+    uint64_t input;      /* the object file of the first reference to it */
+    uint64_t unit;       /* its unit, counted in that object file */
+    uint64_t hunk;       /* the hunk of that unit */
+    uint64_t references; /* how many references to it there are in all object files */
+} amihunk_undefined;
 
 /*
  * Opens a closed linker. The time is constant.
@@ -545,7 +556,8 @@ amihunk_status amihunk_linker_end_input(amihunk_linker *linker, amihunk_answer *
  * number of relocations of one hunk. The names are in a hash table, whose hash has no secret key:
  * with names that were made to collide, the time grows with the square of their number.
  *
- * AMIHUNK_OK: the linker is linked, and has the load file.
+ * AMIHUNK_OK: the linker is linked, and has the load file. With `keep` it has what is in the object
+ * files too, and the hunks of the load file.
  * AMIHUNK_NO_HUNKS to AMIHUNK_UNDEFINED_NAME: the units do not link.
  * AMIHUNK_OUT_OF_MEMORY: an allocation failed.
  * AMIHUNK_WRONG_STATE: the linker is closed or linked, or an object file has not ended.
@@ -586,6 +598,36 @@ size_t amihunk_linker_name(amihunk_linker *linker, char *into, size_t size);
  *     amihunk: link: unit 0 hunk 0: "foo" not defined
  */
 size_t amihunk_linker_line(amihunk_linker *linker, const char *file, char *into, size_t size);
+
+/*
+ * Tells a name that no hunk defines, of a linker that was opened with `keep` and was refused with
+ * AMIHUNK_UNDEFINED_NAME. The names are numbered from 0, in the order in which they are first
+ * referred to; the first is the one that the answer is about. The time is constant.
+ *
+ * AMIHUNK_OK: `told` is that. Its name stays where it is until the linker is closed.
+ * AMIHUNK_OUT_OF_RANGE: there is no name with this index.
+ * AMIHUNK_WRONG_STATE: the linker is not so refused, or was opened without `keep`.
+ *
+ * With the last two, `told` is all zeros.
+ */
+amihunk_status amihunk_linker_get_undefined(amihunk_linker *linker, size_t index,
+                                            amihunk_undefined *told);
+
+/*
+ * Writes the map of the load file, which the program `amihunk` writes with `link --map`: for each
+ * hunk a line that says where it is from, and a line for each name that it defines.
+ *
+ *     hunk 0 code any 2 longwords main.o unit 0 "test" hunk 0 "CODE"
+ *       define "main" at 00000000
+ *
+ * `names` are what the object files are called, the first of them first: `count` strings of bytes
+ * of any encoding that end with a zero byte. One that is missing or NULL is empty. `into` and
+ * `size` are as in amihunk_loader_line, and so is what is returned: the length of the whole map.
+ * The map is empty if the linker is not linked, if it was opened without `keep`, or if its memory
+ * has no room for the map. The time grows with the length of the map and of the names.
+ */
+size_t amihunk_linker_map(amihunk_linker *linker, const char *const *names, size_t count,
+                          char *into, size_t size);
 
 /*
  * Closes a linker, whatever it is doing, and releases its memory. The time grows with the number of

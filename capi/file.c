@@ -37,21 +37,11 @@ amihunk_status amihunk_file_get_contents(amihunk_file *file, amihunk_contents *t
     return leave(before, amihunk_c_contents(&file->session, told));
 }
 
-/* Where there are no bytes, what the exports tell may be gone: tells a place that stays. */
-static void stay(amihunk_bytes *told)
-{
-    if (told->bytes != NULL && told->size == 0) {
-        told->bytes = items(NULL);
-    }
-}
-
 amihunk_status amihunk_file_get_unit(amihunk_file *file, size_t unit, amihunk_unit *told)
 {
     *told = (amihunk_unit){0};
     const amihunk_memory *before = enter(&file->memory);
-    uint32_t status = leave(before, amihunk_c_unit(&file->session, unit, told));
-    stay(&told->name);
-    return status;
+    return leave(before, amihunk_c_unit(&file->session, unit, told));
 }
 
 amihunk_status amihunk_file_get_hunk(amihunk_file *file, size_t unit, size_t hunk,
@@ -59,10 +49,7 @@ amihunk_status amihunk_file_get_hunk(amihunk_file *file, size_t unit, size_t hun
 {
     *told = (amihunk_file_hunk){0};
     const amihunk_memory *before = enter(&file->memory);
-    uint32_t status = leave(before, amihunk_c_hunk(&file->session, unit, hunk, told));
-    stay(&told->name);
-    stay(&told->stored);
-    return status;
+    return leave(before, amihunk_c_hunk(&file->session, unit, hunk, told));
 }
 
 amihunk_status amihunk_file_get_site(amihunk_file *file, size_t unit, size_t hunk, size_t index,
@@ -78,9 +65,7 @@ amihunk_status amihunk_file_get_symbol(amihunk_file *file, size_t unit, size_t h
 {
     *told = (amihunk_symbol){0};
     const amihunk_memory *before = enter(&file->memory);
-    uint32_t status = leave(before, amihunk_c_symbol(&file->session, unit, hunk, index, told));
-    stay(&told->name);
-    return status;
+    return leave(before, amihunk_c_symbol(&file->session, unit, hunk, index, told));
 }
 
 amihunk_status amihunk_file_get_definition(amihunk_file *file, size_t unit, size_t hunk,
@@ -88,9 +73,7 @@ amihunk_status amihunk_file_get_definition(amihunk_file *file, size_t unit, size
 {
     *told = (amihunk_definition){0};
     const amihunk_memory *before = enter(&file->memory);
-    uint32_t status = leave(before, amihunk_c_definition(&file->session, unit, hunk, index, told));
-    stay(&told->name);
-    return status;
+    return leave(before, amihunk_c_definition(&file->session, unit, hunk, index, told));
 }
 
 amihunk_status amihunk_file_get_reference(amihunk_file *file, size_t unit, size_t hunk,
@@ -98,9 +81,7 @@ amihunk_status amihunk_file_get_reference(amihunk_file *file, size_t unit, size_
 {
     *told = (amihunk_bytes){0};
     const amihunk_memory *before = enter(&file->memory);
-    uint32_t status = leave(before, amihunk_c_reference(&file->session, unit, hunk, index, told));
-    stay(told);
-    return status;
+    return leave(before, amihunk_c_reference(&file->session, unit, hunk, index, told));
 }
 
 amihunk_status amihunk_file_get_debug(amihunk_file *file, size_t unit, size_t hunk, size_t index,
@@ -108,11 +89,7 @@ amihunk_status amihunk_file_get_debug(amihunk_file *file, size_t unit, size_t hu
 {
     *told = (amihunk_debug){0};
     const amihunk_memory *before = enter(&file->memory);
-    uint32_t status = leave(before, amihunk_c_debug(&file->session, unit, hunk, index, told));
-    if (status == AMIHUNK_OK && told->size == 0) {
-        told->longwords = none;
-    }
-    return status;
+    return leave(before, amihunk_c_debug(&file->session, unit, hunk, index, told));
 }
 
 amihunk_status amihunk_file_symbol_before(amihunk_file *file, size_t unit, size_t hunk,
@@ -120,10 +97,7 @@ amihunk_status amihunk_file_symbol_before(amihunk_file *file, size_t unit, size_
 {
     *told = (amihunk_symbol){0};
     const amihunk_memory *before = enter(&file->memory);
-    uint32_t status =
-        leave(before, amihunk_c_symbol_before(&file->session, unit, hunk, offset, told));
-    stay(&told->name);
-    return status;
+    return leave(before, amihunk_c_symbol_before(&file->session, unit, hunk, offset, told));
 }
 
 size_t amihunk_file_line(amihunk_file *file, const char *name, char *into, size_t size)

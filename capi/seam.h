@@ -56,13 +56,16 @@ uint32_t amihunk_c_symbol_before(void **session, uint64_t unit, uint64_t hunk, u
                                  amihunk_symbol *told);
 uint32_t amihunk_c_check_places(const uint32_t *sizes, size_t size_count, const uint32_t *bases,
                                 size_t base_count, amihunk_answer *answer);
-uint32_t amihunk_c_open_linker(void **session, bool strip, bool short_form, bool trim);
+uint32_t amihunk_c_open_linker(void **session, bool strip, bool short_form, bool trim, bool keep);
 uint32_t amihunk_c_feed_input(void **session, const uint8_t *piece, size_t size,
                               amihunk_answer *answer);
 uint32_t amihunk_c_end_input(void **session, amihunk_answer *answer);
 uint32_t amihunk_c_link(void **session, amihunk_answer *answer);
 uint32_t amihunk_c_get_linked(void **session, struct span *span);
 uint64_t amihunk_c_read_linked(void **session, uint64_t offset, uint8_t *into, size_t size);
+uint32_t amihunk_c_undefined(void **session, uint64_t index, amihunk_undefined *told);
+uint64_t amihunk_c_map(void **session, const uint8_t *names, size_t names_size, uint8_t *into,
+                       size_t size);
 uint64_t amihunk_c_refusal_name(void **session, uint8_t *into, size_t size);
 uint64_t amihunk_c_refusal_line(void **session, const uint8_t *file, size_t file_size,
                                 uint8_t *into, size_t size);

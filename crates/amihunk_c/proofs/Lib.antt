@@ -1,5 +1,6 @@
 pub mod HandleLemmas
 pub mod LinkerLemmas
+pub mod KeepingLemmas
 pub mod LinkingLemmas
 pub mod SizingLemmas
 pub mod SiteListsLemmas

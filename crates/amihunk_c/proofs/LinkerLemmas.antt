@@ -1,7 +1,7 @@
 -- One more input, and what a linker tells of its inputs.
 use Rattle.std.specs.Global.{Global}
-use Rattle.std.proofs.Common.{◌≡◌, ℕ, ◌+◌, List, [], ◌∷◌, ◌++◌, length, Option, Some, None, ap, ap₂, refl, sym, subst, ◌∙◌, arith, zero-add}
-use Rattle.std.proofs.lemmas.List.{append-nil, append_assoc, length-append}
+use Rattle.std.proofs.Common.{◌≡◌, ℕ, ◌+◌, List, [], ◌∷◌, ◌++◌, length, Bool, true, false, Vec, Option, Some, None, ap, ap₂, refl, sym, subst, ◌∙◌, arith, zero-add}
+use Rattle.std.proofs.lemmas.List.{append-nil, append_assoc, length-append, map-append}
 use Rattle.std.specs.Io.KnownBytes.{Appends}
 use Rattle.std.specs.List.{All}
 use Rattle.hunk_words.specs.Decoder.{refusal_of}
@@ -21,11 +21,14 @@ use Rattle.hunk_link.specs.declared.refusal.LinkRefusal.TheVariants as link
 use Rattle.hunk_tool.specs.Inputs.{AreObjects}
 use Rattle.hunk_tool.specs.Link.{IsLinked}
 use Rattle.hunk_tool.specs.LinkOptions.{form_of, trimmed_if}
+use Rattle.hunk_tool.specs.ObjectFiles.{AreFileUnits, FileUnit, placed, units_of}
+use Rattle.hunk_tool.specs.UndefinedName.{UndefinedName}
 use Rattle.hunk_tool.specs.declared.link_options.LinkOptions.{LinkOptions}
-use Rattle.hunk_tool.proofs.NameLengthLemmas.{HasShortName-refused}
-use Rattle.amihunk_c.specs.Linkers.{AreInputs, HasTaken, IsLinkStop, Reads}
+use Rattle.hunk_tool.proofs.ObjectFilesLemmas.{AreUnitsFrom-more, units_of-placed}
+use Rattle.amihunk_c.specs.Linkers.{AreInputs, AreTaken, HasTaken, IsLinkStop, IsUndefined, Reads, TellsNames}
 use Rattle.amihunk_c.specs.Refusals.{link_refused, memory_refused}
 use Rattle.amihunk_c.specs.declared.linker.Linker.{Linker}
+use Rattle.amihunk_c.specs.declared.linker.LinkerOptions.{LinkerOptions}
 
 -- ---- inputs
 
@@ -63,81 +66,102 @@ AreInputs-objects first (bytes ∷ files) units ends are = (are.0, are.1, are.3,
 
 -- ---- what was taken
 
-pub HasTaken-fed : (options : LinkOptions) (files : List (List ℕ)) (current : Option (List ℕ)) (old mid : Linker) (decoder : Decoder (UnitBuilder Global)) (bytes : List ℕ)
+-- the units of one more file, with its number
+units_of-more : (units : List FileUnit) (number : ℕ) (more : List ObjectUnit) → units_of (units ++ placed number more) ≡ units_of units ++ more
+units_of-more units number more =
+    let unit : FileUnit → ObjectUnit = λ u. u.1 in
+    map-append unit units (placed number more) ∙ ap (λ (us : List ObjectUnit). units_of units ++ us) (units_of-placed number more)
+
+AreTaken-more : (files : List (List ℕ)) (bytes : List ℕ) (units : List FileUnit) (more : List ObjectUnit) (ends : List ℕ) (number : ℕ) → number ≡ length files → AreTaken files units ends → IsObjectOf more bytes
+    → AreTaken (files ++ bytes ∷ []) (units ++ placed number more) (ends ++ length (units_of (units ++ placed number more)) ∷ [])
+AreTaken-more files bytes units more ends number counted taken is = record {
+  are = subst (λ n. AreFileUnits (units ++ placed n more) (files ++ bytes ∷ [])) (omega (arith, counted)) (AreUnitsFrom-more 0 files bytes units more taken.are is);
+  inputs = subst (λ (us : List ObjectUnit). AreInputs 0 (files ++ bytes ∷ []) us (ends ++ length us ∷ [])) (sym (units_of-more units number more))
+      (subst (λ n. AreInputs 0 (files ++ bytes ∷ []) (units_of units ++ more) (ends ++ n ∷ [])) (zero-add (length (units_of units ++ more))) (AreInputs-more 0 files bytes (units_of units) more ends taken.inputs is));
+}
+
+pub AreTaken-objects : (files : List (List ℕ)) (units : List FileUnit) (ends : List ℕ) → AreTaken files units ends → AreObjects files (units_of units)
+AreTaken-objects files units ends taken = AreInputs-objects 0 files (units_of units) ends taken.inputs
+
+pub HasTaken-fed : (options : LinkerOptions) (files : List (List ℕ)) (current : Option (List ℕ)) (old mid : Linker) (decoder : Decoder (UnitBuilder Global)) (bytes : List ℕ)
     → mid ≡ record old { current = None } → HasTaken options files current old → StandsFor decoder bytes → refusal_of decoder ≡ None
     → HasTaken options files (Some bytes) (record mid { current = Some decoder })
 HasTaken-fed options files current old mid decoder bytes rest has stands none = record {
   options_are = ap (λ (l : Linker). l.options) rest ∙ has.options_are;
-  inputs = subst (λ (l : Linker). AreInputs 0 files l.units.items l.ends.items) (sym rest) has.inputs;
+  taken = subst (λ (l : Linker). AreTaken files l.files l.ends.items) (sym rest) has.taken;
   reads = (stands, none);
 }
 
-pub HasTaken-ended : (options : LinkOptions) (files : List (List ℕ)) (current : Option (List ℕ)) (old new : Linker) (more : List ObjectUnit) (bytes : List ℕ)
-    → new.options ≡ old.options → new.units.items ≡ old.units.items ++ more → new.ends.items ≡ old.ends.items ++ length new.units.items ∷ [] → new.current ≡ None
+pub HasTaken-ended : (options : LinkerOptions) (files : List (List ℕ)) (current : Option (List ℕ)) (old new : Linker) (more : List ObjectUnit) (bytes : List ℕ)
+    → new.options ≡ old.options → new.files ≡ old.files ++ placed (length old.ends.items) more → new.ends.items ≡ old.ends.items ++ length (units_of new.files) ∷ [] → new.current ≡ None
     → HasTaken options files current old → IsObjectOf more bytes → HasTaken options (files ++ bytes ∷ []) None new
 HasTaken-ended options files current old new more bytes same units ends none has is =
-    let total : length new.units.items ≡ 0 + length (old.units.items ++ more) = ap length units ∙ sym (zero-add (length (old.units.items ++ more))) in
+    let number : ℕ = length old.ends.items in
+    let counted : number ≡ length files = sym (length-AreInputs 0 files (units_of old.files) old.ends.items has.taken.inputs) in
     record {
       options_are = same ∙ has.options_are;
-      inputs = subst (λ (us : List ObjectUnit). AreInputs 0 (files ++ bytes ∷ []) us new.ends.items) (sym units)
-          (subst (λ (es : List ℕ). AreInputs 0 (files ++ bytes ∷ []) (old.units.items ++ more) es) (sym (ends ∙ ap (λ (n : ℕ). old.ends.items ++ n ∷ []) total))
-          (AreInputs-more 0 files bytes old.units.items more old.ends.items has.inputs is));
+      taken = subst (λ (es : List ℕ). AreTaken (files ++ bytes ∷ []) new.files es) (sym ends)
+          (subst (λ (us : List FileUnit). AreTaken (files ++ bytes ∷ []) us (old.ends.items ++ length (units_of us) ∷ [])) (sym units)
+          (AreTaken-more files bytes old.files more old.ends.items number counted has.taken is));
       reads = subst (λ (decoder : Option (Decoder (UnitBuilder Global))). Reads None decoder) (sym none) tt;
     }
 
 -- ---- the link
 
-pub IsLinked-taken : (options : LinkOptions) (files : List (List ℕ)) (linker : Linker) (units : List ObjectUnit) (linked : List FileHunk) (bytes : List ℕ) → units ≡ linker.units.items
-    → HasTaken options files None linker → All IsUnit units → Linkable units linker.options.strip → linked ≡ carried units linker.options.strip
-    → IsLoadOf (trimmed_if linker.options.trim linked) (bytes_of (written_in (form_of linker.options) (trimmed_if linker.options.trim linked)))
-    → bytes ≡ bytes_of (written_in (form_of linker.options) (trimmed_if linker.options.trim linked)) → IsLinked options (Some []) (Some bytes) files
-IsLinked-taken options files linker units linked bytes same has typed linkable linked_is load bytes_are =
-    let chosen = linker.options in
-    let are : AreObjects files units = subst (AreObjects files) (sym same) (AreInputs-objects 0 files linker.units.items linker.ends.items has.inputs) in
-    subst (λ (o : LinkOptions). IsLinked o (Some []) (Some bytes) files) has.options_are (record {
-      units = units;
-      link = record { are = are; typed = typed; linkable = linkable };
-      is_load = subst (λ (hunks : List FileHunk). IsLoadOf (trimmed_if chosen.trim hunks) (bytes_of (written_in (form_of chosen) (trimmed_if chosen.trim hunks)))) linked_is load;
-      written = subst (λ (hunks : List FileHunk). Appends (Some []) (Some bytes) (bytes_of (written_in (form_of chosen) (trimmed_if chosen.trim hunks)))) linked_is bytes_are;
-    })
+module _ (files : List (List ℕ)) (units : List FileUnit) (us : List ObjectUnit) (ends : List ℕ) (same : us ≡ units_of units) (taken : AreTaken files units ends) where
+  objects : AreObjects files us
+  objects = subst (AreObjects files) (sym same) (AreTaken-objects files units ends taken)
 
--- The units are linked, but their load file was not written: an allocation failed.
-pub IsLinkStop-memory : (options : LinkOptions) (files : List (List ℕ)) (linker : Linker) (units : List ObjectUnit) → units ≡ linker.units.items → HasTaken options files None linker
-    → Linkable units linker.options.strip → IsLinkStop options files memory_refused memory_refused.fault
-IsLinkStop-memory options files linker units same has linkable =
-    let are : AreObjects files units = subst (AreObjects files) (sym same) (AreInputs-objects 0 files linker.units.items linker.ends.items has.inputs) in
-    let allowed : Linkable units options.strip = subst (λ (o : LinkOptions). Linkable units o.strip) has.options_are linkable in
-    (record { units = units; are = are; first = (allowed.counted, allowed.small) }, refl)
+  pub IsLinked-taken : (options : LinkOptions) (linked : List FileHunk) (bytes : List ℕ) → All IsUnit us → Linkable us options.strip → linked ≡ carried us options.strip
+      → IsLoadOf (trimmed_if options.trim linked) (bytes_of (written_in (form_of options) (trimmed_if options.trim linked)))
+      → bytes ≡ bytes_of (written_in (form_of options) (trimmed_if options.trim linked)) → IsLinked options (Some []) (Some bytes) files
+  unfolding objects
+  IsLinked-taken options linked bytes typed linkable linked_is load bytes_are = record {
+    units = us;
+    link = record { are = objects; typed = typed; linkable = linkable };
+    is_load = subst (λ (hunks : List FileHunk). IsLoadOf (trimmed_if options.trim hunks) (bytes_of (written_in (form_of options) (trimmed_if options.trim hunks)))) linked_is load;
+    written = subst (λ (hunks : List FileHunk). Appends (Some []) (Some bytes) (bytes_of (written_in (form_of options) (trimmed_if options.trim hunks)))) linked_is bytes_are;
+  }
 
-stop-refused : (options : LinkOptions) (files : List (List ℕ)) (units : List ObjectUnit) (ends : List ℕ) (refusal : LinkRefusal Global) → AreInputs 0 files units ends → IsLinkRefusal units options.strip refusal
-    → IsLinkStop options files (link_refused refusal ends) (link_refused refusal ends).fault
-stop-refused options files units ends link.OutOfMemory inputs first = (record { units = units; are = AreInputs-objects 0 files units ends inputs; first = first }, refl)
-stop-refused options files units ends link.NoHunks inputs first =
-    (record { units = units; are = AreInputs-objects 0 files units ends inputs; first = first }, λ same. cc, tt, record { units = units; ends = ends; inputs = inputs; told = refl })
-stop-refused options files units ends link.TooManyHunks inputs first =
-    (record { units = units; are = AreInputs-objects 0 files units ends inputs; first = first }, λ same. cc, tt, record { units = units; ends = ends; inputs = inputs; told = refl })
-stop-refused options files units ends link.TooLarge inputs first =
-    (record { units = units; are = AreInputs-objects 0 files units ends inputs; first = first }, λ same. cc, tt, record { units = units; ends = ends; inputs = inputs; told = refl })
-stop-refused options files units ends (link.NoSuchHunk unit hunk target) inputs first =
-    (record { units = units; are = AreInputs-objects 0 files units ends inputs; first = first }, λ same. cc, tt, record { units = units; ends = ends; inputs = inputs; told = refl })
-stop-refused options files units ends (link.DuplicateName unit hunk name) inputs first =
-    let are = AreInputs-objects 0 files units ends inputs in (
-      record { units = units; are = are; first = first },
-      λ same. cc,
-      HasShortName-refused {A = Global} files units options.strip (link.DuplicateName unit hunk name) are first,
-      record { units = units; ends = ends; inputs = inputs; told = refl },
-    )
-stop-refused options files units ends (link.UndefinedName unit hunk name) inputs first =
-    let are = AreInputs-objects 0 files units ends inputs in (
-      record { units = units; are = are; first = first },
-      λ same. cc,
-      HasShortName-refused {A = Global} files units options.strip (link.UndefinedName unit hunk name) are first,
-      record { units = units; ends = ends; inputs = inputs; told = refl },
-    )
+  -- The units are linked, but their load file was not written: an allocation failed.
+  pub IsLinkStop-memory : (options : LinkerOptions) → IsLinkRefusal {A = Global} us options.link.strip link.OutOfMemory → IsLinkStop options files memory_refused memory_refused.fault
+  IsLinkStop-memory options first = (record { units = us; are = objects; first = first }, refl)
 
-pub IsLinkStop-refused : (options : LinkOptions) (files : List (List ℕ)) (linker : Linker) (units : List ObjectUnit) (refusal : LinkRefusal Global) → units ≡ linker.units.items
-    → HasTaken options files None linker → IsLinkRefusal units linker.options.strip refusal
-    → IsLinkStop options files (link_refused refusal linker.ends.items) (link_refused refusal linker.ends.items).fault
-IsLinkStop-refused options files linker units refusal same has first =
-    stop-refused options files units linker.ends.items refusal (subst (λ (us : List ObjectUnit). AreInputs 0 files us linker.ends.items) (sym same) has.inputs)
-    (subst (λ (o : LinkOptions). IsLinkRefusal units o.strip refusal) has.options_are first)
+  -- memory ran out while they were linked, so no names are told
+  no_names : (keep : Bool) (told : Option (Vec UndefinedName Global)) → TellsNames keep files link.OutOfMemory told → told ≡ None
+  no_names true told tells = tells.2
+  no_names false told tells = tells
+
+  pub IsLinkStop-refused : (options : LinkerOptions) (refusal : LinkRefusal Global) (told : Option (Vec UndefinedName Global)) → IsLinkRefusal us options.link.strip refusal → TellsNames options.keep files refusal told
+      → IsLinkStop options files (record (link_refused refusal ends) { undefined = told }) (link_refused refusal ends).fault
+  unfolding objects no_names
+  IsLinkStop-refused options link.OutOfMemory told first names =
+      (record { units = us; are = objects; first = first }, ap (λ (t : Option (Vec UndefinedName Global)). record memory_refused { undefined = t }) (no_names options.keep told names))
+  IsLinkStop-refused options link.NoHunks told first names = (record { units = us; are = objects; first = first }, λ same. cc, record { units = units_of units; ends = ends; inputs = taken.inputs; told = refl }, names)
+  IsLinkStop-refused options link.TooManyHunks told first names = (record { units = us; are = objects; first = first }, λ same. cc, record { units = units_of units; ends = ends; inputs = taken.inputs; told = refl }, names)
+  IsLinkStop-refused options link.TooLarge told first names = (record { units = us; are = objects; first = first }, λ same. cc, record { units = units_of units; ends = ends; inputs = taken.inputs; told = refl }, names)
+  IsLinkStop-refused options (link.NoSuchHunk unit hunk target) told first names = (record { units = us; are = objects; first = first }, λ same. cc, record { units = units_of units; ends = ends; inputs = taken.inputs; told = refl }, names)
+  IsLinkStop-refused options (link.DuplicateName unit hunk name) told first names = (record { units = us; are = objects; first = first }, λ same. cc, record { units = units_of units; ends = ends; inputs = taken.inputs; told = refl }, names)
+  IsLinkStop-refused options (link.UndefinedName unit hunk name) told first names = (record { units = us; are = objects; first = first }, λ same. cc, record { units = units_of units; ends = ends; inputs = taken.inputs; told = refl }, names)
+
+-- ---- refusals
+
+-- one that tells no names
+pub link_refused-plain : (refusal : LinkRefusal Global) (ends : List ℕ) → record (link_refused refusal ends) { undefined = None } ≡ link_refused refusal ends
+link_refused-plain link.OutOfMemory ends = refl
+link_refused-plain link.NoHunks ends = refl
+link_refused-plain link.TooManyHunks ends = refl
+link_refused-plain link.TooLarge ends = refl
+link_refused-plain (link.NoSuchHunk unit hunk target) ends = refl
+link_refused-plain (link.DuplicateName unit hunk name) ends = refl
+link_refused-plain (link.UndefinedName unit hunk name) ends = refl
+
+-- Memory may run out where a name is not defined.
+pub memory-undefined : (us : List ObjectUnit) (strip : Bool) (refusal : LinkRefusal Global) → IsUndefined refusal → IsLinkRefusal us strip refusal → IsLinkRefusal {A = Global} us strip link.OutOfMemory
+memory-undefined us strip (link.UndefinedName unit hunk name) is first = (first.0, first.1)
+memory-undefined us strip link.OutOfMemory is first = absurd is
+memory-undefined us strip link.NoHunks is first = absurd is
+memory-undefined us strip link.TooManyHunks is first = absurd is
+memory-undefined us strip link.TooLarge is first = absurd is
+memory-undefined us strip (link.NoSuchHunk unit hunk target) is first = absurd is
+memory-undefined us strip (link.DuplicateName unit hunk name) is first = absurd is

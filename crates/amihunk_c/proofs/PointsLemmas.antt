@@ -1,5 +1,5 @@
 -- The byte of a hunk that was found.
-use Rattle.std.proofs.Common.{◌≡◌, ℕ, ◌<◌, List, Vec, Global, Some, length, get_or, ap, ◌∙◌, refl, option_map, slice_get}
+use Rattle.std.proofs.Common.{◌≡◌, ℕ, ◌<◌, List, Vec, Global, length, get_or, ap, ◌∙◌, refl, option_map}
 use Rattle.std.proofs.lemmas.Option.{slice_get-map, slice_get_read}
 use Rattle.hunk_loader.specs.Image.{hunks_of}
 use Rattle.amihunk_c.specs.Points.{IsAt, IsIn}

@@ -7,12 +7,10 @@ use Rattle.hunk_loader.specs.declared.header_loader.PlaceRefusal.TheVariants.{He
 use Rattle.hunk_loader.specs.ImageLoader.{StandsFor, bases_of, refusal_of}
 use Rattle.hunk_loader.specs.declared.image_loader.ImageLoader.{ImageLoader}
 use Rattle.hunk_loader.specs.declared.places.PlaceFault.{PlaceFault}
-use Rattle.amihunk_c.specs.Answers.{plain_answer}
 use Rattle.amihunk_c.specs.Loading.{HasFed}
 use Rattle.amihunk_c.specs.Sizing.{IsUnplaced, PlacesHunks, unplaced_answer}
 use Rattle.amihunk_c.specs.Sizing.IsUnplaced.{header_incomplete, misplaced, out_of_memory}
 use Rattle.amihunk_c.specs.declared.answer.Answer.{Answer}
-use Rattle.amihunk_c.specs.declared.codes.Status.TheVariants as status
 use Rattle.amihunk_c.specs.declared.session.Session.{Session}
 use Rattle.amihunk_c.specs.declared.session.Session.TheVariants.{Sizing}
 

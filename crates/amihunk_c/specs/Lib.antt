@@ -4,9 +4,10 @@ pub mod Copying
 pub mod Facts
 pub mod Handles
 pub mod InputNumbers
-pub mod Lines
 pub mod LinkedBytes
 pub mod Linkers
+pub mod Linked
+pub mod Keeping
 pub mod Linking
 pub mod LoadRead
 pub mod LoadedHunks

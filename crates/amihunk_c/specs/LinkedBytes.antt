@@ -10,7 +10,7 @@ use Rattle.amihunk_c.specs.declared.span.Span.{Span}
 
 -- the bytes are told; what was told before stays if there are none
 abbrev pub LocatesLinked : Session → (old new : Span) → Status → Type 0
-LocatesLinked (Linked bytes) old new told = IsSpanOf bytes.items new × (told ≡ status.Ok)
+LocatesLinked (Linked linked) old new told = IsSpanOf linked.bytes.items new × (told ≡ status.Ok)
 LocatesLinked session old new told = (new ≡ old) × (told ≡ status.WrongState)
 
 -- the same of a handle, with the number of the status

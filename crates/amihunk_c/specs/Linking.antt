@@ -5,22 +5,22 @@ use Rattle.hunk_words.specs.Files.{IsValidPrefix}
 use Rattle.hunk_words.specs.FirstOffence.{FirstOffence, OffendsAt}
 use Rattle.hunk_base.specs.Longwords.{longwords, unfinished}
 use Rattle.hunk_words.specs.declared.event.FileKind.TheVariants.{Object}
-use Rattle.hunk_tool.specs.Link.{IsLinked}
-use Rattle.hunk_tool.specs.declared.link_options.LinkOptions.{LinkOptions}
 use Rattle.hunk_tool.specs.declared.tool_fault.ToolFault.{ToolFault}
 use Rattle.hunk_tool.specs.declared.tool_fault.ToolFault.TheVariants.{Input, OutOfMemory}
 use Rattle.amihunk_c.specs.Answers.{plain_answer}
+use Rattle.amihunk_c.specs.Linked.{IsLinkedFile}
 use Rattle.amihunk_c.specs.Linkers.{HasTaken, IsLinkStop, begun}
 use Rattle.amihunk_c.specs.Refusals.{file_refused, memory_refused}
 use Rattle.amihunk_c.specs.Turns.{OutOfTurn, TellsAgain}
 use Rattle.amihunk_c.specs.declared.answer.Answer.{Answer}
 use Rattle.amihunk_c.specs.declared.codes.Status.TheVariants as status
+use Rattle.amihunk_c.specs.declared.linker.LinkerOptions.{LinkerOptions}
 use Rattle.amihunk_c.specs.declared.refused.Refused.{Refused}
 use Rattle.amihunk_c.specs.declared.session.Session.{Session}
 use Rattle.amihunk_c.specs.declared.session.Session.TheVariants.{Linking, Linked, Stopped}
 
 -- A session begins with these options, before the first input.
-abbrev pub BeginsLinker : LinkOptions → Session → Type 0
+abbrev pub BeginsLinker : LinkerOptions → Session → Type 0
 BeginsLinker options (Linking linker) = HasTaken options [] None linker
 BeginsLinker options session = ⊥
 
@@ -33,7 +33,7 @@ IsPieceRefusal input bytes refused (OutOfMemory written) = refused ≡ memory_re
 IsPieceRefusal input bytes refused fault = ⊥
 
 -- After a piece the bytes of the current input are these: they are a valid prefix, or refused.
-abbrev pub IsTaken : LinkOptions → (files : List (List ℕ)) (bytes : List ℕ) → Session → Answer → Type 0
+abbrev pub IsTaken : LinkerOptions → (files : List (List ℕ)) (bytes : List ℕ) → Session → Answer → Type 0
 IsTaken options files bytes (Linking linker) answer =
     HasTaken options files (Some bytes) linker × IsValidPrefix Object (longwords bytes) × (answer ≡ plain_answer status.Ok)
 IsTaken options files bytes (Stopped refused) answer = IsPieceRefusal (length files) bytes refused refused.fault × (answer ≡ refused.answer)
@@ -41,7 +41,7 @@ IsTaken options files bytes session answer = ⊥
 
 abbrev pub FeedsInput : List ℕ → (old new : Session) → Answer → Type 0
 FeedsInput piece (Linking linker) new answer =
-    (options : LinkOptions) (files : List (List ℕ)) (current : Option (List ℕ)) → HasTaken options files current linker → IsTaken options files (begun current ++ piece) new answer
+    (options : LinkerOptions) (files : List (List ℕ)) (current : Option (List ℕ)) → HasTaken options files current linker → IsTaken options files (begun current ++ piece) new answer
 FeedsInput piece (Stopped refused) new answer = TellsAgain (Stopped refused) new refused answer
 FeedsInput piece old new answer = OutOfTurn old new answer
 
@@ -55,38 +55,38 @@ IsInputRefusal input bytes refused (OutOfMemory written) = refused ≡ memory_re
 IsInputRefusal input bytes refused fault = ⊥
 
 -- An input ends that has these bytes: it is an object file, or refused.
-abbrev pub IsEnded : LinkOptions → (files : List (List ℕ)) (bytes : List ℕ) → Session → Answer → Type 0
+abbrev pub IsEnded : LinkerOptions → (files : List (List ℕ)) (bytes : List ℕ) → Session → Answer → Type 0
 IsEnded options files bytes (Linking linker) answer = HasTaken options (files ++ bytes ∷ []) None linker × (answer ≡ plain_answer status.Ok)
 IsEnded options files bytes (Stopped refused) answer = IsInputRefusal (length files) bytes refused refused.fault × (answer ≡ refused.answer)
 IsEnded options files bytes session answer = ⊥
 
 abbrev pub EndsInput : (old new : Session) → Answer → Type 0
 EndsInput (Linking linker) new answer =
-    (options : LinkOptions) (files : List (List ℕ)) (current : Option (List ℕ)) → HasTaken options files current linker → IsEnded options files (begun current) new answer
+    (options : LinkerOptions) (files : List (List ℕ)) (current : Option (List ℕ)) → HasTaken options files current linker → IsEnded options files (begun current) new answer
 EndsInput (Stopped refused) new answer = TellsAgain (Stopped refused) new refused answer
 EndsInput old new answer = OutOfTurn old new answer
 
 -- ---- the link
 
 -- The bytes of these object files are linked, or it is told why they are not.
-abbrev pub AreLinked : LinkOptions → List (List ℕ) → Session → Answer → Type 0
-AreLinked options files (Linked bytes) answer = IsLinked options (Some []) (Some bytes.items) files × (answer ≡ plain_answer status.Ok)
+abbrev pub AreLinked : LinkerOptions → List (List ℕ) → Session → Answer → Type 0
+AreLinked options files (Linked linked) answer = IsLinkedFile options files linked × (answer ≡ plain_answer status.Ok)
 AreLinked options files (Stopped refused) answer = IsLinkStop options files refused refused.fault × (answer ≡ refused.answer)
 AreLinked options files session answer = ⊥
 
 -- the same where the current input has ended; inside one the call is out of turn
-abbrev pub LinksBetween : LinkOptions → List (List ℕ) → Option (List ℕ) → (old new : Session) → Answer → Type 0
+abbrev pub LinksBetween : LinkerOptions → List (List ℕ) → Option (List ℕ) → (old new : Session) → Answer → Type 0
 LinksBetween options files None old new answer = AreLinked options files new answer
 LinksBetween options files (Some bytes) old new answer = OutOfTurn old new answer
 
 abbrev pub Links : (old new : Session) → Answer → Type 0
 Links (Linking linker) new answer =
-    (options : LinkOptions) (files : List (List ℕ)) (current : Option (List ℕ)) → HasTaken options files current linker
+    (options : LinkerOptions) (files : List (List ℕ)) (current : Option (List ℕ)) → HasTaken options files current linker
     → LinksBetween options files current (Linking linker) new answer
 Links (Stopped refused) new answer = TellsAgain (Stopped refused) new refused answer
 Links old new answer = OutOfTurn old new answer
 
 -- the bytes of the load file; none if none is linked
 abbrev pub linked_in : Session → List ℕ
-linked_in (Linked bytes) = bytes.items
+linked_in (Linked linked) = linked.bytes.items
 linked_in session = []

@@ -1,5 +1,5 @@
 -- Why a session is refused: as the program reports it, and as C is told.
-use Rattle.std.specs.Prelude.{ℕ, List}
+use Rattle.std.specs.Prelude.{ℕ, List, None}
 use Rattle.std.specs.Global.{Global}
 use Rattle.hunk_base.specs.declared.fault.Fault.{Fault}
 use Rattle.hunk_base.specs.declared.fault.Refusal.{Refusal}
@@ -17,13 +17,13 @@ use Rattle.amihunk_c.specs.declared.refused.Refused.{Refused}
 
 -- The bytes of the input with this number offend there, for this reason.
 abbrev pub file_refused : Fault → ℕ → Refused
-file_refused fault input = record { fault = Input 0 fault; answer = file_answer fault input }
+file_refused fault input = record { fault = Input 0 fault; answer = file_answer fault input; undefined = None }
 
 abbrev pub place_refused : PlaceFault → Refused
-place_refused fault = record { fault = Place fault; answer = place_answer fault }
+place_refused fault = record { fault = Place fault; answer = place_answer fault; undefined = None }
 
 abbrev pub memory_refused : Refused
-memory_refused = record { fault = OutOfMemory 0; answer = plain_answer status.OutOfMemory }
+memory_refused = record { fault = OutOfMemory 0; answer = plain_answer status.OutOfMemory; undefined = None }
 
 -- the refusal of a load file
 abbrev pub load_refused : LoadRefusal → Refused
@@ -39,4 +39,4 @@ input_refused refusal_is.OutOfMemory input = memory_refused
 -- The refusal of units; for each input, the second list has the number of units up to its end.
 abbrev pub link_refused : LinkRefusal Global → List ℕ → Refused
 link_refused link.OutOfMemory ends = memory_refused
-link_refused refusal ends = record { fault = Link refusal; answer = link_answer refusal (input_of refusal ends) }
+link_refused refusal ends = record { fault = Link refusal; answer = link_answer refusal (input_of refusal ends); undefined = None }

@@ -3,7 +3,7 @@ use Rattle.std.specs.Global.{Global}
 use Rattle.std.specs.Prelude.{◌≡◌, ◌⊎◌, ℕ, List, [], ◌∷◌, length, Option, None, Some}
 use Rattle.hunk_link.specs.declared.refusal.LinkRefusal.{LinkRefusal}
 use Rattle.hunk_link.specs.declared.refusal.LinkRefusal.TheVariants.{DuplicateName, UndefinedName}
-use Rattle.hunk_tool.specs.FaultLine.{IsOfInputs, fault_line}
+use Rattle.hunk_tool.specs.FaultLine.{fault_line}
 use Rattle.hunk_tool.specs.declared.tool_fault.ToolFault.{ToolFault}
 use Rattle.hunk_tool.specs.declared.tool_fault.ToolFault.TheVariants.{Link}
 use Rattle.amihunk_c.specs.Copying.{laid_over}
@@ -37,9 +37,9 @@ abbrev pub TellsText : (text old new : List ℕ) → ℕ → Type 0
 TellsText text old new count = (new ≡ laid_over text old) × (count ≡ length text)
 
 -- The line of the program for this fault is told, in which its input has this name; nothing is told if
--- an allocation failed. A name in a fault is one that an object file can have.
+-- an allocation failed.
 abbrev pub TellsFault : List ℕ → ToolFault Global → (old new : List ℕ) → ℕ → Type 0
-TellsFault file fault old new count = IsOfInputs 1 fault → TellsText (fault_line (file ∷ []) fault) old new count ⊎ TellsNothing old new count
+TellsFault file fault old new count = TellsText (fault_line (file ∷ []) fault) old new count ⊎ TellsNothing old new count
 
 abbrev pub TellsRefusal : List ℕ → Session → (old new : List ℕ) → ℕ → Type 0
 TellsRefusal file (Stopped refused) old new count = TellsFault file refused.fault old new count

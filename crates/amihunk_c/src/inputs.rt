@@ -50,7 +50,7 @@ pub(crate) fn link_inputs(session: &mut Session, alloc: Global) -> Answer
                 return Answer::plain(Status::WrongState);
             }
             match linker.link(alloc) {
-                Ok(bytes) => return keep(session, Session::Linked(bytes)),
+                Ok(linked) => return keep(session, Session::Linked(linked)),
                 Err(refused) => refused,
             }
         }
@@ -65,7 +65,7 @@ pub(crate) fn linked_in(session: &Session) -> &[u8]
     ensures { result.now ≡ linked_in session.now }
 {
     match session {
-        Session::Linked(bytes) => bytes,
+        Session::Linked(linked) => &linked.bytes,
         _ => &[],
     }
 }
@@ -75,8 +75,8 @@ pub(crate) fn locate_linked(session: &Session, span: &mut Span) -> Status
     ensures { LocatesLinked session.now span.old span.new result }
 {
     match session {
-        Session::Linked(bytes) => {
-            *span = Span::of(bytes);
+        Session::Linked(linked) => {
+            *span = Span::of(&linked.bytes);
             Status::Ok
         }
         _ => Status::WrongState,

@@ -14,7 +14,9 @@
 //! - `header`: reading a header, step by step; `rooms`: where its hunks are to be made, and `table`:
 //!   what C is told of them.
 //! - `loader`: loading, step by step.
-//! - `linker`: what a linker has taken, and `inputs`: linking, step by step.
+//! - `keeping`: the calls that tell what a linker keeps; `kept`: what these tell.
+//! - `linker`: what a linker has taken, and `inputs`: linking, step by step; `linked`: what a link
+//!   makes.
 //! - `image`: the hunks that were loaded.
 //! - `reader`: reading a file, step by step; `load_read`: loading one that was read.
 //! - `looked`: a file that was read; `site_lists`: the sites of its hunks, in lists; `facts`: what is
@@ -38,7 +40,10 @@ mod handle;
 mod header;
 mod image;
 mod inputs;
+pub mod keeping;
+mod kept;
 mod line;
+mod linked;
 mod linker;
 pub mod linking;
 mod load_read;

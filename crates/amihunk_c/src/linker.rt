@@ -1,30 +1,32 @@
 //! What a linker has taken.
 ghost use Rattle.std.specs.Prelude.{◌≡◌, ◌↔◌, ◌++◌, ◌∷◌, ℕ, List, [], length, Option, Some, None, IsSome, IsTrue, IfOk, IfErr, OnOk, OnErr};
 ghost use Rattle.hunk_words.specs.Decoder.{RefusesBytes, RefusesInput, refusal_of};
-ghost use Rattle.hunk_base.specs.Name.{bytes_of};
-ghost use Rattle.hunk_loadfile.specs.LoadFile.{IsLoadOf};
-ghost use Rattle.hunk_loadfile.specs.WrittenForm.{IsShortEnough, written_in};
-ghost use Rattle.hunk_tool.specs.LinkOptions.{form_of, trimmed_if};
 ghost use Rattle.hunk_words.specs.Files.{IsValidPrefix};
 ghost use Rattle.hunk_base.specs.Longwords.{longwords};
 ghost use Rattle.hunk_words.specs.declared.event.FileKind.TheVariants.{Object};
-ghost use Rattle.hunk_tool.specs.Link.{IsLinked};
-ghost use Rattle.hunk_tool.specs.declared.link_options.LinkOptions.{LinkOptions};
 
+use crate::linked::{LinkedFile, link_and_drop, link_and_keep};
 use crate::refused::Refused;
 use core::mem::replace;
-use hunk_link::link_units;
-use hunk_loadfile::{LoadFile, written_bytes};
-use hunk_objects::{ObjectDecoder, ProgramUnit};
-use hunk_tool::LinkOptions;
+use hunk_objects::ObjectDecoder;
+use hunk_tool::{LinkOptions, ObjectFiles};
 use hunk_words::Refusal;
-use std::alloc::{AllocError, Global};
+use std::alloc::Global;
+
+/// How a linker links.
+#[derive(Clone, Copy)]
+pub struct LinkerOptions {
+    /// How object files are linked, and how their load file is written.
+    pub(crate) link: LinkOptions,
+    /// Whether what is in the object files is kept once they are linked.
+    pub(crate) keep: bool,
+}
 
 /// The units of the inputs that have ended, and the current input.
 #[derive(Drop)]
 pub struct Linker {
-    options: LinkOptions,
-    units: Vec<ProgramUnit>,
+    options: LinkerOptions,
+    files: ObjectFiles,
     // for each input that has ended, the number of units up to its end
     ends: Vec<usize>,
     current: Option<ObjectDecoder>,
@@ -32,15 +34,16 @@ pub struct Linker {
 
 impl Linker {
     ghost use Rattle.amihunk_c.specs.Linkers.{HasTaken, IsLinkStop, Reads, begun};
+    ghost use Rattle.amihunk_c.specs.Linked.{IsLinkedFile};
     ghost use Rattle.hunk_objects.specs.ObjectDecoder.{StandsFor};
 
     /// A linker before the first input. It does not allocate.
-    pub(crate) fn new(alloc: Global, options: LinkOptions) -> Linker
+    pub(crate) fn new(alloc: Global, options: LinkerOptions) -> Linker
         ensures { HasTaken options [] None result }
     {
         Linker {
             options,
-            units: Vec::new(alloc),
+            files: ObjectFiles::new(alloc),
             ends: Vec::new(alloc),
             current: None,
         }
@@ -79,9 +82,9 @@ impl Linker {
     ///
     /// Those of [`ObjectDecoder::feed`].
     pub(crate) fn feed(&mut self, alloc: Global, piece: &[u8]) -> Result<(), Refusal>
-        ensures taken { OnOk result ((options : LinkOptions) (files : List (List ℕ)) (current : Option (List ℕ)) → HasTaken options files current self.old → HasTaken options files (Some (begun current ++ piece.now)) self.new) }
-        ensures front { OnOk result ((options : LinkOptions) (files : List (List ℕ)) (current : Option (List ℕ)) → HasTaken options files current self.old → IsValidPrefix Object (longwords (begun current ++ piece.now))) }
-        ensures refused { IfErr result (λ refusal. (options : LinkOptions) (files : List (List ℕ)) (current : Option (List ℕ)) → HasTaken options files current self.old → RefusesBytes Object (begun current ++ piece.now) refusal) }
+        ensures taken { OnOk result ((options : LinkerOptions) (files : List (List ℕ)) (current : Option (List ℕ)) → HasTaken options files current self.old → HasTaken options files (Some (begun current ++ piece.now)) self.new) }
+        ensures front { OnOk result ((options : LinkerOptions) (files : List (List ℕ)) (current : Option (List ℕ)) → HasTaken options files current self.old → IsValidPrefix Object (longwords (begun current ++ piece.now))) }
+        ensures refused { IfErr result (λ refusal. (options : LinkerOptions) (files : List (List ℕ)) (current : Option (List ℕ)) → HasTaken options files current self.old → RefusesBytes Object (begun current ++ piece.now) refusal) }
         ensures count { self.new.ends ≡ self.old.ends }
     {
         let mut decoder = self.take_current(alloc);
@@ -100,51 +103,40 @@ impl Linker {
     ///
     /// Those of [`ObjectDecoder::finish`], and [`Refusal::OutOfMemory`] if an allocation failed.
     pub(crate) fn end_input(&mut self, alloc: Global) -> Result<(), Refusal>
-        ensures taken { OnOk result ((options : LinkOptions) (files : List (List ℕ)) (current : Option (List ℕ)) → HasTaken options files current self.old → HasTaken options (files ++ begun current ∷ []) None self.new) }
-        ensures refused { IfErr result (λ refusal. (options : LinkOptions) (files : List (List ℕ)) (current : Option (List ℕ)) → HasTaken options files current self.old → RefusesInput Object (begun current) refusal) }
+        ensures taken { OnOk result ((options : LinkerOptions) (files : List (List ℕ)) (current : Option (List ℕ)) → HasTaken options files current self.old → HasTaken options (files ++ begun current ∷ []) None self.new) }
+        ensures refused { IfErr result (λ refusal. (options : LinkerOptions) (files : List (List ℕ)) (current : Option (List ℕ)) → HasTaken options files current self.old → RefusesInput Object (begun current) refusal) }
         ensures count { OnErr result (self.new.ends.items ≡ self.old.ends.items) }
     {
         let decoder = self.take_current(alloc);
-        let mut more = match decoder.finish() {
-            Ok(more) => more,
+        let units = match decoder.finish() {
+            Ok(units) => units,
             Err(refusal) => return Err(refusal),
         };
-        match self.units.append(&mut more) {
-            Ok(()) => {}
+        let files = replace(&mut self.files, ObjectFiles::new(alloc));
+        match files.with_file(self.ends.len(), units) {
+            Ok(files) => self.files = files,
             Err(_) => return Err(Refusal::OutOfMemory),
         }
-        match self.ends.push(self.units.len()) {
+        match self.ends.push(self.files.units().len()) {
             Ok(()) => Ok(()),
             Err(_) => Err(Refusal::OutOfMemory),
         }
     }
 
-    /// The bytes of the load file that the units of all inputs link to. The units are gone after it.
+    /// Links the units of all inputs. They are gone after it, but for what the options keep.
     ///
     /// # Errors
     ///
     /// Why the units do not link, with the input of the unit that the refusal tells.
-    pub(crate) fn link(&mut self, alloc: Global) -> Result<Vec<u8>, Refused>
-        ensures linked { IfOk result (λ bytes. (options : LinkOptions) (files : List (List ℕ)) → HasTaken options files None self.old → IsLinked options (Some []) (Some bytes.items) files) }
-        ensures refused { IfErr result (λ refused. (options : LinkOptions) (files : List (List ℕ)) → HasTaken options files None self.old → IsLinkStop options files refused refused.fault) }
+    pub(crate) fn link(&mut self, alloc: Global) -> Result<LinkedFile, Refused>
+        ensures linked { IfOk result (λ linked. (options : LinkerOptions) (files : List (List ℕ)) → HasTaken options files None self.old → IsLinkedFile options files linked) }
+        ensures refused { IfErr result (λ refused. (options : LinkerOptions) (files : List (List ℕ)) → HasTaken options files None self.old → IsLinkStop options files refused refused.fault) }
     {
-        let units = replace(&mut self.units, Vec::new(alloc));
-        match link_units(alloc, units, self.options.strip) {
-            Ok(linked) => match written(alloc, linked, self.options) {
-                Ok(bytes) => Ok(bytes),
-                Err(_) => Err(Refused::memory()),
-            },
-            Err(refusal) => Err(Refused::link(refusal, &self.ends)),
+        let files = replace(&mut self.files, ObjectFiles::new(alloc));
+        if self.options.keep {
+            link_and_keep(alloc, files, &self.ends, self.options.link)
+        } else {
+            link_and_drop(alloc, files, &self.ends, self.options.link)
         }
     }
-}
-
-/// The bytes of a load file, trimmed and in the form that the options choose.
-fn written(alloc: Global, linked: LoadFile, options: LinkOptions) -> Result<Vec<u8>, AllocError>
-    requires { IsShortEnough linked }
-    ensures bytes { IfOk result (λ bytes. bytes.items ≡ bytes_of (written_in (form_of options) (trimmed_if options.trim linked))) }
-    ensures load { IfOk result (λ bytes. IsLoadOf (trimmed_if options.trim linked) (bytes_of (written_in (form_of options) (trimmed_if options.trim linked)))) }
-{
-    let file = options.trimmed(linked);
-    Ok(written_bytes(alloc, &file, options.form())?)
 }

@@ -10,7 +10,7 @@ use crate::codes::Status;
 use crate::copying::copy_from;
 use crate::handle::Handle;
 use crate::inputs::{end_input, feed_input, link_inputs, linked_in, locate_linked};
-use crate::linker::Linker;
+use crate::linker::{Linker, LinkerOptions};
 use crate::session::Session;
 use crate::span::Span;
 use hunk_tool::LinkOptions;
@@ -18,7 +18,8 @@ use std::alloc::Global;
 
 /// Begins to link object files. The handle has no session yet. With `strip`, symbols and debug
 /// blocks are left out of the load file; with `short_form` its relocations have 16-bit numbers where
-/// these hold the offset; with `trim` the zeros at the end of contents are cut off.
+/// these hold the offset; with `trim` the zeros at the end of contents are cut off; with `keep` what is
+/// in the object files is kept once they are linked, or not linked since a name is not defined.
 ///
 /// It answers `OK`, or `OUT_OF_MEMORY`, and then the handle still has no session; `WRONG_STATE` if
 /// the handle has one, which stays.
@@ -29,8 +30,9 @@ pub extern "C" fn amihunk_c_open_linker(
     strip: bool,
     short_form: bool,
     trim: bool,
+    keep: bool,
 ) -> u32
-    ensures { OpensHandle (BeginsLinker (record { strip = strip; short = short_form; trim = trim })) handle.old.session handle.new.session result }
+    ensures { OpensHandle (BeginsLinker (record { link = record { strip = strip; short = short_form; trim = trim }; keep = keep })) handle.old.session handle.new.session result }
 {
     let status = match handle.take(alloc) {
         Some(session) => {
@@ -38,11 +40,12 @@ pub extern "C" fn amihunk_c_open_linker(
             Status::WrongState
         }
         None => {
-            let options = LinkOptions {
+            let link = LinkOptions {
                 strip,
                 short: short_form,
                 trim,
             };
+            let options = LinkerOptions { link, keep };
             handle.begin(alloc, Session::Linking(Linker::new(alloc, options)))
         }
     };

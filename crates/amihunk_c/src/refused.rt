@@ -8,7 +8,7 @@ use crate::codes::Status;
 use crate::session::Session;
 use hunk_link::LinkRefusal;
 use hunk_loader::{LoadRefusal, PlaceFault};
-use hunk_tool::ToolFault;
+use hunk_tool::{ToolFault, UndefinedName};
 use hunk_words::{Fault, Refusal};
 
 /// Why a session is refused: as the program reports it, and as C is told.
@@ -18,6 +18,8 @@ pub struct Refused {
     pub(crate) fault: ToolFault,
     /// What C is told.
     pub(crate) answer: Answer,
+    /// All names that no hunk defines, if they are kept and one of them is the reason.
+    pub(crate) undefined: Option<Vec<UndefinedName>>,
 }
 
 impl Refused {
@@ -30,6 +32,7 @@ impl Refused {
         Refused {
             fault: ToolFault::Input { file: 0, fault },
             answer: Answer::of_file(fault, input),
+            undefined: None,
         }
     }
 
@@ -40,6 +43,7 @@ impl Refused {
         Refused {
             fault: ToolFault::Place(fault),
             answer: Answer::of_place(fault),
+            undefined: None,
         }
     }
 
@@ -50,6 +54,7 @@ impl Refused {
         Refused {
             fault: ToolFault::OutOfMemory { written: 0 },
             answer: Answer::plain(Status::OutOfMemory),
+            undefined: None,
         }
     }
 
@@ -65,9 +70,17 @@ impl Refused {
                 Refused {
                     fault: ToolFault::Link(refusal),
                     answer,
+                    undefined: None,
                 }
             }
         }
+    }
+
+    /// The same refusal, with these names.
+    pub(crate) fn with_undefined(self, undefined: Option<Vec<UndefinedName>>) -> Refused
+        ensures { result ≡ record self { undefined = undefined } }
+    {
+        Refused { undefined, ..self }
     }
 
     /// An input is not an object file, or an allocation failed.

@@ -5,6 +5,7 @@ ghost use Rattle.amihunk_c.specs.declared.codes.Status.{Status};
 
 use crate::answer::Answer;
 use crate::codes::Status;
+use crate::linked::LinkedFile;
 use crate::linker::Linker;
 use crate::looked::Looked;
 use crate::refused::Refused;
@@ -27,8 +28,8 @@ pub enum Session {
     Read(Looked),
     /// Object files are being fed.
     Linking(Linker),
-    /// Object files are linked, to the bytes of this load file.
-    Linked(Vec<u8>),
+    /// Object files are linked.
+    Linked(LinkedFile),
     /// Bytes, addresses or units were refused, or an allocation failed.
     Stopped(Refused),
 }

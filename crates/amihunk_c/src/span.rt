@@ -1,6 +1,10 @@
 //! Where bytes are.
 ghost use denote.RawPtr.{InBlock};
 
+/// Where there are no bytes: a place that stays, while an empty slice may be of a stack frame that is
+/// gone.
+static NO_BYTES: [u8; 1] = [0];
+
 /// Bytes of a session, for C. They stay there until the handle is closed.
 #[repr(C)]
 #[derive(Drop)]
@@ -18,9 +22,11 @@ impl Span {
     pub(crate) fn of(bytes: &[u8]) -> Span
         ensures { IsSpanOf bytes.now result }
     {
+        let size = bytes.len() as u64;
+        let bytes = if size == 0 { &NO_BYTES } else { bytes };
         Span {
             bytes: start_of(bytes),
-            size: bytes.len() as u64,
+            size,
         }
     }
 }

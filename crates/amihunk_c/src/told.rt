@@ -2,12 +2,14 @@
 ghost use Rattle.std.specs.Prelude.{◌≡◌};
 ghost use denote.RawPtr.{InBlock};
 ghost use Rattle.amihunk_c.specs.Facts.{HunkFacts as Hunk, load_site, unit_site};
+ghost use Rattle.amihunk_c.specs.Keeping.{IsUndefinedTold};
 ghost use Rattle.amihunk_c.specs.Told.{IsContentsTold, IsDebugTold, IsDefinitionTold, IsHunkTold, IsSymbolTold, IsUnitTold, kind_code};
 
 use crate::codes::memory_code;
 use crate::facts::HunkFacts;
 use crate::span::Span;
 use hunk_objects::{Adds, Definition};
+use hunk_tool::UndefinedName;
 use hunk_words::{HunkKind, Name};
 
 /// What a file has.
@@ -177,6 +179,40 @@ impl DefinitionTold {
     }
 }
 
+/// A name that no hunk defines.
+#[repr(C)]
+#[derive(Drop)]
+pub struct UndefinedTold {
+    /// The name.
+    pub name: Span,
+    /// The number of the input of the first reference to it.
+    pub input: u64,
+    /// The number of the unit of that reference, in its input.
+    pub unit: u64,
+    /// The number of the hunk of that reference, in its unit.
+    pub hunk: u64,
+    /// How many references to it there are.
+    pub references: u64,
+}
+
+impl UndefinedTold {
+    /// What is told of such a name.
+    pub(crate) fn of(name: &UndefinedName) -> UndefinedTold
+        ensures { IsUndefinedTold name.now result }
+    {
+        UndefinedTold {
+            name: Span::of(&name.name),
+            input: name.file as u64,
+            unit: name.unit as u64,
+            hunk: name.hunk as u64,
+            references: name.references,
+        }
+    }
+}
+
+/// Where there are no longwords: a place that stays.
+static NO_LONGWORDS: [u32; 1] = [0];
+
 /// A debug block.
 #[repr(C)]
 #[derive(Drop)]
@@ -192,9 +228,11 @@ impl DebugTold {
     pub(crate) fn of(longwords: &[u32]) -> DebugTold
         ensures { IsDebugTold longwords.now result }
     {
+        let size = longwords.len() as u64;
+        let longwords = if size == 0 { &NO_LONGWORDS } else { longwords };
         DebugTold {
             longwords: start_of(longwords),
-            size: longwords.len() as u64,
+            size,
         }
     }
 }

@@ -3,7 +3,7 @@ use Rattle.std.proofs.Common.{subst}
 use Rattle.hunk_loadfile.specs.Rules.{IsLoadFile}
 use Rattle.hunk_tool.specs.LinkOptions.{form_of}
 use Rattle.hunk_tool.proofs.LinkLemmas.{linked_bytes-are_load}
-use Rattle.amihunk_c.proofs.linker.written.Goals as goal
+use Rattle.amihunk_c.proofs.linked.written.Goals as goal
 
 pub returns-clause-load : goal.returns-clause-load
 returns-clause-load c =
