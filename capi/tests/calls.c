@@ -3,6 +3,7 @@
  * NULL.
  */
 #include "files.h"
+#include "nothing.h"
 
 static const uint32_t bases[] = {0x10000, 0x20000};
 
@@ -141,6 +142,7 @@ static void a_loader_may_be_moved(void)
 
 /* ------------------------------ Linkers ------------------------------ */
 
+/* No linker here is opened with `keep`, so that none tells what is kept. */
 static void check_linker_is_not_open_to(amihunk_linker *linker, int open, int feed, int finish,
                                         int file)
 {
@@ -172,6 +174,7 @@ static void check_linker_is_not_open_to(amihunk_linker *linker, int open, int fe
         CHECK(told.bytes == NULL && told.size == 0);
         CHECK(amihunk_linker_read(linker, 0, &byte, 1) == 0 && byte == 0xCC);
     }
+    check_keeps_nothing(linker);
     CHECK(memcmp(linker, &before, sizeof(before)) == 0);
 }
 

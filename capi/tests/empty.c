@@ -69,6 +69,23 @@ static void *load(void *context)
     return context;
 }
 
+/* A name without letters that no hunk defines. */
+static void *link_missing(void *context)
+{
+    struct file bytes = LONGWORDS(0x3E7, 0, 0x3E9, 1, 0, 0x3EF, 0x81000000, 1, 0, 0, 0x3F2);
+    amihunk_linker handle = {0}, *linker = &handle;
+    amihunk_undefined undefined = {0};
+    CHECK(amihunk_linker_open(linker, amihunk_from_malloc(), (amihunk_options){.keep = true}) ==
+          AMIHUNK_OK);
+    CHECK(link_pieces(linker, &bytes, 1, 0).status == AMIHUNK_UNDEFINED_NAME);
+    CHECK(amihunk_linker_get_undefined(linker, 0, &undefined) == AMIHUNK_OK &&
+          undefined.name.size == 0);
+    keep(undefined.name.bytes);
+    amihunk_linker_close(linker);
+    free(bytes.bytes);
+    return context;
+}
+
 /* Runs it on that stack, and checks what it kept. */
 static void run_there(void *(*run)(void *), size_t expected)
 {
@@ -98,11 +115,17 @@ static void no_hunk_of_a_loader_is_on_the_stack(void)
     run_there(load, 1);
 }
 
+static void no_name_of_a_linker_is_on_the_stack(void)
+{
+    run_there(link_missing, 1);
+}
+
 int main(void)
 {
     static const struct test tests[] = {
         TEST(no_text_of_a_file_is_on_the_stack),
         TEST(no_hunk_of_a_loader_is_on_the_stack),
+        TEST(no_name_of_a_linker_is_on_the_stack),
     };
     return run_tests(tests, COUNT(tests));
 }

@@ -78,4 +78,11 @@ static inline struct file caller_and_definer(void)
                      0x3F2, 0x3E9, 2, 0x4E714E71, 0x4E754E71, 0x3F2);
 }
 
+/* A name of four letters for a number: another one for each number of 16 bits. */
+static inline uint32_t name_of(uint32_t number)
+{
+    return 0x61616161 + (number & 15) + (number << 4 & 0xF00) + (number << 8 & 0xF0000) +
+           (number << 12 & 0xF000000);
+}
+
 #endif

@@ -114,6 +114,8 @@ static void a_memory_may_use_other_handles(void)
     memory.resize = NULL;
     CHECK(load(memory, 1) == AMIHUNK_OK);
     CHECK(link_two(memory, 1) == AMIHUNK_OK);
+    CHECK(link_kept(memory, 1) == AMIHUNK_OK);
+    CHECK(link_missing(memory, 1) == AMIHUNK_UNDEFINED_NAME);
     CHECK(place(memory, 1) == AMIHUNK_OK);
     CHECK(reload(memory, 1) == AMIHUNK_OK);
     CHECK(counted.blocks == 0 && counted.asked != 0);
@@ -124,6 +126,8 @@ static void *load_often(void *context)
     for (size_t i = 0; i < 500; i++) {
         CHECK(load(counted_memory(context), i % 6) == AMIHUNK_OK);
         CHECK(link_two(counted_memory(context), i % 6) == AMIHUNK_OK);
+        CHECK(link_kept(counted_memory(context), i % 6) == AMIHUNK_OK);
+        CHECK(link_missing(counted_memory(context), i % 6) == AMIHUNK_UNDEFINED_NAME);
         CHECK(place(counted_memory(context), i % 6) == AMIHUNK_OK);
         CHECK(reload(counted_memory(context), i % 6) == AMIHUNK_OK);
     }
@@ -165,6 +169,8 @@ static void *load_and_link(void *context)
     CHECK(load(counted_memory(context), 1) == AMIHUNK_OK);
     CHECK(link_two(counted_memory(context), 1) == AMIHUNK_OK);
     CHECK(link_clash(counted_memory(context), 1) == AMIHUNK_DUPLICATE_NAME);
+    CHECK(link_kept(counted_memory(context), 1) == AMIHUNK_OK);
+    CHECK(link_missing(counted_memory(context), 1) == AMIHUNK_UNDEFINED_NAME);
     CHECK(place(counted_memory(context), 1) == AMIHUNK_OK);
     CHECK(look_into_object(counted_memory(context), 1) == AMIHUNK_OK);
     CHECK(reload(counted_memory(context), 1) == AMIHUNK_OK);
@@ -205,14 +211,16 @@ static void a_loader_may_be_closed_after_each_byte(void)
     free(file.bytes);
 }
 
+/* Whether it keeps what is in the files or not. */
 static void a_linker_may_be_closed_after_each_byte(void)
 {
     const struct file files[] = {caller(), assembled()};
-    for (size_t size = 0; size <= files[1].size; size++) {
+    for (size_t i = 0; i < 2 * (files[1].size + 1); i++) {
+        const amihunk_options options = {.keep = i % 2 != 0};
+        size_t size = i / 2;
         struct counted counted = {0};
         amihunk_linker linker = {0};
-        CHECK(amihunk_linker_open(&linker, counted_memory(&counted), (amihunk_options){0}) ==
-              AMIHUNK_OK);
+        CHECK(amihunk_linker_open(&linker, counted_memory(&counted), options) == AMIHUNK_OK);
         CHECK(amihunk_linker_feed(&linker, files[0].bytes, files[0].size, NULL) == AMIHUNK_OK);
         CHECK(amihunk_linker_end_input(&linker, NULL) == AMIHUNK_OK);
         CHECK(amihunk_linker_feed(&linker, files[1].bytes, size, NULL) == AMIHUNK_OK);

@@ -106,12 +106,35 @@ static bool loads_from_file(const std::vector<unsigned char> &bytes)
     return good;
 }
 
+// What a linker keeps: it is linked here, so that no name is missing.
+static bool keeps_what_it_links()
+{
+    static const char expected[] = "hunk 0 code any 1 longwords x.o unit 0 \"\" hunk 0 \"\"\n"
+                                   "hunk 1 bss any 4 longwords x.o unit 0 \"\" hunk 1 \"\"\n";
+    const char *const names[] = {"x.o"};
+    char map[sizeof expected];
+    amihunk_answer answer;
+    amihunk_options options = {false, false, false, true};
+    amihunk_linker linker = {};
+    amihunk_undefined undefined;
+    bool good = amihunk_linker_open(&linker, amihunk_from_malloc(), options) == AMIHUNK_OK &&
+                amihunk_linker_feed(&linker, object, sizeof object, &answer) == AMIHUNK_OK &&
+                amihunk_linker_end_input(&linker, &answer) == AMIHUNK_OK &&
+                amihunk_linker_finish(&linker, &answer) == AMIHUNK_OK &&
+                amihunk_linker_map(&linker, names, 1, map, sizeof map) == sizeof map - 1 &&
+                std::strcmp(map, expected) == 0 &&
+                amihunk_linker_get_undefined(&linker, 0, &undefined) == AMIHUNK_WRONG_STATE &&
+                undefined.name.size == 0 && undefined.references == 0;
+    amihunk_linker_close(&linker);
+    return good;
+}
+
 static bool links_and_loads()
 {
     static unsigned char room[16384];
     const uint32_t sizes[] = {1, 4}, bases[] = {0x1000, 0x2000};
     amihunk_answer answer;
-    amihunk_options options = {true, false, true};
+    amihunk_options options = {true, false, true, false};
     amihunk_linker linker = {};
     amihunk_loader loader = {};
     bool good = amihunk_linker_open(&linker, amihunk_from_malloc(), options) == AMIHUNK_OK &&
@@ -145,7 +168,7 @@ static bool links_and_loads()
 
 int main()
 {
-    bool good = links_and_loads() && looks_into_object() &&
+    bool good = links_and_loads() && keeps_what_it_links() && looks_into_object() &&
                 std::strcmp(amihunk_version(), AMIHUNK_VERSION) == 0;
     std::printf("%s a_cpp_program_links_and_loads\nran 1\n", good ? "ok" : "FAILED");
     return good ? 0 : 1;

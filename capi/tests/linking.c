@@ -30,16 +30,20 @@ static void check_linked(amihunk_linker *linker, struct file expected)
     free(copy);
 }
 
-/* The files link, with these options and in pieces of each size, to the expected load file. */
+/*
+ * The files link, with these options and in pieces of each size, to the expected load file, whether
+ * what is in them is kept or not.
+ */
 static void check_link(const struct file *files, size_t count, amihunk_options options,
                        struct file expected)
 {
     static const size_t pieces[] = {0, 1, 3, 5};
-    for (size_t i = 0; i < COUNT(pieces); i++) {
+    for (size_t i = 0; i < 2 * COUNT(pieces); i++) {
         struct counted counted = {0};
         amihunk_linker linker = {0};
+        options.keep = i % 2 != 0;
         CHECK(amihunk_linker_open(&linker, counted_memory(&counted), options) == AMIHUNK_OK);
-        amihunk_answer answer = link_pieces(&linker, files, count, pieces[i]);
+        amihunk_answer answer = link_pieces(&linker, files, count, pieces[i / 2]);
         CHECK(same_answer(&answer, &(amihunk_answer){0}));
         check_linked(&linker, expected);
         amihunk_linker_close(&linker);
@@ -151,8 +155,8 @@ static void what_is_linked_can_be_loaded(void)
 {
     static const uint32_t bases[] = {0x10000, 0x20000};
     const struct file files[] = {caller(), definer()};
-    for (unsigned bits = 0; bits < 8; bits++) {
-        amihunk_options options = {bits & 1, (bits & 2) != 0, (bits & 4) != 0};
+    for (unsigned bits = 0; bits < 16; bits++) {
+        amihunk_options options = {bits & 1, (bits & 2) != 0, (bits & 4) != 0, (bits & 8) != 0};
         amihunk_linker linker = {0};
         amihunk_loader loader = {0};
         amihunk_bytes file;
@@ -175,16 +179,17 @@ static void what_is_linked_can_be_loaded(void)
 
 /* ------------------------------ Refusals ------------------------------ */
 
-/* The files do not link: the answer, the name, the line, and the same again. */
+/* The files do not link: the answer, the name, the line, and the same again, kept or not. */
 static void check_refused(const struct file *files, size_t count, amihunk_answer expected,
                           const char *name, const char *line)
 {
     static const size_t pieces[] = {0, 1, 3, 5};
-    for (size_t i = 0; i < COUNT(pieces); i++) {
+    for (size_t i = 0; i < 2 * COUNT(pieces); i++) {
         struct counted counted = {0};
         amihunk_linker linker = {0};
-        CHECK(amihunk_linker_open(&linker, counted_memory(&counted), plain) == AMIHUNK_OK);
-        amihunk_answer answer = link_pieces(&linker, files, count, pieces[i]);
+        const amihunk_options options = {.keep = i % 2 != 0};
+        CHECK(amihunk_linker_open(&linker, counted_memory(&counted), options) == AMIHUNK_OK);
+        amihunk_answer answer = link_pieces(&linker, files, count, pieces[i / 2]);
         CHECK(same_answer(&answer, &expected));
         for (int again = 0; again < 2; again++) {
             char text[200];

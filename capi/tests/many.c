@@ -1,7 +1,9 @@
 /*
  * A file with more of everything than 16 bits can count: 70,000 units, hunks, sites, references,
- * definitions, symbols and debug blocks. Each is told by its number.
+ * definitions, symbols and debug blocks. Each is told by its number. And so is each of 70,000 names
+ * that no hunk defines, after 70,000 object files and 70,000 units.
  */
+#include "files.h"
 #include "nothing.h"
 
 enum { MANY = 70000 };
@@ -15,13 +17,6 @@ struct longwords {
 static void add(struct longwords *to, uint32_t longword)
 {
     to->all[to->count++] = longword;
-}
-
-/* A name of four letters for a number. */
-static uint32_t name_of(uint32_t number)
-{
-    return 0x61616161 + (number & 15) + (number << 4 & 0xF00) + (number << 8 & 0xF0000) +
-           (number << 12 & 0xF000000);
 }
 
 static int is_name(amihunk_bytes told, uint32_t number)
@@ -167,10 +162,87 @@ static void more_of_everything_than_16_bits_count_is_told(void)
     CHECK(counted.blocks == 0);
 }
 
+/* ------------------------------ Undefined names ------------------------------ */
+
+/*
+ * Many units of nothing, and then one with a hunk of zeros and one of code, to which many names are
+ * added. Each has a letter after the four of its number, and so is there once. The first of them is
+ * referred to again beside each one.
+ */
+static struct file many_undefined(void)
+{
+    struct longwords to = {some(malloc(4 * (16 + (size_t)14 * MANY))), 0};
+    for (uint32_t i = 0; i < MANY; i++) {
+        add(&to, 0x3E7);
+        add(&to, 0);
+    }
+    const uint32_t unit[] = {0x3E7, 0, 0x3EB, 1, 0x3F2, 0x3E9, 2 * MANY};
+    for (size_t i = 0; i < COUNT(unit); i++) {
+        add(&to, unit[i]);
+    }
+    for (uint32_t i = 0; i < 2 * MANY; i++) {
+        add(&to, 0);
+    }
+    add(&to, 0x3EF);
+    for (uint32_t i = 0; i < MANY; i++) {
+        const uint32_t own[] = {0x81000002, name_of(i), 0x61000000 + (i >> 16 << 24), 1, 8 * i};
+        const uint32_t first[] = {0x81000002, name_of(0), 0x61000000, 1, 8 * i + 4};
+        for (size_t k = 0; k < COUNT(own); k++) {
+            add(&to, own[k]);
+        }
+        for (size_t k = 0; k < COUNT(first); k++) {
+            add(&to, first[k]);
+        }
+    }
+    add(&to, 0);
+    add(&to, 0x3F2);
+    struct file file = file_of(to.all, to.count);
+    free(to.all);
+    return file;
+}
+
+static size_t wrong_undefined(amihunk_linker *linker)
+{
+    size_t wrong = 0;
+    for (uint32_t i = 0; i < MANY; i++) {
+        amihunk_undefined told = {0};
+        wrong += amihunk_linker_get_undefined(linker, i, &told) != AMIHUNK_OK ||
+                 told.name.size != 5 || !is_name((amihunk_bytes){told.name.bytes, 4}, i) ||
+                 told.name.bytes[4] != 'a' + (i >> 16) || told.input != MANY || told.unit != MANY ||
+                 told.hunk != 1 || told.references != (i == 0 ? 1 + MANY : 1);
+    }
+    return wrong;
+}
+
+static void more_undefined_names_than_16_bits_count_are_told(void)
+{
+    struct file nothing = LONGWORDS(0x3E7, 0), bytes = many_undefined();
+    struct counted counted = {0};
+    amihunk_linker linker = {0};
+    CHECK(amihunk_linker_open(&linker, counted_memory(&counted), (amihunk_options){.keep = true}) ==
+          AMIHUNK_OK);
+    for (size_t i = 0; i < MANY; i++) {
+        CHECK(amihunk_linker_feed(&linker, nothing.bytes, nothing.size, NULL) == AMIHUNK_OK &&
+              amihunk_linker_end_input(&linker, NULL) == AMIHUNK_OK);
+    }
+    amihunk_answer answer = link_pieces(&linker, &bytes, 1, 4099);
+    CHECK(same_answer(&answer, &(amihunk_answer){.status = AMIHUNK_UNDEFINED_NAME,
+                                                 .input = MANY,
+                                                 .unit = 2 * MANY,
+                                                 .hunk = 1}));
+    CHECK(wrong_undefined(&linker) == 0);
+    check_no_undefined(&linker, MANY, AMIHUNK_OUT_OF_RANGE);
+    amihunk_linker_close(&linker);
+    CHECK(counted.blocks == 0);
+    free(nothing.bytes);
+    free(bytes.bytes);
+}
+
 int main(void)
 {
     static const struct test tests[] = {
         TEST(more_of_everything_than_16_bits_count_is_told),
+        TEST(more_undefined_names_than_16_bits_count_are_told),
     };
     return run_tests(tests, COUNT(tests));
 }

@@ -41,6 +41,12 @@ static void each_allocation_of_a_refused_link_is_refused(void)
     refuse_each(link_clash, AMIHUNK_DUPLICATE_NAME);
 }
 
+static void each_allocation_of_a_link_that_keeps_is_refused(void)
+{
+    refuse_each(link_kept, AMIHUNK_OK);
+    refuse_each(link_missing, AMIHUNK_UNDEFINED_NAME);
+}
+
 static void each_allocation_of_a_look_is_refused(void)
 {
     refuse_each(look_into_object, AMIHUNK_OK);
@@ -64,6 +70,8 @@ static void blocks_that_cannot_be_resized_are_copied(void)
     memory.resize = NULL;
     CHECK(load(memory, 1) == AMIHUNK_OK);
     CHECK(link_two(memory, 1) == AMIHUNK_OK);
+    CHECK(link_kept(memory, 1) == AMIHUNK_OK);
+    CHECK(link_missing(memory, 1) == AMIHUNK_UNDEFINED_NAME);
     CHECK(place(memory, 1) == AMIHUNK_OK);
     CHECK(look_into_object(memory, 1) == AMIHUNK_OK);
     CHECK(reload(memory, 1) == AMIHUNK_OK);
@@ -145,6 +153,12 @@ static void each_buffer_refuses_a_name_or_is_too_small(void)
     in_each_buffer(link_clash, AMIHUNK_DUPLICATE_NAME, MOST);
 }
 
+static void each_buffer_keeps_what_is_linked_or_is_too_small(void)
+{
+    in_each_buffer(link_kept, AMIHUNK_OK, LARGE);
+    in_each_buffer(link_missing, AMIHUNK_UNDEFINED_NAME, LARGE);
+}
+
 static void each_buffer_tells_of_a_file_or_is_too_small(void)
 {
     in_each_buffer(look_into_object, AMIHUNK_OK, LARGE);
@@ -159,11 +173,13 @@ static void each_buffer_loads_a_file_that_was_read_or_is_too_small(void)
 
 static void a_buffer_is_used_again(void)
 {
-    static uint8_t room[MOST];
+    static uint8_t room[LARGE];
     amihunk_memory memory = amihunk_in_buffer(room, sizeof(room));
     for (int i = 0; i < 1000; i++) {
         CHECK(load(memory, (size_t)i % 4) == AMIHUNK_OK);
         CHECK(link_two(memory, (size_t)i % 4) == AMIHUNK_OK);
+        CHECK(link_kept(memory, (size_t)i % 4) == AMIHUNK_OK);
+        CHECK(link_missing(memory, (size_t)i % 4) == AMIHUNK_UNDEFINED_NAME);
         CHECK(place(memory, (size_t)i % 4) == AMIHUNK_OK);
         CHECK(reload(memory, (size_t)i % 4) == AMIHUNK_OK);
     }
@@ -175,6 +191,7 @@ int main(void)
         TEST(each_allocation_of_a_load_is_refused),
         TEST(each_allocation_of_a_link_is_refused),
         TEST(each_allocation_of_a_refused_link_is_refused),
+        TEST(each_allocation_of_a_link_that_keeps_is_refused),
         TEST(each_allocation_of_a_look_is_refused),
         TEST(each_allocation_of_a_load_from_a_file_is_refused),
         TEST(each_allocation_of_a_load_into_places_is_refused),
@@ -183,6 +200,7 @@ int main(void)
         TEST(each_buffer_loads_or_is_too_small),
         TEST(each_buffer_links_or_is_too_small),
         TEST(each_buffer_refuses_a_name_or_is_too_small),
+        TEST(each_buffer_keeps_what_is_linked_or_is_too_small),
         TEST(each_buffer_tells_of_a_file_or_is_too_small),
         TEST(each_buffer_loads_a_file_that_was_read_or_is_too_small),
         TEST(a_buffer_is_used_again),

@@ -1,6 +1,7 @@
 /*
  * 10,000 load files and 10,000 object files, each made of a good one by a few changes: in pieces of
- * any size they give the same as in one. The same changes are made on every run.
+ * any size they give the same as in one, and object files also if what is in them is kept. The same
+ * changes are made on every run.
  */
 #include "files.h"
 #include "mutations.h"
@@ -98,10 +99,11 @@ static void object_files_in_pieces_and_whole(void)
         static struct file (*const kinds[])(void) = {caller, definer, table, assembled};
         struct file files[] = {definer(), mutated(kinds[dice(COUNT(kinds))]()), caller()};
         size_t first = dice(2), count = 3 - first;
-        amihunk_options options = {dice(2) == 0, dice(2) == 0, dice(2) == 0};
+        amihunk_options options = {dice(2) == 0, dice(2) == 0, dice(2) == 0, false};
         struct counted counted = {0};
         amihunk_linker whole = {0}, pieces = {0};
         CHECK(amihunk_linker_open(&whole, amihunk_from_malloc(), options) == AMIHUNK_OK);
+        options.keep = i % 2 != 0;
         CHECK(amihunk_linker_open(&pieces, counted_memory(&counted), options) == AMIHUNK_OK);
         amihunk_answer answer = link_pieces(&whole, files + first, count, 0);
         amihunk_answer other = link_at_random(&pieces, files + first, count);

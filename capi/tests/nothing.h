@@ -1,8 +1,13 @@
-/* Checks that a file handle tells nothing: the status says why, and what is told is all zeros. */
+/*
+ * Checks that a handle tells nothing: the status says why, and what is told is all zeros, or an
+ * empty text.
+ */
 #ifndef NOTHING_H
 #define NOTHING_H
 
 #include "facts.h"
+
+/* ------------------------------ Files ------------------------------ */
 
 static inline int is_nothing(amihunk_bytes told)
 {
@@ -98,6 +103,41 @@ static inline void check_tells_nothing(amihunk_file *file)
     check_no_unit(file, 0, AMIHUNK_WRONG_STATE);
     check_no_unit(file, SIZE_MAX, AMIHUNK_WRONG_STATE);
     CHECK(memcmp(file, &before, sizeof(before)) == 0);
+}
+
+/* ------------------------------ Linkers ------------------------------ */
+
+static inline void check_no_undefined(amihunk_linker *linker, size_t index, amihunk_status status)
+{
+    amihunk_undefined told = {{(const uint8_t *)"", 7}, 7, 7, 7, 7};
+    CHECK(amihunk_linker_get_undefined(linker, index, &told) == status);
+    CHECK(is_nothing(told.name) && told.input == 0 && told.unit == 0 && told.hunk == 0 &&
+          told.references == 0);
+}
+
+/* The map is empty, whatever room there is for it, and whatever the files are called. */
+static inline void check_no_map(amihunk_linker *linker)
+{
+    static const char *const names[] = {"x", NULL, "y"};
+    for (size_t count = 0; count <= COUNT(names); count++) {
+        CHECK(amihunk_linker_map(linker, count != 0 ? names : NULL, count, NULL, 0) == 0);
+        for (size_t size = 1; size <= 4; size++) {
+            char text[] = "####";
+            CHECK(amihunk_linker_map(linker, names, count, text, size) == 0);
+            CHECK(text[0] == 0 && strcmp(text + 1, "###") == 0);
+        }
+    }
+}
+
+/* A linker that keeps nothing of use tells nothing, and stays as it is. */
+static inline void check_keeps_nothing(amihunk_linker *linker)
+{
+    amihunk_linker before = *linker;
+    check_no_undefined(linker, 0, AMIHUNK_WRONG_STATE);
+    check_no_undefined(linker, 1, AMIHUNK_WRONG_STATE);
+    check_no_undefined(linker, SIZE_MAX, AMIHUNK_WRONG_STATE);
+    check_no_map(linker);
+    CHECK(memcmp(linker, &before, sizeof(before)) == 0);
 }
 
 #endif

@@ -97,6 +97,74 @@ static inline amihunk_status link_clash(amihunk_memory memory, size_t piece)
     return (amihunk_status)answer.status;
 }
 
+/* Links the caller and the definer, keeps what is in them, and writes the map. */
+static inline amihunk_status link_kept(amihunk_memory memory, size_t piece)
+{
+    static const char *const names[] = {"caller.o", "definer.o"};
+    static const char map[] = "hunk 0 code any 2 longwords caller.o unit 0 \"\" hunk 0 \"\"\n"
+                              "hunk 1 code any 2 longwords definer.o unit 0 \"\" hunk 0 \"\"\n"
+                              "  define \"foo\" at 00000004\n";
+    const struct file files[] = {caller(), definer()};
+    struct file expected = caller_and_definer();
+    amihunk_linker linker = {0};
+    amihunk_answer answer = {
+        .status = amihunk_linker_open(&linker, memory, (amihunk_options){.keep = true})};
+    if (answer.status == AMIHUNK_OK) {
+        answer = link_pieces(&linker, files, 2, piece);
+    }
+    char text[sizeof(map)];
+    size_t length = amihunk_linker_map(&linker, names, 2, text, sizeof(text));
+    CHECK(strcmp(text, length != 0 ? map : "") == 0);
+    CHECK(length == 0 || (length == strlen(map) && answer.status == AMIHUNK_OK));
+    if (answer.status == AMIHUNK_OK) {
+        amihunk_bytes told;
+        CHECK(amihunk_linker_get_file(&linker, &told) == AMIHUNK_OK);
+        CHECK(same(expected, told.bytes, told.size));
+        /* A map for which there was no memory is empty, and that is all that is told of it. */
+        answer.status = length != 0 ? AMIHUNK_OK : AMIHUNK_OUT_OF_MEMORY;
+    }
+    CHECK(answer.status == AMIHUNK_OK || answer.status == AMIHUNK_OUT_OF_MEMORY);
+    amihunk_linker_close(&linker);
+    free(expected.bytes);
+    free(files[0].bytes);
+    free(files[1].bytes);
+    return (amihunk_status)answer.status;
+}
+
+static inline int is_undefined(amihunk_linker *linker, size_t index, const char *name,
+                               uint64_t input, uint64_t references)
+{
+    amihunk_undefined told;
+    return amihunk_linker_get_undefined(linker, index, &told) == AMIHUNK_OK &&
+           told.name.size == strlen(name) && memcmp(told.name.bytes, name, told.name.size) == 0 &&
+           told.input == input && told.unit == 0 && told.hunk == 0 && told.references == references;
+}
+
+/* Links files that refer to two names, which are both missing. */
+static inline amihunk_status link_missing(amihunk_memory memory, size_t piece)
+{
+    const struct file files[] = {caller(), with(caller(), 8, 0x62617200), caller()};
+    amihunk_linker linker = {0};
+    amihunk_answer answer = {
+        .status = amihunk_linker_open(&linker, memory, (amihunk_options){.keep = true})};
+    if (answer.status == AMIHUNK_OK) {
+        answer = link_pieces(&linker, files, 3, piece);
+    }
+    CHECK(answer.status == AMIHUNK_UNDEFINED_NAME || answer.status == AMIHUNK_OUT_OF_MEMORY);
+    amihunk_undefined told;
+    if (answer.status == AMIHUNK_UNDEFINED_NAME) {
+        CHECK(is_undefined(&linker, 0, "foo", 0, 2) && is_undefined(&linker, 1, "bar", 1, 1));
+        CHECK(amihunk_linker_get_undefined(&linker, 2, &told) == AMIHUNK_OUT_OF_RANGE);
+    } else {
+        CHECK(amihunk_linker_get_undefined(&linker, 0, &told) == AMIHUNK_WRONG_STATE);
+    }
+    amihunk_linker_close(&linker);
+    for (size_t i = 0; i < COUNT(files); i++) {
+        free(files[i].bytes);
+    }
+    return (amihunk_status)answer.status;
+}
+
 /* Loads the file of two hunks into memory of the caller. */
 static inline amihunk_status place(amihunk_memory memory, size_t piece)
 {
