@@ -176,6 +176,26 @@ example_by_pkg_config() {
     writes 0 "$assembler_output" "" "$work/assembler" print
 }
 
+# Runs a command from the top of the repository: COMMAND..
+from_the_top() {
+    (cd .. && "$@")
+}
+
+run_linker() {
+    attempt "build of linker" example linker || return
+    # Code that refers to `draw` and to `print`.
+    printf '\0\0\3\347\0\0\0\0\0\0\3\351\0\0\0\2\0\0\0\0\0\0\0\0\0\0\3\357' > "$work/draw.o"
+    printf '\201\0\0\1draw\0\0\0\1\0\0\0\0\201\0\0\2print\0\0\0\0\0\0\1\0\0\0\4\0\0\0\0\0\0\3\362' >> "$work/draw.o"
+    attempt "linker prints the map" writes 0 "$linker_output" "" \
+        from_the_top "$work/linker" "$work/hello" examples/main.o examples/library.o
+    attempt "linker writes the load file" writes 0 "$hello_output" "" "$work/emulator" "$work/hello" 1000 2000 3000 4000
+    attempt "linker tells the name that is missing" writes 1 "" "$missing_output" \
+        from_the_top "$work/linker" "$work/none" examples/main.o
+    attempt "linker tells all names that are missing" writes 1 "" "$all_missing_output" \
+        from_the_top "$work/linker" "$work/none" examples/main.o "$work/draw.o"
+    attempt "linker writes nothing that is refused" [ ! -e "$work/none" ]
+}
+
 run_examples() {
     if attempt "build of emulator" example emulator; then
         # 81,920 bytes of memory, which the file asks for without any content.
@@ -201,6 +221,7 @@ run_examples() {
         attempt "assembler names what is missing" writes 1 "" "amihunk: link: unit 0 hunk 0: \"draw\" not defined
 " "$work/assembler" draw
     fi
+    run_linker
     if is_there -- -include unicorn/unicorn.h -lunicorn; then
         if attempt "build of run" example run -lunicorn; then
             attempt "a program runs the same at each list of addresses" writes 0 "$run_output" "" "$work/run"
@@ -216,6 +237,27 @@ the machine starts at 00010000: 207c
 "
 assembler_output="hunk 0 at 00010000: 4eb9000200044e75
 hunk 1 at 00020000: 4e714e7170004e75
+"
+linker_output='hunk 0 code any 4 longwords examples/main.o unit 0 "main" hunk 0 ""
+  define "main" at 00000000
+hunk 1 data any 4 longwords examples/main.o unit 0 "main" hunk 1 ""
+hunk 2 code any 5 longwords examples/library.o unit 0 "library" hunk 0 ""
+  define "clear" at 00000000
+  define "print" at 00000008
+hunk 3 bss chip 4 longwords examples/library.o unit 0 "library" hunk 1 ""
+'
+hello_output="hunk 0: 16 bytes at 00001000
+hunk 1: 16 bytes at 00002000
+hunk 2: 20 bytes at 00003000
+hunk 3: 16 bytes at 00004000
+the machine starts at 00001000: 41f9
+"
+missing_output='amihunk: link: unit 0 hunk 0: "print" not defined
+  examples/main.o: unit 0 hunk 0 refers to print, references: 1
+'
+all_missing_output="amihunk: link: unit 0 hunk 0: \"print\" not defined
+  examples/main.o: unit 0 hunk 0 refers to print, references: 2
+  $work/draw.o: unit 0 hunk 0 refers to draw, references: 1
 "
 # Hunks of 16, 4, 32, 16 and 12 bytes: one after another; 64 KiB apart; downwards and 0x1235 apart, the first three at the
 # even address below.
