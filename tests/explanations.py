@@ -112,6 +112,23 @@ def units_that_do_not_link_are_explained(program):
         tells(program, f"link: {line}", more, "image", "--at", "0", *files)
 
 
+def origin_text(files, parts, place):
+    """Where a hunk is from, by the numbers of its file, of the unit in it and of the hunk."""
+    file, unit, hunk = place
+    names = [model.quoted(it) for it in (model.name_of(parts[file][unit]), parts[file][unit][hunk].name)]
+    return f"{files[file]} unit {unit} {names[0]} hunk {hunk} {names[1]}\n"
+
+
+def undefined_text(files, parts, uses):
+    """What is told of the names that these units lack."""
+    first = next(iter(uses.values()))[1]
+    number = sum(map(len, parts[: first[0]])) + first[1]
+    lines = [f"  {model.quoted(name)}, references: {count}, first in {origin_text(files, parts, place)}"
+             for name, (count, place) in uses.items()]
+    rest = f"  and {len(lines) - 100} more\n" if len(lines) > 100 else ""
+    return f"  unit {number} hunk {first[2]}: {origin_text(files, parts, first)}" + "".join(lines[:100]) + rest
+
+
 @test
 def undefined_names_of_random_units_are_all_told(program):
     compared = 0
@@ -120,23 +137,12 @@ def undefined_names_of_random_units_are_all_told(program):
         hunks = [hunk for unit in units for hunk in unit]
         for hunk in hunks:
             hunk.definitions = [it for it in hunk.definitions if dice.randrange(2)]
-        defined = {name for hunk in hunks for _, name, _ in hunk.definitions}
         parts = model.dealt_out(dice, units)
         files = write_parts(program, seed, parts)
-        uses, place, number = {}, None, 0
-        for file, part in zip(files, parts):
-            for index, unit in enumerate(part):
-                for at, hunk in enumerate(unit):
-                    origin = f"{file} unit {index} {model.quoted(model.name_of(unit))} hunk {at} {model.quoted(hunk.name)}\n"
-                    for name in dict.fromkeys(it for _, it in hunk.sites if isinstance(it, bytes)):
-                        if name not in defined:
-                            place = place or f"  unit {number} hunk {at}: {origin}"
-                            uses.setdefault(name, [0, origin])[0] += 1
-                number += 1
+        uses = model.undefined_names(parts)
         if not uses:
             continue
-        lines = [f"  {model.quoted(name)}, references: {count}, first in {origin}" for name, (count, origin) in uses.items()]
-        told = place + "".join(lines[:100]) + (f"  and {len(lines) - 100} more\n" if len(lines) > 100 else "")
+        told = undefined_text(files, parts, uses)
         status, out, errors = program.run("link", "--out", "out", "--explain", *files)
         equals((status, out, errors.partition("\n")[2]), (REFUSED, "", told), seed)
         compared += 1

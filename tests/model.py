@@ -1,4 +1,5 @@
-"""A plain model of linking and loading: units as Python values, their object files, the memory that they define, and the map.
+"""A plain model of linking and loading: units as Python values, their object files, the memory that they define, the map, and the
+names that are not defined.
 
 It knows nothing of load files, and nothing of how the program links: all of it is computed from the units alone.
 """
@@ -153,6 +154,23 @@ def map_of(files):
                 lines += [f"  define {quoted(name)} {'at' if kind == DEF else 'as'} {value:08x}" for kind, name, value in hunk.definitions]
                 number += 1
     return "".join(f"{line}\n" for line in lines)
+
+
+def undefined_names(files):
+    """The names that hunks refer to and none defines, of files that are each a list of units: of each, in the order of the first
+    references, how many references there are, and where the first is, by the numbers of the file, of the unit in it and of the hunk.
+
+    A hunk refers once to a name that is added to several of its longwords, as `object_file` writes it."""
+    hunks = [((file, place, own), hunk) for file, units in enumerate(files)
+             for place, unit in enumerate(units) for own, hunk in enumerate(unit)]
+    defined = {name for _, hunk in hunks for _, name, _ in hunk.definitions}
+    uses = {}
+    for place, hunk in hunks:
+        for name in dict.fromkeys(target for _, target in hunk.sites if isinstance(target, bytes)):
+            if name not in defined:
+                count, first = uses.get(name, (0, place))
+                uses[name] = count + 1, first
+    return uses
 
 
 def addresses(bases):
