@@ -11,7 +11,7 @@ import textwrap
 import unittest
 
 import model
-from model import BSS, CODE, END, HEADER, RELOC32, UNIT, words
+from model import BSS, CODE, END, EXT, HEADER, REF32, RELOC32, UNIT, words
 from python_setup import PYTHON, TOP, amihunk, ended, run, run_python
 from amihunk import HunkKind, MemoryKind, Place, Reason, Status
 
@@ -31,6 +31,8 @@ def structure(name):
 
 def type_of(text):
     """The type that stands for one of C: what points to plain bytes or longwords is not told apart, but texts are."""
+    if text.rstrip().endswith("*const *"):
+        return ctypes.POINTER(type_of(text.rstrip().removesuffix("const *")))
     name, star, _ = text.replace("const ", "").partition("*")
     name = name.strip()
     if star and name in ("void", "uint8_t", "uint32_t"):
@@ -149,6 +151,7 @@ class Leaks(unittest.TestCase):
         file = words(HEADER, 0, 2, 0, 1, hunk, 1, BSS, hunk, RELOC32, 1, 1, 0, 0, END, CODE, 1, 7, END)
         units = model.random_named_units(7)
         object_file, buffers = model.object_file(units), [bytearray(4 * hunk), bytearray(4)]
+        lacking = words(UNIT, 0, CODE, 1, 7, EXT, REF32 << 24 | 1, 0x61626364, 1, 0, 0, END)
         calls = (
             lambda: amihunk.load(file, [0, 1 << 20]),
             lambda: amihunk.load(bytearray(file), lambda of: [0, 4 * of[0].size]),
@@ -163,6 +166,8 @@ class Leaks(unittest.TestCase):
             lambda: amihunk.link([object_file, bytearray(words(UNIT, 0))]),
             lambda: ended(amihunk.link, [object_file[:-1]]),
             lambda: ended(amihunk.link, [object_file, object_file]),
+            lambda: ended(amihunk.link, [lacking, object_file, lacking], explain=True),
+            lambda: amihunk.link_with_map([object_file, bytearray(words(UNIT, 0))], names=["x" * 1000]),
             lambda: amihunk.read_file(object_file),
             lambda: amihunk.read_file(file),
             lambda: ended(amihunk.read_file, file[:-1]),
@@ -197,7 +202,7 @@ hunk 0 at 00010000: 16 bytes
   00010008 -> 0001000e
 hunk 1 at 00020000: 8 bytes
 """
-# The examples of docs/CALLING.md, and what the first one prints.
+# The examples of docs/CALLING.md, and what they print.
 FIRST = """\
 import amihunk
 
@@ -226,6 +231,34 @@ def places(hunks):
 with open("examples/two-hunks.load", "rb") as file:
     amihunk.load_into(file, places)
 """
+THIRD = """\
+import amihunk
+from pathlib import Path
+
+names = ["examples/main.o", "examples/library.o"]
+load_file, text = amihunk.link_with_map([Path(name).read_bytes() for name in names], names=names)
+print(text.decode(), end="")
+"""
+THIRD_PRINTS = """\
+hunk 0 code any 4 longwords examples/main.o unit 0 "main" hunk 0 ""
+  define "main" at 00000000
+hunk 1 data any 4 longwords examples/main.o unit 0 "main" hunk 1 ""
+hunk 2 code any 5 longwords examples/library.o unit 0 "library" hunk 0 ""
+  define "clear" at 00000000
+  define "print" at 00000008
+hunk 3 bss chip 4 longwords examples/library.o unit 0 "library" hunk 1 ""
+"""
+FOURTH = """\
+import amihunk
+
+with open("examples/main.o", "rb") as file:
+    try:
+        amihunk.link([file], explain=True)
+    except amihunk.BadLink as error:
+        for it in error.undefined:
+            print(f"{it.name.decode('latin-1')}: unit {it.unit} hunk {it.hunk}, references: {it.references}")
+"""
+FOURTH_PRINTS = "print: unit 0 hunk 0, references: 1\n"
 
 
 class Examples(unittest.TestCase):
@@ -274,3 +307,8 @@ class Examples(unittest.TestCase):
         wanted = b"207c000010104eb90000100e4e754e75" b"68756e6b00000000" b"\nTrue\n"
         end = "print(ram[0x1000:0x1018].hex()); print(not any(ram[:0x1000] + ram[0x1018:]))"
         self.assertEqual(run_python(SECOND + end), (0, wanted, b""))
+        self.assertIn(f"```python\n{THIRD}```\n\nprints the map that is shown [above](#all-missing-names-and-the-map).\n", manual)
+        self.assertIn(f"\n\nprints\n\n{textwrap.indent(THIRD_PRINTS, '    ')}\n", manual)
+        self.assertEqual(run_python(THIRD), (0, THIRD_PRINTS.encode(), b""))
+        self.assertIn(f"```python\n{FOURTH}```\n\nprints\n\n{textwrap.indent(FOURTH_PRINTS, '    ')}\n", manual)
+        self.assertEqual(run_python(FOURTH), (0, FOURTH_PRINTS.encode(), b""))

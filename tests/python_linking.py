@@ -1,10 +1,11 @@
-"""Linking with the module for Python: load files that were written down by hand, and why units do not link."""
+"""Linking with the module for Python: load files and maps that were written down by hand, and why units do not link."""
+import pathlib
 import unittest
 
 import model
-from model import ABS, BSS, CODE, DATA, DEBUG, DEF, END, HEADER, RELOC32, SYMBOL, UNIT, Hunk, words
+from model import ABS, BSS, CODE, DATA, DEBUG, DEF, END, EXT, HEADER, REF32, RELOC32, SYMBOL, UNIT, Hunk, Unit, words
 from python_setup import Pieces, amihunk, ended, example
-from amihunk import BadLink, Status
+from amihunk import BadLink, Status, UndefinedName
 
 # examples/main.o and examples/library.o, linked, as docs/FORMAT.md has it.
 HELLO = bytes.fromhex("""
@@ -21,12 +22,22 @@ HELLO = bytes.fromhex("""
     000003F1 00000002 00000000 4C494E45 000003F2
     000003EB 00000004 000003F2
 """)
+# The map of them, as docs/OUTPUT.md says what it is.
+HELLO_MAP = b"""\
+hunk 0 code any 4 longwords main.o unit 0 "main" hunk 0 ""
+  define "main" at 00000000
+hunk 1 data any 4 longwords main.o unit 0 "main" hunk 1 ""
+hunk 2 code any 5 longwords library.o unit 0 "library" hunk 0 ""
+  define "clear" at 00000000
+  define "print" at 00000008
+hunk 3 bss chip 4 longwords library.o unit 0 "library" hunk 1 ""
+"""
 RELOC32SHORT = 0x3FC
 
 
-def not_linked(status, line, unit=0, input=0, hunk=0, other=0, name=b""):
+def not_linked(status, line, unit=0, input=0, hunk=0, other=0, name=b"", undefined=()):
     """How a call ends that refuses to link."""
-    return BadLink, (status, unit, input, hunk, other, name, f"amihunk: link: {line}")
+    return BadLink, (status, unit, input, hunk, other, name, undefined, f"amihunk: link: {line}")
 
 
 class Linking(unittest.TestCase):
@@ -73,6 +84,80 @@ class Linking(unittest.TestCase):
         ):
             self.assertEqual(ended(amihunk.link, files), wanted)
             self.assertEqual(ended(amihunk.link, [Pieces(file, 1 << 12) for file in files], True, True, True, names=["x"] * 3), wanted)
+            # Only names that are not defined have more to tell.
+            kind, values = wanted
+            lacks = (UndefinedName(values[5], 1, 0, 2, 1),) if values[0] is Status.UNDEFINED_NAME else ()
+            explained = kind, (*values[:6], lacks, values[7])
+            self.assertEqual(ended(amihunk.link, files, explain=True), explained)
+            self.assertEqual(ended(amihunk.link_with_map, files), explained)
+
+    def test_all_names_that_are_not_defined_are_told(self):
+        first, second, third = Hunk(CODE, [0] * 4), Hunk(DATA, [0]), Hunk(CODE, [0, 0])
+        # A hunk that adds a name to two longwords refers to it once.
+        first.sites = [(12, b"b"), (4, b'a"\xff'), (0, b"b"), (8, b"late")]
+        second.sites = [(0, b'a"\xff')]
+        third.sites, third.definitions = [(4, b""), (0, b"b")], [(ABS, b"late", 0)]
+        # Each of these counts, but the one that is added nowhere.
+        references = words(REF32 << 24, 1, 0, REF32 << 24 | 1, 0x78000000, 0, REF32 << 24, 1, 4)
+        twice = words(UNIT, 0, DATA, 2, 0, 0, EXT) + references + words(0, END)
+        files = [model.object_file([[], [Hunk(BSS, [0]), first], [second]]), model.object_file([[], [third]]), twice]
+        undefined = (
+            UndefinedName(b"b", 0, 1, 1, 2),
+            UndefinedName(b'a"\xff', 0, 1, 1, 2),
+            UndefinedName(b"", 1, 1, 0, 3),
+        )
+        line = 'unit 1 hunk 1: "b" not defined'
+        plain = not_linked(Status.UNDEFINED_NAME, line, 1, 0, 1, name=b"b")
+        explained = not_linked(Status.UNDEFINED_NAME, line, 1, 0, 1, name=b"b", undefined=undefined)
+        for explain, wanted in ((False, plain), (0, plain), (True, explained), ("yes", explained)):
+            self.assertEqual(ended(amihunk.link, files, explain=explain), wanted)
+            self.assertEqual(ended(amihunk.link, map(bytearray, files), True, True, True, explain=explain), wanted)
+        for most in (1, 3, 5, 1 << 20):
+            # A file object is read once, and so it may be a pipe.
+            self.assertEqual(ended(amihunk.link, (Pieces(file, most) for file in files), explain=True), explained)
+            self.assertEqual(ended(amihunk.link_with_map, [Pieces(file, most) for file in files], names=["x"]), explained)
+        self.assertEqual(ended(amihunk.link, files[:2], explain=True)[1][6], undefined[:2] + (UndefinedName(b"", 1, 1, 0, 1),))
+
+    def test_many_names_that_are_not_defined_are_told(self):
+        names = [b"name%d" % number for number in range(3000)]
+        hunk = Hunk(CODE, [0] * len(names))
+        hunk.sites = [(4 * number, name) for number, name in enumerate(names)]
+        told = ended(amihunk.link, [words(UNIT, 0), model.object_file([[], [hunk]])], explain=True)
+        self.assertEqual(told[1][6], tuple(UndefinedName(name, 1, 1, 0, 1) for name in names))
+
+    def test_a_map_tells_where_each_hunk_is_from(self):
+        files, names = [example("main.o"), example("library.o")], ["main.o", "library.o"]
+        self.assertEqual(amihunk.link_with_map(files, names=names), (HELLO, HELLO_MAP))
+        self.assertEqual(amihunk.link_with_map(iter(map(bytearray, files)), names=iter(names)), (HELLO, HELLO_MAP))
+        for options in ((True,), (False, True), (False, False, True), (True, True, True)):
+            told = amihunk.link_with_map([Pieces(file, 3) for file in files], *options, names=names)
+            self.assertEqual(told, (amihunk.link(files, *options), HELLO_MAP))
+        for given, wanted in (
+            ([], [b"", b""]),
+            (["a"], [b"a", b""]),
+            (["", "b"], [b"", b"b"]),
+            (["a", "b", "c"], [b"a", b"b"]),
+            ([pathlib.Path("a/b \u00e9.o"), b'\xff"\n'], [b"a/b \xc3\xa9.o", b'\xff"\n']),
+            (["\udce9", bytes(range(1, 256))], [b"\xe9", bytes(range(1, 256))]),
+            (["x" * 100000, "%s"], [b"x" * 100000, b"%s"]),
+        ):
+            text = HELLO_MAP.replace(b" main.o ", b" %b " % wanted[0]).replace(b" library.o ", b" %b " % wanted[1])
+            self.assertEqual(amihunk.link_with_map(files, names=given), (HELLO, text))
+
+    def test_a_map_has_all_kinds_of_hunks_and_names(self):
+        code, zeros, fast = Hunk(CODE, [0, 0], b"CODE"), Hunk(BSS, [0, 0], memory="chip"), Hunk(DATA, [], b"\xc3\xa9", "fast")
+        code.definitions = [(DEF, b"main", 0), (ABS, b'a"\\\n\xff', 0x80000000)]
+        fast.definitions = [(DEF, b"", 0xFFFFFFFF)]
+        files = [model.object_file([Unit([], b"none"), [], Unit([code, zeros], b"te st")]), model.object_file([[fast]])]
+        text = (
+            b'hunk 0 code any 2 longwords x unit 2 "te st" hunk 0 "CODE"\n'
+            b'  define "main" at 00000000\n'
+            b'  define "a\\x22\\x5c\\x0a\\xff" as 80000000\n'
+            b'hunk 1 bss chip 2 longwords x unit 2 "te st" hunk 1 ""\n'
+            b'hunk 2 data fast 0 longwords y unit 0 "" hunk 0 "\\xc3\\xa9"\n'
+            b'  define "" at ffffffff\n'
+        )
+        self.assertEqual(amihunk.link_with_map(files, names=["x", "y"])[1], text)
 
     def test_a_name_may_be_empty_or_long(self):
         for name in (b"", b"x" * 2000):

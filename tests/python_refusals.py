@@ -6,9 +6,9 @@ import pickle
 import unittest
 import unittest.mock
 
-from model import BSS, CODE, DATA, END, EXT, HEADER, RELOC32, SYMBOL, UNIT, words
+from model import BSS, CODE, DATA, END, EXT, HEADER, REF32, RELOC32, SYMBOL, UNIT, words
 from python_setup import ONE_HUNK, THREE_HUNKS, Pieces, amihunk, ended, loaded, run_python
-from amihunk import BadFile, BadLink, BadPlaces, Place, Reason, Status
+from amihunk import BadFile, BadLink, BadPlaces, Place, Reason, Status, UndefinedName
 
 HEAD = (HEADER, 0, 1, 0, 0, 1)
 
@@ -139,6 +139,7 @@ class Refusals(unittest.TestCase):
             self.assertRaisesRegex(TypeError, "a file is an object like bytes or a binary file object", amihunk.load, file, [0])
             self.assertRaisesRegex(TypeError, "a file is an object like bytes", amihunk.read_file, file)
             self.assertRaisesRegex(TypeError, "a file is an object like bytes", amihunk.link, [file])
+            self.assertRaisesRegex(TypeError, "a file is an object like bytes", amihunk.link_with_map, [file])
         self.assertRaisesRegex(TypeError, "and not str", amihunk.load, io.StringIO("text"), [0])
         self.assertRaisesRegex(TypeError, "a file is an object like bytes", amihunk.link, ONE_HUNK)
         for name, kind in (("a\0b", ValueError), (7, TypeError)):
@@ -146,6 +147,7 @@ class Refusals(unittest.TestCase):
             self.assertRaises(kind, amihunk.load_into, ONE_HUNK, lambda _: [], name=name)
             self.assertRaises(kind, amihunk.read_file, ONE_HUNK, name=name)
             self.assertRaises(kind, amihunk.link, [], names=[name])
+            self.assertRaises(kind, amihunk.link_with_map, [], names=[name])
         for bases in (7, None):
             self.assertRaises(TypeError, amihunk.load, ONE_HUNK, bases)
 
@@ -174,6 +176,7 @@ class Refusals(unittest.TestCase):
                 lambda: amihunk.load_into(Broken(error), lambda _: [Place(0, bytearray(4))]),
                 lambda: amihunk.read_file(Broken(error)),
                 lambda: amihunk.link([words(UNIT, 0), Broken(error, words(UNIT, 0))]),
+                lambda: amihunk.link_with_map([words(UNIT, 0), Broken(error, words(UNIT, 0))]),
                 lambda: amihunk.load(ONE_HUNK, fail),
                 lambda: amihunk.load_into(ONE_HUNK, fail),
             ):
@@ -184,14 +187,15 @@ class Refusals(unittest.TestCase):
 
     def test_exceptions_are_errors_that_can_be_sent_on(self):
         memory = amihunk.OutOfMemory("amihunk: out of memory")
-        link = BadLink(Status.UNDEFINED_NAME, 1, 2, 3, 0, b"draw", 'amihunk: link: unit 1 hunk 3: "draw" not defined')
+        lacks = UndefinedName(b"draw", 2, 0, 3, 7), UndefinedName(b"\xff", 3, 1, 0, 1)
+        link = BadLink(Status.UNDEFINED_NAME, 1, 2, 3, 0, b"draw", lacks, 'amihunk: link: unit 1 hunk 3: "draw" not defined')
         file = BadFile(9, Reason.TRAILING_DATA, 0, 0, "amihunk: x: longword 9: data after the last hunk")
         for error in (memory, link, file, BadPlaces(Status.OVERLAP, 0, 1, "amihunk: places: hunks 0 and 1 overlap")):
             again = pickle.loads(pickle.dumps(error))
             self.assertEqual((type(again), vars(again), str(again)), (type(error), vars(error), error.line))
             self.assertIsInstance(error, amihunk.AmihunkError)
             self.assertEqual(isinstance(error, MemoryError), error is memory)
-        self.assertEqual((link.status, link.unit, link.input, link.hunk, link.other, link.name), link.args[:-1])
+        self.assertEqual((link.status, link.unit, link.input, link.hunk, link.other, link.name, link.undefined), link.args[:-1])
         self.assertEqual((file.place, file.reason, file.number, file.input, file.line), file.args)
 
 
@@ -253,6 +257,7 @@ class Heap:
 class LittleMemory(unittest.TestCase):
     def test_each_allocation_is_refused_in_turn_and_all_blocks_are_released(self):
         object_file, buffer = words(UNIT, 0, CODE, 1, 7, RELOC32, 1, 0, 0, 0, SYMBOL, 1, 0x61626364, 0, 0, END), bytearray(4)
+        lacking = words(UNIT, 0, CODE, 2, 7, 7, EXT, REF32 << 24 | 1, 0x61626364, 1, 0, REF32 << 24, 1, 4, 0, END)
         load_file = amihunk.link([object_file])
         refused = amihunk.OutOfMemory, ("amihunk: out of memory",)
         for module, call in (
@@ -263,6 +268,8 @@ class LittleMemory(unittest.TestCase):
             ("_loading", lambda: amihunk.load_into(load_file, lambda _: [Place(0, buffer)] * 2)),
             ("_linking", lambda: amihunk.link([object_file, object_file])),
             ("_linking", lambda: amihunk.link([object_file, load_file])),
+            ("_linking", lambda: amihunk.link([object_file, lacking], explain=True)),
+            ("_linking", lambda: amihunk.link_with_map([object_file], names=["x" * 100])),
             ("_reading", lambda: amihunk.read_file(object_file)),
             ("_reading", lambda: amihunk.read_file(load_file)),
             ("_reading", lambda: amihunk.read_file(load_file[:-1])),

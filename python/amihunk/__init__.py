@@ -7,15 +7,16 @@
     print(image.hunks[0].content.hex(), image.find(0x20004))
 
 `load` makes the memory of a load file at addresses that you choose; `load_into` makes it in buffers of yours, such as the RAM
-of an emulator; `check_places` says whether hunks can stand at some addresses; `link` makes a load file of object files; and
-`read_file` tells what is in a file of either kind. Each takes its files as objects like `bytes`, or as binary file objects,
-which are read to their ends, or to the first offence, in pieces of at most 64 KiB.
+of an emulator; `check_places` says whether hunks can stand at some addresses; `link` makes a load file of object files, and
+`link_with_map` also tells where each of its hunks is from; and `read_file` tells what is in a file of either kind. Each takes
+its files as objects like `bytes`, or as binary file objects, which are read to their ends, or to the first offence, in pieces
+of at most 64 KiB.
 
 Addresses are 0 to 2^32 - 1. Sizes of hunks are in longwords, which are four bytes, and offsets are in bytes. Everything is
 counted from 0.
 
 What is refused raises an `AmihunkError`, whose `line` is what the program `amihunk` prints of it: a `BadFile`, a `BadPlaces`, a
-`BadLink`, or an `OutOfMemory`, which is also a `MemoryError`. The keyword `name` (of `link`: `names`) says what a file is
+`BadLink`, or an `OutOfMemory`, which is also a `MemoryError`. The keyword `name` (of what links: `names`) says what a file is
 called in that line, as a text, bytes or a path. A value that no call takes raises a `TypeError` or a `ValueError`. What a file
 object or a callable raises is handed on.
 
@@ -24,7 +25,7 @@ No call keeps anything once it has returned or raised. Calls may run on any thre
 from ._errors import AmihunkError, BadFile, BadLink, BadPlaces, OutOfMemory, Reason, Status
 from ._handles import BytesLike, File, Name, Readable
 from ._library import VERSION
-from ._linking import link
+from ._linking import link, link_with_map
 from ._loading import check_places, load, load_into
 from ._reading import read_file, symbol_before
 from ._values import (
@@ -42,6 +43,7 @@ from ._values import (
     Reference,
     Site,
     Symbol,
+    UndefinedName,
     Unit,
 )
 
@@ -72,10 +74,12 @@ __all__ = [
     "Site",
     "Status",
     "Symbol",
+    "UndefinedName",
     "Unit",
     "VERSION",
     "check_places",
     "link",
+    "link_with_map",
     "load",
     "load_into",
     "read_file",

@@ -2,8 +2,10 @@
 from __future__ import annotations
 
 import enum
+from typing import Tuple
 
 from ._library import Answer
+from ._values import UndefinedName
 
 
 class Status(enum.Enum):
@@ -94,12 +96,25 @@ class BadLink(AmihunkError):
 
     The last three are about the hunk number `hunk` of the unit number `unit`, counted over all files, which is in the file number
     `input`; and the last two about the `name`. What the status does not need is 0, or empty.
+
+    With UNDEFINED_NAME, `undefined` has all such names, in the order of the first references to them, so that the first is the
+    `name`. It is empty if `link` was not asked to explain.
     """
 
-    def __init__(self, status: Status, unit: int, input: int, hunk: int, other: int, name: bytes, line: str) -> None:
-        super().__init__(status, unit, input, hunk, other, name, line)
+    def __init__(
+        self,
+        status: Status,
+        unit: int,
+        input: int,
+        hunk: int,
+        other: int,
+        name: bytes,
+        undefined: Tuple[UndefinedName, ...],
+        line: str,
+    ) -> None:
+        super().__init__(status, unit, input, hunk, other, name, undefined, line)
         self.status, self.unit, self.input, self.hunk, self.other = status, unit, input, hunk, other
-        self.name, self.line = name, line
+        self.name, self.undefined, self.line = name, undefined, line
 
 
 class OutOfMemory(AmihunkError, MemoryError):
@@ -119,8 +134,10 @@ def places_line(status: Status, answer: Answer) -> str:
     return f"amihunk: places: hunks {answer.hunk} and {answer.other} overlap"
 
 
-def refusal(number: int, answer: Answer, line: str = "", name: bytes = b"") -> AmihunkError:
-    """What stands for an answer of the library that is not OK, with its line, if the library has one, and its name."""
+def refusal(
+    number: int, answer: Answer, line: str = "", name: bytes = b"", undefined: Tuple[UndefinedName, ...] = ()
+) -> AmihunkError:
+    """What stands for an answer of the library that is not OK, with its line, if the library has one, and its names."""
     status = Status(number)
     if status is Status.BAD_FILE:
         return BadFile(answer.place, Reason(answer.reason), answer.number, answer.input, line)
@@ -129,4 +146,4 @@ def refusal(number: int, answer: Answer, line: str = "", name: bytes = b"") -> A
     if status is Status.OUT_OF_MEMORY:
         # A handle that could not be opened has no line.
         return OutOfMemory(line or "amihunk: out of memory")
-    return BadLink(status, answer.unit, answer.input, answer.hunk, answer.other, name, line)
+    return BadLink(status, answer.unit, answer.input, answer.hunk, answer.other, name, undefined, line)

@@ -10,10 +10,11 @@ import operator
 import os
 from array import array
 from contextlib import closing
-from typing import Any, Callable, Generator, Iterable, Protocol, Type, Union
+from typing import Any, Callable, Generator, Iterable, List, Protocol, Tuple, Type, Union
 
 from . import _library as c
 from ._errors import Status, refusal
+from ._values import UndefinedName
 
 PIECE = 1 << 16
 OK = Status.OK.value
@@ -81,6 +82,11 @@ def longwords(numbers: Iterable[Any], what: str) -> array[int]:
     return array("I", [longword(number, what) for number in numbers])
 
 
+def bytes_of(told: c.Bytes) -> bytes:
+    """A copy of bytes that the library tells."""
+    return ctypes.string_at(told.bytes, told.size)
+
+
 def written(write: Callable[[Any, int], int]) -> bytes:
     """What a call of the library writes that returns how long it is, as snprintf does."""
     size = write(None, 0)
@@ -118,7 +124,7 @@ class Handle:
     def check(self, status: int) -> None:
         """Raises what stands for a status that is not OK."""
         if status != OK:
-            raise refusal(status, self.answer, self.line(), self.linked_name())
+            raise refusal(status, self.answer, self.line(), self.linked_name(), self.undefined())
 
     def line(self) -> str:
         """Why the handle is refused, without a newline; empty if it is not."""
@@ -129,6 +135,14 @@ class Handle:
     def linked_name(self) -> bytes:
         """The name that the refusal of a linker is about; of other handles, and of other refusals, an empty one."""
         return written(lambda into, size: self.call("name", into, size)) if self.kind == "linker" else b""
+
+    def undefined(self) -> Tuple[UndefinedName, ...]:
+        """All names that a linker lacks, if that is why it is refused, and it was opened to keep them; else none."""
+        names: List[UndefinedName] = []
+        told = c.Undefined()
+        while self.kind == "linker" and self.call("get_undefined", len(names), told) == OK:
+            names.append(UndefinedName(bytes_of(told.name), told.input, told.unit, told.hunk, told.references))
+        return tuple(names)
 
     def feed(self, supply: Iterable[bytes]) -> None:
         """Feeds pieces, up to the first that is refused."""

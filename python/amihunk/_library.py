@@ -57,7 +57,11 @@ class Linker(ctypes.Structure):
 
 
 class Options(ctypes.Structure):
-    _fields_ = [("strip", c_bool), ("short_form", c_bool), ("trim", c_bool)]
+    _fields_ = [("strip", c_bool), ("short_form", c_bool), ("trim", c_bool), ("keep", c_bool)]
+
+
+class Undefined(ctypes.Structure):
+    _fields_ = [("name", Bytes), ("input", c_uint64), ("unit", c_uint64), ("hunk", c_uint64), ("references", c_uint64)]
 
 
 class File(ctypes.Structure):
@@ -128,6 +132,8 @@ CALLS = {
     "amihunk_linker_get_file": (STATUS, LINKER, POINTER(Bytes)),
     "amihunk_linker_name": (c_size_t, LINKER, c_void_p, c_size_t),
     "amihunk_linker_line": (c_size_t, LINKER, c_char_p, c_void_p, c_size_t),
+    "amihunk_linker_get_undefined": (STATUS, LINKER, c_size_t, POINTER(Undefined)),
+    "amihunk_linker_map": (c_size_t, LINKER, POINTER(c_char_p), c_size_t, c_void_p, c_size_t),
     "amihunk_linker_close": (None, LINKER),
     "amihunk_file_open": (STATUS, FILE, Memory),
     "amihunk_file_feed": (STATUS, FILE, c_void_p, c_size_t, ANSWER),

@@ -2,14 +2,21 @@
 from __future__ import annotations
 
 import ctypes
-from typing import Iterable
+from typing import Iterable, Tuple
 
 from . import _library as c
-from ._handles import MEMORY, File, Handle, Name
+from ._errors import Status, refusal
+from ._handles import MEMORY, File, Handle, Name, bytes_of, written
 
 
 def link(
-    files: Iterable[File], strip: bool = False, short: bool = False, trim: bool = False, *, names: Iterable[Name] = ()
+    files: Iterable[File],
+    strip: bool = False,
+    short: bool = False,
+    trim: bool = False,
+    *,
+    names: Iterable[Name] = (),
+    explain: bool = False,
 ) -> bytes:
     """Links all units of object files, in their order, and returns the bytes of the load file.
 
@@ -18,13 +25,48 @@ def link(
 
     Raises `BadFile` for the first that is no object file, `BadLink` if the units do not link, and `OutOfMemory`. `names` says what
     the files are called, in their order; one that has none there has an empty one.
+
+    With `explain`, a `BadLink` has all names that are not defined, and not the first alone. For that what is in the files is kept
+    while they are linked, which takes more memory.
     """
     with Handle("linker", c.Linker, names) as linker:
-        linker.check(linker.call("open", MEMORY, c.Options(bool(strip), bool(short), bool(trim))))
-        for file in files:
-            linker.feed_file(file)
-            linker.check(linker.call("end_input", linker.answer))
-        linker.finish()
-        told = c.Bytes()
-        linker.call("get_file", told)
-        return ctypes.string_at(told.bytes, told.size)
+        link_files(linker, files, c.Options(bool(strip), bool(short), bool(trim), bool(explain)))
+        return linked_bytes(linker)
+
+
+def link_with_map(
+    files: Iterable[File], strip: bool = False, short: bool = False, trim: bool = False, *, names: Iterable[Name] = ()
+) -> Tuple[bytes, bytes]:
+    """Links as `link` does with `explain`, and returns the bytes of the load file, and its map: what `amihunk link --map` writes.
+
+    The map has a line for each hunk of the load file, which says where it is from, and one for each name that this hunk defines.
+    It has the `names` of the files as they are, in the encoding of the file system. All else is ASCII.
+    """
+    with Handle("linker", c.Linker, names) as linker:
+        link_files(linker, files, c.Options(bool(strip), bool(short), bool(trim), True))
+        return linked_bytes(linker), map_of(linker)
+
+
+def link_files(linker: Handle, files: Iterable[File], options: c.Options) -> None:
+    """Opens a linker, and links the files."""
+    linker.check(linker.call("open", MEMORY, options))
+    for file in files:
+        linker.feed_file(file)
+        linker.check(linker.call("end_input", linker.answer))
+    linker.finish()
+
+
+def linked_bytes(linker: Handle) -> bytes:
+    """The load file of a linker that has linked."""
+    told = c.Bytes()
+    linker.call("get_file", told)
+    return bytes_of(told)
+
+
+def map_of(linker: Handle) -> bytes:
+    """The map of a linker that has linked, and has kept what was in the files. A load file has hunks, so it is not empty."""
+    names = (ctypes.c_char_p * len(linker.names))(*linker.names)
+    text = written(lambda into, size: linker.call("map", names, len(names), into, size))
+    if not text:
+        raise refusal(Status.OUT_OF_MEMORY.value, linker.answer)
+    return text

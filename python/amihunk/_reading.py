@@ -7,7 +7,7 @@ from array import array
 from typing import Any, Iterator, Optional, Tuple, Union
 
 from . import _library as c
-from ._handles import MEMORY, File, Handle, Name
+from ._handles import MEMORY, File, Handle, Name, bytes_of
 from ._values import Definition, Hunk, HunkBase, HunkKind, LoadFile, MemoryKind, ObjectFile, Reference, Site, Symbol, Unit
 
 # Numbers of amihunk_file_kind and of amihunk_site_kind.
@@ -35,10 +35,6 @@ def symbol_before(hunk: Hunk, offset: int) -> Optional[Symbol]:
     value, and of several with this value the first. None if there is none. With `Image.find` it names an address."""
     before = (symbol for symbol in hunk.symbols if symbol.value <= offset)
     return max(before, key=lambda symbol: symbol.value, default=None)
-
-
-def bytes_of(told: c.Bytes) -> bytes:
-    return ctypes.string_at(told.bytes, told.size)
 
 
 def unit_of(reader: Handle, number: int) -> Unit:

@@ -1,4 +1,4 @@
-"""What the calls take and return beside bytes and numbers: plain values, which need no library."""
+"""What the calls take, return and raise beside bytes and numbers: plain values, which need no library."""
 from __future__ import annotations
 
 import enum
@@ -147,3 +147,15 @@ class LoadFile:
     """What is in a load file."""
 
     hunks: Tuple[Hunk, ...]
+
+
+@dataclass(frozen=True)
+class UndefinedName:
+    """A name that hunks refer to and no hunk of the object files defines: where the first reference to it is, and how many there
+    are in all files."""
+
+    name: bytes
+    input: int  # the number of the file among those that are linked
+    unit: int  # the number of the unit in that file
+    hunk: int  # the number of the hunk in that unit
+    references: int
