@@ -1,5 +1,4 @@
 //! The line of each failure, and its status.
-ghost use Rattle.hunk_commands.specs.Failure.{IsOfFiles};
 
 use super::asserts::equals;
 use hunk_commands::{Addresses, Failure, OpenFault, report_failure};
@@ -30,9 +29,7 @@ fn is_told(
     failure: &Failure<'_>,
     line: &str,
     status: u8,
-) -> Result<(), Fail>
-    requires { IsOfFiles 1 failure.now }
-{
+) -> Result<(), Fail> {
     let files = [String::from_str(alloc, "x")?];
     let mut errors = Watched::new(Vec::new(alloc));
     equals(rt, report_failure(&mut errors, &files, failure), status);
