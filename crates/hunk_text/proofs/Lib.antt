@@ -1,3 +1,6 @@
+pub mod DifferenceTextLemmas
+pub mod DifferenceSizeLemmas
+pub mod InfoDifferenceSizeLemmas
 pub mod ListingLemmas
 pub mod ListingSizeLemmas
 pub mod ListingSizeLoadLemmas

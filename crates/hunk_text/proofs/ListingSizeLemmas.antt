@@ -29,12 +29,12 @@ length-quoted-le name = omega (arith, length-append (escaped_all name) (34 ∷ [
 pub length-eight_digits : (number : ℕ) → length (eight_digits number) ≡ 8
 length-eight_digits number = length-encode_with lower_digits (bytes_high_first 4 number)
 
-length-kind_word-le : (kind : HunkKind) → length (kind_word kind) ≤ 4
+pub length-kind_word-le : (kind : HunkKind) → length (kind_word kind) ≤ 4
 length-kind_word-le Code = omega arith
 length-kind_word-le Data = omega arith
 length-kind_word-le Bss = omega arith
 
-length-memory_word-le : (memory : Memory) → length (memory_word memory) ≤ 4
+pub length-memory_word-le : (memory : Memory) → length (memory_word memory) ≤ 4
 length-memory_word-le Any = omega arith
 length-memory_word-le Chip = omega arith
 length-memory_word-le Fast = omega arith

@@ -19,8 +19,7 @@ pub fn write_hunk_front<W: Sink>(
 )
     ensures { Puts W.taken W.failed text.old text.new (hunk_front number kind memory size) }
 {
-    text.put(b"hunk ");
-    text.put_decimal(number);
+    write_hunk_number(text, number);
     text.put(b" ");
     text.put(kind_word(kind));
     text.put(b" ");
@@ -30,8 +29,16 @@ pub fn write_hunk_front<W: Sink>(
     text.put(b" longwords");
 }
 
+/// Writes a hunk by its number.
+pub(crate) fn write_hunk_number<W: Sink>(text: &mut Text<'_, W>, number: u64)
+    ensures { Puts W.taken W.failed text.old text.new (adds_hunk number) }
+{
+    text.put(b"hunk ");
+    text.put_decimal(number);
+}
+
 /// The word for the kind of a hunk.
-fn kind_word(kind: HunkKind) -> &'static [u8]
+pub(crate) fn kind_word(kind: HunkKind) -> &'static [u8]
     ensures { result.now ≡ kind_word kind }
 {
     match kind {
@@ -42,7 +49,7 @@ fn kind_word(kind: HunkKind) -> &'static [u8]
 }
 
 /// The word for the memory that a hunk asks for.
-fn memory_word(memory: Memory) -> &'static [u8]
+pub(crate) fn memory_word(memory: Memory) -> &'static [u8]
     ensures { result.now ≡ memory_word memory }
 {
     match memory {
@@ -59,8 +66,7 @@ pub(crate) fn write_hunk_site<W: Sink>(text: &mut Text<'_, W>, offset: u32, hunk
     text.put(b"  ");
     text.put_longword(offset);
     text.put(b" adds ");
-    text.put(b"hunk ");
-    text.put_decimal(u64::from(hunk));
+    write_hunk_number(text, u64::from(hunk));
     text.end_line();
 }
 

@@ -5,4 +5,4 @@ use Rattle.hunk_base.proofs.TextLemmas.{◌⨾◌, Puts-as}
 use Rattle.hunk_text.proofs.hunk_lines.write_hunk_front.Goals as goal
 
 pub returns : goal.returns
-returns g c = Puts-as (grind (arith, common_steps)) (c.put.ensures ⨾ c.put_decimal.ensures ⨾ c.put-2.ensures ⨾ c.put-3.ensures ⨾ c.put-4.ensures ⨾ c.put-5.ensures ⨾ c.put-6.ensures ⨾ c.put_decimal-2.ensures ⨾ c.put-7.ensures)
+returns g c = Puts-as (grind (arith, common_steps)) (c.write_hunk_number.ensures ⨾ c.put.ensures ⨾ c.put-2.ensures ⨾ c.put-3.ensures ⨾ c.put-4.ensures ⨾ c.put-5.ensures ⨾ c.put_decimal.ensures ⨾ c.put-6.ensures)

@@ -1,0 +1,16 @@
+-- The text of either difference, and the end of its line.
+use Rattle.std.proofs.Common.{ap₂}
+use Rattle.hunk_base.proofs.TextLemmas.{◌⨾◌, Puts-as}
+use Rattle.hunk_text.specs.DifferenceText.{symbols_text}
+use Rattle.hunk_text.proofs.difference_text.write_info_difference.Goals.{in-Symbol, in-Debug}
+use Rattle.hunk_text.proofs.difference_text.write_info_difference.Goals as goal
+
+pub returns : goal.returns
+returns g c =
+    elim c.match-difference.branch [
+      | in-Symbol w ↦
+          rw w.in-Symbol.is
+          (w.write_index.ensures ⨾ w.put.ensures ⨾ Puts-as (ap₂ symbols_text w.symbol_at.ensures w.symbol_at-in-Symbol.ensures) w.write_symbols.ensures
+          ⨾ (rw w.text-is at c.end_line.ensures))
+      | in-Debug w ↦ rw w.in-Debug.is (w.write_index-in-Debug.ensures ⨾ (rw w.text-is at c.end_line.ensures))
+    ]

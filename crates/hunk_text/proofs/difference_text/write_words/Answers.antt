@@ -1,0 +1,6 @@
+-- The pieces, one after another.
+use Rattle.hunk_base.proofs.TextLemmas.{◌⨾◌}
+use Rattle.hunk_text.proofs.difference_text.write_words.Goals as goal
+
+pub returns : goal.returns
+returns g c = c.write_hunk_number.ensures ⨾ c.put.ensures ⨾ (c.put-2.ensures ⨾ c.put-3.ensures ⨾ c.put-4.ensures)
