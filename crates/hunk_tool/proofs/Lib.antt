@@ -9,6 +9,8 @@ pub mod SurveyLemmas
 pub mod HeadlineLemmas
 pub mod InputsLemmas
 pub mod LinkLemmas
+pub mod AcceptedLemmas
+pub mod CopyLemmas
 pub mod ImageLemmas
 pub mod RanksLemmas
 pub mod ObjectFilesLemmas

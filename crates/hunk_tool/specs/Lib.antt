@@ -11,6 +11,7 @@ pub mod Direct
 pub mod Inputs
 pub mod LinkOptions
 pub mod Link
+pub mod Copy
 pub mod Image
 pub mod ObjectFiles
 pub mod Origins

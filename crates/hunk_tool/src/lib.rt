@@ -12,6 +12,7 @@
 //! - `object_files`: the object files that an operation reads: their units, with their places.
 //! - `origins`: where the hunks of a link are from; `origin_text`: the text of that.
 //! - `map`: the map of a link: where each hunk is from.
+//! - `copy`: copies a load file, in another form.
 //! - `image`: writes the memory that object files define.
 //! - `load`: loads a file and writes its image.
 //! - `symbols`: writes the symbols of a load file with their addresses.
@@ -26,6 +27,7 @@
 #![tactic(auto)]
 
 pub mod check;
+pub mod copy;
 mod defined_names;
 pub mod fault_line;
 pub mod file_name;
@@ -50,6 +52,7 @@ mod undefined;
 pub mod undefined_name;
 
 pub use check::check_run;
+pub use copy::{CopyForm, copy_run};
 pub use fault_line::write_fault;
 pub use file_name::FileName;
 pub use file_system::FileSystem;
