@@ -11,6 +11,7 @@ pub mod InputsLemmas
 pub mod LinkLemmas
 pub mod AcceptedLemmas
 pub mod CopyLemmas
+pub mod CompareLemmas
 pub mod ImageLemmas
 pub mod RanksLemmas
 pub mod ObjectFilesLemmas

@@ -12,6 +12,7 @@ pub mod Inputs
 pub mod LinkOptions
 pub mod Link
 pub mod Copy
+pub mod Compare
 pub mod Image
 pub mod ObjectFiles
 pub mod Origins

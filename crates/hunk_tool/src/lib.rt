@@ -13,6 +13,7 @@
 //! - `origins`: where the hunks of a link are from; `origin_text`: the text of that.
 //! - `map`: the map of a link: where each hunk is from.
 //! - `copy`: copies a load file, in another form.
+//! - `compare`: tells where two load files first differ.
 //! - `image`: writes the memory that object files define.
 //! - `load`: loads a file and writes its image.
 //! - `symbols`: writes the symbols of a load file with their addresses.
@@ -27,6 +28,7 @@
 #![tactic(auto)]
 
 pub mod check;
+pub mod compare;
 pub mod copy;
 mod defined_names;
 pub mod fault_line;
@@ -52,6 +54,7 @@ mod undefined;
 pub mod undefined_name;
 
 pub use check::check_run;
+pub use compare::compare_run;
 pub use copy::{CopyForm, copy_run};
 pub use fault_line::write_fault;
 pub use file_name::FileName;
