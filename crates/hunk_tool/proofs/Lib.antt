@@ -12,6 +12,8 @@ pub mod LinkLemmas
 pub mod AcceptedLemmas
 pub mod CopyLemmas
 pub mod CompareLemmas
+pub mod CopyLawsLemmas
+pub mod CompareLawsLemmas
 pub mod ImageLemmas
 pub mod RanksLemmas
 pub mod ObjectFilesLemmas

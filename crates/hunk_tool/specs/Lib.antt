@@ -13,6 +13,7 @@ pub mod LinkOptions
 pub mod Link
 pub mod Copy
 pub mod Compare
+pub mod CopyLaws
 pub mod Image
 pub mod ObjectFiles
 pub mod Origins

@@ -1,5 +1,6 @@
 //! Laws about the outcomes of the operations, each a function without a body.
 
+ghost use Rattle.hunk_tool.specs.CopyLaws.{CopiedOnce, CopyHasSizes, CopyIsLoad, CopyIsLoaded, CopyIsOneLoad, CopyMeansTheSame, NormalBytesTellMeaning, NothingIsTold, SameHasTheSameInfo, SameMeansTheSame};
 ghost use Rattle.hunk_tool.specs.Headline.{LinkedIsReported, LoadedIsDirect, MemoryIsDirect, ReportsAgree};
 ghost use Rattle.hunk_tool.specs.Laws.{FaultIsOne, FaultyIsNoFile, FileHasOneValue, FileOrFault, HunksAreOfOrigins, NotPlacedForOne, OutcomeExists, RefusedBeginsNone, RefusedForOne, ReportedIsPlaced};
 
@@ -47,4 +48,37 @@ pub fn loaded_is_direct()
 pub fn linked_is_reported()
     ensures reported { LinkedIsReported }
     ensures one_report { ReportsAgree }
+{}
+
+/// A copy that [`copy_run`](crate::copy_run) accepts is read back as what it is of the file, and as
+/// nothing else.
+pub fn a_copy_is_read_back()
+    ensures file { CopyIsLoad }
+    ensures one_file { CopyIsOneLoad }
+{}
+
+/// A copy means the same as the file, and at all bases it has the memory of the file.
+pub fn a_copy_means_the_same()
+    ensures meaning { CopyMeansTheSame }
+    ensures memory { CopyIsLoaded }
+    ensures sizes { CopyHasSizes }
+{}
+
+/// Copying a copy in its form changes no byte.
+pub fn copied_once()
+    ensures { CopiedOnce }
+{}
+
+/// Two load files mean the same exactly if their copies in normal form are the same bytes.
+pub fn normal_bytes_tell_the_meaning()
+    ensures { NormalBytesTellMeaning }
+{}
+
+/// [`compare_run`](crate::compare_run) finds no difference exactly if the files mean the same; where
+/// symbols count, exactly if they also have the same symbols and debug blocks. It writes nothing
+/// exactly if it finds no difference.
+pub fn no_difference_is_found_in_the_same()
+    ensures meaning { SameMeansTheSame }
+    ensures info { SameHasTheSameInfo }
+    ensures nothing { NothingIsTold }
 {}
