@@ -1,5 +1,7 @@
 pub mod Answers
 pub mod Codes
+pub mod Compared
+pub mod Comparing
 pub mod Copying
 pub mod Facts
 pub mod Handles

@@ -6,6 +6,8 @@
 //! - `linking`: the calls that link object files.
 //! - `reading`: the calls that read a file to look into, and load it; `looking`: those that tell what
 //!   is in it.
+//! - `comparing`: the calls that compare load files that were read; `compared`: where these first
+//!   differ.
 //! - `texts`: the calls that tell a refusal in words.
 //! - `places`: the call that checks whether hunks can be placed.
 //! - `point`: the call that tells which byte of which hunk is at an address.
@@ -34,6 +36,8 @@
 mod answer;
 mod asked;
 mod codes;
+mod compared;
+pub mod comparing;
 mod copying;
 mod facts;
 mod handle;

@@ -10,7 +10,7 @@ use hunk_loadfile::LoadFile;
 use std::alloc::Global;
 
 /// The load file that was read, if one was.
-fn file_in(session: &Session) -> Option<&LoadFile>
+pub(crate) fn file_in(session: &Session) -> Option<&LoadFile>
     ensures { option_map (λ file. file.now) result ≡ file_in (Some session.now) }
 {
     match session {

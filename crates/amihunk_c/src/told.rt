@@ -79,7 +79,7 @@ impl HunkTold {
 }
 
 /// The number of a kind of hunk, as C knows it.
-fn kind_code(kind: HunkKind) -> u32
+pub(crate) fn kind_code(kind: HunkKind) -> u32
     ensures { result ≡ kind_code kind }
 {
     match kind {
