@@ -720,6 +720,41 @@ typedef struct amihunk_debug {
     uint64_t size;             /* how many these are */
 } amihunk_debug;
 
+/* What differs between two load files, and what `first` and `second` are then. */
+typedef enum amihunk_difference_kind {
+    /* Nothing does. */
+    AMIHUNK_SAME = 0,
+    /* The numbers of hunks. */
+    AMIHUNK_HUNK_COUNT_DIFFERS = 1,
+    /* What a hunk holds: each an amihunk_hunk_kind. */
+    AMIHUNK_KIND_DIFFERS = 2,
+    /* Which memory a hunk asks for: each an amihunk_memory_kind. */
+    AMIHUNK_MEMORY_DIFFERS = 3,
+    /* The size of a hunk in memory: longwords. */
+    AMIHUNK_SIZE_DIFFERS = 4,
+    /* A byte of a hunk: each 0 to 255. After what is stored of a hunk there are zeros. */
+    AMIHUNK_BYTE_DIFFERS = 5,
+    /* A site of a hunk: the hunks whose bases are added there, or AMIHUNK_NO_SITE. */
+    AMIHUNK_SITE_DIFFERS = 6,
+    /* A symbol of a hunk: its name, its value, or whether there is one. */
+    AMIHUNK_SYMBOL_DIFFERS = 7,
+    /* A debug block of a hunk: its longwords, or whether there is one. */
+    AMIHUNK_DEBUG_DIFFERS = 8
+} amihunk_difference_kind;
+
+/* Of a site that differs: the file has none there. */
+#define AMIHUNK_NO_SITE UINT64_MAX
+
+/* Where two load files first differ. What its kind does not name is 0. */
+typedef struct amihunk_difference {
+    uint64_t hunk;   /* the number of the hunk; 0 if the numbers of hunks differ */
+    uint64_t offset; /* of a byte and of a site: where it is in the hunk, in bytes; of a symbol and
+                        of a debug block: its index */
+    uint64_t first;  /* what the first file has, as the kind says; 0 if it says nothing */
+    uint64_t second; /* what the second file has */
+    uint32_t kind;   /* an amihunk_difference_kind */
+} amihunk_difference;
+
 /*
  * Opens a closed file. The time is constant.
  *
@@ -795,6 +830,27 @@ amihunk_status amihunk_file_get_debug(amihunk_file *file, size_t unit, size_t hu
  */
 amihunk_status amihunk_file_symbol_before(amihunk_file *file, size_t unit, size_t hunk,
                                           uint32_t offset, amihunk_symbol *told);
+
+/*
+ * Compares two load files that were read, and tells where they first differ in what they mean: in
+ * their hunks as they are in memory before any base is added. The number of hunks comes first;
+ * then, hunk by hunk, the kind, the memory and the size, and then the lowest offset with another
+ * byte or another site. Where both differ at one offset, it is the byte. Zeros at the end of what
+ * is stored of a hunk make no difference, and neither does the form in which sites are written.
+ *
+ * With `with_symbols` symbols and debug blocks count too, once all else is the same: hunk by hunk,
+ * the first symbol, and then the first debug block, that the files do not both have there.
+ *
+ * Both handles may be one. If not, they are of one thread; their memories may be different ones,
+ * and neither is asked for a block. The time grows with what is stored of the hunks and with their
+ * sites, and with `with_symbols` also with their symbols and debug blocks.
+ *
+ * AMIHUNK_OK: `told` is that. Its kind is AMIHUNK_SAME if there is no difference.
+ * AMIHUNK_WRONG_STATE: one of the files is not read, or no load file, which
+ * amihunk_file_get_contents tells. `told` is all zeros.
+ */
+amihunk_status amihunk_file_compare(amihunk_file *first, amihunk_file *second, bool with_symbols,
+                                    amihunk_difference *told);
 
 /*
  * Writes why the file is refused, as amihunk_loader_line does.

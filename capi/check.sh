@@ -14,7 +14,7 @@ cc="${CC:-cc}"
 cxx="${CXX:-c++}"
 warnings=(-Wall -Wextra -Werror -pedantic)
 tests=(loading sizes placing placing_calls reasons linking keeping mapping looking many empty file_calls finding from_files
-    memory handles calls mutated altered buffer blocks version)
+    comparing memory handles calls mutated altered buffer blocks version)
 # Of the library the sanitizers see nothing, so what these tests are about is built with them.
 declare -A sources=([buffer]=buffer.c [blocks]=buffer.c)
 version="$(sed -n 's/^## \([0-9.]*\).*/\1/p' ../CHANGELOG.md | sed -n 1p)"

@@ -100,6 +100,18 @@ amihunk_status amihunk_file_symbol_before(amihunk_file *file, size_t unit, size_
     return leave(before, amihunk_c_symbol_before(&file->session, unit, hunk, offset, told));
 }
 
+/* Nothing is allocated, so it does not matter whose memory is the current one. */
+amihunk_status amihunk_file_compare(amihunk_file *first, amihunk_file *second, bool with_symbols,
+                                    amihunk_difference *told)
+{
+    *told = (amihunk_difference){0};
+    const amihunk_memory *before = enter(&first->memory);
+    if (first == second) {
+        return leave(before, amihunk_c_compare_with_itself(&first->session, with_symbols, told));
+    }
+    return leave(before, amihunk_c_compare(&first->session, &second->session, with_symbols, told));
+}
+
 size_t amihunk_file_line(amihunk_file *file, const char *name, char *into, size_t size)
 {
     return write_line(&file->session, &file->memory, name, into, size);

@@ -54,6 +54,9 @@ uint32_t amihunk_c_debug(void **session, uint64_t unit, uint64_t hunk, uint64_t 
                          amihunk_debug *told);
 uint32_t amihunk_c_symbol_before(void **session, uint64_t unit, uint64_t hunk, uint32_t offset,
                                  amihunk_symbol *told);
+uint32_t amihunk_c_compare(void **first, void **second, bool with_symbols,
+                           amihunk_difference *told);
+uint32_t amihunk_c_compare_with_itself(void **session, bool with_symbols, amihunk_difference *told);
 uint32_t amihunk_c_check_places(const uint32_t *sizes, size_t size_count, const uint32_t *bases,
                                 size_t base_count, amihunk_answer *answer);
 uint32_t amihunk_c_open_linker(void **session, bool strip, bool short_form, bool trim, bool keep);

@@ -88,16 +88,19 @@ static bool looks_into_object()
     return good;
 }
 
-// A load file that is read, and then loaded.
+// A load file that is read, compared, and then loaded.
 static bool loads_from_file(const std::vector<unsigned char> &bytes)
 {
     const uint32_t bases[] = {0x1000, 0x2000};
     amihunk_answer answer;
     amihunk_file file = {};
     amihunk_loader loader = {};
+    amihunk_difference difference;
     bool good = amihunk_file_open(&file, amihunk_from_malloc()) == AMIHUNK_OK &&
                 amihunk_file_feed(&file, bytes.data(), bytes.size(), &answer) == AMIHUNK_OK &&
                 amihunk_file_finish(&file, &answer) == AMIHUNK_OK &&
+                amihunk_file_compare(&file, &file, true, &difference) == AMIHUNK_OK &&
+                difference.kind == AMIHUNK_SAME && difference.first != AMIHUNK_NO_SITE &&
                 amihunk_loader_load(&loader, amihunk_from_malloc(), &file, bases, 2, &answer) ==
                     AMIHUNK_OK &&
                 amihunk_loader_hunk_count(&loader) == 2;

@@ -100,6 +100,10 @@ static inline void check_tells_nothing(amihunk_file *file)
     amihunk_contents told = {7, 7};
     CHECK(amihunk_file_get_contents(file, &told) == AMIHUNK_WRONG_STATE);
     CHECK(told.units == 0 && told.kind == 0);
+    amihunk_difference difference = {7, 7, 7, 7, 7};
+    CHECK(amihunk_file_compare(file, file, true, &difference) == AMIHUNK_WRONG_STATE);
+    CHECK(difference.hunk == 0 && difference.offset == 0 && difference.first == 0 &&
+          difference.second == 0 && difference.kind == 0);
     check_no_unit(file, 0, AMIHUNK_WRONG_STATE);
     check_no_unit(file, SIZE_MAX, AMIHUNK_WRONG_STATE);
     CHECK(memcmp(file, &before, sizeof(before)) == 0);
