@@ -13,7 +13,7 @@ import unittest
 import model
 from model import BSS, CODE, END, EXT, HEADER, REF32, RELOC32, UNIT, words
 from python_setup import PYTHON, TOP, amihunk, ended, run, run_python
-from amihunk import HunkKind, MemoryKind, Place, Reason, Status
+from amihunk import DifferenceKind, HunkKind, MemoryKind, Place, Reason, Status
 
 c = amihunk._library
 LIBRARY = os.environ["AMIHUNK_LIBRARY"]
@@ -73,13 +73,17 @@ class Header(unittest.TestCase):
     def test_numbers_are_those_of_the_header(self):
         found = {name: {key: int(value) for key, value in re.findall(r"(\w+) = (\d+)", body)}
                  for body, name in re.findall(r"typedef enum \w+ \{(.*?)\} (\w+);", self.text, re.S)}
+        self.assertEqual(amihunk._comparing.SAME, found["amihunk_difference_kind"].pop("AMIHUNK_SAME"))
         for name, own, front, back in (
             ("amihunk_status", Status, "AMIHUNK_", ""), ("amihunk_reason", Reason, "AMIHUNK_REASON_", ""),
             ("amihunk_memory_kind", MemoryKind, "AMIHUNK_", "_MEMORY"), ("amihunk_hunk_kind", HunkKind, "AMIHUNK_", ""),
+            ("amihunk_difference_kind", DifferenceKind, "AMIHUNK_", "_DIFFERS"),
         ):
             self.assertEqual({f"{front}{it.name}{back}": it.value for it in own}, found[name])
         self.assertEqual(amihunk._reading.OBJECT_FILE, found["amihunk_file_kind"]["AMIHUNK_OBJECT_FILE"])
         self.assertEqual(amihunk._reading.ADDS_HUNK, found["amihunk_site_kind"]["AMIHUNK_ADDS_HUNK"])
+        self.assertIn("#define AMIHUNK_NO_SITE UINT64_MAX\n", self.text)
+        self.assertEqual(amihunk._comparing.NO_SITE, ctypes.c_uint64(-1).value)
         self.assertEqual(re.search(r'#define AMIHUNK_VERSION "(.*)"', self.text)[1], amihunk.VERSION)
 
     def test_calls_are_those_of_the_header(self):
@@ -172,6 +176,8 @@ class Leaks(unittest.TestCase):
             lambda: amihunk.read_file(file),
             lambda: ended(amihunk.read_file, file[:-1]),
             lambda: ended(amihunk.check_places, [1, 1], [0, 0]),
+            lambda: amihunk.compare(file, amihunk.read_file(file), True),
+            lambda: ended(amihunk.compare, file, file[:-1]),
         )
 
         def after(loads):
@@ -259,6 +265,22 @@ with open("examples/main.o", "rb") as file:
             print(f"{it.name.decode('latin-1')}: unit {it.unit} hunk {it.hunk}, references: {it.references}")
 """
 FOURTH_PRINTS = "print: unit 0 hunk 0, references: 1\n"
+FIFTH = """\
+import amihunk
+
+with open("examples/main.o", "rb") as first, open("examples/library.o", "rb") as second:
+    files = [first.read(), second.read()]
+whole, stripped = amihunk.link(files), amihunk.link(files, strip=True)
+print(amihunk.compare(whole, stripped))
+print(amihunk.compare(whole, stripped, symbols=True).kind)
+difference = amihunk.compare(whole, amihunk.link(reversed(files)))
+print(difference.kind, difference.hunk, difference.first, difference.second)
+"""
+FIFTH_PRINTS = """\
+None
+DifferenceKind.SYMBOL
+DifferenceKind.SIZE 0 4 5
+"""
 
 
 class Examples(unittest.TestCase):
@@ -312,3 +334,5 @@ class Examples(unittest.TestCase):
         self.assertEqual(run_python(THIRD), (0, THIRD_PRINTS.encode(), b""))
         self.assertIn(f"```python\n{FOURTH}```\n\nprints\n\n{textwrap.indent(FOURTH_PRINTS, '    ')}\n", manual)
         self.assertEqual(run_python(FOURTH), (0, FOURTH_PRINTS.encode(), b""))
+        self.assertIn(f"```python\n{FIFTH}```\n\nprints\n\n{textwrap.indent(FIFTH_PRINTS, '    ')}\n", manual)
+        self.assertEqual(run_python(FIFTH), (0, FIFTH_PRINTS.encode(), b""))

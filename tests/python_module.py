@@ -13,7 +13,8 @@ import unittest
 
 sys.dont_write_bytecode = True
 TOP = os.path.dirname(os.path.dirname(os.path.abspath(__file__)))
-MODULES = ("python_loading", "python_buffers", "python_refusals", "python_linking", "python_reading", "python_random", "python_library")
+MODULES = ("python_loading", "python_buffers", "python_refusals", "python_linking", "python_reading", "python_comparing", "python_random",
+           "python_library")
 
 
 def main():

@@ -138,6 +138,7 @@ class Refusals(unittest.TestCase):
         for file in (7, None, "text", ["text"], object()):
             self.assertRaisesRegex(TypeError, "a file is an object like bytes or a binary file object", amihunk.load, file, [0])
             self.assertRaisesRegex(TypeError, "a file is an object like bytes", amihunk.read_file, file)
+            self.assertRaisesRegex(TypeError, "a file is an object like bytes", amihunk.compare, ONE_HUNK, file)
             self.assertRaisesRegex(TypeError, "a file is an object like bytes", amihunk.link, [file])
             self.assertRaisesRegex(TypeError, "a file is an object like bytes", amihunk.link_with_map, [file])
         self.assertRaisesRegex(TypeError, "and not str", amihunk.load, io.StringIO("text"), [0])
@@ -146,6 +147,7 @@ class Refusals(unittest.TestCase):
             self.assertRaises(kind, amihunk.load, ONE_HUNK, [0], name=name)
             self.assertRaises(kind, amihunk.load_into, ONE_HUNK, lambda _: [], name=name)
             self.assertRaises(kind, amihunk.read_file, ONE_HUNK, name=name)
+            self.assertRaises(kind, amihunk.compare, ONE_HUNK, ONE_HUNK, names=["x", name])
             self.assertRaises(kind, amihunk.link, [], names=[name])
             self.assertRaises(kind, amihunk.link_with_map, [], names=[name])
         for bases in (7, None):
@@ -175,6 +177,7 @@ class Refusals(unittest.TestCase):
                 lambda: amihunk.load(Broken(error), lambda _: [0]),
                 lambda: amihunk.load_into(Broken(error), lambda _: [Place(0, bytearray(4))]),
                 lambda: amihunk.read_file(Broken(error)),
+                lambda: amihunk.compare(ONE_HUNK, Broken(error)),
                 lambda: amihunk.link([words(UNIT, 0), Broken(error, words(UNIT, 0))]),
                 lambda: amihunk.link_with_map([words(UNIT, 0), Broken(error, words(UNIT, 0))]),
                 lambda: amihunk.load(ONE_HUNK, fail),
@@ -273,6 +276,8 @@ class LittleMemory(unittest.TestCase):
             ("_reading", lambda: amihunk.read_file(object_file)),
             ("_reading", lambda: amihunk.read_file(load_file)),
             ("_reading", lambda: amihunk.read_file(load_file[:-1])),
+            ("_comparing", lambda: amihunk.compare(load_file, load_file, True)),
+            ("_comparing", lambda: amihunk.compare(load_file, load_file[:-1])),
         ):
             wanted, most, told = ended(call), 0, None
             while most == 0 or told == refused:

@@ -8,9 +8,9 @@
 
 `load` makes the memory of a load file at addresses that you choose; `load_into` makes it in buffers of yours, such as the RAM
 of an emulator; `check_places` says whether hunks can stand at some addresses; `link` makes a load file of object files, and
-`link_with_map` also tells where each of its hunks is from; and `read_file` tells what is in a file of either kind. Each takes
-its files as objects like `bytes`, or as binary file objects, which are read to their ends, or to the first offence, in pieces
-of at most 64 KiB.
+`link_with_map` also tells where each of its hunks is from; `read_file` tells what is in a file of either kind; and `compare`
+tells where two load files first differ. Each takes its files as objects like `bytes`, or as binary file objects, which are read
+to their ends, or to the first offence, in pieces of at most 64 KiB.
 
 Addresses are 0 to 2^32 - 1. Sizes of hunks are in longwords, which are four bytes, and offsets are in bytes. Everything is
 counted from 0.
@@ -22,6 +22,7 @@ object or a callable raises is handed on.
 
 No call keeps anything once it has returned or raised. Calls may run on any threads at the same time.
 """
+from ._comparing import compare
 from ._errors import AmihunkError, BadFile, BadLink, BadPlaces, OutOfMemory, Reason, Status
 from ._handles import BytesLike, File, Name, Readable
 from ._library import VERSION
@@ -30,6 +31,8 @@ from ._loading import check_places, load, load_into
 from ._reading import read_file, symbol_before
 from ._values import (
     Definition,
+    Difference,
+    DifferenceKind,
     HeaderHunk,
     Hunk,
     HunkBase,
@@ -55,6 +58,8 @@ __all__ = [
     "BadPlaces",
     "BytesLike",
     "Definition",
+    "Difference",
+    "DifferenceKind",
     "File",
     "HeaderHunk",
     "Hunk",
@@ -78,6 +83,7 @@ __all__ = [
     "Unit",
     "VERSION",
     "check_places",
+    "compare",
     "link",
     "link_with_map",
     "load",

@@ -107,6 +107,16 @@ class Debug(ctypes.Structure):
     _fields_ = [("longwords", c_void_p), ("size", c_uint64)]
 
 
+class Difference(ctypes.Structure):
+    _fields_ = [
+        ("hunk", c_uint64),
+        ("offset", c_uint64),
+        ("first", c_uint64),
+        ("second", c_uint64),
+        ("kind", c_uint32),
+    ]
+
+
 # A call returns the first of its types, and takes the others. What points to bytes or to longwords is a `c_void_p`.
 STATUS = c_uint
 LOADER, LINKER, FILE, ANSWER = POINTER(Loader), POINTER(Linker), POINTER(File), POINTER(Answer)
@@ -146,6 +156,7 @@ CALLS = {
     "amihunk_file_get_definition": (STATUS, FILE, c_size_t, c_size_t, c_size_t, POINTER(Definition)),
     "amihunk_file_get_reference": (STATUS, FILE, c_size_t, c_size_t, c_size_t, POINTER(Bytes)),
     "amihunk_file_get_debug": (STATUS, FILE, c_size_t, c_size_t, c_size_t, POINTER(Debug)),
+    "amihunk_file_compare": (STATUS, FILE, FILE, c_bool, POINTER(Difference)),
     "amihunk_file_line": (c_size_t, FILE, c_char_p, c_void_p, c_size_t),
     "amihunk_file_close": (None, FILE),
 }

@@ -159,3 +159,29 @@ class UndefinedName:
     unit: int  # the number of the unit in that file
     hunk: int  # the number of the hunk in that unit
     references: int
+
+
+class DifferenceKind(enum.Enum):
+    """What differs between two load files."""
+
+    HUNK_COUNT = 1  # the numbers of hunks
+    KIND = 2  # what a hunk holds
+    MEMORY = 3  # which memory a hunk asks for
+    SIZE = 4  # the size of a hunk in memory
+    BYTE = 5  # a byte of a hunk; after its content there are zeros
+    SITE = 6  # a site of a hunk
+    SYMBOL = 7  # a symbol of a hunk: its name, its value, or whether there is one
+    DEBUG = 8  # a debug block of a hunk: its bytes, or whether there is one
+
+
+@dataclass(frozen=True)
+class Difference:
+    """Where two load files first differ, and what the first and the second one have there: how many hunks, a `HunkKind`, a
+    `MemoryKind`, a size in longwords, a byte from 0 to 255, or the number of the hunk whose base is added at a site, which is None
+    where there is no site. Of a symbol and a debug block both are None."""
+
+    kind: DifferenceKind
+    hunk: Optional[int]  # its number; None if the numbers of hunks differ
+    offset: Optional[int]  # of a byte and a site, in bytes; of a symbol and a debug block its index; else None
+    first: Union[int, HunkKind, MemoryKind, None]
+    second: Union[int, HunkKind, MemoryKind, None]
