@@ -1,6 +1,8 @@
 //! The files that the tests' file system has from the start, and the names that cannot be opened.
 
-use crate::samples::{CALLEE, CALLER, LOOP, MISTYPED, PROGRAM, TRAILING, UNENDED, ZEROS};
+use crate::samples::{
+    CALLEE, CALLER, LOOP, MISTYPED, ONE_HUNK, ONE_SYMBOL, PROGRAM, TRAILING, UNENDED, ZERO_TAIL, ZEROS,
+};
 use std::fs::Metadata;
 use std::io;
 use std::io::ErrorKind;
@@ -28,6 +30,9 @@ pub fn find(name: &str, opened: usize) -> Option<(Kind, &'static [u8])> {
         "loop" => Some((Kind::Regular, &LOOP)),
         "zeros" => Some((Kind::Regular, &ZEROS)),
         "program" => Some((Kind::Regular, &PROGRAM)),
+        "one-hunk" => Some((Kind::Regular, &ONE_HUNK)),
+        "one-symbol" => Some((Kind::Regular, &ONE_SYMBOL)),
+        "zero-tail" => Some((Kind::Regular, &ZERO_TAIL)),
         "addresses" => Some((Kind::Regular, b"10000, 20000\r\n")),
         "mistyped" => Some((Kind::Regular, &MISTYPED)),
         "unended" => Some((Kind::Regular, &UNENDED)),

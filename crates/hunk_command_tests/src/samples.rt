@@ -76,6 +76,17 @@ pub static TRAILING: [u8; 44] = [
     0, 1, 0x4E, 0x75, 0x4E, 0x71, 0, 0, 3, 0xF2, 0, 0, 0x12, 0x34,
 ];
 
+/// A load file of one hunk that ends with a zero longword, and the same without it.
+pub static ZERO_TAIL: [u8; 44] = [
+    0, 0, 3, 0xF3, 0, 0, 0, 0, 0, 0, 0, 1, 0, 0, 0, 0, 0, 0, 0, 0, 0, 0, 0, 2, 0, 0, 3, 0xE9, 0, 0,
+    0, 2, 0x4E, 0x75, 0x4E, 0x71, 0, 0, 0, 0, 0, 0, 3, 0xF2,
+];
+
+pub static TRIMMED: [u8; 40] = [
+    0, 0, 3, 0xF3, 0, 0, 0, 0, 0, 0, 0, 1, 0, 0, 0, 0, 0, 0, 0, 0, 0, 0, 0, 2, 0, 0, 3, 0xE9, 0, 0,
+    0, 1, 0x4E, 0x75, 0x4E, 0x71, 0, 0, 3, 0xF2,
+];
+
 /// A plain load file, with symbols and debug blocks.
 pub const PLAIN: LinkOptions = LinkOptions {
     strip: false,

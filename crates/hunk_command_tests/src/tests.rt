@@ -2,6 +2,8 @@
 //!
 //! - `addresses`: addresses in a list, and in a file.
 //! - `asserts`: assertions as functions.
+//! - `comparisons`: whether two load files mean the same.
+//! - `copies`: a load file, written again.
 //! - `explanations`: what is told of a failure after its line.
 //! - `failures`: the line of each failure, and its status.
 //! - `images`: the report of object files.
@@ -22,6 +24,8 @@
 
 mod addresses;
 mod asserts;
+mod comparisons;
+mod copies;
 mod explanations;
 mod failures;
 mod images;

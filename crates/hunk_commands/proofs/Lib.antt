@@ -6,5 +6,7 @@ pub mod FaultLemmas
 pub mod ImageLemmas
 pub mod InputsLemmas
 pub mod LinkLemmas
+pub mod CopyLemmas
+pub mod CompareLemmas
 pub mod RequestLemmas
 pub mod SurveyLemmas

@@ -1,5 +1,5 @@
 -- What was written to OUT and to MAP, and why OUT was not written in full.
-use Rattle.std.proofs.Common.{◌≡◌, ◌∙◌, ap, arith, Bool, Bor, Err, false, IfErr, inl, inr, length, List, None, Ok, OnOk, Option, refl, Result, Some, subst, sym, true, ℕ}
+use Rattle.std.proofs.Common.{◌≡◌, arith, Bool, Bor, Err, IfErr, inl, inr, length, List, None, Ok, OnOk, Option, refl, Result, Some, subst, sym, ℕ}
 use Rattle.std.specs.declared.alloc.Global.{Global}
 use Rattle.std.proofs.lemmas.List.{length-map}
 use Rattle.std.specs.Io.KnownBytes.{Appends}

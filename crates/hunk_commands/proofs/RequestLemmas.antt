@@ -2,7 +2,7 @@
 use Rattle.std.proofs.Common.{◌≡◌, ◌∙◌, [], ap, Bool, inl, List, Option, refl, subst, sym, ℕ}
 use Rattle.hunk_tool.specs.declared.tool_fault.ToolFault.TheVariants as tool_fault
 use Rattle.hunk_commands.specs.Failure.{failure_line, status_of, TellsLine}
-use Rattle.hunk_commands.specs.Request.{IsFailed}
+use Rattle.hunk_commands.specs.Request.{IsFailed, IsFailedWith}
 use Rattle.hunk_commands.specs.declared.failure.Failure.{Failure}
 use Rattle.hunk_commands.specs.declared.failure.Failure.TheVariants.{Tool}
 use Rattle.hunk_commands.proofs.ExplainLemmas.{IsAfter, tells_after, tells_line_alone}
@@ -23,18 +23,24 @@ is_failed taken failed AreMore files names status old between new failure same s
     (subst (λ x. TellsLine taken failed old between (failure_line x failure)) same told) after in
     record { failure = failure; why = refl; status_is = status_is; more = both.0; is_more = both.1; line = both.2 }
 
+-- a request for some files was not done, and no more than the line of its failure was told; its status is this
+-- one of the failure
+pub fails_with : {W : Type 0} (status_for : Failure → ℕ) (taken : W → Option (List ℕ)) (failed : W → Bool) (Why : Failure → Type 0) (AreMore : Failure → List ℕ → Type 0) (files : List (List ℕ)) (status : ℕ) (old new : W) (failure : Failure)
+    → Why failure → status ≡ status_for failure → TellsLine taken failed old new (failure_line files failure) → IsFailedWith status_for taken failed old new Why AreMore files status
+fails_with status_for taken failed Why AreMore files status old new failure why status_is told = record {
+  failure = failure;
+  why = why;
+  status_is = status_is;
+  more = [];
+  is_more = inl refl;
+  line = tells_line_alone taken failed old new (failure_line files failure) told;
+}
+
 module _ {W : Type 0} (taken : W → Option (List ℕ)) (failed : W → Bool) (Why : Failure → Type 0) (AreMore : Failure → List ℕ → Type 0) (files : List (List ℕ)) (status : ℕ) where
   -- a request for some files was not done, and no more than the line of its failure was told
   pub fails_with_line : (old new : W) (failure : Failure) → Why failure → status ≡ status_of failure → TellsLine taken failed old new (failure_line files failure)
       → IsFailed taken failed old new Why AreMore files status
-  fails_with_line old new failure why status_is told = record {
-    failure = failure;
-    why = why;
-    status_is = status_is;
-    more = [];
-    is_more = inl refl;
-    line = tells_line_alone taken failed old new (failure_line files failure) told;
-  }
+  fails_with_line old new failure why status_is told = fails_with status_of taken failed Why AreMore files status old new failure why status_is told
 
   -- it was not begun, since memory ran out
   pub not_begun : (old new : W) → Why (Tool (tool_fault.OutOfMemory 0)) → (status ≡ 4) × TellsLine taken failed old new (failure_line [] (Tool (tool_fault.OutOfMemory 0)))

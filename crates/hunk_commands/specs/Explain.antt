@@ -44,6 +44,7 @@ abbrev pub kind_read : Command → List ℕ → FileKind
 kind_read command.Link = reads_objects
 kind_read (command.Image addresses) = reads_objects
 kind_read (command.Load addresses) = reads_a_load_file
+kind_read command.LoadFile = reads_a_load_file
 kind_read command.Text = kind_of_bytes
 
 -- this fault is the first offence of the bytes
@@ -120,6 +121,9 @@ AreImageLines origin files = AreLines reads_objects (ArePlaceLines origin (DoLin
 abbrev pub AreLoadLines : Origin → (files : List (List ℕ)) → Failure → (more : List ℕ) → Type 0
 AreLoadLines origin files = AreLines reads_a_load_file (ArePlaceLines origin IsLoadFile) files
 
+abbrev pub AreLoadFileLines : (files : List (List ℕ)) → Failure → (more : List ℕ) → Type 0
+AreLoadFileLines files = AreLines reads_a_load_file AreNoLines files
+
 abbrev pub AreTextLines : (files : List (List ℕ)) → Failure → (more : List ℕ) → Type 0
 AreTextLines files = AreLines kind_of_bytes AreNoLines files
 
@@ -128,6 +132,7 @@ abbrev pub ArePlaceLinesOf : Command → (files : List (List ℕ)) → (more : L
 ArePlaceLinesOf command.Link files = AreNoLines
 ArePlaceLinesOf (command.Image addresses) files = ArePlaceLines (origin_of addresses) (DoLinkTo true files)
 ArePlaceLinesOf (command.Load addresses) files = ArePlaceLines (origin_of addresses) IsLoadFile
+ArePlaceLinesOf command.LoadFile files = AreNoLines
 ArePlaceLinesOf command.Text files = AreNoLines
 
 -- the lines about a failure of a command for these files

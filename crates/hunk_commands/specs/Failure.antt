@@ -6,7 +6,7 @@ use Rattle.hunk_base.specs.Streams.{WriteStopped}
 use Rattle.hunk_base.specs.Text.{line}
 use Rattle.hunk_base.specs.declared.fault.WriteFault.TheVariants.{Device}
 use Rattle.hunk_tool.specs.FaultLine.{fault_line}
-use Rattle.hunk_tool.specs.declared.tool_fault.ToolFault.TheVariants.{Output}
+use Rattle.hunk_tool.specs.declared.tool_fault.ToolFault.TheVariants.{Input, Output}
 use Rattle.hunk_tool.specs.ToolFault.{status}
 use Rattle.hunk_commands.specs.declared.failure.Failure.{Failure}
 use Rattle.hunk_commands.specs.declared.failure.Failure.TheVariants.{BadNumber, MapOverFile, Opening, Printing, Reading, SameFile, Tool, Writing}
@@ -25,6 +25,11 @@ status_of (SameFile file) = 2
 status_of (MapOverFile file) = 2
 status_of Printing = 3
 status_of (Tool fault) = status fault
+
+-- the status of a comparison: 2 if a file is refused, since 1 is that of files that differ
+abbrev pub status_of_comparison : Failure → ℕ
+status_of_comparison (Tool (Input file fault)) = 2
+status_of_comparison failure = status_of failure
 
 -- what the line about bad addresses names: the option of the list, or the file
 abbrev pub origin_name : Origin → List ℕ

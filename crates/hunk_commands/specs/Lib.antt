@@ -7,6 +7,8 @@ pub mod Addresses
 pub mod Load
 pub mod Link
 pub mod Image
+pub mod Copy
+pub mod Compare
 pub mod Survey
 pub mod Text
 pub mod Version

@@ -36,6 +36,8 @@ pub enum Command<'a> {
     Image(Addresses<'a>),
     /// `load`, which reads a load file, and places its hunks at these addresses.
     Load(Addresses<'a>),
+    /// `copy`, which reads a load file.
+    LoadFile,
     /// `check` or `show`, which read a file of either kind.
     Text,
 }
@@ -160,7 +162,7 @@ fn explain<R: Source>(
 {
     match command {
         Command::Link | Command::Image(_) => explain_object(alloc, reader),
-        Command::Load(_) => explain_load(alloc, reader),
+        Command::Load(_) | Command::LoadFile => explain_load(alloc, reader),
         Command::Text => explain_file(alloc, reader),
     }
 }
@@ -204,7 +206,7 @@ fn explain_places<R: Files + AllocGlobal, W: Sink>(
             }
         }
         Command::Image(addresses) => explain_linked_places(rt, errors, addresses, files),
-        Command::Link | Command::Text => {}
+        Command::Link | Command::LoadFile | Command::Text => {}
     }
 }
 

@@ -4,7 +4,7 @@ ghost use Rattle.std.specs.String.{string_bytes};
 ghost use Rattle.hunk_tool.specs.FaultLine.{fault_line};
 ghost use Rattle.hunk_commands.specs.Addresses.{origin_of};
 ghost use Rattle.hunk_commands.specs.Failure.{about_line, bad_number_line, failure_line, origin_name};
-ghost use Rattle.hunk_commands.specs.Failure.{status_of, TellsLine};
+ghost use Rattle.hunk_commands.specs.Failure.{status_of, status_of_comparison, TellsLine};
 
 use crate::addresses::Addresses;
 use crate::open_fault::OpenFault;
@@ -13,6 +13,9 @@ use hunk_words::{Sink, Text};
 
 /// The exit status of a request that was done, or of help that was asked for.
 pub const DONE: u8 = 0;
+
+/// The exit status of a comparison of files that differ.
+pub const DIFFERENT: u8 = 1;
 
 /// The exit status if the command line, or the addresses of the hunks, are rejected.
 pub const COMMAND_LINE: u8 = 2;
@@ -64,6 +67,17 @@ impl<'a> Failure<'a> {
             Failure::Opening(..) | Failure::Reading(_) | Failure::Writing(_) | Failure::Printing =>
                 DEVICE,
             Failure::Tool(fault) => status_of(fault),
+        }
+    }
+
+    /// The exit status of a comparison. It is that of the program, but for a file that is refused: 1 is
+    /// the status of files that differ.
+    pub fn status_of_comparison(&self) -> u8
+        ensures { result ≡ status_of_comparison self.now }
+    {
+        match self {
+            Failure::Tool(ToolFault::Input { .. }) => COMMAND_LINE,
+            failure => failure.status(),
         }
     }
 }

@@ -14,12 +14,16 @@
 //! - `load`: the command `load`.
 //! - `link`: the command `link`.
 //! - `image`: the command `image`.
+//! - `copy`: the command `copy`.
+//! - `compare`: the command `compare`.
 //! - `survey`: the command `survey`.
 //! - `text`: the commands that print a text about a file.
 //! - `version`: the version of the program.
 #![tactic(auto)]
 
 pub mod addresses;
+pub mod compare;
+pub mod copy;
 mod devices;
 pub mod explain;
 mod failure;
@@ -38,7 +42,7 @@ mod text;
 mod version;
 
 pub use addresses::{Addresses, addresses_of};
-pub use failure::{COMMAND_LINE, DEVICE, DONE, Failure, report_failure};
+pub use failure::{COMMAND_LINE, DEVICE, DIFFERENT, DONE, Failure, report_failure};
 pub use inputs::{Input, open_inputs};
 pub use lines::Lines;
 pub use load::LoadText;

@@ -4,11 +4,13 @@ ghost use Rattle.hunk_tool.specs.Inputs.{file_names};
 ghost use Rattle.hunk_commands.specs.Addresses.{origin_of};
 ghost use Rattle.hunk_commands.specs.Explain.{AreLinesOf, IfAsked};
 ghost use Rattle.hunk_commands.specs.Link.{IsDone, IsUndone};
-ghost use Rattle.hunk_commands.specs.Request.{Ends, EndsImage, EndsLink, EndsLoad, EndsSurvey, EndsText, EndsVersion, IsFailed, given_text, shown};
+ghost use Rattle.hunk_commands.specs.Request.{Ends, EndsCompare, EndsCopy, EndsImage, EndsLink, EndsLoad, EndsSurvey, EndsText, EndsVersion, IsFailed, given_text, shown};
 
 use crate::addresses::Addresses;
+use crate::compare::compare;
+use crate::copy::copy;
 use crate::explain::{Command, explain_failure};
-use crate::failure::{DONE, Failure, report_failure, report_refusal};
+use crate::failure::{DIFFERENT, DONE, Failure, report_failure, report_refusal};
 use crate::image::image;
 use crate::inputs::names_of;
 use crate::link::{link, link_with_map};
@@ -16,7 +18,7 @@ use crate::load::{LoadText, load};
 use crate::survey::survey;
 use crate::text::{Text, print_text};
 use crate::version::print_version;
-use hunk_tool::{ImageForm, LinkOptions};
+use hunk_tool::{CopyForm, ImageForm, LinkOptions};
 use hunk_words::Sink;
 use std::rt::Files;
 
@@ -83,6 +85,28 @@ pub enum Request<'a> {
         /// The arguments FILE..., in the order given, of which there is at least one.
         files: Vec<&'a str>,
     },
+    /// `copy --out OUT [--strip] [--short] [--trim] [--explain] FILE`, or `copy --out OUT --normal FILE`: the
+    /// load file FILE, written to OUT.
+    Copy {
+        /// The argument OUT.
+        out: &'a str,
+        /// The normal form if `--normal` is given, and otherwise which of `--strip`, `--short` and
+        /// `--trim` are.
+        form: CopyForm,
+        /// Whether `--explain` is given.
+        explain: bool,
+        /// The argument FILE.
+        file: &'a str,
+    },
+    /// `compare [--symbols] A B`: where the load files A and B first differ.
+    Compare {
+        /// Whether `--symbols` is given.
+        with_symbols: bool,
+        /// The argument A.
+        first: &'a str,
+        /// The argument B.
+        second: &'a str,
+    },
     /// `--version`: the version of the program.
     Version,
     /// Help, and its text.
@@ -130,6 +154,17 @@ pub fn answer<R: Files + Print + AllocGlobal, W: Sink>(
             file,
         } => answer_text(rt, errors, shown(json), explain, file),
         Request::Survey { files } => answer_survey(rt, errors, files.as_slice()),
+        Request::Copy {
+            out,
+            form,
+            explain,
+            file,
+        } => answer_copy(rt, errors, out, form, explain, file),
+        Request::Compare {
+            with_symbols,
+            first,
+            second,
+        } => answer_compare(rt, errors, with_symbols, first, second),
         Request::Version => answer_version(rt, errors),
         Request::Help(text) => match rt.print(text) {
             Ok(()) => DONE,
@@ -263,6 +298,52 @@ fn answer_survey<R: Files + Print + AllocGlobal, W: Sink>(
     match survey(rt, files) {
         Ok(status) => status,
         Err(failure) => report_failure(errors, &[], &failure),
+    }
+}
+
+/// Does `copy`, and returns the exit status.
+fn answer_copy<R: Files + AllocGlobal, W: Sink>(
+    rt: &R,
+    errors: &mut W,
+    out: &str,
+    form: CopyForm,
+    explain: bool,
+    file: &str,
+) -> u8
+    ensures { EndsCopy W.taken W.failed errors.old errors.new out.now form explain file.now result }
+{
+    let Ok(name) = String::from_str(rt.alloc(), file) else {
+        return report_failure(errors, &[], &Failure::out_of_memory());
+    };
+    match copy(rt, out, form, file) {
+        Ok(()) => DONE,
+        Err(failure) => {
+            let command = Command::LoadFile;
+            fail(rt, errors, command, explain, &[file], &[name], &failure)
+        }
+    }
+}
+
+/// Does `compare`, and returns the exit status: [`DIFFERENT`] if the files differ.
+fn answer_compare<R: Files + Print + AllocGlobal, W: Sink>(
+    rt: &R,
+    errors: &mut W,
+    with_symbols: bool,
+    first: &str,
+    second: &str,
+) -> u8
+    ensures { EndsCompare W.taken W.failed errors.old errors.new with_symbols first.now second.now result }
+{
+    let Ok(names) = names_of(rt.alloc(), &[first, second]) else {
+        return report_failure(errors, &[], &Failure::out_of_memory());
+    };
+    match compare(rt, with_symbols, first, second) {
+        Ok(true) => DONE,
+        Ok(false) => DIFFERENT,
+        Err(failure) => {
+            report_failure(errors, names.as_slice(), &failure);
+            failure.status_of_comparison()
+        }
     }
 }
 

@@ -1,0 +1,38 @@
+//! The request `copy`: a load file, written again.
+ghost use Rattle.std.specs.Prelude.{IfErr, OnOk};
+ghost use Rattle.hunk_commands.specs.Copy.{IsCopiedOut, IsCopyFailure};
+
+use crate::devices::open;
+use crate::failure::Failure;
+use crate::replacement::Replacement;
+use hunk_tool::{CopyForm, copy_run};
+use hunk_words::Watched;
+use std::rt::Files;
+
+/// Reads the load file named `file`, and puts a copy of it, in this form, in the place of the file named
+/// `out`: [`copy_run`], over what replaces `out`.
+///
+/// Nothing is done to `out` before the whole file has been read, so both may be one file. Whatever
+/// fails, `out` is what it was, or the whole copy: unless it is a device or a pipe, or its directory
+/// takes no new file. Then it is written in place, once the copy is whole in memory.
+///
+/// # Errors
+///
+/// - [`Failure::Opening`] with `file` if it cannot be opened, or with `out` if it cannot be created or
+///   replaced.
+/// - [`Failure::Tool`] with what [`copy_run`] returns, or out of memory.
+/// - [`Failure::Printing`] if `out` did not take everything that was written to it.
+pub fn copy<'a, R: Files + AllocGlobal>(
+    rt: &R,
+    out: &'a str,
+    form: CopyForm,
+    file: &'a str,
+) -> Result<(), Failure<'a>>
+    ensures ok { OnOk result (IsCopiedOut form) }
+    ensures err { IfErr result (IsCopyFailure form file.entry.now out.entry.now) }
+{
+    let mut reader = Watched::new(open(rt, file)?);
+    let mut output = Replacement::new(rt, out);
+    let ran = copy_run(rt.alloc(), &mut reader, form, &mut output);
+    output.finish(out, ran)
+}
