@@ -13,7 +13,7 @@ use Rattle.clap.specs.Faults.{settle_fault, turn_fault, use_fault, values_fault}
 use Rattle.clap.specs.Kinds.{or_else, range_kinds}
 use Rattle.amihunk.proofs.CommandLineSubcommandLemmas.{IsSubcommand, calls-line}
 use Rattle.amihunk.proofs.CommandLineWalkLemmas.{Passes, end_fault, late_fault, passes-append, passes-cons, passes-nil}
-use Rattle.amihunk.specs.Syntax.{file_rule, files_rule}
+use Rattle.amihunk.specs.Syntax.{file_rule, files_rule, value_rule}
 use Rattle.amihunk.specs.CommandLine.{Call, Calls, IsNoFlag, call_of}
 
 -- ---- FILE
@@ -60,6 +60,61 @@ calls-file program s words held call is front takes file plain =
     (passes-append s (walk_from nothing_held) (walk_from held) end words (file ∷ []) front
     (passes-cons s (walk_from held) end end file [] (walked-file s held file takes.0 plain) (turn_fault-file s held file takes.0 plain) (passes-nil s end)))
     (takes.0.late file) (takes.1 file)
+
+-- ---- two arguments, one after the other
+
+-- an argument as `clap` builds it, whose value is the one at this place
+abbrev pub built_value : ℕ → Text → Rule
+built_value place name = with_index place (filled (value_rule name))
+
+-- the walk at this place, where this is held
+abbrev at_place : ℕ → Held → Walk
+at_place place held = record (walk_from held) { position = place }
+
+-- what is held after a value
+abbrev pub with_value : Shape → Held → Text → Text → Held
+with_value s held name value = record (settled s.rules held) { pending = Some (name, value ∷ []) }
+
+-- a value may come after what is held
+pub record AwaitsValue (s : Shape) (held : Held) (place : ℕ) (name : Text) : Type 0 where
+  pub by_index : arg_by_index s.rules place ≡ Some (built_value place name)
+  pub other : is_pending (built_value place name) held.pending ≡ false
+  pub quiet : settle_fault s.rules s.args_override_self held ≡ []
+
+walked-value : (s : Shape) (held : Held) (place : ℕ) (name value : Text) → AwaitsValue s held place name → IsNoFlag value
+    → walked s.rules [] (at_place place held) value ≡ at_place (suc place) (with_value s held name value)
+unfolding walked
+walked-value s held place name [] awaits plain = rw (awaits.by_index, awaits.other) refl
+walked-value s held place name (c ∷ rest) awaits plain = rw (ne_eqb c 45 plain, ne_eqb c 45 plain, awaits.by_index, awaits.other) refl
+
+turn_fault-value : (s : Shape) (held : Held) (place : ℕ) (name value : Text) → AwaitsValue s held place name → IsNoFlag value → turn_fault s [] (at_place place held) value ≡ []
+turn_fault-value s held place name [] awaits plain = rw (awaits.by_index, awaits.other, awaits.quiet) refl
+turn_fault-value s held place name (c ∷ rest) awaits plain = rw (ne_eqb c 45 plain, ne_eqb c 45 plain, awaits.by_index, awaits.other, awaits.quiet) refl
+
+-- what is held after both
+abbrev pub with_both : Shape → Held → (one other first second : Text) → Held
+with_both s held one other first second = with_value s (with_value s held one first) other second
+
+-- the values of two arguments may come after what is held, and then they are this call
+pub record TakesTwo (s : Shape) (held : Held) (one other : Text) (call : Text → Text → Call) : Type 0 where
+  pub first : AwaitsValue s held 1 one
+  pub second : (value : Text) → AwaitsValue s (with_value s held one value) 2 other
+  pub late : (first second : Text) → end_fault s (with_both s held one other first second) ≡ []
+  pub call_is : (first second : Text) → call_of (Some (s.name, finished s.rules (with_both s held one other first second))) ≡ Some (call first second)
+
+-- words that take two values, and the values, are this call
+pub calls-two : (program : Text) (s : Shape) (words : List Text) (held : Held) (one other : Text) (call : Text → Text → Call) → IsSubcommand s
+    → Passes s (walk_from nothing_held) words (walk_from held) → TakesTwo s held one other call
+    → (first second : Text) → IsNoFlag first → IsNoFlag second → Calls (program ∷ s.name ∷ (words ++ first ∷ second ∷ [])) (call first second)
+calls-two program s words held one other call is front takes first second plain_first plain_second =
+    let between = with_value s held one first in
+    let end = at_place 3 (with_both s held one other first second) in
+    calls-line program s (words ++ first ∷ second ∷ []) end (call first second) is
+    (passes-append s (walk_from nothing_held) (walk_from held) end words (first ∷ second ∷ []) front
+    (passes-cons s (walk_from held) (at_place 2 between) end first (second ∷ []) (walked-value s held 1 one first takes.first plain_first) (turn_fault-value s held 1 one first takes.first plain_first)
+    (passes-cons s (at_place 2 between) end end second [] (walked-value s between 2 other second (takes.second first) plain_second)
+    (turn_fault-value s between 2 other second (takes.second first) plain_second) (passes-nil s end))))
+    (takes.late first second) (takes.call_is first second)
 
 -- ---- FILE...
 

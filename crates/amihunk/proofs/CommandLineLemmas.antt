@@ -1,6 +1,6 @@
 -- Arguments with which nothing is wrong name a subcommand of the program, with its required values.
 use Rattle.std.proofs.Common.{◌≡◌, ◌⊎◌, ◌&&◌, ◌||◌, ap, ℕ, Bool, true, false, not, cond, refl, sym, inl, inr, subst, arith, List, [], ◌∷◌, codes, drop, Option, Some, None, is_some}
-use Rattle.std.specs.Prelude.{⊤, find, option_map}
+use Rattle.std.specs.Prelude.{find, option_map}
 use Rattle.std.specs.List.{list_any}
 use Rattle.std.specs.Option.{option_map_or}
 use Rattle.std.specs.Str.{bytes_eq}
@@ -14,7 +14,7 @@ use Rattle.clap.specs.Kinds.{check_kinds}
 use Rattle.amihunk.proofs.CommandLineUseLemmas.{AllRegular, AreDefaulted, Each, Filled, IsRegular, defaulted, filled-defaults, find-each, flag_read, is_flag, or_else-nil, value_given}
 use Rattle.amihunk.proofs.CommandLineUseLemmas.IsRegular.{asks_help, is_switched, is_valued}
 use Rattle.amihunk.proofs.CommandLineRowLemmas.{filled-settled, filled-walk}
-use Rattle.amihunk.specs.Syntax.{bare_app, check_shape, command_line, flag_rule, image_shape, letter_s, link_shape, load_shape, option_rule, show_shape, survey_shape}
+use Rattle.amihunk.specs.Syntax.{bare_app, check_shape, command_line, compare_shape, copy_shape, flag_rule, image_shape, letter_s, link_shape, load_shape, option_rule, show_shape, survey_shape}
 use Rattle.amihunk.specs.CommandLine.{AreWhole, AreWholeFor, IsFlag, IsWhole, Met, Where, is_switch}
 
 -- ---- one level
@@ -109,6 +109,18 @@ show_regular = (flag_regular None (codes "json") refl, check_regular)
 survey_regular : AllRegular false (built_below survey_shape).rules
 survey_regular = (is_valued (inr refl) (omega arith) refl refl, (asks_help refl refl refl, tt))
 
+copy_flags : AllRegular false (drop 1 (built_below copy_shape).rules)
+copy_flags = (flag_regular (Some letter_s) (codes "strip") refl, (flag_regular None (codes "short") refl, (flag_regular None (codes "trim") refl, (flag_regular None (codes "normal") refl, check_regular))))
+
+copy_regular : AllRegular false (built_below copy_shape).rules
+copy_regular = (is_valued (inl refl) (omega arith) refl refl, copy_flags)
+
+compare_regular : AllRegular false (built_below compare_shape).rules
+compare_regular = (
+  flag_regular None (codes "symbols") refl,
+  (is_valued (inl refl) (omega arith) refl refl, (is_valued (inl refl) (omega arith) refl refl, (asks_help refl refl refl, tt))),
+)
+
 -- ---- the command line
 
 -- the command line as `clap` builds it
@@ -122,13 +134,14 @@ IsSound s = (words : List Text) → level_fault s [] nothing_held words false []
 all_sound : Each IsSound line.subs
 all_sound = (
   sound (built_below link_shape) refl link_regular,
-  (
-    sound (built_below load_shape) refl load_regular,
-    (
-      sound (built_below image_shape) refl image_regular,
-      (sound (built_below check_shape) refl check_regular, (sound (built_below show_shape) refl show_regular, (sound (built_below survey_shape) refl survey_regular, tt))),
-    ),
-  ),
+  sound (built_below load_shape) refl load_regular,
+  sound (built_below image_shape) refl image_regular,
+  sound (built_below check_shape) refl check_regular,
+  sound (built_below show_shape) refl show_regular,
+  sound (built_below survey_shape) refl survey_regular,
+  sound (built_below copy_shape) refl copy_regular,
+  sound (built_below compare_shape) refl compare_regular,
+  tt,
 )
 
 -- a subcommand is required, and a sound one is whole

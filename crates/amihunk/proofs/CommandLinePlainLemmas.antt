@@ -6,19 +6,20 @@ use Rattle.clap.specs.Walk.{Held, nothing_held, walk_from}
 use Rattle.clap.proofs.OnLiterals.{clap_on_literals}
 use Rattle.hunk_memory.specs.declared.image_form.ImageForm.{ImageForm}
 use Rattle.hunk_memory.specs.declared.image_form.ImageForm.TheVariants.{Report, SRecords}
+use Rattle.hunk_tool.specs.declared.copy.CopyForm.TheVariants.{Normal, Written}
 use Rattle.hunk_tool.specs.declared.link_options.LinkOptions.{LinkOptions}
 use Rattle.hunk_commands.specs.Addresses.{Origin}
 use Rattle.hunk_commands.specs.Addresses.Origin.{in_file, in_list}
 use Rattle.hunk_commands.specs.declared.load.LoadText.{LoadText}
 use Rattle.hunk_commands.specs.declared.load.LoadText.TheVariants.{Image, Symbols}
 use Rattle.amihunk.proofs.CommandLineLemmas.{built_below}
-use Rattle.amihunk.proofs.CommandLineFilesLemmas.{HasFiles, TakesFile, TakesFiles, calls-file, calls-files}
+use Rattle.amihunk.proofs.CommandLineFilesLemmas.{TakesFile, TakesFiles, TakesTwo, calls-file, calls-files, calls-two}
 use Rattle.amihunk.proofs.CommandLineSubcommandLemmas.{IsSubcommand}
 use Rattle.amihunk.proofs.CommandLineWalkLemmas.{IsOption, Passes, passes-nil, passes-option, value_held, walk_on}
-use Rattle.amihunk.specs.Syntax.{check_shape, image_shape, letter_o, link_shape, load_shape, show_shape, survey_shape}
-use Rattle.amihunk.specs.CommandLine.{Calls, IsNoFlag, IsNoFlagIn, brief_link_line, brief_words, file_line, form_words, image_line, json_words, link_line, load_line, map_words}
-use Rattle.amihunk.specs.CommandLine.{option_name, option_word, option_words, show_line, survey_line, text_in, text_words}
-use Rattle.amihunk.specs.CommandLine.Call.{to_check, to_image, to_link, to_load, to_show, to_survey}
+use Rattle.amihunk.specs.Syntax.{check_shape, compare_shape, copy_shape, image_shape, letter_o, link_shape, load_shape, show_shape, survey_shape}
+use Rattle.amihunk.specs.CommandLine.{Call, Calls, IsNoFlag, IsNoFlagIn, brief_link_line, brief_words, compare_line, copy_line, file_line, form_words, image_line, json_words, link_line, load_line, map_words}
+use Rattle.amihunk.specs.CommandLine.{normal_line, option_name, option_word, option_words, show_line, survey_line, text_in, text_words, word_if}
+use Rattle.amihunk.specs.CommandLine.Call.{to_check, to_compare, to_copy, to_image, to_link, to_load, to_show, to_survey}
 
 -- ---- `link`
 
@@ -238,3 +239,95 @@ pub calls-survey : (program : Text) (files : List Text) → 0 < length files →
 calls-survey program files some plain fits =
     calls-files program (built_below survey_shape) [] nothing_held to_survey is_survey (record { by_index = refl; by_id = refl }) (passes-nil (built_below survey_shape) (walk_from nothing_held)) takes-survey files some plain
     (omega (arith, fits))
+
+-- ---- `copy`
+
+abbrev built_copy : Shape
+built_copy = built_below copy_shape
+
+is_copy : IsSubcommand built_copy
+unfolding clap_on_literals
+is_copy = record { met = refl; quiet = refl; found = refl }
+
+is_copy_out : IsOption built_copy nothing_held (codes "--out") (codes "out")
+unfolding clap_on_literals
+is_copy_out = record { letter = Some letter_o; needed = true; by_id = refl; met = refl; quiet = refl }
+
+-- what `--out OUT` leaves
+abbrev copy_out_held : Text → Held
+copy_out_held = value_held built_copy.rules nothing_held (codes "out")
+
+-- what is held before FILE, after these words
+abbrev copy_held : Text → List Text → Held
+copy_held out words = (walk_on built_copy (walk_from (copy_out_held out)) words).held
+
+-- the words for the flags pass, and FILE may come after them, for this call
+abbrev IsPlainCopy : Text → List Text → (Text → Call) → Type 0
+IsPlainCopy out words call = Passes built_copy (walk_from (copy_out_held out)) words (walk_from (copy_held out words)) × TakesFile built_copy (copy_held out words) call
+
+plain-copy-choice : (out : Text) (strip short trim : Bool) → IsPlainCopy out (option_words (choice strip short trim)) (to_copy out (Written (choice strip short trim)) false)
+unfolding clap_on_literals
+plain-copy-choice out true true true = ((refl, refl), (record { by_index = refl; other = refl; quiet = refl; late = λ file. refl }, λ file. refl))
+plain-copy-choice out true true false = ((refl, refl), (record { by_index = refl; other = refl; quiet = refl; late = λ file. refl }, λ file. refl))
+plain-copy-choice out true false true = ((refl, refl), (record { by_index = refl; other = refl; quiet = refl; late = λ file. refl }, λ file. refl))
+plain-copy-choice out true false false = ((refl, refl), (record { by_index = refl; other = refl; quiet = refl; late = λ file. refl }, λ file. refl))
+plain-copy-choice out false true true = ((refl, refl), (record { by_index = refl; other = refl; quiet = refl; late = λ file. refl }, λ file. refl))
+plain-copy-choice out false true false = ((refl, refl), (record { by_index = refl; other = refl; quiet = refl; late = λ file. refl }, λ file. refl))
+plain-copy-choice out false false true = ((refl, refl), (record { by_index = refl; other = refl; quiet = refl; late = λ file. refl }, λ file. refl))
+plain-copy-choice out false false false = ((refl, refl), (record { by_index = refl; other = refl; quiet = refl; late = λ file. refl }, λ file. refl))
+
+plain-normal : (out : Text) → IsPlainCopy out (codes "--normal" ∷ []) (to_copy out Normal false)
+unfolding clap_on_literals
+plain-normal out = ((refl, refl), (record { by_index = refl; other = refl; quiet = refl; late = λ file. refl }, λ file. refl))
+
+module _ (program out file : Text) (plain_out : IsNoFlag out) (plain_file : IsNoFlag file) where
+  calls-copy-words : (words : List Text) (call : Text → Call) → IsPlainCopy out words call → Calls (program ∷ codes "copy" ∷ ((codes "--out" ∷ out ∷ words) ++ file ∷ [])) (call file)
+  calls-copy-words words call is =
+      calls-file program built_copy (codes "--out" ∷ out ∷ words) (copy_held out words) call is_copy
+      (passes-option built_copy nothing_held (codes "--out") (codes "out") out words (walk_from (copy_held out words)) is_copy_out plain_out is.0)
+      is.1 file plain_file
+
+pub calls-copy : (program : Text) (options : LinkOptions) (out file : Text) → IsNoFlag out → IsNoFlag file → Calls (copy_line program options out file) (to_copy out (Written options) false file)
+calls-copy program options out file plain_out plain =
+    calls-copy-words program out file plain_out plain (option_words options) (to_copy out (Written options) false) (plain-copy-choice out options.strip options.short options.trim)
+
+pub calls-normal : (program out file : Text) → IsNoFlag out → IsNoFlag file → Calls (normal_line program out file) (to_copy out Normal false file)
+calls-normal program out file plain_out plain =
+    calls-copy-words program out file plain_out plain (codes "--normal" ∷ []) (to_copy out Normal false) (plain-normal out)
+
+-- ---- `compare`
+
+is_compare : IsSubcommand (built_below compare_shape)
+unfolding clap_on_literals
+is_compare = record { met = refl; quiet = refl; found = refl }
+
+-- what is held before A and B
+abbrev compare_held : Bool → Held
+compare_held with_symbols = (walk_on (built_below compare_shape) (walk_from nothing_held) (word_if with_symbols (codes "--symbols"))).held
+
+passes-symbols : (with_symbols : Bool)
+    → Passes (built_below compare_shape) (walk_from nothing_held) (word_if with_symbols (codes "--symbols")) (walk_from (compare_held with_symbols))
+unfolding clap_on_literals
+passes-symbols true = (refl, refl)
+passes-symbols false = (refl, refl)
+
+takes-compare : (with_symbols : Bool) → TakesTwo (built_below compare_shape) (compare_held with_symbols) (codes "first") (codes "second") (to_compare with_symbols)
+unfolding clap_on_literals
+takes-compare true = record {
+  first = record { by_index = refl; other = refl; quiet = refl };
+  second = λ value. record { by_index = refl; other = refl; quiet = refl };
+  late = λ first second. refl;
+  call_is = λ first second. refl;
+}
+takes-compare false = record {
+  first = record { by_index = refl; other = refl; quiet = refl };
+  second = λ value. record { by_index = refl; other = refl; quiet = refl };
+  late = λ first second. refl;
+  call_is = λ first second. refl;
+}
+
+pub calls-compare : (program : Text) (with_symbols : Bool) (first second : Text) → IsNoFlag first → IsNoFlag second
+    → Calls (compare_line program with_symbols first second) (to_compare with_symbols first second)
+calls-compare program with_symbols =
+    calls-two program (built_below compare_shape) (word_if with_symbols (codes "--symbols")) (compare_held with_symbols) (codes "first") (codes "second") (to_compare with_symbols) is_compare
+    (passes-symbols with_symbols) (takes-compare with_symbols)

@@ -1,5 +1,5 @@
 -- A use of an argument with which nothing is wrong, and a default, leave a value in each row.
-use Rattle.std.proofs.Common.{◌≡◌, ◌∙◌, ◌⊎◌, ◌<◌, ◌≤◌, ◌&&◌, ◌||◌, ◌==◌, ℕ, zero, suc, Bool, true, false, cond, ap, append-nil, refl, subst, sym, inl, inr, arith, List, [], ◌∷◌, ◌++◌, codes, length, length-append, lt-ltb, Option, Some, None, is_some}
+use Rattle.std.proofs.Common.{◌≡◌, ◌∙◌, ◌⊎◌, ◌≤◌, ◌&&◌, ◌||◌, ◌==◌, ℕ, zero, suc, Bool, true, false, cond, ap, append-nil, refl, subst, sym, inl, inr, arith, List, [], ◌∷◌, ◌++◌, codes, length, length-append, lt-ltb, Option, Some, None, is_some}
 use Rattle.std.specs.Prelude.{⊤, find, fold, if◌then◌else◌, slice_get}
 use Rattle.std.specs.Option.{option_and_then, option_map, option_map_or}
 use Rattle.std.specs.Str.{bytes_eq}
@@ -9,7 +9,7 @@ use Rattle.std.proofs.lemmas.Slice.Eq.{bytes_eq-Decides}
 use Rattle.clap.specs.Facts.{explicit_source, unwrap_or_range}
 use Rattle.clap.specs.Kinds.{Kinds, or_else, range_kinds}
 use Rattle.clap.specs.Values.{bool_text}
-use Rattle.clap.specs.Walk.{Row, Rule, Text, action_of, all_of, at_row, default_rows, first_of, has_row, is_empty, more_values, most_values, reading_by, row_text, used, values_or_missing, with_default, with_values, without}
+use Rattle.clap.specs.Walk.{Row, Rule, Text, action_of, all_of, at_row, default_rows, has_row, is_empty, more_values, most_values, reading_by, row_text, used, values_or_missing, with_default, with_values, without}
 use Rattle.clap.specs.Takes.{is_given}
 use Rattle.clap.specs.Words.{one_text, rows_of}
 use Rattle.clap.specs.declared.parser.matches.Found.{Found}
@@ -32,7 +32,7 @@ pub record IsFlagRow (r : Row) (given : Bool) : Type 0 where
 
 -- the names of the flags
 abbrev pub is_flag : Text → Bool
-is_flag id = bytes_eq id (codes "strip") || (bytes_eq id (codes "short") || (bytes_eq id (codes "trim") || (bytes_eq id (codes "srec") || (bytes_eq id (codes "symbols") || (bytes_eq id (codes "json") || bytes_eq id (codes "explain"))))))
+is_flag id = bytes_eq id (codes "strip") || (bytes_eq id (codes "short") || (bytes_eq id (codes "trim") || (bytes_eq id (codes "srec") || (bytes_eq id (codes "symbols") || (bytes_eq id (codes "json") || (bytes_eq id (codes "normal") || bytes_eq id (codes "explain")))))))
 
 -- the row has a value, and if it is that of a flag, it is the row of one
 abbrev pub IsFilledRow : Row → Type 0

@@ -1,23 +1,28 @@
 -- The status after the plain forms, and where memory ran out.
 use Rattle.std.proofs.Common.{◌∷◌, [], Bool, inl, inr, List, Option, refl, subst, ℕ}
 use Rattle.std.specs.Prelude.{⊤}
-use Rattle.hunk_commands.specs.Request.{Ends, EndsImage, EndsLink, EndsLoad, EndsSurvey, EndsText, EndsVersion, NoMore, shown}
+use Rattle.hunk_commands.specs.Request.{Ends, EndsCompare, EndsCopy, EndsImage, EndsLink, EndsLoad, EndsSurvey, EndsText, EndsVersion, NoMore, shown}
+use Rattle.hunk_commands.specs.Compare.{IsCompareFailure}
+use Rattle.hunk_commands.specs.Copy.{IsCopyFailure}
 use Rattle.hunk_commands.specs.Devices.{IsCutShort}
-use Rattle.hunk_commands.specs.Explain.{AreImageLines, AreLinkLines, AreLoadLines, AreTextLines, IfAsked}
+use Rattle.hunk_commands.specs.Explain.{AreImageLines, AreLinkLines, AreLoadFileLines, AreLoadLines, AreTextLines, IfAsked}
+use Rattle.hunk_commands.specs.Failure.{status_of_comparison}
 use Rattle.hunk_commands.specs.Image.{IsImageFailure}
 use Rattle.hunk_commands.specs.Link.{IsUndone}
 use Rattle.hunk_commands.specs.Load.{IsLoadFailure}
 use Rattle.hunk_commands.specs.Text.{IsTextFailure}
 use Rattle.hunk_commands.specs.Version.{IsVersionFailure}
+use Rattle.hunk_tool.specs.declared.tool_fault.ToolFault.TheVariants as tool_fault
+use Rattle.hunk_commands.specs.declared.failure.Failure.TheVariants.{Tool}
 use Rattle.hunk_commands.specs.declared.text.Text.{Text}
 use Rattle.hunk_commands.specs.declared.text.Text.TheVariants.{Line}
 use Rattle.hunk_commands.specs.declared.request.Request.{Request}
-use Rattle.hunk_commands.specs.declared.request.Request.TheVariants.{Load, Link, Image, Check, Show, Survey, Version, Help, Refused, OutOfMemory}
+use Rattle.hunk_commands.specs.declared.request.Request.TheVariants.{Load, Link, Image, Check, Show, Survey, Copy, Compare, Version, Help, Refused, OutOfMemory}
 use Rattle.hunk_commands.proofs.LinkLemmas.{IsUndone-memory}
-use Rattle.hunk_commands.proofs.RequestLemmas.{not_begun}
+use Rattle.hunk_commands.proofs.RequestLemmas.{fails_with, not_begun}
 use Rattle.amihunk.specs.CommandLine.{Call, Meaning, Means}
 use Rattle.amihunk.specs.CommandLine.Meaning.{calls, help, nothing, rejection, version}
-use Rattle.amihunk.specs.CommandLine.Call.{conflict, to_check, to_image, to_link, to_load, to_show, to_survey}
+use Rattle.amihunk.specs.CommandLine.Call.{conflict, to_check, to_compare, to_copy, to_image, to_link, to_load, to_show, to_survey}
 
 module _ {W : Type 0} (taken : W → Option (List ℕ)) (failed : W → Bool) (old new : W) where
   -- the status after a call; a conflict has none
@@ -28,6 +33,8 @@ module _ {W : Type 0} (taken : W → Option (List ℕ)) (failed : W → Bool) (o
   EndsCall (to_check explain file) status = EndsText taken failed old new Line explain file status
   EndsCall (to_show json explain file) status = EndsText taken failed old new (shown json) explain file status
   EndsCall (to_survey files) status = EndsSurvey taken failed old new files status
+  EndsCall (to_copy out form explain file) status = EndsCopy taken failed old new out form explain file status
+  EndsCall (to_compare with_symbols first second) status = EndsCompare taken failed old new with_symbols first second status
   EndsCall conflict status = Ends taken failed old new OutOfMemory status
 
   -- the status of a text about FILE where memory ran out
@@ -45,6 +52,10 @@ module _ {W : Type 0} (taken : W → Option (List ℕ)) (failed : W → Bool) (o
   ends_memory (to_check explain file) status ends = ends_text Line explain file status ends
   ends_memory (to_show json explain file) status ends = ends_text (shown json) explain file status ends
   ends_memory (to_survey files) status ends = inr (not_begun taken failed IsCutShort NoMore [] status old new refl ends)
+  ends_memory (to_copy out form explain file) status ends =
+      inr (not_begun taken failed (IsCopyFailure form file out) (IfAsked explain (AreLoadFileLines (file ∷ []))) (file ∷ []) status old new (inr refl) ends)
+  ends_memory (to_compare with_symbols first second) status ends =
+      inr (fails_with status_of_comparison taken failed (IsCompareFailure with_symbols first second) NoMore (first ∷ second ∷ []) status old new (Tool (tool_fault.OutOfMemory 0)) (inl refl) ends.0 ends.1)
   ends_memory conflict status ends = ends
 
   -- the status where this was asked for; of help and rejections nothing is said
@@ -67,6 +78,8 @@ module _ {W : Type 0} (taken : W → Option (List ℕ)) (failed : W → Bool) (o
   ends_asked m (Check explain file) status asks ends = subst (λ x. EndsAsked x status) asks ends
   ends_asked m (Show json explain file) status asks ends = subst (λ x. EndsAsked x status) asks ends
   ends_asked m (Survey files) status asks ends = subst (λ x. EndsAsked x status) asks ends
+  ends_asked m (Copy out form explain file) status asks ends = subst (λ x. EndsAsked x status) asks ends
+  ends_asked m (Compare with_symbols first second) status asks ends = subst (λ x. EndsAsked x status) asks ends
   ends_asked m Version status asks ends = subst (λ x. EndsAsked x status) asks ends
   ends_asked m (Help text) status asks ends = subst (λ x. EndsAsked x status) asks tt
   ends_asked m (Refused text) status asks ends = subst (λ x. EndsAsked x status) asks tt

@@ -1,5 +1,5 @@
 -- What the arguments of a command line ask for, as `clap` reads them.
-use Rattle.std.specs.Prelude.{◌≡◌, ◌≢◌, ◌⊎◌, ⊤, ◌∷◌, ◌++◌, Bool, List, [], true, false, codes, find, if◌then◌else◌, is_some, option_map, option_and_then, unwrap_or, Option, Some, None}
+use Rattle.std.specs.Prelude.{◌≡◌, ◌≢◌, ◌⊎◌, ◌||◌, ⊤, ◌∷◌, ◌++◌, Bool, List, [], true, false, codes, find, if◌then◌else◌, is_some, option_map, option_and_then, unwrap_or, Option, Some, None}
 use Rattle.std.specs.Str.{bytes_eq}
 use Rattle.clap.specs.Takes.{is_given}
 use Rattle.clap.specs.Simple.{built}
@@ -12,6 +12,8 @@ use Rattle.clap.specs.declared.error.ErrorKind.{ErrorKind}
 use Rattle.clap.specs.declared.error.ErrorKind.TheVariants as error
 use Rattle.hunk_memory.specs.declared.image_form.ImageForm.{ImageForm}
 use Rattle.hunk_memory.specs.declared.image_form.ImageForm.TheVariants.{Report, SRecords}
+use Rattle.hunk_tool.specs.declared.copy.CopyForm.{CopyForm}
+use Rattle.hunk_tool.specs.declared.copy.CopyForm.TheVariants.{Normal, Written}
 use Rattle.hunk_tool.specs.declared.link_options.LinkOptions.{LinkOptions}
 use Rattle.hunk_commands.specs.Addresses.{Origin, origin_of}
 use Rattle.hunk_commands.specs.Addresses.Origin.{in_file, in_list}
@@ -19,10 +21,10 @@ use Rattle.hunk_commands.specs.Request.{given_text}
 use Rattle.hunk_commands.specs.declared.load.LoadText.{LoadText}
 use Rattle.hunk_commands.specs.declared.load.LoadText.TheVariants as load_text
 use Rattle.hunk_commands.specs.declared.request.Request.{Request}
-use Rattle.hunk_commands.specs.declared.request.Request.TheVariants.{Link, Load, Image, Check, Show, Survey, Version, Help, Refused, OutOfMemory}
+use Rattle.hunk_commands.specs.declared.request.Request.TheVariants.{Link, Load, Image, Check, Show, Survey, Copy, Compare, Version, Help, Refused, OutOfMemory}
 use Rattle.amihunk.specs.Syntax.{command_line}
 use Rattle.amihunk.specs.declared.command_line.Conflict.{Conflict}
-use Rattle.amihunk.specs.declared.command_line.Conflict.TheVariants.{Texts, TwoAddresses, NoAddresses}
+use Rattle.amihunk.specs.declared.command_line.Conflict.TheVariants.{Texts, TwoAddresses, NoAddresses, NormalAndExplain, NormalAndShort, NormalAndStrip, NormalAndTrim}
 
 -- ---- what was found for the arguments of a subcommand
 
@@ -72,6 +74,8 @@ pub data Call : Type 0 where
   to_check : (explain : Bool) (file : Text) → Call
   to_show : (json explain : Bool) (file : Text) → Call
   to_survey : (files : List Text) → Call
+  to_copy : (out : Text) (form : CopyForm) (explain : Bool) (file : Text) → Call
+  to_compare : (with_symbols : Bool) (first second : Text) → Call
   conflict : Call
 
 -- the value of an argument that has one, and the files
@@ -110,10 +114,33 @@ image_call None form explain files = conflict
 abbrev pub origin_in : List Row → Option Origin
 origin_in rows = origin_by (first_of (codes "at") rows) (first_of (codes "at-file") rows)
 
+-- how the load file is written
+abbrev pub options_in : List Row → LinkOptions
+options_in rows = record { strip = is_given (codes "strip") rows; short = is_given (codes "short") rows; trim = is_given (codes "trim") rows }
+
 abbrev pub link_in : List Row → Call
-link_in rows = to_link (value_in (codes "out") rows) (first_of (codes "map") rows)
-    (record { strip = is_given (codes "strip") rows; short = is_given (codes "short") rows; trim = is_given (codes "trim") rows })
-    (is_given (codes "explain") rows) (files_in rows)
+link_in rows = to_link (value_in (codes "out") rows) (first_of (codes "map") rows) (options_in rows) (is_given (codes "explain") rows) (files_in rows)
+
+-- one of the options is chosen
+abbrev pub is_chosen : LinkOptions → Bool
+is_chosen options = options.strip || (options.short || options.trim)
+
+-- what is asked of a copy, by `--normal`, the options and `--explain`: with the first goes no other
+abbrev pub copy_form_by : (normal : Bool) → LinkOptions → (explain : Bool) → Option CopyForm
+copy_form_by false options explain = Some (Written options)
+copy_form_by true options explain = if is_chosen options || explain then None else Some Normal
+
+abbrev pub copy_call : Text → Option CopyForm → Bool → Text → Call
+copy_call out (Some form) explain file = to_copy out form explain file
+copy_call out None explain file = conflict
+
+abbrev pub copy_in : List Row → Call
+copy_in rows = copy_call (value_in (codes "out") rows)
+    (copy_form_by (is_given (codes "normal") rows) (options_in rows) (is_given (codes "explain") rows))
+    (is_given (codes "explain") rows) (value_in (codes "file") rows)
+
+abbrev pub compare_in : List Row → Call
+compare_in rows = to_compare (is_given (codes "symbols") rows) (value_in (codes "first") rows) (value_in (codes "second") rows)
 
 abbrev pub load_in : List Row → Call
 load_in rows = load_call (origin_in rows) (text_by (is_given (codes "srec") rows) (is_given (codes "symbols") rows))
@@ -129,7 +156,8 @@ show_in rows = to_show (is_given (codes "json") rows) (is_given (codes "explain"
 abbrev pub subcommands : List (Text × (List Row → Call))
 subcommands = (codes "link", link_in) ∷ (codes "load", load_in) ∷ (codes "image", image_in)
     ∷ (codes "check", λ rows. to_check (is_given (codes "explain") rows) (value_in (codes "file") rows))
-    ∷ (codes "show", show_in) ∷ (codes "survey", λ rows. to_survey (files_in rows)) ∷ []
+    ∷ (codes "show", show_in) ∷ (codes "survey", λ rows. to_survey (files_in rows))
+    ∷ (codes "copy", copy_in) ∷ (codes "compare", compare_in) ∷ []
 
 abbrev pub call_of : Met → Option Call
 call_of = option_and_then (λ met. option_map (λ s. s.1 met.1) (find (λ s. bytes_eq s.0 met.0) subcommands))
@@ -151,6 +179,8 @@ meaning (Image addresses form explain files) = calls (to_image (origin_of addres
 meaning (Check explain file) = calls (to_check explain file.now)
 meaning (Show json explain file) = calls (to_show json explain file.now)
 meaning (Survey files) = calls (to_survey (texts files.items))
+meaning (Copy out form explain file) = calls (to_copy out.now form explain file.now)
+meaning (Compare with_symbols first second) = calls (to_compare with_symbols first.now second.now)
 meaning Version = version
 meaning (Help text) = help
 meaning (Refused text) = rejection
@@ -160,6 +190,10 @@ meaning OutOfMemory = nothing
 abbrev pub conflict_kind : Conflict → ErrorKind
 conflict_kind Texts = error.ArgumentConflict
 conflict_kind TwoAddresses = error.ArgumentConflict
+conflict_kind NormalAndStrip = error.ArgumentConflict
+conflict_kind NormalAndShort = error.ArgumentConflict
+conflict_kind NormalAndTrim = error.ArgumentConflict
+conflict_kind NormalAndExplain = error.ArgumentConflict
 conflict_kind NoAddresses = error.MissingRequiredArgument
 
 -- the request is the call that was found, or rejects a conflict; nothing is said if memory runs out
@@ -303,6 +337,18 @@ show_line program json file = program ∷ codes "show" ∷ (json_words json ++ f
 -- the arguments `PROGRAM survey FILE...`
 abbrev pub survey_line : Text → List Text → List Text
 survey_line program files = program ∷ codes "survey" ∷ files
+
+-- the arguments `PROGRAM copy --out OUT [--strip] [--short] [--trim] FILE`
+abbrev pub copy_line : Text → LinkOptions → Text → Text → List Text
+copy_line program options out file = program ∷ codes "copy" ∷ codes "--out" ∷ out ∷ (option_words options ++ file ∷ [])
+
+-- the arguments `PROGRAM copy --out OUT --normal FILE`
+abbrev pub normal_line : Text → Text → Text → List Text
+normal_line program out file = program ∷ codes "copy" ∷ codes "--out" ∷ out ∷ codes "--normal" ∷ file ∷ []
+
+-- the arguments `PROGRAM compare [--symbols] A B`
+abbrev pub compare_line : Text → Bool → Text → Text → List Text
+compare_line program with_symbols first second = program ∷ codes "compare" ∷ (word_if with_symbols (codes "--symbols") ++ first ∷ second ∷ [])
 
 -- the request means this, or memory ran out
 abbrev pub IsOrNothing : Meaning → Meaning → Type 0

@@ -31,9 +31,13 @@ letter_s = 115
 abbrev pub out_rule : Rule
 out_rule = required_rule (with_letter letter_o (option_rule (codes "out")))
 
+-- an argument with this name, which is required
+abbrev pub value_rule : Text → Rule
+value_rule name = record (new_rule name) { value_names = 1; required = true }
+
 -- `FILE`, which is required
 abbrev pub file_rule : Rule
-file_rule = record (new_rule (codes "file")) { value_names = 1; required = true }
+file_rule = value_rule (codes "file")
 
 -- `FILE...`, at least one of which is required
 abbrev pub files_rule : Rule
@@ -89,8 +93,18 @@ bare_app = record { top = record (new_app (codes "amihunk")).top { has_version =
 abbrev pub survey_shape : Shape
 survey_shape = (with_rule (new_app (codes "survey")) files_rule).top
 
--- the command line that the program accepts; of `--at` and `--at-file` it wants one, which no rule of
--- `clap` says
+-- `copy --out OUT [--strip] [--short] [--trim] [--normal] [--explain] FILE`, where `-o` is `--out`
+abbrev pub copy_shape : Shape
+copy_shape = (with_rule (with_rule (with_rule
+    (given_flags (with_rule (new_app (codes "copy")) out_rule)) (flag_rule (codes "normal"))) explain_rule) file_rule).top
+
+-- `compare [--symbols] A B`
+abbrev pub compare_shape : Shape
+compare_shape = (with_rule (with_rule (with_rule
+    (new_app (codes "compare")) (flag_rule (codes "symbols"))) (value_rule (codes "first"))) (value_rule (codes "second"))).top
+
+-- the command line that the program accepts; of `--at` and `--at-file` it wants one, and `--normal` stands
+-- alone, which no rule of `clap` says
 abbrev pub command_line : App
-command_line = with_subcommand (with_subcommand (with_subcommand (with_subcommand (with_subcommand (with_subcommand
-    bare_app link_shape) load_shape) image_shape) check_shape) show_shape) survey_shape
+command_line = with_subcommand (with_subcommand (with_subcommand (with_subcommand (with_subcommand (with_subcommand (with_subcommand (with_subcommand
+    bare_app link_shape) load_shape) image_shape) check_shape) show_shape) survey_shape) copy_shape) compare_shape

@@ -5,21 +5,21 @@ ghost use Rattle.clap.specs.Walk.{texts};
 ghost use Rattle.clap.specs.Words.{FailsBy, fault_of, first_of, found_of, kind_of, rows_of, subcommand_of, subcommand_rows_of};
 ghost use Rattle.amihunk.specs.Syntax.{command_line};
 ghost use Rattle.amihunk.specs.CommandLine.{Answers, Asks, HasValue, IsAskedBy, IsFlag, IsNoFlag, IsNoFlagIn, IsVersionWord, IsWhole, Means};
-ghost use Rattle.amihunk.specs.CommandLine.{Says, brief_link_line, conflict_kind, file_line, files_in, form_by, image_line, link_line, load_line};
+ghost use Rattle.amihunk.specs.CommandLine.{Says, brief_link_line, compare_line, conflict_kind, copy_form_by, copy_line, file_line, files_in, form_by, image_line, link_line, load_line, normal_line, options_in};
 ghost use Rattle.amihunk.specs.CommandLine.{origin_in, show_line, survey_line, text_by, text_in, value_in, version_line};
 ghost use Rattle.amihunk.specs.CommandLine.Meaning.{rejection, version};
-ghost use Rattle.amihunk.specs.CommandLine.Call.{to_check, to_image, to_link, to_load, to_show, to_survey};
+ghost use Rattle.amihunk.specs.CommandLine.Call.{to_check, to_compare, to_copy, to_image, to_link, to_load, to_show, to_survey};
 ghost use Rattle.hunk_commands.specs.Addresses.{Origin, origin_of};
 ghost use Rattle.hunk_commands.specs.Request.{given_text};
 ghost use Rattle.hunk_commands.specs.declared.load.LoadText.{LoadText};
 ghost use Rattle.hunk_memory.specs.declared.image_form.ImageForm.{ImageForm};
 ghost use Rattle.hunk_tool.specs.declared.link_options.LinkOptions.{LinkOptions};
 
-use crate::syntax::{command, image_command, load_command};
+use crate::syntax::{command, copy_command, image_command, load_command};
 use clap::error::ErrorKind;
 use clap::{ArgMatches, Command, Error};
 use hunk_commands::{Addresses, LoadText, Request};
-use hunk_tool::{ImageForm, LinkOptions};
+use hunk_tool::{CopyForm, ImageForm, LinkOptions};
 use std::alloc::{AllocError, Global};
 use std::convert::AsStr;
 
@@ -47,6 +47,15 @@ pub fn read_words<'a, S: AsStr>(alloc: Global, words: &'a [S]) -> Request<'a>
     ensures survey { (program : List ℕ) (files : List (List ℕ))
         → map S.text words.entry.now ≡ survey_line program files
         → 0 < length files → All IsNoFlag files → Asks (to_survey files) result }
+    ensures copy { (program : List ℕ) (options : LinkOptions) (out file : List ℕ)
+        → map S.text words.entry.now ≡ copy_line program options out file
+        → IsNoFlag out → IsNoFlag file → Asks (to_copy out (CopyForm.Written options) false file) result }
+    ensures normal { (program out file : List ℕ)
+        → map S.text words.entry.now ≡ normal_line program out file
+        → IsNoFlag out → IsNoFlag file → Asks (to_copy out CopyForm.Normal false file) result }
+    ensures compare { (program : List ℕ) (with_symbols : Bool) (first second : List ℕ)
+        → map S.text words.entry.now ≡ compare_line program with_symbols first second
+        → IsNoFlag first → IsNoFlag second → Asks (to_compare with_symbols first second) result }
     ensures version { (program word : List ℕ)
         → map S.text words.entry.now ≡ version_line program word → IsVersionWord word → Means version result }
 {
@@ -103,6 +112,8 @@ fn request_of<'a>(alloc: Global, matches: &ArgMatches<'a>) -> Result<Request<'a>
         Some(("check", values)) => Ok(check_request(values)),
         Some(("show", values)) => Ok(show_request(values)),
         Some(("survey", values)) => survey_request(alloc, values),
+        Some(("copy", values)) => copy_request(alloc, values),
+        Some(("compare", values)) => Ok(compare_request(values)),
         _ => unreachable!(),
     }
 }
@@ -115,11 +126,7 @@ fn link_request<'a>(alloc: Global, values: &ArgMatches<'a>) -> Result<Request<'a
     Ok(Request::Link {
         out: value_of(values, "out"),
         map: optional_value(values, "map"),
-        options: LinkOptions {
-            strip: is_set(values, "strip"),
-            short: is_set(values, "short"),
-            trim: is_set(values, "trim"),
-        },
+        options: options_of(values),
         explain: is_set(values, "explain"),
         files: files_of(alloc, values)?,
     })
@@ -205,6 +212,71 @@ fn survey_request<'a>(alloc: Global, values: &ArgMatches<'a>) -> Result<Request<
     })
 }
 
+/// The request of a parse that found the subcommand `copy`.
+fn copy_request<'a>(alloc: Global, values: &ArgMatches<'a>) -> Result<Request<'a>, AllocError>
+    requires { IsWhole (Some (codes "copy", rows_of (found_of values.now))) }
+    ensures { IfOk result (Says (Some (codes "copy", rows_of (found_of values.now)))) }
+{
+    match copy_form(
+        is_set(values, "normal"),
+        options_of(values),
+        is_set(values, "explain"),
+    ) {
+        Ok(form) => Ok(Request::Copy {
+            out: value_of(values, "out"),
+            form,
+            explain: is_set(values, "explain"),
+            file: value_of(values, "file"),
+        }),
+        Err(conflict) => {
+            let copy = copy_command(alloc)?.bin_name("amihunk copy")?;
+            refuse(alloc, copy, conflict)
+        }
+    }
+}
+
+/// What is asked of a copy: its normal form goes with no other flag.
+fn copy_form(normal: bool, options: LinkOptions, explain: bool) -> Result<CopyForm, Conflict>
+    ensures { MatchResult result
+        (λ form. copy_form_by normal options explain ≡ Some form)
+        (λ conflict. (copy_form_by normal options explain ≡ None) × (conflict_kind conflict ≡ ErrorKind.ArgumentConflict)) }
+{
+    match (normal, options, explain) {
+        (false, options, _) => Ok(CopyForm::Written(options)),
+        (true, LinkOptions { strip: true, .. }, _) => Err(Conflict::NormalAndStrip),
+        (true, LinkOptions { short: true, .. }, _) => Err(Conflict::NormalAndShort),
+        (true, LinkOptions { trim: true, .. }, _) => Err(Conflict::NormalAndTrim),
+        (true, _, true) => Err(Conflict::NormalAndExplain),
+        (true, _, false) => Ok(CopyForm::Normal),
+    }
+}
+
+/// The request of a parse that found the subcommand `compare`.
+fn compare_request<'a>(values: &ArgMatches<'a>) -> Request<'a>
+    requires { IsWhole (Some (codes "compare", rows_of (found_of values.now))) }
+    ensures { Says (Some (codes "compare", rows_of (found_of values.now))) result }
+{
+    Request::Compare {
+        with_symbols: is_set(values, "symbols"),
+        first: value_of(values, "first"),
+        second: value_of(values, "second"),
+    }
+}
+
+/// How a load file is to be written.
+fn options_of(values: &ArgMatches<'_>) -> LinkOptions
+    requires strip { IsFlag (rows_of (found_of values.now)) (codes "strip") }
+    requires short { IsFlag (rows_of (found_of values.now)) (codes "short") }
+    requires trim { IsFlag (rows_of (found_of values.now)) (codes "trim") }
+    ensures { result ≡ options_in (rows_of (found_of values.now)) }
+{
+    LinkOptions {
+        strip: is_set(values, "strip"),
+        short: is_set(values, "short"),
+        trim: is_set(values, "trim"),
+    }
+}
+
 /// Arguments that exclude each other, or of which one is missing.
 #[derive(Clone, Copy)]
 enum Conflict {
@@ -214,6 +286,14 @@ enum Conflict {
     TwoAddresses,
     /// Neither `--at` nor `--at-file`.
     NoAddresses,
+    /// `--normal` and `--strip`.
+    NormalAndStrip,
+    /// `--normal` and `--short`.
+    NormalAndShort,
+    /// `--normal` and `--trim`.
+    NormalAndTrim,
+    /// `--normal` and `--explain`.
+    NormalAndExplain,
 }
 
 impl Conflict {
@@ -222,8 +302,13 @@ impl Conflict {
         ensures { result ≡ conflict_kind self }
     {
         match self {
-            Conflict::Texts | Conflict::TwoAddresses => ErrorKind::ArgumentConflict,
             Conflict::NoAddresses => ErrorKind::MissingRequiredArgument,
+            Conflict::Texts
+            | Conflict::TwoAddresses
+            | Conflict::NormalAndStrip
+            | Conflict::NormalAndShort
+            | Conflict::NormalAndTrim
+            | Conflict::NormalAndExplain => ErrorKind::ArgumentConflict,
         }
     }
 
@@ -233,6 +318,12 @@ impl Conflict {
             Conflict::Texts => "the argument '--srec' cannot be used with '--symbols'",
             Conflict::TwoAddresses => {
                 "the argument '--at <LIST>' cannot be used with '--at-file <FILE>'"
+            }
+            Conflict::NormalAndStrip => { "the argument '--normal' cannot be used with '--strip'" }
+            Conflict::NormalAndShort => { "the argument '--normal' cannot be used with '--short'" }
+            Conflict::NormalAndTrim => "the argument '--normal' cannot be used with '--trim'",
+            Conflict::NormalAndExplain => {
+                "the argument '--normal' cannot be used with '--explain'"
             }
             Conflict::NoAddresses => {
                 "the following required arguments were not provided:\n  <--at <LIST>|--at-file <FILE>>"

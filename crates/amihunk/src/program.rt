@@ -2,13 +2,14 @@
 ghost use Rattle.std.specs.Prelude.{◌≡◌, ◌<◌, ◌≤◌, ℕ, Bool, List, Option, codes, false, length, map};
 ghost use Rattle.std.specs.List.{All};
 ghost use Rattle.hunk_memory.specs.declared.image_form.ImageForm.{ImageForm};
+ghost use Rattle.hunk_tool.specs.declared.copy.CopyForm.{CopyForm};
 ghost use Rattle.hunk_tool.specs.declared.link_options.LinkOptions.{LinkOptions};
 ghost use Rattle.hunk_commands.specs.Addresses.{Origin};
 ghost use Rattle.hunk_commands.specs.declared.load.LoadText.{LoadText};
-ghost use Rattle.hunk_commands.specs.Request.{EndsImage, EndsLink, EndsLoad, EndsSurvey, EndsText, EndsVersion, shown};
+ghost use Rattle.hunk_commands.specs.Request.{EndsCompare, EndsCopy, EndsImage, EndsLink, EndsLoad, EndsSurvey, EndsText, EndsVersion, shown};
 ghost use Rattle.amihunk.specs.Program.{EndsLine, EndsStart};
-ghost use Rattle.amihunk.specs.CommandLine.{IsNoFlag, IsNoFlagIn, IsVersionWord, brief_link_line, file_line, image_line, link_line, load_line};
-ghost use Rattle.amihunk.specs.CommandLine.{show_line, survey_line, text_in, version_line};
+ghost use Rattle.amihunk.specs.CommandLine.{IsNoFlag, IsNoFlagIn, IsVersionWord, brief_link_line, compare_line, copy_line, file_line, image_line, link_line, load_line};
+ghost use Rattle.amihunk.specs.CommandLine.{normal_line, show_line, survey_line, text_in, version_line};
 
 use crate::command_line::{read_words, refuse_bytes};
 use hunk_commands::{Request, Text, answer};
@@ -69,6 +70,15 @@ pub fn run<R: Files + Print + AllocGlobal, W: Sink, S: AsStr>(
     ensures survey { (program : List ℕ) (files : List (List ℕ))
         → map S.text words.now ≡ survey_line program files
         → 0 < length files → All IsNoFlag files → EndsSurvey W.taken W.failed errors.old errors.new files result }
+    ensures copy { (program : List ℕ) (options : LinkOptions) (out file : List ℕ)
+        → map S.text words.now ≡ copy_line program options out file
+        → IsNoFlag out → IsNoFlag file → EndsCopy W.taken W.failed errors.old errors.new out (CopyForm.Written options) false file result }
+    ensures normal { (program out file : List ℕ)
+        → map S.text words.now ≡ normal_line program out file
+        → IsNoFlag out → IsNoFlag file → EndsCopy W.taken W.failed errors.old errors.new out CopyForm.Normal false file result }
+    ensures compare { (program : List ℕ) (with_symbols : Bool) (first second : List ℕ)
+        → map S.text words.now ≡ compare_line program with_symbols first second
+        → IsNoFlag first → IsNoFlag second → EndsCompare W.taken W.failed errors.old errors.new with_symbols first second result }
     ensures version { (program word : List ℕ)
         → map S.text words.now ≡ version_line program word → IsVersionWord word → EndsVersion W.taken W.failed errors.old errors.new result }
 {

@@ -1,9 +1,9 @@
 //! The command line that the program accepts, as `clap` is told of it.
 ghost use Rattle.std.specs.Prelude.{◌≡◌, IfOk, codes, false};
-ghost use Rattle.clap.specs.Words.{Shape, app_of, rule_of, shape_of, with_subcommand};
+ghost use Rattle.clap.specs.Words.{Shape, app_of, rule_of, shape_of, with_rule, with_subcommand};
 ghost use Rattle.clap.specs.declared.builder.command.Command.TheViews.{out-Command};
-ghost use Rattle.amihunk.specs.Syntax.{bare_app, check_shape, command_line, explain_rule, file_rule, files_rule, flag_rule, given_addresses, given_flags, given_outputs, given_texts, image_shape, letter_s};
-ghost use Rattle.amihunk.specs.Syntax.{link_shape, load_shape, option_rule, out_rule, show_shape, survey_shape, with_letter};
+ghost use Rattle.amihunk.specs.Syntax.{bare_app, check_shape, command_line, compare_shape, copy_shape, explain_rule, file_rule, files_rule, flag_rule, given_addresses, given_flags, given_outputs, given_texts, image_shape, letter_s};
+ghost use Rattle.amihunk.specs.Syntax.{link_shape, load_shape, option_rule, out_rule, show_shape, survey_shape, value_rule, with_letter};
 
 use clap::{Arg, ArgAction, Command};
 use hunk_commands::VERSION;
@@ -18,7 +18,9 @@ pub fn command<'a>(alloc: Global) -> Result<Command<'a>, AllocError>
     let images = with_subcommand(loads, image_command(alloc))?;
     let checks = with_subcommand(images, check_command(alloc))?;
     let shows = with_subcommand(checks, show_command(alloc))?;
-    with_subcommand(shows, survey_command(alloc))
+    let surveys = with_subcommand(shows, survey_command(alloc))?;
+    let copies = with_subcommand(surveys, copy_command(alloc))?;
+    with_subcommand(copies, compare_command(alloc))
 }
 
 /// The program without its subcommands.
@@ -243,6 +245,64 @@ fn survey_command<'a>(alloc: Global) -> Result<Command<'a>, AllocError>
         .arg(files_argument(alloc, "Object files, load files and any others"))
 }
 
+/// The subcommand `copy --out OUT [--strip] [--short] [--trim] [--normal] [--explain] FILE`, where `-o` is
+/// `--out`, and `-s` is `--strip`. No rule of `clap` keeps `--normal` apart from the other flags: the
+/// command line is judged after the parse.
+pub fn copy_command<'a>(alloc: Global) -> Result<Command<'a>, AllocError>
+    ensures shape { IfOk result (λ c. shape_of c ≡ copy_shape) }
+    ensures local { IfOk result (λ c. (out-Command c).has_globals ≡ false) }
+{
+    let copy = Command::new(alloc, "copy")
+        .about("Writes a load file again, as `link` writes it, or in its normal form")
+        .after_help(help::COPY);
+    with_flags(alloc, with_out(alloc, copy)?)?
+        .arg(normal_flag(alloc))?
+        .arg(explain_flag(alloc))?
+        .arg(file_argument(alloc, "A load file"))
+}
+
+/// A subcommand that is given the load file to write.
+fn with_out<'a>(alloc: Global, command: Command<'a>) -> Result<Command<'a>, AllocError>
+    ensures shape { IfOk result (λ c. app_of c ≡ with_rule (app_of command.entry) out_rule) }
+    ensures local { (out-Command command.entry).has_globals ≡ false → IfOk result (λ c. (out-Command c).has_globals ≡ false) }
+{
+    command.arg(out_argument(alloc))
+}
+
+/// The flag `--normal`.
+fn normal_flag<'a>(alloc: Global) -> Arg<'a>
+    ensures rule { rule_of result ≡ flag_rule (codes "normal") }
+    ensures local { result.global ≡ false }
+{
+    let help = "Writes the normal form, which files that mean the same have in common";
+    flag(alloc, "normal", help)
+}
+
+/// The subcommand `compare [--symbols] A B`.
+fn compare_command<'a>(alloc: Global) -> Result<Command<'a>, AllocError>
+    ensures shape { IfOk result (λ c. shape_of c ≡ compare_shape) }
+    ensures local { IfOk result (λ c. (out-Command c).has_globals ≡ false) }
+{
+    let with_symbols = "Compares symbols and debug blocks too";
+    Command::new(alloc, "compare")
+        .about("Tells whether two load files mean the same, or where they first differ")
+        .after_help(help::COMPARE)
+        .arg(flag(alloc, "symbols", with_symbols))?
+        .arg(value_argument(alloc, "first", "A", "A load file"))?
+        .arg(value_argument(alloc, "second", "B", "Another load file"))
+}
+
+/// The argument VALUE, which is required.
+fn value_argument<'a>(alloc: Global, name: &'a str, value: &'a str, help: &'a str) -> Arg<'a>
+    ensures rule { rule_of result ≡ value_rule name.now }
+    ensures local { result.global ≡ false }
+{
+    Arg::new(alloc, name)
+        .value_name(value)
+        .required(true)
+        .help(help)
+}
+
 /// The argument `--at LIST`.
 fn list_argument<'a>(alloc: Global) -> Arg<'a>
     ensures rule { rule_of result ≡ option_rule (codes "at") }
@@ -277,10 +337,7 @@ fn file_argument<'a>(alloc: Global, help: &'a str) -> Arg<'a>
     ensures rule { rule_of result ≡ file_rule }
     ensures local { result.global ≡ false }
 {
-    Arg::new(alloc, "file")
-        .value_name("FILE")
-        .required(true)
-        .help(help)
+    value_argument(alloc, "file", "FILE", help)
 }
 
 /// The arguments FILE..., for one file or more.

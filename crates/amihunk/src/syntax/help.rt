@@ -120,3 +120,48 @@ files, and how many are of each kind. For example, `amihunk survey disk/*` print
 The exit status is 0 if each FILE is an object file or a load file, 1 if one is neither and each was
 read, 2 if the command line is not understood, 3 if a FILE cannot be read or the lines cannot be
 printed, and 4 if memory runs out.";
+
+/// The end of the help of `copy`.
+pub const COPY: &str = "\
+It reads the load file FILE, and writes it to OUT as `link` would write it: `--strip`, `--short` and
+`--trim` do what they do there. Memory is the same whichever of them are given. OUT may be FILE.
+
+With `--normal`, which goes with no other flag, it writes the normal form: no symbols and debug blocks,
+32-bit lists, and of each hunk no zero longwords at its end. Two files that mean the same have one
+normal form, byte for byte. `--strip --trim` is not that form: it keeps the zeros that an address is
+added to, as not every old loader clears the end of a hunk before it adds addresses there.
+
+For example, this makes a program smaller where it is:
+  amihunk copy --out program --strip --short --trim program
+
+OUT is replaced in one step: whatever fails, it is the old file or the whole new one.
+
+The exit status is 0 if everything was written, 1 if FILE is not a load file, or its symbols and debug
+blocks are too large to be linked, 2 if the command line is not understood, 3 if FILE cannot be read or
+OUT cannot be written, and 4 if memory runs out.";
+
+/// The end of the help of `compare`.
+pub const COMPARE: &str = "\
+Two load files mean the same if they have as many hunks, of the same kinds, memory and sizes, with the
+same bytes and the same relocations: then they are the same in memory, wherever they are loaded. Zeros
+at the end of a hunk that one file stores and the other does not make no difference, nor does the form
+of the files. Nothing is printed if they mean the same, and otherwise one line with the first
+difference of A and B, for example one of
+  hunks: 3 and 4
+  hunk 0 kind: code and data
+  hunk 0 memory: any and chip
+  hunk 0 size: 12 and 16
+  hunk 1 offset 00000012: 4e and 4f
+  hunk 1 site 00000008: hunk 1 and none
+A size is in bytes. A site is an offset to which the address of a hunk is added.
+
+With `--symbols`, files that mean the same are compared further, hunk by hunk: symbol by symbol, and then
+debug block by debug block, for example
+  hunk 0 symbol 2: \"loop\" 00000004 and 00000008
+  hunk 0 symbol 3: \"loop\" 00000010 and none
+  hunk 0 symbol 3: \"loop\" and \"next\"
+  hunk 1 debug 0
+
+The exit status is 0 if nothing differs, 1 if something does, 2 if the command line is not understood
+or A or B is not a load file, 3 if a file cannot be read or the line cannot be printed, and 4 if memory
+runs out.";

@@ -2,7 +2,7 @@ use Rattle.std.proofs.Common.{◌≤◌, arith, length, map}
 use Rattle.std.proofs.lemmas.List.{length-map}
 use Rattle.clap.specs.Lexer.{usize_max}
 use Rattle.amihunk.proofs.CommandLineAnswerLemmas.{asks, asks_version}
-use Rattle.amihunk.proofs.CommandLinePlainLemmas.{calls-brief, calls-check, calls-image, calls-link, calls-load, calls-show, calls-survey}
+use Rattle.amihunk.proofs.CommandLinePlainLemmas.{calls-brief, calls-check, calls-compare, calls-copy, calls-image, calls-link, calls-load, calls-normal, calls-show, calls-survey}
 use Rattle.amihunk.proofs.command_line.read_words.Goals as goal
 
 pub returns : goal.returns
@@ -24,5 +24,11 @@ returns g c =
       check = λ program file is_line plain. asks words _ _ request fits answer is_line (λ _. calls-check program file plain) (λ e. cc);
       show = λ program json file is_line plain. asks words _ _ request fits answer is_line (λ _. calls-show program json file plain) (λ e. cc);
       survey = λ program files is_line some plain. asks words _ _ request fits answer is_line (calls-survey program files some plain) (λ e. cc);
+      copy = λ program options out file is_line plain_out plain.
+          asks words _ _ request fits answer is_line (λ _. calls-copy program options out file plain_out plain) (λ e. cc);
+      normal = λ program out file is_line plain_out plain.
+          asks words _ _ request fits answer is_line (λ _. calls-normal program out file plain_out plain) (λ e. cc);
+      compare = λ program with_symbols first second is_line plain_first plain_second.
+          asks words _ _ request fits answer is_line (λ _. calls-compare program with_symbols first second plain_first plain_second) (λ e. cc);
       version = asks_version words request answer;
     }

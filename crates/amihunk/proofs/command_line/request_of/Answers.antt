@@ -21,6 +21,12 @@ show_request-requires c = whole_at (subcommand_rows_of c.args.matches.now) (code
 pub survey_request-requires : goal.survey_request-requires
 survey_request-requires c = whole_at (subcommand_rows_of c.args.matches.now) (codes "survey") (rows_of (found_of c.in-Some-survey-default.values.now)) (search rules) c.requires
 
+pub copy_request-requires : goal.copy_request-requires
+copy_request-requires c = whole_at (subcommand_rows_of c.args.matches.now) (codes "copy") (rows_of (found_of c.in-Some-copy-default.values.now)) (search rules) c.requires
+
+pub compare_request-requires : goal.compare_request-requires
+compare_request-requires c = whole_at (subcommand_rows_of c.args.matches.now) (codes "compare") (rows_of (found_of c.in-Some-compare-default.values.now)) (search rules) c.requires
+
 pub unreachable-requires : goal.unreachable-requires
 unreachable-requires c = elim (known (subcommand_rows_of c.args.matches.now) c.requires) [
   | inl link ↦ search rules
@@ -29,5 +35,7 @@ unreachable-requires c = elim (known (subcommand_rows_of c.args.matches.now) c.r
   | inr (inr (inr (inl check))) ↦ search rules
   | inr (inr (inr (inr (inl show)))) ↦ search rules
   | inr (inr (inr (inr (inr (inl survey))))) ↦ search rules
-  | inr (inr (inr (inr (inr (inr none))))) ↦ none
+  | inr (inr (inr (inr (inr (inr (inl copy)))))) ↦ search rules
+  | inr (inr (inr (inr (inr (inr (inr (inl compare))))))) ↦ search rules
+  | inr (inr (inr (inr (inr (inr (inr (inr none))))))) ↦ none
 ]

@@ -1,6 +1,7 @@
 use Rattle.std.proofs.Common.{false}
+use Rattle.hunk_tool.specs.declared.copy.CopyForm.TheVariants.{Normal, Written}
 use Rattle.amihunk.specs.CommandLine.Meaning.{calls, version}
-use Rattle.amihunk.specs.CommandLine.Call.{to_check, to_image, to_link, to_load, to_show, to_survey}
+use Rattle.amihunk.specs.CommandLine.Call.{to_check, to_compare, to_copy, to_image, to_link, to_load, to_show, to_survey}
 use Rattle.amihunk.proofs.ProgramLemmas.{ends_asked}
 use Rattle.amihunk.proofs.program.run.Goals as goal
 
@@ -23,5 +24,11 @@ returns g c =
       check = λ program file is_line plain. ends (calls (to_check false file)) request status (asked.check program file is_line plain) c.answer.ensures;
       show = λ program json file is_line plain. ends (calls (to_show json false file)) request status (asked.show program json file is_line plain) c.answer.ensures;
       survey = λ program files is_line some plain. ends (calls (to_survey files)) request status (asked.survey program files is_line some plain) c.answer.ensures;
+      copy = λ program options out file is_line plain_out plain.
+          ends (calls (to_copy out (Written options) false file)) request status (asked.copy program options out file is_line plain_out plain) c.answer.ensures;
+      normal = λ program out file is_line plain_out plain.
+          ends (calls (to_copy out Normal false file)) request status (asked.normal program out file is_line plain_out plain) c.answer.ensures;
+      compare = λ program with_symbols first second is_line plain_first plain_second.
+          ends (calls (to_compare with_symbols first second)) request status (asked.compare program with_symbols first second is_line plain_first plain_second) c.answer.ensures;
       version = λ program word is_line is_word. ends version request status (asked.version program word is_line is_word) c.answer.ensures;
     }

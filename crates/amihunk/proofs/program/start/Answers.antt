@@ -1,5 +1,5 @@
 -- What a start asks for: nothing, where there is no stack or no memory, or what the arguments ask for.
-use Rattle.std.proofs.Common.{inl, inr, map, refl}
+use Rattle.std.proofs.Common.{inl, inr, refl}
 use Rattle.hunk_commands.specs.declared.request.Request.TheVariants.{OutOfMemory}
 use Rattle.amihunk.proofs.program.start.Goals as goal
 
