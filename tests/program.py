@@ -13,6 +13,8 @@ import traceback
 
 sys.dont_write_bytecode = True
 import command_line  # (the tests of a module register themselves)
+import comparisons
+import copies
 import explanations
 import json_documents
 import limits
