@@ -159,12 +159,13 @@ def each_file_read(name):
     """The words of the commands that read this, as FILE or as the file of addresses."""
     yield from (("check", name), ("show", name), ("show", "--json", name), ("load", "--at", "0", name), ("image", "--at", "0", "x.o", name))
     yield from (("link", "--out", "out", "x.o", name), ("load", "--at-file", name, "x.o"), ("image", "--at-file", name, "missing too"))
+    yield ("copy", "--out", "out", name)
 
 
 def each_file_written(name):
-    """The words of the links that write this, as OUT or as MAP."""
+    """The words of the commands that write this, as OUT or as MAP."""
     yield from (("link", "--out", name, "x.o"), ("link", "--out", name, "--map", "/dev/null", "x.o"))
-    yield ("link", "--out", "/dev/null", "--map", name, "x.o")
+    yield from (("link", "--out", "/dev/null", "--map", name, "x.o"), ("copy", "--out", name, "x"))
 
 
 @contextlib.contextmanager
@@ -189,6 +190,7 @@ def read_only(program):
 @test
 def why_a_file_cannot_be_opened_is_told(program):
     program.write("x.o", OBJECT_FILE)
+    program.write("x", LOAD_FILE)
     for name, to in (("loop", "pool"), ("pool", "loop"), ("dangling", "nowhere")):
         os.symlink(to, program.at(name))
     os.mkdir(program.at("folder"))
@@ -235,8 +237,8 @@ def why_a_file_cannot_be_opened_is_told(program):
 @test
 def what_is_not_allowed_is_told(program):
     program = program.for_all()
-    for name, mode in (("x.o", 0o644), ("hidden", 0o000), ("locked", 0o444)):
-        program.write(name, OBJECT_FILE)
+    for name, mode in (("x.o", 0o644), ("x", 0o644), ("hidden", 0o000), ("locked", 0o444)):
+        program.write(name, LOAD_FILE if name == "x" else OBJECT_FILE)
         os.chmod(program.at(name), mode)
     os.mkdir(program.at("closed"))
     os.chmod(program.at("closed"), 0o600)

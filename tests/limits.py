@@ -236,6 +236,10 @@ def a_line_is_one_write(program):
         (("load", "--at", "x", "x"), 1),
         (("link", "--out", "o", "--map", "o", "x.o"), 1),
         (("link", "--out", "/dev/full", "x.o"), 1),
+        (("copy", "--explain", "--out", "o", "bad"), 5),
+        (("copy", "--explain", "--out", "o", "x.o"), 6),
+        (("copy", "--out", "/dev/full", "x"), 1),
+        (("compare", "x", "bad"), 1),
     ):
         told = writes(program, *words_)
         equals((sum(it.count(b"\n") for it in told), {it[-1:] for it in told}), (lines, {b"\n"}), words_)

@@ -1,4 +1,5 @@
-"""What `link` does with OUT and MAP, whatever stands under their names: each becomes a new file in one step, or stays what it was."""
+"""What `link` does with OUT and MAP, and `copy` with OUT, whatever stands under their names: each becomes a new file in one step, or stays
+what it was."""
 import os
 import stat
 import subprocess
@@ -12,7 +13,8 @@ OLD = b"was here" * 500
 
 
 def each_output(program):
-    """For OUT and for MAP: a folder, the words that come before its name, its bytes, and what else is in the folder."""
+    """For OUT and MAP of `link` and for OUT of `copy`: a folder, the words that come before its name, its bytes, and what else is in the
+    folder. The file to link or to copy is x.o."""
     place = program.inside("out")
     place.write("x.o", OBJECT_FILE)
     yield place, ("link", "--out"), LOAD_FILE, {"x.o": OBJECT_FILE}
@@ -20,6 +22,9 @@ def each_output(program):
     place.write("x.o", OBJECT_FILE)
     place.write("o", LOAD_FILE)
     yield place, ("link", "--out", "o", "--map"), MAP.encode(), {"x.o": OBJECT_FILE, "o": LOAD_FILE}
+    place = program.inside("copy")
+    place.write("x.o", LOAD_FILE)
+    yield place, ("copy", "--out"), LOAD_FILE, {"x.o": LOAD_FILE}
 
 
 def mode_of(program, name):
@@ -149,7 +154,7 @@ def in_a_folder_that_cannot_be_written_an_output_is_written_in_place(program):
         far = place.inside("far")
         far.write("new", OLD)
         for name, mode in (("out", 0o666), ("locked", 0o444), ("one of the files", 0o666)):
-            place.write(name, OBJECT_FILE if mode == 0o666 and name != "out" else OLD)
+            place.write(name, files["x.o"] if mode == 0o666 and name != "out" else OLD)
             os.chmod(place.at(name), mode)
         for name in ("o", "far/new"):
             if os.path.exists(place.at(name)):
@@ -159,7 +164,7 @@ def in_a_folder_that_cannot_be_written_an_output_is_written_in_place(program):
         os.chmod(far.folder, 0o777)
         os.chmod(place.folder, 0o555)
         inodes = {name: os.stat(place.at(name)).st_ino for name in ("out", "far/new")}
-        files |= {"out": OLD, "locked": OLD, "one of the files": OBJECT_FILE, "far": "d", "far/new": OLD,
+        files |= {"out": OLD, "locked": OLD, "one of the files": files["x.o"], "far": "d", "far/new": OLD,
                   "to far": "-> far/new", "far/to near": "-> ../out"}
         try:
             place.prints("", *link, "out", "x.o", before=as_nobody)
@@ -322,10 +327,12 @@ def what_is_left_of_a_failure_is_what_was_there(program):
         for name in ("out", "fresh", "bad.o"):
             if link[-1] == "--map" and name == "bad.o":
                 continue
+            # `link` takes many files, and `copy` one.
+            before = () if link[0] == "copy" else ("x.o",)
             for words_, status, line in (
                 (("bad.o",), REFUSED, "bad.o: longword 0: file ends inside a longword"),
-                (("x.o", "missing"), DEVICE, "missing: cannot be opened"),
-                (("x.o", "."), DEVICE, ".: read failed"),
+                ((*before, "missing"), DEVICE, "missing: cannot be opened"),
+                ((*before, "."), DEVICE, ".: read failed"),
             ):
                 place.fails(status, line, *link, name, *words_)
                 equals(place.tree(), files, (name, words_))
