@@ -65,7 +65,7 @@ def in_manual():
     """The same by the man page."""
     with open(MAN_PAGE, encoding="utf-8") as it:
         page = it.read().replace("\\-", "-")
-    commands = re.findall(r'^\.BI (\w+) " FILE', section(page, "COMMANDS"), re.MULTILINE)
+    commands = re.findall(r'^\.BI (\w+) "', section(page, "COMMANDS"), re.MULTILINE)
     found = {"": set(), **{it: set() for it in commands}}
     for entry in section(page, "OPTIONS").split(".TP\n")[1:]:
         head, told = entry.split("\n")[:2]

@@ -12,7 +12,7 @@ _amihunk() {
 
     case "$command $before" in
         'load --at' | 'image --at') return ;; # a list of addresses
-        'link --out' | 'link -o' | 'link --map' | 'load --at-file' | 'image --at-file')
+        'link --out' | 'link -o' | 'link --map' | 'copy --out' | 'copy -o' | 'load --at-file' | 'image --at-file')
             mapfile -t COMPREPLY < <(compgen -f -- "$word")
             return
             ;;
@@ -27,11 +27,13 @@ _amihunk() {
         show) options='--json --explain --help' ;;
         check) options='--explain --help' ;;
         survey) options='--help' ;;
+        copy) options='--out --strip --short --trim --normal --explain --help' ;;
+        compare) options='--symbols --help' ;;
         *) return ;;
     esac
     case "$command $word" in
         *' -'*) mapfile -t COMPREPLY < <(compgen -W "$options" -- "$word") ;;
-        ' '*) mapfile -t COMPREPLY < <(compgen -W 'link load image check show survey' -- "$word") ;;
+        ' '*) mapfile -t COMPREPLY < <(compgen -W 'link load image check show survey copy compare' -- "$word") ;;
         *) mapfile -t COMPREPLY < <(compgen -f -- "$word") ;;
     esac
 }
