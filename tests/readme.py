@@ -61,7 +61,7 @@ def the_readme_quotes_what_is_printed(program):
 def the_examples_of_the_readme_end_well(program):
     _, examples = in_a_checkout(program)
     rows = re.findall(r"^\| `(\w+) .*\| `amihunk (.*)` \|$", text_of("README.md"), re.M)
-    equals([name for name, _ in rows], ["check", "show", "survey", "link", "load", "image"])
+    equals([name for name, _ in rows], ["check", "show", "survey", "link", "load", "image", "copy", "compare"])
     for name, words in rows:
         status, _, errors = examples.run(*shlex.split(words))
         equals((status, errors), (DONE, ""), words)
