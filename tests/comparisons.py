@@ -72,12 +72,13 @@ ROWS = (
     ("hunk 0 site 00000000: hunk 0 and none", [SITE], [(1, CODE, 1, 0)]),
     ("hunk 0 site 00000000: hunk 1 and hunk 0", [(1, CODE, 1, 0, RELOC32, 1, 1, 0, 0), ONE], [SITE, ONE]),
     ("hunk 0 site 00000008: hunk 1 and none", [(3, CODE, 1, 7, RELOC32, 1, 1, 8, 0), EMPTY], [(3, CODE, 1, 7), EMPTY]),
-    ("hunk 1 site 00000000: hunk 1 and hunk 2", [EMPTY, (1, BSS, 0, RELOC32, 1, 1, 0, 0), EMPTY], [EMPTY, (1, BSS, 1, SHORT, 0x10002, 0), EMPTY]),
+    ("hunk 1 site 00000000: hunk 1 and hunk 2",
+     [EMPTY, (1, BSS, 0, RELOC32, 1, 1, 0, 0), EMPTY], [EMPTY, (1, BSS, 1, SHORT, 0x10002, 0), EMPTY]),
     ("hunk 0 site 00000001: none and hunk 0", [(2, CODE, 2, 7, 7)], [(2, CODE, 2, 7, 7, RELOC32, 1, 0, 1, 0)]),
     ("hunk 0 site 00000003: hunk 0 and none", [(2, DATA, 0, RELOC32, 1, 0, 3, 0)], [(2, DATA, 0, RELOC32, 1, 0, 4, 0)]),
     ("hunk 0 site 00000003: hunk 0 and hunk 1", [(2, DATA, 0, RELOC32, 1, 0, 3, 0), EMPTY], [(2, DATA, 0, RELOC32, 1, 1, 3, 0), EMPTY]),
-    ("hunk 0 site 00000008: hunk 0 and none", [(3, CODE, 3, 7, 7, 7, RELOC32, 2, 0, 0, 8, 0)], [(3, CODE, 3, 7, 7, 7, RELOC32, 1, 0, 0, 0)]),
-    ("hunk 0 site 00000000: hunk 0 and none", [(3, CODE, 3, 7, 7, 7, RELOC32, 2, 0, 0, 8, 0)], [(3, CODE, 3, 7, 7, 7, RELOC32, 1, 0, 8, 0)]),
+    ("hunk 0 site 00000008: hunk 0 and none", [(3, DATA, 0, RELOC32, 2, 0, 0, 8, 0)], [(3, DATA, 0, RELOC32, 1, 0, 0, 0)]),
+    ("hunk 0 site 00000000: hunk 0 and none", [(3, CODE, 1, 7, RELOC32, 2, 0, 0, 8, 0)], [(3, CODE, 1, 7, RELOC32, 1, 0, 8, 0)]),
     ("hunk 0 site 00010000: hunk 0 and none", [(16386, BSS, 0, RELOC32, 1, 0, 0x10000, 0)], [(16386, BSS, 0)]),
     # Of several differences it is the first: the number of hunks, a hunk before the next, and in it one after the other.
     ("hunks: 2 and 1", [(CHIP | 1, CODE, 1, 7), ONE], [(2, DATA, 0)]),
@@ -104,7 +105,8 @@ LOOP, NEXT = ("loop", 4), ("next", 8)
 FURTHER_ROWS = (
     ('hunk 0 symbol 0: "loop" 00000004 and none', 'hunk 0 symbol 0: "loop" none and 00000004', [symbols(LOOP)], [[]]),
     ('hunk 0 symbol 1: "next" 00000008 and none', 'hunk 0 symbol 1: "next" none and 00000008', [symbols(LOOP, NEXT)], [symbols(LOOP)]),
-    ('hunk 0 symbol 0: "loop" 00000004 and ffffffff', 'hunk 0 symbol 0: "loop" ffffffff and 00000004', [symbols(LOOP)], [symbols(("loop", 0xFFFFFFFF))]),
+    ('hunk 0 symbol 0: "loop" 00000004 and ffffffff', 'hunk 0 symbol 0: "loop" ffffffff and 00000004',
+     [symbols(LOOP)], [symbols(("loop", 0xFFFFFFFF))]),
     ('hunk 0 symbol 0: "loop" and "next"', 'hunk 0 symbol 0: "next" and "loop"', [symbols(LOOP, NEXT)], [symbols(NEXT, LOOP)]),
     # Where the names are others, the values are not told.
     ('hunk 0 symbol 1: "next" and "last"', 'hunk 0 symbol 1: "last" and "next"', [symbols(LOOP, NEXT)], [symbols(LOOP, ("last", 8), NEXT)]),
@@ -116,9 +118,11 @@ FURTHER_ROWS = (
     ("hunk 0 debug 1", "hunk 0 debug 1", [[DEBUG, 1, 7, DEBUG, 1, 8]], [[DEBUG, 1, 7, DEBUG, 0, DEBUG, 1, 8]]),
     ("hunk 0 debug 2", "hunk 0 debug 2", [[DEBUG, 0, DEBUG, 0]], [[DEBUG, 0, DEBUG, 0, DEBUG, 0]]),
     # A hunk before the next one, and in it the symbols before the debug blocks, in whatever order the blocks are.
-    ('hunk 0 symbol 0: "loop" 00000004 and none', 'hunk 0 symbol 0: "loop" none and 00000004', [[DEBUG, 1, 7, *symbols(LOOP)]], [[DEBUG, 1, 8]]),
+    ('hunk 0 symbol 0: "loop" 00000004 and none', 'hunk 0 symbol 0: "loop" none and 00000004',
+     [[DEBUG, 1, 7, *symbols(LOOP)]], [[DEBUG, 1, 8]]),
     ("hunk 0 debug 0", "hunk 0 debug 0", [[DEBUG, 1, 7], symbols(LOOP)], [[], symbols(NEXT)]),
-    ('hunk 1 symbol 0: "loop" and "next"', 'hunk 1 symbol 0: "next" and "loop"', [[DEBUG, 1, 7], [*symbols(LOOP), DEBUG, 0]], [[DEBUG, 1, 7], symbols(NEXT)]),
+    ('hunk 1 symbol 0: "loop" and "next"', 'hunk 1 symbol 0: "next" and "loop"',
+     [[DEBUG, 1, 7], [*symbols(LOOP), DEBUG, 0]], [[DEBUG, 1, 7], symbols(NEXT)]),
     ("hunk 2 debug 0", "hunk 2 debug 0", [[], symbols(LOOP), [DEBUG, 0]], [[], symbols(LOOP), []]),
 )
 
@@ -143,12 +147,13 @@ def with_symbols_what_only_debuggers_read_is_compared_too(program):
 def the_form_of_a_file_makes_no_difference(program):
     foo, further = int.from_bytes(b"foo\0", "big"), int.from_bytes(b"fo\0x", "big")
     files = (
-        load_file((5, CODE, 2, 7, 8, RELOC32, 2, 0, 0, 5, 1, 1, 16, 0, SYMBOL, 1, foo, 4, 1, foo, 5, 0, DEBUG, 1, 9, DEBUG, 0), (CHIP | 2, BSS, 2)),
+        load_file((5, CODE, 2, 7, 8, RELOC32, 2, 0, 0, 5, 1, 1, 16, 0, SYMBOL, 1, foo, 4, 1, foo, 5, 0, DEBUG, 1, 9, DEBUG, 0),
+                  (CHIP | 2, BSS, 2)),
         # Zeros that are stored; a block for each entry, the debug blocks first; short and long lists, with any number after them.
-        load_file((5, CODE, 5, 7, 8, 0, 0, 0, DEBUG, 1, 9, SYMBOL, 1, foo, 4, 0, DEBUG, 0, SHORT, 1 << 16 | 1, 16 << 16, RELOC32, 1, 0, 5, 1, 0, 0, 0,
-                   SYMBOL, 1, foo, 5, 0), (CHIP | 2, BSS, 0)),
-        load_file((5, CODE, 3, 7, 8, 0, RELOC32, 0, SHORT, 0x00010000, 0x00050001, 0x00010010, 0x0000FFFF, RELOC32, 1, 0, 0, 0, SYMBOL, 2, foo, 0x12345678, 4, 0,
-                   SYMBOL, 0, SYMBOL, 2, foo, 0, 5, 0, DEBUG, 1, 9, DEBUG, 0), (CHIP | 2, BSS, 1)),
+        load_file((5, CODE, 5, 7, 8, 0, 0, 0, DEBUG, 1, 9, SYMBOL, 1, foo, 4, 0, DEBUG, 0, SHORT, 0x00010001, 0x00100000,
+                   RELOC32, 1, 0, 5, 1, 0, 0, 0, SYMBOL, 1, foo, 5, 0), (CHIP | 2, BSS, 0)),
+        load_file((5, CODE, 3, 7, 8, 0, RELOC32, 0, SHORT, 0x00010000, 0x00050001, 0x00010010, 0x0000FFFF, RELOC32, 1, 0, 0, 0,
+                   SYMBOL, 2, foo, 0x12345678, 4, 0, SYMBOL, 0, SYMBOL, 2, foo, 0, 5, 0, DEBUG, 1, 9, DEBUG, 0), (CHIP | 2, BSS, 1)),
         # Bits that are ignored, and names of hunks.
         words(CHIP | FAST | HEADER, 0, 2, 0, 1, 5, CHIP | 2)
         + words(FAST | NAME, 1, foo, CHIP | CODE, FAST | 2, 7, 8, CHIP | RELOC32, 1, 1, 16, 2, 0, 5, 0, 0)
@@ -186,8 +191,9 @@ def a_file_is_compared_with_itself(program):
     with open(program.at("x"), "rb") as file:
         program.prints("", "compare", "/dev/stdin", "/dev/stdin", stdin=file)
     # A pipe has one: A takes all of it.
-    program.fails(BAD_WORDS, "/dev/stdin: longword 0: file ends too early", "compare", "/dev/stdin", "/dev/stdin", input=LOAD_FILE)
-    program.fails(BAD_WORDS, "/dev/stdin: longword 10: data after the last hunk", "compare", "/dev/stdin", "/dev/stdin", input=LOAD_FILE * 2)
+    twice = ("compare", "/dev/stdin", "/dev/stdin")
+    program.fails(BAD_WORDS, "/dev/stdin: longword 0: file ends too early", *twice, input=LOAD_FILE)
+    program.fails(BAD_WORDS, "/dev/stdin: longword 10: data after the last hunk", *twice, input=LOAD_FILE * 2)
     program.prints("", "compare", "/dev/stdin", "x", input=LOAD_FILE)
     program.prints("", "compare", "x", "/dev/stdin", input=LOAD_FILE)
 

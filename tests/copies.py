@@ -1,4 +1,5 @@
-"""What `copy` writes of a load file, against files written by hand and by load_files.py; that it means the same; and what it leaves as it was."""
+"""What `copy` writes of a load file, against files written by hand and by load_files.py; that it means the same; and what stays as it
+was."""
 import itertools
 import os
 import random
@@ -30,7 +31,8 @@ def each_form_is_written_as_by_hand(program):
     program.write("x", (
         words(CHIP | HEADER, 0, 3, 0, 2, 5, CHIP | 2, 16386)
         + words(NAME, 1, LOOP, FAST | CODE, CHIP | 5, 0x4E714E71, 0, 0, 0, 0)
-        + words(DEBUG, 2, 7, 8, SYMBOL, 2, LOOP, 0, 4, 0, RELOC32, 1, 2, 10, 1, 1, 5, 0, SHORT, 0x00010002, 0x00000000, SYMBOL, 1, 0, 5, 0, FAST | END)
+        + words(DEBUG, 2, 7, 8, SYMBOL, 2, LOOP, 0, 4, 0, RELOC32, 1, 2, 10, 1, 1, 5, 0, SHORT, 0x00010002, 0x00000000)
+        + words(SYMBOL, 1, 0, 5, 0, FAST | END)
         + words(BSS, 0, RELOC32, 1, 0, 3, 0, DEBUG, 0, CHIP | END)
         + words(DATA, 3, 0, 1, 0, SHORT, 0x00010001, 0x000A0000, RELOC32, 2, 0, 0x10000, 0, 0, CHIP | END)
     ))
@@ -210,7 +212,8 @@ def what_cannot_be_copied_leaves_out_as_it_was(program):
         ("more", REFUSED, "more: longword 10: data after the last hunk",
          "  at byte 40 (00000028)\n  found 00001234\n  path: hunk 0, after HUNK_END\n  due: the end of the file\n"),
         ("x.o", REFUSED, "x.o: longword 0: wrong first longword",
-         "  at byte 0 (00000000)\n  found 000003e7\n  path: start of the file\n  due: HUNK_HEADER, which begins a load file\n  kind: object file\n"),
+         "  at byte 0 (00000000)\n  found 000003e7\n  path: start of the file\n"
+         "  due: HUNK_HEADER, which begins a load file\n  kind: object file\n"),
         ("missing", DEVICE, "missing: cannot be opened", "  reason: no such file or directory\n"),
         ("x/missing", DEVICE, "x/missing: cannot be opened", "  reason: a part of its path is no directory\n"),
         ("folder", DEVICE, "folder: read failed", "  reason: it is a directory\n"),
@@ -221,7 +224,9 @@ def what_cannot_be_copied_leaves_out_as_it_was(program):
                 tells(program, line, more, "copy", "--out", out, *flags, name, status=status)
             program.fails(status, line, "copy", "--out", out, "--normal", name)
             equals(program.tree(), before, (name, out))
-    for out, why in (("no/out", "no such file or directory"), ("x/out", "a part of its path is no directory"), ("folder", "it is a directory")):
+    for out, why in (
+        ("no/out", "no such file or directory"), ("x/out", "a part of its path is no directory"), ("folder", "it is a directory"),
+    ):
         tells(program, f"{out}: cannot be opened", f"  reason: {why}\n", "copy", "--out", out, "x", status=DEVICE)
         program.fails(DEVICE, f"{out}: cannot be opened", "copy", "--normal", "--out", out, "x")
     equals(program.tree(), before)
