@@ -1,7 +1,8 @@
 //! The files that the tests' file system has from the start, and the names that cannot be opened.
 
 use crate::samples::{
-    CALLEE, CALLER, LOOP, MISTYPED, ONE_HUNK, ONE_SYMBOL, PROGRAM, TRAILING, UNENDED, ZERO_TAIL, ZEROS,
+    CALLEE, CALLER, LOOP, MISTYPED, ONE_HUNK, ONE_SYMBOL, PROGRAM, TRAILING, UNENDED, ZERO_TAIL,
+    ZEROS,
 };
 use std::fs::Metadata;
 use std::io;

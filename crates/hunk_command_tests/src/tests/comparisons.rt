@@ -52,8 +52,7 @@ fn tells_why_files_are_not_compared(rt: HostRuntime) {
         place: 10,
         reason: Reason::TrailingData,
     };
-    let pairs: [(usize, &[u8], &[u8]); 2] =
-        [(0, &TRAILING, &ONE_HUNK), (1, &ONE_HUNK, &TRAILING)];
+    let pairs: [(usize, &[u8], &[u8]); 2] = [(0, &TRAILING, &ONE_HUNK), (1, &ONE_HUNK, &TRAILING)];
     for (file, first, second) in pairs {
         let got = compare_to(alloc, false, first, second, Vec::new(alloc));
         let refused = Failure::Tool(ToolFault::Input { file, fault });
@@ -67,16 +66,16 @@ fn tells_why_files_are_not_compared(rt: HostRuntime) {
     equals(&rt, got.err(), Some(Failure::Printing));
 }
 
-// `compare [--symbols] A B` ends with this status and this line on standard error.
+// `compare [--symbols] A B` ends with this status and this line on standard error, once it has printed this.
 fn compare_ends(
     rt: &impl Abort,
     alloc: Global,
     (first, second): (&str, &str),
     with_symbols: bool,
-    status: u8,
-    line: &str,
+    (status, printed, line): (u8, &str, &str),
 ) -> Result<(), Fail> {
     let log = Log::new(alloc);
+    log.prints.set(true);
     let system = FakeFiles {
         openings: 40,
         log: &log,
@@ -89,6 +88,7 @@ fn compare_ends(
     let mut errors = Watched::new(Vec::new(alloc));
     equals(rt, answer(&(system, alloc), &mut errors, request), status);
     equals(rt, errors.into_inner().as_slice(), line.as_bytes());
+    equals(rt, log.printed.try_borrow()?.as_slice(), printed.as_bytes());
     equals(rt, log.open.get(), 0);
     Ok(())
 }
@@ -97,15 +97,23 @@ fn compare_ends(
 fn tells_how_a_comparison_ended(rt: HostRuntime) -> Result<(), Fail> {
     let alloc = rt.alloc();
     let names = ("one-hunk", "one-symbol");
-    compare_ends(&rt, alloc, names, false, 0, "")?;
-    compare_ends(&rt, alloc, names, true, 1, "")?;
+    compare_ends(&rt, alloc, names, false, (0, "", ""))?;
+    let symbol = "hunk 0 symbol 0: \"loop\" none and 00000002\n";
+    compare_ends(&rt, alloc, names, true, (1, symbol, ""))?;
     let refused = "amihunk: trailing: longword 10: data after the last hunk\n";
-    compare_ends(&rt, alloc, ("trailing", "one-hunk"), false, 2, refused)?;
-    compare_ends(&rt, alloc, ("one-hunk", "trailing"), false, 2, refused)?;
-    let missing = "amihunk: x: cannot be opened\n";
-    compare_ends(&rt, alloc, ("x", "y"), false, 3, missing)?;
-    compare_ends(&rt, alloc, ("one-hunk", "x"), false, 3, missing)?;
+    compare_ends(
+        &rt,
+        alloc,
+        ("trailing", "x"),
+        false,
+        (3, "", "amihunk: x: cannot be opened\n"),
+    )?;
+    for names in [("trailing", "one-hunk"), ("one-hunk", "trailing")] {
+        compare_ends(&rt, alloc, names, false, (2, "", refused))?;
+    }
     let unread = "amihunk: directory: read failed\n";
-    compare_ends(&rt, alloc, ("directory", "one-hunk"), false, 3, unread)?;
-    compare_ends(&rt, alloc, ("one-hunk", "directory"), false, 3, unread)
+    for names in [("directory", "one-hunk"), ("one-hunk", "directory")] {
+        compare_ends(&rt, alloc, names, false, (3, "", unread))?;
+    }
+    Ok(())
 }
