@@ -3,6 +3,8 @@
 //! - `asserts`: assertions as functions.
 //! - `bases`: lists of addresses.
 //! - `bases_file`: the addresses in a file.
+//! - `compared`: load files that are compared; `comparing`: comparisons that fail.
+//! - `copied`: copies of load files.
 //! - `decoders`: what checks the bytes of a file.
 //! - `devices`: readers and writers that fail.
 //! - `endless`: a reader that never ends.
@@ -27,6 +29,9 @@
 mod asserts;
 mod bases;
 mod bases_file;
+mod compared;
+mod comparing;
+mod copied;
 mod decoders;
 mod devices;
 mod endless;
