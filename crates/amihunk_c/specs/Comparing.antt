@@ -1,5 +1,5 @@
 -- Where two load files that were read first differ, and what C is told.
-use Rattle.std.specs.Prelude.{Bool, List, Option, None, Some, Result, Ok, Err}
+use Rattle.std.specs.Prelude.{Bool, List, Option, Some, Result, Ok, Err}
 use Rattle.hunk_loadfile.specs.LoadHunk.{FileHunk}
 use Rattle.amihunk_c.specs.Compared.{difference_between}
 use Rattle.amihunk_c.specs.LoadRead.{file_in}

@@ -1,6 +1,6 @@
 //! Where two load files first differ, in numbers.
 ghost use Rattle.std.specs.Prelude.{◌≡◌};
-ghost use Rattle.amihunk_c.specs.Compared.{difference_between, difference_code, difference_told, differs_at, differs_by, info_between, info_told, nothing_told, target_code};
+ghost use Rattle.amihunk_c.specs.Compared.{difference_between, difference_code, difference_told, differs_at, info_told, target_code};
 
 use crate::codes::memory_code;
 use crate::told::kind_code;
