@@ -1,6 +1,6 @@
 -- The walk over FILE or FILE..., and a subcommand whose words end with them.
 use Rattle.std.proofs.Common.{◌≡◌, ◌∙◌, ◌≤◌, ◌<◌, All, ap, append-nil, append_assoc, arith, refl, subst, sym, false, Bool, ℕ, List, [], ◌∷◌, ◌++◌, codes, le-ltb, length, Option, Some, suc}
-use Rattle.std.specs.Prelude.{◌==◌, nat_lt}
+use Rattle.std.specs.Prelude.{◌==◌, ◌+◌, min, nat_lt}
 use Rattle.std.specs.Option.{option_map_or}
 use Rattle.std.proofs.lemmas.Bool.{ne_eqb}
 use Rattle.std.proofs.lemmas.List.{length-append}
@@ -71,6 +71,10 @@ built_value place name = with_index place (filled (value_rule name))
 abbrev at_place : ℕ → Held → Walk
 at_place place held = record (walk_from held) { position = place }
 
+-- the place after this one
+abbrev next_place : ℕ → ℕ
+next_place place = min (place + 1) usize_max
+
 -- what is held after a value
 abbrev pub with_value : Shape → Held → Text → Text → Held
 with_value s held name value = record (settled s.rules held) { pending = Some (name, value ∷ []) }
@@ -82,7 +86,7 @@ pub record AwaitsValue (s : Shape) (held : Held) (place : ℕ) (name : Text) : T
   pub quiet : settle_fault s.rules s.args_override_self held ≡ []
 
 walked-value : (s : Shape) (held : Held) (place : ℕ) (name value : Text) → AwaitsValue s held place name → IsNoFlag value
-    → walked s.rules [] (at_place place held) value ≡ at_place (suc place) (with_value s held name value)
+    → walked s.rules [] (at_place place held) value ≡ at_place (next_place place) (with_value s held name value)
 unfolding walked
 walked-value s held place name [] awaits plain = rw (awaits.by_index, awaits.other) refl
 walked-value s held place name (c ∷ rest) awaits plain = rw (ne_eqb c 45 plain, ne_eqb c 45 plain, awaits.by_index, awaits.other) refl

@@ -134,14 +134,22 @@ IsSound s = (words : List Text) → level_fault s [] nothing_held words false []
 all_sound : Each IsSound line.subs
 all_sound = (
   sound (built_below link_shape) refl link_regular,
-  sound (built_below load_shape) refl load_regular,
-  sound (built_below image_shape) refl image_regular,
-  sound (built_below check_shape) refl check_regular,
-  sound (built_below show_shape) refl show_regular,
-  sound (built_below survey_shape) refl survey_regular,
-  sound (built_below copy_shape) refl copy_regular,
-  sound (built_below compare_shape) refl compare_regular,
-  tt,
+  (
+    sound (built_below load_shape) refl load_regular,
+    (
+      sound (built_below image_shape) refl image_regular,
+      (
+        sound (built_below check_shape) refl check_regular,
+        (
+          sound (built_below show_shape) refl show_regular,
+          (
+            sound (built_below survey_shape) refl survey_regular,
+            (sound (built_below copy_shape) refl copy_regular, (sound (built_below compare_shape) refl compare_regular, tt)),
+          ),
+        ),
+      ),
+    ),
+  ),
 )
 
 -- a subcommand is required, and a sound one is whole

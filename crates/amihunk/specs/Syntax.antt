@@ -93,10 +93,13 @@ bare_app = record { top = record (new_app (codes "amihunk")).top { has_version =
 abbrev pub survey_shape : Shape
 survey_shape = (with_rule (new_app (codes "survey")) files_rule).top
 
+-- `[--strip] [--short] [--trim] [--normal]`
+abbrev pub given_forms : App → App
+given_forms app = with_rule (given_flags app) (flag_rule (codes "normal"))
+
 -- `copy --out OUT [--strip] [--short] [--trim] [--normal] [--explain] FILE`, where `-o` is `--out`
 abbrev pub copy_shape : Shape
-copy_shape = (with_rule (with_rule (with_rule
-    (given_flags (with_rule (new_app (codes "copy")) out_rule)) (flag_rule (codes "normal"))) explain_rule) file_rule).top
+copy_shape = (with_rule (with_rule (given_forms (with_rule (new_app (codes "copy")) out_rule)) explain_rule) file_rule).top
 
 -- `compare [--symbols] A B`
 abbrev pub compare_shape : Shape

@@ -2,7 +2,7 @@
 ghost use Rattle.std.specs.Prelude.{◌≡◌, IfOk, codes, false};
 ghost use Rattle.clap.specs.Words.{Shape, app_of, rule_of, shape_of, with_rule, with_subcommand};
 ghost use Rattle.clap.specs.declared.builder.command.Command.TheViews.{out-Command};
-ghost use Rattle.amihunk.specs.Syntax.{bare_app, check_shape, command_line, compare_shape, copy_shape, explain_rule, file_rule, files_rule, flag_rule, given_addresses, given_flags, given_outputs, given_texts, image_shape, letter_s};
+ghost use Rattle.amihunk.specs.Syntax.{bare_app, check_shape, command_line, compare_shape, copy_shape, explain_rule, file_rule, files_rule, flag_rule, given_addresses, given_flags, given_forms, given_outputs, given_texts, image_shape, letter_s};
 ghost use Rattle.amihunk.specs.Syntax.{link_shape, load_shape, option_rule, out_rule, show_shape, survey_shape, value_rule, with_letter};
 
 use clap::{Arg, ArgAction, Command};
@@ -255,8 +255,7 @@ pub fn copy_command<'a>(alloc: Global) -> Result<Command<'a>, AllocError>
     let copy = Command::new(alloc, "copy")
         .about("Writes a load file again, as `link` writes it, or in its normal form")
         .after_help(help::COPY);
-    with_flags(alloc, with_out(alloc, copy)?)?
-        .arg(normal_flag(alloc))?
+    with_forms(alloc, with_out(alloc, copy)?)?
         .arg(explain_flag(alloc))?
         .arg(file_argument(alloc, "A load file"))
 }
@@ -267,6 +266,14 @@ fn with_out<'a>(alloc: Global, command: Command<'a>) -> Result<Command<'a>, Allo
     ensures local { (out-Command command.entry).has_globals ≡ false → IfOk result (λ c. (out-Command c).has_globals ≡ false) }
 {
     command.arg(out_argument(alloc))
+}
+
+/// A subcommand that is told what is written again.
+fn with_forms<'a>(alloc: Global, command: Command<'a>) -> Result<Command<'a>, AllocError>
+    ensures shape { IfOk result (λ c. app_of c ≡ given_forms (app_of command.entry)) }
+    ensures local { (out-Command command.entry).has_globals ≡ false → IfOk result (λ c. (out-Command c).has_globals ≡ false) }
+{
+    with_flags(alloc, command)?.arg(normal_flag(alloc))
 }
 
 /// The flag `--normal`.
