@@ -1,5 +1,5 @@
 -- How many bytes the line has that tells where two load files first differ in what they mean.
-use Rattle.std.proofs.Common.{◌≡◌, ◌∙◌, ℕ, ◌+◌, ◌*◌, ◌^◌, ◌<◌, ◌≤◌, ◌==◌, Bool, true, false, cond, inl, inr, List, [], ◌∷◌, length, Option, Some, None, IfSome, codes, refl, subst, arith}
+use Rattle.std.proofs.Common.{◌≡◌, ℕ, ◌+◌, ◌*◌, ◌^◌, ◌<◌, ◌≤◌, ◌==◌, Bool, true, false, cond, inl, inr, List, [], ◌∷◌, length, Option, Some, None, IfSome, refl, subst, arith}
 use Rattle.std.specs.BTreeMap.{is_at}
 use Rattle.std.specs.List.{All}
 use Rattle.std.specs.Option.{option_map, option_or}
@@ -13,7 +13,7 @@ use Rattle.hex.specs.Hex.{lower_digits}
 use Rattle.hex.proofs.HexLemmas.{length-encode_with}
 use Rattle.hunk_base.specs.Sites.{target_at}
 use Rattle.hunk_base.proofs.DigitsLemmas.{length-decimal}
-use Rattle.hunk_loadfile.specs.Difference.{difference_at, first_difference, first_offset, has_same_byte, hunk_difference, hunks_difference, is_same_kind, is_same_memory, unless}
+use Rattle.hunk_loadfile.specs.Difference.{difference_at, first_offset, has_same_byte, hunk_difference, hunks_difference, is_same_kind, is_same_memory, unless}
 use Rattle.hunk_loadfile.specs.LoadHunk.{FileHunk}
 use Rattle.hunk_loadfile.specs.Rules.{IsLoadFile}
 use Rattle.hunk_loadfile.specs.declared.difference.Difference.{Difference}

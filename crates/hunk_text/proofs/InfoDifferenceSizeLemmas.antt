@@ -1,5 +1,5 @@
 -- How many bytes the line has that tells where two load files first differ in what only debuggers read.
-use Rattle.std.proofs.Common.{◌≡◌, ◌∙◌, ℕ, zero, suc, ◌+◌, ◌*◌, ◌^◌, ◌<◌, ◌≤◌, ◌==◌, Bool, true, false, nat_lt, max, inl, inr, List, [], ◌∷◌, length, get_or, slice_get, Option, Some, None, IfSome, refl, sym, subst, arith}
+use Rattle.std.proofs.Common.{◌≡◌, ℕ, zero, suc, ◌+◌, ◌^◌, ◌<◌, ◌≤◌, ◌==◌, Bool, nat_lt, max, inl, inr, List, [], ◌∷◌, length, get_or, slice_get, Option, Some, None, IfSome, arith}
 use Rattle.std.specs.Cmp.Lexicographic.{pointwise}
 use Rattle.std.specs.List.{All, common_prefix_len}
 use Rattle.std.specs.Option.{option_map}
