@@ -1,5 +1,5 @@
 -- Of the hunks of a load file, those are refused again that carry too many symbols and debug blocks, and no others.
-use Rattle.std.proofs.Common.{inl, inr, ◌≡◌, ◌∙◌, ◌%◌, ◌*◌, ◌<◌, ◌≤◌, ◌==◌, ℕ, Bool, true, not, nat_le, nat_lt, List, [], ◌∷◌, length, get_or, Option, Some, None, position, eq-eqb, refl, sym, ap, arith}
+use Rattle.std.proofs.Common.{inl, inr, ◌≡◌, ◌∙◌, ◌%◌, ◌*◌, ◌<◌, ◌≤◌, ℕ, Bool, true, not, nat_le, nat_lt, List, [], ◌∷◌, length, Option, Some, None, position, eq-eqb, refl, ap, arith}
 use Rattle.std.specs.List.{All, list_all, position_or_len}
 use Rattle.std.proofs.lemmas.Bool.{and_from, cases_lt, le-leb, le-ltb, lt-ltb}
 use Rattle.std.proofs.lemmas.List.Elements.{All-head, All-tail}

@@ -1,5 +1,5 @@
 -- What holds of two load files that compare as the same.
-use Rattle.std.proofs.Common.{◌≡◌, ◌↔◌, ◌==◌, ◌++◌, ◌&&◌, inl, inr, List, [], ◌∷◌, length, map, ℕ, Option, Some, None, Bool, true, false, is_none, refl}
+use Rattle.std.proofs.Common.{◌≡◌, ◌↔◌, ◌==◌, ◌++◌, ◌&&◌, inl, inr, List, [], ◌∷◌, length, ℕ, Option, Some, None, true, is_none, refl}
 use Rattle.std.proofs.lemmas.Bool.{cases_Bool, eqb-true}
 use Rattle.hunk_loadfile.specs.Difference.{first_difference}
 use Rattle.hunk_loadfile.specs.InfoDifference.{first_info_difference}

@@ -1,5 +1,5 @@
 -- What is told of two load files can be counted, and what a fault of comparing says.
-use Rattle.std.proofs.Common.{◌≡◌, ◌^◌, ◌<◌, ℕ, inl, inr, List, [], length, Option, Some, None, Bool, true, false, IsTrue, refl, subst, arith}
+use Rattle.std.proofs.Common.{◌≡◌, ◌^◌, ◌<◌, ℕ, inl, inr, List, length, Option, Some, None, Bool, true, false, IsTrue, refl, arith}
 use Rattle.std.specs.Io.KnownBytes.{Appends}
 use Rattle.std.proofs.KnownBytes.{Keeps-refl}
 use Rattle.hunk_base.specs.Streams.{HasRead, IsDevice, WriteStopped}

@@ -1,10 +1,10 @@
 -- What holds of copies of load files.
-use Rattle.std.proofs.Common.{◌≡◌, ◌∙◌, ℕ, List, [], ◌∷◌, map, Bool, true, false, refl, sym, ap, subst, arith}
+use Rattle.std.proofs.Common.{◌≡◌, ◌∙◌, List, [], ◌∷◌, map, Bool, true, false, refl, sym, ap, subst, arith}
 use Rattle.hunk_base.specs.Longwords.{longwords}
 use Rattle.hunk_base.specs.Name.{bytes_of}
-use Rattle.hunk_loadfile.specs.LoadFile.{IsLoad, IsLoadOf}
+use Rattle.hunk_loadfile.specs.LoadFile.{IsLoadOf}
 use Rattle.hunk_loadfile.specs.LoadHunk.{FileHunk}
-use Rattle.hunk_loadfile.specs.Meaning.{MeansTheSame, meaning}
+use Rattle.hunk_loadfile.specs.Meaning.{meaning}
 use Rattle.hunk_loadfile.specs.NormalForm.{normal_form}
 use Rattle.hunk_loadfile.specs.Rules.{carried_longwords}
 use Rattle.hunk_loadfile.specs.Stripping.{stripped}

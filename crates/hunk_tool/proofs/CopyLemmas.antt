@@ -27,7 +27,7 @@ use Rattle.hunk_link.specs.declared.refusal.LinkRefusal.TheVariants.{TooLarge}
 use Rattle.hunk_loader.specs.ImageReader.{IsRefused}
 use Rattle.hunk_tool.specs.Copy.{CopyFits, IsCopied, IsCopyCutShort, IsCopyFault, IsCopyTooLarge, copied, copied_bytes, form_of_copy, stripped_if}
 use Rattle.hunk_tool.specs.LinkOptions.{trimmed_if}
-use Rattle.hunk_tool.specs.Load.{Ends, ends_of}
+use Rattle.hunk_tool.specs.Load.{ends_of}
 use Rattle.hunk_tool.specs.ToolFault.{tool_fault_of_link, tool_fault_of_read, tool_fault_of_write}
 use Rattle.hunk_tool.specs.declared.copy.CopyForm.{CopyForm}
 use Rattle.hunk_tool.specs.declared.copy.CopyForm.TheVariants.{Written, Normal}

@@ -1,5 +1,5 @@
 -- Each exit of the run, and what was written of the two files.
-use Rattle.std.proofs.Common.{◌∙◌, [], refl, rules, subst, sym}
+use Rattle.std.proofs.Common.{[], refl, rules, subst, sym}
 use Rattle.std.proofs.lemmas.Result.{err_from_is_err_and}
 use Rattle.hunk_loadfile.specs.Rules.{IsLoadFile}
 use Rattle.hunk_tool.specs.Compare.{IsCompareFault, input_of, taken_of}

@@ -1,12 +1,10 @@
 -- Each exit of the run, and the bytes that were written.
-use Rattle.std.proofs.Common.{◌≡◌, ◌≤◌, ◌∙◌, ap, subst}
+use Rattle.std.proofs.Common.{◌≡◌, ◌≤◌, ◌∙◌, subst}
 use Rattle.std.specs.Io.KnownBytes.{Appends}
 use Rattle.std.proofs.lemmas.Result.{err_from_is_err_and}
-use Rattle.hunk_base.specs.Name.{bytes_of}
 use Rattle.hunk_base.specs.Streams.{WriteStopped}
 use Rattle.hunk_loadfile.specs.Rules.{carried_longwords, most_carried}
-use Rattle.hunk_loadfile.specs.WrittenForm.{written_in}
-use Rattle.hunk_tool.specs.Copy.{CopyFits, copied, copied_bytes}
+use Rattle.hunk_tool.specs.Copy.{CopyFits, copied}
 use Rattle.hunk_tool.proofs.CopyLemmas.{IsCopied-written, IsCopyFault-large, IsCopyFault-unread, IsCopyFault-written, bytes-copied}
 use Rattle.hunk_tool.proofs.copy.copy_run.Goals as goal
 
