@@ -32,8 +32,10 @@ target_text None = codes "none"
 abbrev pub difference_text : Difference → List ℕ
 difference_text (HunkCount first second) = codes "hunks: " ++ both (decimal first) (decimal second)
 difference_text (Kind hunk first second) = adds_hunk hunk ++ codes " kind: " ++ both (kind_word first) (kind_word second)
-difference_text (Memory hunk first second) = adds_hunk hunk ++ codes " memory: " ++ both (memory_word first) (memory_word second)
-difference_text (Size hunk first second) = adds_hunk hunk ++ codes " size: " ++ both (decimal (4 * first)) (decimal (4 * second))
+difference_text (Memory hunk first second) =
+    adds_hunk hunk ++ codes " memory: " ++ both (memory_word first) (memory_word second)
+difference_text (Size hunk first second) =
+    adds_hunk hunk ++ codes " size: " ++ both (decimal (4 * first)) (decimal (4 * second))
 difference_text (Byte hunk offset first second) =
     adds_hunk hunk ++ codes " offset " ++ eight_digits offset ++ codes ": " ++ both (two_digits first) (two_digits second)
 difference_text (Site hunk offset first second) =
@@ -69,7 +71,8 @@ symbols_text None None = []
 -- where the files with these hunks differ
 abbrev pub info_difference_text : List FileHunk → List FileHunk → InfoDifference → List ℕ
 info_difference_text first second (Symbol hunk index) =
-    adds_hunk hunk ++ codes " symbol " ++ decimal index ++ codes ": " ++ symbols_text (symbol_at first hunk index) (symbol_at second hunk index)
+    adds_hunk hunk ++ codes " symbol " ++ decimal index ++ codes ": "
+    ++ symbols_text (symbol_at first hunk index) (symbol_at second hunk index)
 info_difference_text first second (Debug hunk index) = adds_hunk hunk ++ codes " debug " ++ decimal index
 
 abbrev pub info_difference_line : List FileHunk → List FileHunk → InfoDifference → List ℕ

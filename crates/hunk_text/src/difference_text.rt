@@ -1,11 +1,11 @@
 //! The lines that tell where two load files differ.
 
-ghost use Rattle.std.specs.Prelude.{◌≡◌, ◌++◌, ◌*◌, codes, option_map};
+ghost use Rattle.std.specs.Prelude.{◌≡◌, ◌++◌, option_copied};
 ghost use Rattle.std.specs.Fmt.{decimal};
-ghost use Rattle.hunk_base.specs.Digits.{eight_digits};
 ghost use Rattle.hunk_base.specs.Text.{Puts};
-ghost use Rattle.hunk_text.specs.Listing.{adds_hunk, kind_word, memory_word};
-ghost use Rattle.hunk_text.specs.DifferenceText.{both, difference_line, info_difference_line, symbol_at, symbols_text, target_text, two_digits, unlike_symbols};
+ghost use Rattle.hunk_loadfile.specs.declared.difference.Difference.{Difference};
+ghost use Rattle.hunk_text.specs.Listing.{adds_hunk};
+ghost use Rattle.hunk_text.specs.DifferenceText.{both, difference_line, difference_text, info_difference_line, symbol_at, symbols_text, target_text, two_digits, unlike_symbols};
 
 use crate::hunk_lines::{kind_word, memory_word, write_hunk_number};
 use hunk_loadfile::{Difference, InfoDifference, LoadHunk};
@@ -53,7 +53,7 @@ pub fn write_difference<W: Sink>(text: &mut Text<'_, W>, difference: &Difference
 
 /// Writes the numbers of hunks of the two files.
 fn write_counts<W: Sink>(text: &mut Text<'_, W>, first: u64, second: u64)
-    ensures { Puts W.taken W.failed text.old text.new (codes "hunks: " ++ both (decimal first) (decimal second)) }
+    ensures { Puts W.taken W.failed text.old text.new (difference_text (Difference.HunkCount first second)) }
 {
     text.put(b"hunks: ");
     text.put_decimal(first);
@@ -63,7 +63,7 @@ fn write_counts<W: Sink>(text: &mut Text<'_, W>, first: u64, second: u64)
 
 /// Writes two kinds of a hunk with this number.
 fn write_kinds<W: Sink>(text: &mut Text<'_, W>, hunk: u64, first: HunkKind, second: HunkKind)
-    ensures { Puts W.taken W.failed text.old text.new (adds_hunk hunk ++ codes " kind: " ++ both (kind_word first) (kind_word second)) }
+    ensures { Puts W.taken W.failed text.old text.new (difference_text (Difference.Kind hunk first second)) }
 {
     let (first, second) = (kind_word(first), kind_word(second));
     write_words(text, hunk, b" kind: ", first, second);
@@ -71,7 +71,7 @@ fn write_kinds<W: Sink>(text: &mut Text<'_, W>, hunk: u64, first: HunkKind, seco
 
 /// Writes two memories that a hunk with this number asks for.
 fn write_memories<W: Sink>(text: &mut Text<'_, W>, hunk: u64, first: Memory, second: Memory)
-    ensures { Puts W.taken W.failed text.old text.new (adds_hunk hunk ++ codes " memory: " ++ both (memory_word first) (memory_word second)) }
+    ensures { Puts W.taken W.failed text.old text.new (difference_text (Difference.Memory hunk first second)) }
 {
     let (first, second) = (memory_word(first), memory_word(second));
     write_words(text, hunk, b" memory: ", first, second);
@@ -96,7 +96,7 @@ fn write_words<W: Sink>(
 
 /// Writes two sizes, given in longwords, of a hunk with this number.
 fn write_sizes<W: Sink>(text: &mut Text<'_, W>, hunk: u64, first: u32, second: u32)
-    ensures { Puts W.taken W.failed text.old text.new (adds_hunk hunk ++ codes " size: " ++ both (decimal (4 * first)) (decimal (4 * second))) }
+    ensures { Puts W.taken W.failed text.old text.new (difference_text (Difference.Size hunk first second)) }
 {
     write_hunk_number(text, hunk);
     text.put(b" size: ");
@@ -107,7 +107,7 @@ fn write_sizes<W: Sink>(text: &mut Text<'_, W>, hunk: u64, first: u32, second: u
 
 /// Writes two bytes at an offset in a hunk with this number.
 fn write_bytes<W: Sink>(text: &mut Text<'_, W>, hunk: u64, offset: u32, first: u8, second: u8)
-    ensures { Puts W.taken W.failed text.old text.new (adds_hunk hunk ++ codes " offset " ++ eight_digits offset ++ codes ": " ++ both (two_digits first) (two_digits second)) }
+    ensures { Puts W.taken W.failed text.old text.new (difference_text (Difference.Byte hunk offset first second)) }
 {
     write_hunk_number(text, hunk);
     text.put(b" offset ");
@@ -136,7 +136,7 @@ fn write_targets<W: Sink>(
     first: Option<u32>,
     second: Option<u32>,
 )
-    ensures { Puts W.taken W.failed text.old text.new (adds_hunk hunk ++ codes " site " ++ eight_digits offset ++ codes ": " ++ both (target_text first) (target_text second)) }
+    ensures { Puts W.taken W.failed text.old text.new (difference_text (Difference.Site hunk offset first second)) }
 {
     write_hunk_number(text, hunk);
     text.put(b" site ");
@@ -202,7 +202,7 @@ fn symbol_at<A: Allocator + Copy>(
     hunk: usize,
     index: usize,
 ) -> Option<&(Name<A>, u32)>
-    ensures { option_map (λ symbol. symbol.now) result ≡ symbol_at hunks.now hunk index }
+    ensures { option_copied result ≡ symbol_at hunks.now hunk index }
 {
     match hunks.get(hunk) {
         Some(hunk) => hunk.symbols.get(index),
@@ -216,7 +216,7 @@ fn write_symbols<A: Allocator + Copy, B: Allocator + Copy, W: Sink>(
     first: Option<&(Name<A>, u32)>,
     second: Option<&(Name<B>, u32)>,
 )
-    ensures { Puts W.taken W.failed text.old text.new (symbols_text (option_map (λ symbol. symbol.now) first.entry) (option_map (λ symbol. symbol.now) second.entry)) }
+    ensures { Puts W.taken W.failed text.old text.new (symbols_text (option_copied first.entry) (option_copied second.entry)) }
 {
     match (first, second) {
         (Some(first), Some(second)) => write_unlike(text, first, second),

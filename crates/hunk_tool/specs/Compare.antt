@@ -30,11 +30,13 @@ comparison_text firsts seconds None None = []
 
 -- the text that tells how the files of these hunks compare
 abbrev pub comparison : Bool → List FileHunk → List FileHunk → List ℕ
-comparison with_symbols firsts seconds = comparison_text firsts seconds (first_difference firsts seconds) (info_difference with_symbols firsts seconds)
+comparison with_symbols firsts seconds =
+    comparison_text firsts seconds (first_difference firsts seconds) (info_difference with_symbols firsts seconds)
 
 -- whether there is no difference
 abbrev pub is_same : Bool → List FileHunk → List FileHunk → Bool
-is_same with_symbols firsts seconds = is_none (first_difference firsts seconds) && is_none (info_difference with_symbols firsts seconds)
+is_same with_symbols firsts seconds =
+    is_none (first_difference firsts seconds) && is_none (info_difference with_symbols firsts seconds)
 
 -- ---- what was read and written
 
@@ -92,9 +94,12 @@ IsRefusedInput fault input = HasRead input.left input.left_then (IsRefused fault
 
 -- Why two files were not compared, or that was not told in full. Nothing was written before both readers ended.
 abbrev pub IsCompareFault : {A : Type 0} → Bool → (first second : Input) → Taken → ToolFault A → Type 0
-IsCompareFault with_symbols first second taken (InputFault file fault) = IsUnreadOf file first second (IsRefusedInput fault) × Keeps taken.old taken.new
-IsCompareFault with_symbols first second taken (InputDevice file) = IsUnreadOf file first second (λ input. IsTrue input.failed) × Keeps taken.old taken.new
+IsCompareFault with_symbols first second taken (InputFault file fault) =
+    IsUnreadOf file first second (IsRefusedInput fault) × Keeps taken.old taken.new
+IsCompareFault with_symbols first second taken (InputDevice file) =
+    IsUnreadOf file first second (λ input. IsTrue input.failed) × Keeps taken.old taken.new
 IsCompareFault with_symbols first second taken (Link refusal) = ⊥
 IsCompareFault with_symbols first second taken (Place fault) = ⊥
-IsCompareFault with_symbols first second taken (Output written) = BothRead first second (IsComparisonCutShort with_symbols taken.old taken.new written) × IsTrue taken.failed
+IsCompareFault with_symbols first second taken (Output written) =
+    BothRead first second (IsComparisonCutShort with_symbols taken.old taken.new written) × IsTrue taken.failed
 IsCompareFault with_symbols first second taken (OutOfMemory written) = (written ≡ 0) × Keeps taken.old taken.new

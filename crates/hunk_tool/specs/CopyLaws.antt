@@ -16,12 +16,15 @@ use Rattle.hunk_tool.specs.declared.copy.CopyForm.TheVariants.{Normal}
 
 -- A copy that fits is read back as what it is of the file,
 abbrev pub CopyIsLoad : Type 0
-CopyIsLoad = (form : CopyForm) (hunks : List FileHunk) → IsLoadFile hunks → CopyFits form hunks → IsLoadOf (copied form hunks) (copied_bytes form hunks)
+CopyIsLoad =
+    (form : CopyForm) (hunks : List FileHunk) → IsLoadFile hunks → CopyFits form hunks
+    → IsLoadOf (copied form hunks) (copied_bytes form hunks)
 
 -- and as nothing else.
 abbrev pub CopyIsOneLoad : Type 0
 CopyIsOneLoad =
-    (form : CopyForm) (hunks other : List FileHunk) → IsLoadFile hunks → CopyFits form hunks → IsLoadOf other (copied_bytes form hunks) → other ≡ copied form hunks
+    (form : CopyForm) (hunks other : List FileHunk) → IsLoadFile hunks → CopyFits form hunks
+    → IsLoadOf other (copied_bytes form hunks) → other ≡ copied form hunks
 
 -- It means the same as the file,
 abbrev pub CopyMeansTheSame : Type 0
@@ -42,13 +45,16 @@ CopiedOnce = (form : CopyForm) (hunks : List FileHunk) → copied_bytes form (co
 -- Two load files mean the same exactly if their normal forms are the same bytes.
 abbrev pub NormalBytesTellMeaning : Type 0
 NormalBytesTellMeaning =
-    (first second : List FileHunk) → IsLoadFile first → IsLoadFile second → (copied_bytes Normal first ≡ copied_bytes Normal second) ↔ MeansTheSame first second
+    (first second : List FileHunk) → IsLoadFile first → IsLoadFile second
+    → (copied_bytes Normal first ≡ copied_bytes Normal second) ↔ MeansTheSame first second
 
 -- ---- comparisons
 
 -- No difference is found exactly if two load files mean the same,
 abbrev pub SameMeansTheSame : Type 0
-SameMeansTheSame = (first second : List FileHunk) → IsLoadFile first → IsLoadFile second → (is_same false first second ≡ true) ↔ MeansTheSame first second
+SameMeansTheSame =
+    (first second : List FileHunk) → IsLoadFile first → IsLoadFile second
+    → (is_same false first second ≡ true) ↔ MeansTheSame first second
 
 -- or, where symbols count, if they have the same symbols and debug blocks too.
 abbrev pub SameHasTheSameInfo : Type 0
@@ -58,4 +64,6 @@ SameHasTheSameInfo =
 
 -- Nothing is written exactly if no difference is found.
 abbrev pub NothingIsTold : Type 0
-NothingIsTold = (with_symbols : Bool) (first second : List FileHunk) → (comparison with_symbols first second ≡ []) ↔ (is_same with_symbols first second ≡ true)
+NothingIsTold =
+    (with_symbols : Bool) (first second : List FileHunk)
+    → (comparison with_symbols first second ≡ []) ↔ (is_same with_symbols first second ≡ true)
