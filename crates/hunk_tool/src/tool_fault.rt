@@ -16,7 +16,8 @@ pub enum ToolFault<A: Allocator + Copy = Global> {
     Input { file: usize, fault: Fault },
     /// A read of an input failed.
     InputDevice { file: usize },
-    /// The units of the inputs do not link. It is never the refusal `OutOfMemory`.
+    /// The units of the inputs do not link, or the copy of a load file has more than a linked file may
+    /// have. It is never the refusal `OutOfMemory`.
     Link(LinkRefusal<A>),
     /// The addresses are rejected: there is not one for each hunk, a hunk passes the end of memory,
     /// or two hunks overlap.
