@@ -95,14 +95,14 @@ def a_copy_has_the_memory_of_its_file(program):
 
     for seed, bytes_ in enumerate(some_files()):
         compare(seed, bytes_)
-    for seed in range(250):
+    for seed in range(60):
         dice = random.Random(seed)
         compare(seed, load_files.spelt(dice, load_files.random_hunks(dice)))
 
 
 @test
 def a_linked_file_is_its_own_copy(program):
-    for seed in range(60):
+    for seed in range(25):
         dice, units = random.Random(seed), model.random_named_units(seed)
         program.write("x.o", model.object_file(units))
         program.prints("", "link", "--out", "full", "x.o")
@@ -115,7 +115,7 @@ def a_linked_file_is_its_own_copy(program):
 @test
 def files_that_mean_the_same_have_one_normal_form(program):
     seen = set()
-    for seed in range(400):
+    for seed in range(150):
         dice = random.Random(-seed)
         first = load_files.random_hunks(dice)
         second = load_files.altered(dice, first) if dice.random() < 0.6 else first
