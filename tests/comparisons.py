@@ -328,7 +328,7 @@ def a_comparison_with_little_memory_tells_a_line_or_none(program):
     equals(program.run("compare", "large", "larger", limit=LITTLE_MEMORY), (DIFFERENT, told, ""))
 
 
-PAIRS = 2000
+PAIRS = 500
 
 
 def random_pair(seed):

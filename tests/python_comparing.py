@@ -251,6 +251,16 @@ INFO_ROWS = (
 )
 
 
+def random_places(dice, first, second):
+    """Addresses at which the hunks of either file can stand, in a random order and with random gaps."""
+    address, bases = dice.randrange(1 << 31), [0] * len(first)
+    for number in dice.sample(range(len(first)), len(first)):
+        address += dice.randrange(64)
+        bases[number] = address
+        address += max(len(first[number].content), len(second[number].content))
+    return bases
+
+
 def turned(told):
     """What is told of two files the other way round."""
     return told and Difference(told.kind, told.hunk, told.offset, told.second, told.first)
@@ -278,6 +288,15 @@ class Comparing(unittest.TestCase):
             self.tells(CODE_AND_DATA, other, None, False)
             self.tells(CODE_AND_DATA, other, Difference(DifferenceKind[what], 1, index, None, None), True)
 
+    def loads_as_told(self, dice, files, hunks, told, seed):
+        """Files that mean the same are the same memory, wherever they are; and bytes or sites that differ are another one somewhere."""
+        if told is None:
+            for bases in (random_places(dice, *hunks) for _ in range(5)):
+                self.assertEqual(*(amihunk.load(file, bases) for file in files), seed)
+        elif told.kind in (DifferenceKind.BYTE, DifferenceKind.SITE):
+            places = (random_places(dice, *hunks) for _ in range(20))
+            self.assertTrue(any(amihunk.load(files[0], bases) != amihunk.load(files[1], bases) for bases in places), seed)
+
     def test_random_pairs_are_compared_as_by_the_model(self):
         seen = {}
         for seed in range(PAIRS):
@@ -291,6 +310,7 @@ class Comparing(unittest.TestCase):
                 wanted = difference(first, second, symbols)
                 self.tells(*files, wanted, symbols, seed)
                 seen[wanted and wanted.kind] = seen.get(wanted and wanted.kind, 0) + 1
+            self.loads_as_told(dice, files, (first, second), difference(first, second, False), seed)
             if seed % 3 == 0:
                 self.assertIsNone(wanted, seed)
         self.assertEqual(seen.keys(), {None, *DifferenceKind})
