@@ -340,11 +340,6 @@ def random_pair(seed):
     return dice, hunks, [load_files.spelt(dice, it) for it in hunks]
 
 
-def kind_of(line):
-    """Which kind of difference a line tells."""
-    return line.split()[2].strip(":") if line.startswith("hunk ") else line.partition(":")[0]
-
-
 @test
 def random_files_are_the_same_exactly_if_their_memory_is(program):
     seen = set()
@@ -354,18 +349,18 @@ def random_files_are_the_same_exactly_if_their_memory_is(program):
             program.write(name, bytes_)
         options, read = ["--symbols"] * dice.randrange(2), [load_files.read(bytes_) for bytes_ in files]
         told = load_files.difference(*read, options)
-        equals(program.run("compare", *options, "a", "b"), (DIFFERENT if told else DONE, told, ""), seed)
-        seen.add(kind_of(told))
-        line = load_files.difference(*hunks)
-        if kind_of(line) not in ("", "offset", "site"):
+        equals(program.run("compare", *options, "a", "b"), (DIFFERENT if told else DONE, load_files.line_of(told), ""), seed)
+        seen.add(told and told.kind)
+        differs = load_files.difference(*hunks)
+        if differs and differs.kind not in ("byte", "site"):
             continue
         # What differs in memory differs at some bases, though not at all: these are drawn until the memory of the model does.
         memory, bases = None, None
-        while not memory or line and memory[0] == memory[1]:
+        while not memory or differs and memory[0] == memory[1]:
             bases = load_files.random_bases(dice, *hunks)
             memory = [load_files.memory_of(it, bases) for it in hunks]
-        equals(memory[0] == memory[1], not line, seed)
+        equals(memory[0] == memory[1], not differs, seed)
         for name, it in zip("ab", memory):
             program.prints(model.report_of(bases, it), "load", "--at", model.addresses(bases), name)
     # Each kind of difference was among them.
-    equals(seen, {"", "hunks", "kind", "memory", "size", "offset", "site", "symbol", "debug"})
+    equals(seen, {None, "hunk_count", "kind", "memory", "size", "byte", "site", "symbol", "debug"})

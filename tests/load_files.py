@@ -2,7 +2,9 @@
 
 It follows docs/FORMAT.md, and knows nothing of how the program reads, writes and compares: it looks at one byte after another.
 """
+import itertools
 import struct
+from typing import Any, NamedTuple, Optional
 
 from model import BSS, CODE, DATA, DEBUG, END, HEADER, KINDS, MEMORIES, MODULUS, NAME, RELOC32, SYMBOL, quoted, random_name, text, words
 
@@ -187,47 +189,81 @@ def memory_of(hunks, bases):
     return memory
 
 
-def adds(hunk, offset):
-    return f"hunk {hunk.sites[offset]}" if offset in hunk.sites else "none"
+class Difference(NamedTuple):
+    """Where two load files first differ, and what the first and the second one have there."""
+
+    kind: str  # as the module for Python and the header for C call it
+    hunk: Optional[int]  # its number; None if the numbers of hunks differ
+    place: Optional[int]  # the offset of a byte or a site, the index of a symbol or a debug block; else None
+    first: Any  # as a LoadHunk has it; None for a site, a symbol or a debug block that is not there
+    second: Any
 
 
-def hunk_difference(one, other):
-    """Where two hunks first differ, or None."""
-    for what, of in (("kind", lambda it: KINDS[it.kind]), ("memory", lambda it: it.memory), ("size", lambda it: 4 * it.size)):
-        if of(one) != of(other):
-            return f"{what}: {of(one)} and {of(other)}"
+def hunk_difference(number, one, other):
+    """Where two hunks of this number first differ, or None."""
+    for kind in ("kind", "memory", "size"):
+        first, second = getattr(one, kind), getattr(other, kind)
+        if first != second:
+            return Difference(kind, number, None, first, second)
     for offset, (byte, another) in enumerate(zip(one.bytes(), other.bytes())):
         if byte != another:
-            return f"offset {offset:08x}: {byte:02x} and {another:02x}"
-        if one.sites.get(offset) != other.sites.get(offset):
-            return f"site {offset:08x}: {adds(one, offset)} and {adds(other, offset)}"
+            return Difference("byte", number, offset, byte, another)
+        first, second = one.sites.get(offset), other.sites.get(offset)
+        if first != second:
+            return Difference("site", number, offset, first, second)
     return None
 
 
-def info_difference(one, other):
-    """Where two hunks first differ in what only debuggers read, or None."""
-    for index in range(max(len(one.symbols), len(other.symbols))):
-        (name, value), (another, further) = [(it.symbols[index : index + 1] or [(None, None)])[0] for it in (one, other)]
-        if None not in (name, another) and name != another:
-            return f"symbol {index}: {quoted(name)} and {quoted(another)}"
-        if (name, value) != (another, further):
-            told = ["none" if it is None else f"{it:08x}" for it in (value, further)]
-            return f"symbol {index}: {quoted(another if name is None else name)} {told[0]} and {told[1]}"
-    for index in range(max(len(one.debugs), len(other.debugs))):
-        if one.debugs[index : index + 1] != other.debugs[index : index + 1]:
-            return f"debug {index}"
+def info_difference(number, one, other):
+    """Where two hunks of this number first differ in what only debuggers read, or None."""
+    for kind, firsts, seconds in (("symbol", one.symbols, other.symbols), ("debug", one.debugs, other.debugs)):
+        for index, (first, second) in enumerate(itertools.zip_longest(firsts, seconds)):
+            if first != second:
+                return Difference(kind, number, index, first, second)
     return None
 
 
 def difference(first, second, symbols=False):
-    """What `compare` prints of two load files."""
+    """Where two load files first differ, or None."""
     if len(first) != len(second):
-        return f"hunks: {len(first)} and {len(second)}\n"
-    for compare in (hunk_difference, info_difference) if symbols else (hunk_difference,):
-        for number, (one, other) in enumerate(zip(first, second)):
-            if found := compare(one, other):
-                return f"hunk {number} {found}\n"
-    return ""
+        return Difference("hunk_count", None, None, len(first), len(second))
+    for differs in (hunk_difference, info_difference) if symbols else (hunk_difference,):
+        for number, hunks in enumerate(zip(first, second)):
+            if found := differs(number, *hunks):
+                return found
+    return None
+
+
+def symbols_told(first, second):
+    """Two symbols, of which one may be missing: their names, or their values if the name is the same."""
+    if first and second and first[0] != second[0]:
+        return f"{quoted(first[0])} and {quoted(second[0])}"
+    name, _ = first or second
+    values = [f"{it[1]:08x}" if it else "none" for it in (first, second)]
+    return f"{quoted(name)} {' and '.join(values)}"
+
+
+# How a difference is told whose line ends with both values: where it is, and each of them.
+TOLD = {
+    "hunk_count": ("hunks", str),
+    "kind": ("hunk {hunk} kind", KINDS.get),
+    "memory": ("hunk {hunk} memory", str),
+    "size": ("hunk {hunk} size", lambda longwords: str(4 * longwords)),
+    "byte": ("hunk {hunk} offset {place:08x}", "{:02x}".format),
+    "site": ("hunk {hunk} site {place:08x}", lambda target: "none" if target is None else f"hunk {target}"),
+}
+
+
+def line_of(told):
+    """What `compare` prints of a difference, or of none."""
+    if told is None:
+        return ""
+    if told.kind == "symbol":
+        return f"hunk {told.hunk} symbol {told.place}: {symbols_told(told.first, told.second)}\n"
+    if told.kind == "debug":
+        return f"hunk {told.hunk} debug {told.place}\n"
+    place, value = TOLD[told.kind]
+    return f"{place.format(**told._asdict())}: {value(told.first)} and {value(told.second)}\n"
 
 
 # ---- random load files
