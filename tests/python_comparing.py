@@ -1,222 +1,31 @@
-"""Comparing load files with the module for Python: rows that were worked out by hand, and random pairs against a plain model."""
+"""Comparing load files with the module for Python: rows that were worked out by hand, and random pairs against load_files.py."""
 import copy
 import os
 import pickle
 import random
-import struct
 import unittest
 
-from model import BSS, CODE, DATA, DEBUG, END, HEADER, KINDS, MODULUS, NAME, RELOC32, SYMBOL, UNIT, text, words
+import load_files
+from model import BSS, CODE, DATA, DEBUG, END, HEADER, KINDS, RELOC32, SYMBOL, UNIT, words
 from python_setup import ONE_HUNK, THREE_HUNKS, TOP, Pieces, amihunk, ended, example
 from amihunk import Difference, DifferenceKind, HunkBase, HunkKind, LoadFile, MemoryKind, Reference, Site, compare
 
-PAIRS, RELOC32SHORT = 2000, 0x3FC
-KIND_OF = {CODE: HunkKind.CODE, DATA: HunkKind.DATA, BSS: HunkKind.BSS}
-MEMORY_OF = (MemoryKind.ANY, MemoryKind.CHIP, MemoryKind.FAST)
+PAIRS = 2000
 
 
-class Plain:
-    """A hunk of a load file: its bytes in memory, and the hunks whose bases are added at offsets."""
+def as_told(difference):
+    """How the module tells a difference of the model."""
+    if difference is None:
+        return None
+    kind, hunk, place, *values = difference
+    if kind == "kind":
+        values = [HunkKind[KINDS[it].upper()] for it in values]
+    elif kind == "memory":
+        values = [MemoryKind[it.upper()] for it in values]
+    elif kind in ("symbol", "debug"):
+        values = None, None
+    return Difference(DifferenceKind[kind.upper()], hunk, place, *values)
 
-    def __init__(self, kind, memory, content):
-        self.kind, self.memory, self.content = kind, memory, bytearray(content)
-        self.sites, self.symbols, self.debugs = {}, [], []
-
-
-# ---- the model
-
-
-def differs_at(one, other):
-    """What differs first in two hunks in memory, its offset, and both values."""
-    for what, first, second in (
-        ("KIND", KIND_OF[one.kind], KIND_OF[other.kind]),
-        ("MEMORY", MEMORY_OF[one.memory], MEMORY_OF[other.memory]),
-        ("SIZE", len(one.content) // 4, len(other.content) // 4),
-    ):
-        if first != second:
-            return what, None, first, second
-    for offset in range(len(one.content)):
-        for what, first, second in (
-            ("BYTE", one.content[offset], other.content[offset]),
-            ("SITE", one.sites.get(offset), other.sites.get(offset)),
-        ):
-            if first != second:
-                return what, offset, first, second
-    return None
-
-
-def info_differs_at(one, other):
-    """The same of what only debuggers read."""
-    for what, firsts, seconds in (("SYMBOL", one.symbols, other.symbols), ("DEBUG", one.debugs, other.debugs)):
-        for index in range(max(len(firsts), len(seconds))):
-            if firsts[index : index + 1] != seconds[index : index + 1]:
-                return what, index, None, None
-    return None
-
-
-def difference(first, second, symbols):
-    """Where two lists of hunks first differ."""
-    if len(first) != len(second):
-        return Difference(DifferenceKind.HUNK_COUNT, None, None, len(first), len(second))
-    for differs in (differs_at, info_differs_at) if symbols else (differs_at,):
-        for number, pair in enumerate(zip(first, second)):
-            if found := differs(*pair):
-                what, offset, *values = found
-                return Difference(DifferenceKind[what], number, offset, *values)
-    return None
-
-
-# ---- files
-
-
-def site_blocks(dice, sites):
-    """The sites in any order, in blocks of both forms, with groups of any size."""
-    left, blocks = dice.sample(sorted(sites.items()), len(sites)), []
-    while left:
-        some, left, form = left[: (count := dice.randrange(1, len(left) + 1))], left[count:], dice.choice(("I", "H"))
-        numbers = []
-        while some:
-            target, most = some[0][1], dice.randrange(1, 5)
-            group = [offset for offset, it in some if it == target][:most]
-            some = [it for it in some if it[0] not in group]
-            numbers += [len(group), target, *group]
-        pad = [dice.randrange(9)] if form == "H" and len(numbers) % 2 == 0 else []
-        type_ = RELOC32 if form == "I" else RELOC32SHORT
-        blocks.append(words(type_) + struct.pack(f">{len(numbers) + 1 + len(pad)}{form}", *numbers, 0, *pad))
-    return blocks
-
-
-def symbol_blocks(dice, symbols):
-    """The symbols in one block or more; after a name there may be anything behind a zero byte."""
-    blocks, left = [], symbols
-    while left:
-        some, left = left[: (count := dice.randrange(1, len(left) + 1))], left[count:]
-        names = [text(name + dice.choice((b"", b"\0", b"\0junk"))) or bytes(4) for name, _ in some]
-        rows = [words(len(name) // 4) + name + words(value) for name, (_, value) in zip(names, some)]
-        blocks.append(words(SYMBOL) + b"".join(rows) + words(0))
-    return blocks
-
-
-def merged(dice, *lists):
-    """Several lists as one, each in its own order."""
-    order = [number for number, it in enumerate(lists) for _ in it]
-    dice.shuffle(order)
-    left = [iter(it) for it in lists]
-    return [next(left[number]) for number in order]
-
-
-def spelled(dice, hunks):
-    """One of the load files that have these hunks."""
-    sizes = [hunk.memory << 30 | len(hunk.content) // 4 for hunk in hunks]
-    parts = [words(dice.randrange(4) << 30 | HEADER, 0, len(hunks), 0, len(hunks) - 1, *sizes)]
-    for hunk in hunks:
-        size, least = len(hunk.content) // 4, (len(hunk.content.rstrip(b"\0")) + 3) // 4
-        stored = dice.choice((size, least, dice.randrange(least, size + 1)))
-        if dice.random() < 0.2:
-            parts.append(words(NAME, 1) + b"name")
-        parts.append(words(dice.randrange(4) << 30 | hunk.kind, stored) + (b"" if hunk.kind == BSS else bytes(hunk.content[: 4 * stored])))
-        debugs = [words(DEBUG, len(it) // 4) + it for it in hunk.debugs]
-        parts += merged(dice, site_blocks(dice, hunk.sites), symbol_blocks(dice, hunk.symbols), debugs)
-        parts.append(words(END))
-    return b"".join(parts)
-
-
-# ---- random hunks
-
-
-def random_symbol(dice):
-    return dice.choice((b"", b"a", b"main", b"label", b"\xff\xfe")), dice.choice((0, 1, dice.randrange(MODULUS)))
-
-
-def random_debug(dice):
-    return words(*(dice.randrange(3) for _ in range(dice.randrange(3))))
-
-
-def random_hunk(dice, count):
-    kind, size = dice.choice(list(KINDS)), dice.choice((0, 0, 1, 2, 3, 5, 20))
-    hunk = Plain(kind, dice.randrange(3), bytes(4 * size))
-    if kind != BSS:
-        end = dice.randrange(4 * size + 1)
-        hunk.content[:end] = bytes(dice.choices((0, 0, 1, 255), k=end))
-    offset = dice.randrange(4)
-    while offset + 4 <= 4 * size:
-        if dice.random() < 0.5:
-            hunk.sites[offset] = dice.randrange(count)
-        offset += 4 + dice.choice((0, 0, 1, 3))
-    hunk.symbols = [random_symbol(dice) for _ in range(dice.choice((0, 0, 1, 3)))]
-    hunk.debugs = [random_debug(dice) for _ in range(dice.choice((0, 0, 1, 2)))]
-    return hunk
-
-
-def random_hunks(dice):
-    count = dice.randrange(1, 5)
-    return [random_hunk(dice, count) for _ in range(count)]
-
-
-# ---- changes
-
-
-def change_count(dice, hunks):
-    if dice.random() < 0.5 or len(hunks) == 1:
-        hunks.append(random_hunk(dice, len(hunks)))
-    else:
-        hunks.pop()
-        for hunk in hunks:
-            hunk.sites = {offset: min(target, len(hunks) - 1) for offset, target in hunk.sites.items()}
-
-
-def change_kind(dice, hunks):
-    hunk = dice.choice(hunks)
-    hunk.kind = dice.choice((CODE, DATA) if any(hunk.content) else list(KINDS))
-
-
-def change_memory(dice, hunks):
-    dice.choice(hunks).memory = dice.randrange(3)
-
-
-def change_size(dice, hunks):
-    hunk = dice.choice(hunks)
-    if hunk.content and not any(hunk.content[-4:]) and all(it + 4 < len(hunk.content) - 3 for it in hunk.sites) and dice.random() < 0.5:
-        del hunk.content[-4:]
-    else:
-        hunk.content += bytes(4 * dice.randrange(1, 3))
-
-
-def change_byte(dice, hunks):
-    hunk = dice.choice(hunks)
-    if hunk.content and hunk.kind != BSS:
-        place = dice.choice((0, len(hunk.content) - 1, dice.randrange(len(hunk.content))))
-        hunk.content[place] = dice.choice((0, 1, 255))
-
-
-def change_site(dice, hunks):
-    hunk = dice.choice(hunks)
-    free = [it for it in range(len(hunk.content) - 3) if not any(abs(it - offset) < 4 for offset in hunk.sites)]
-    if hunk.sites and dice.random() < 0.7:
-        offset = dice.choice(list(hunk.sites))
-        hunk.sites[offset] = dice.randrange(len(hunks))
-        if dice.random() < 0.5:
-            del hunk.sites[offset]
-    elif free:
-        hunk.sites[dice.choice(free)] = dice.randrange(len(hunks))
-
-
-def change_list(name, make):
-    """A change of one of the lists of a hunk: an element is another one, left out or put in."""
-    def change(dice, hunks):
-        own = getattr(dice.choice(hunks), name)
-        place = dice.randrange(len(own) + 1)
-        own[place : place + dice.randrange(2)] = [make(dice) for _ in range(dice.randrange(2))]
-    return change
-
-
-CHANGES = (
-    change_count, change_kind, change_memory, change_size, change_byte, change_byte, change_site, change_site,
-    change_list("symbols", random_symbol), change_list("debugs", random_debug),
-)
-
-
-# ---- rows
 
 FRONT = HEADER, 0, 1, 0, 0
 TWO = words(HEADER, 0, 2, 0, 1, 1 << 30, 2)
@@ -251,16 +60,6 @@ INFO_ROWS = (
 )
 
 
-def random_places(dice, first, second):
-    """Addresses at which the hunks of either file can stand, in a random order and with random gaps."""
-    address, bases = dice.randrange(1 << 31), [0] * len(first)
-    for number in dice.sample(range(len(first)), len(first)):
-        address += dice.randrange(64)
-        bases[number] = address
-        address += max(len(first[number].content), len(second[number].content))
-    return bases
-
-
 def turned(told):
     """What is told of two files the other way round."""
     return told and Difference(told.kind, told.hunk, told.offset, told.second, told.first)
@@ -291,28 +90,26 @@ class Comparing(unittest.TestCase):
     def loads_as_told(self, dice, files, hunks, told, seed):
         """Files that mean the same are the same memory, wherever they are; and bytes or sites that differ are another one somewhere."""
         if told is None:
-            for bases in (random_places(dice, *hunks) for _ in range(5)):
+            for bases in (load_files.random_bases(dice, *hunks) for _ in range(5)):
                 self.assertEqual(*(amihunk.load(file, bases) for file in files), seed)
         elif told.kind in (DifferenceKind.BYTE, DifferenceKind.SITE):
-            places = (random_places(dice, *hunks) for _ in range(20))
+            places = (load_files.random_bases(dice, *hunks) for _ in range(20))
             self.assertTrue(any(amihunk.load(files[0], bases) != amihunk.load(files[1], bases) for bases in places), seed)
 
     def test_random_pairs_are_compared_as_by_the_model(self):
         seen = {}
         for seed in range(PAIRS):
             dice = random.Random(seed)
-            first = random_hunks(dice)
-            second = copy.deepcopy(first)
-            for _ in range(seed % 3):
-                dice.choice(CHANGES)(dice, second)
-            files = spelled(dice, first), spelled(dice, second)
-            for symbols in (False, True):
-                wanted = difference(first, second, symbols)
+            first = load_files.random_hunks(dice)
+            second = load_files.altered(dice, first) if seed % 3 else first
+            files = [load_files.spelt(dice, it) for it in (first, second)]
+            told = {symbols: as_told(load_files.difference(first, second, symbols)) for symbols in (False, True)}
+            for symbols, wanted in told.items():
                 self.tells(*files, wanted, symbols, seed)
                 seen[wanted and wanted.kind] = seen.get(wanted and wanted.kind, 0) + 1
-            self.loads_as_told(dice, files, (first, second), difference(first, second, False), seed)
-            if seed % 3 == 0:
-                self.assertIsNone(wanted, seed)
+            self.loads_as_told(dice, files, (first, second), told[False], seed)
+            if second is first:
+                self.assertIsNone(told[True], seed)
         self.assertEqual(seen.keys(), {None, *DifferenceKind})
         self.assertTrue(all(count > 20 for count in seen.values()), seen)
 
