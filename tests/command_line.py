@@ -4,10 +4,9 @@ import re
 
 import model
 from harness import BAD_WORDS, equals, test
-from model import CODE, END, HEADER, RELOC32, SYMBOL, Hunk, words
+from model import CODE, END, HEADER, RELOC32, RELOC32SHORT, SYMBOL, Hunk, words
 
 HERE = os.path.dirname(os.path.abspath(__file__))
-SHORT = 0x3FC
 # Files, some of which are named as an option or as a command, and the first longword of each one's hunk.
 FILES = {"x": 1, "y": 2, "z": 3, "link": 4, "strip": 5, "--strip": 6, "--short": 7, "--trim": 8, "--at": 9, "--srec": 10,
          "--at-file": 11, "--map": 12, "--json": 13}
@@ -26,7 +25,7 @@ def load_file(names, options):
     parts = [words(HEADER, 0, len(names), 0, len(names) - 1, *[2] * len(names))]
     for hunk, name in enumerate(names):
         parts.append(words(CODE, 1, FILES[name]) if "trim" in options else words(CODE, 2, FILES[name], 0))
-        parts.append(words(SHORT, 1 << 16 | hunk, 0) if "short" in options else words(RELOC32, 1, hunk, 0, 0))
+        parts.append(words(RELOC32SHORT, 1 << 16 | hunk, 0) if "short" in options else words(RELOC32, 1, hunk, 0, 0))
         if "strip" not in options:
             parts.append(words(SYMBOL, 1) + b"s\0\0\0" + words(0, 0))
         parts.append(words(END))

@@ -6,9 +6,8 @@ import threading
 import load_files
 import model
 from harness import BAD_WORDS, DEVICE, DONE, equals, test
-from load_files import SHORT
 from memory import STEPS, falls, least_pages
-from model import BSS, CODE, DATA, DEBUG, END, HEADER, NAME, RELOC32, SYMBOL, words
+from model import BSS, CODE, DATA, DEBUG, END, HEADER, NAME, RELOC32, RELOC32SHORT, SYMBOL, words
 from runs import LITTLE_MEMORY, LOAD_FILE, OBJECT_FILE
 
 # What the status of a comparison means besides those that all commands have. A file that is refused has that of BAD_WORDS.
@@ -73,7 +72,7 @@ ROWS = (
     ("hunk 0 site 00000000: hunk 1 and hunk 0", [(1, CODE, 1, 0, RELOC32, 1, 1, 0, 0), ONE], [SITE, ONE]),
     ("hunk 0 site 00000008: hunk 1 and none", [(3, CODE, 1, 7, RELOC32, 1, 1, 8, 0), EMPTY], [(3, CODE, 1, 7), EMPTY]),
     ("hunk 1 site 00000000: hunk 1 and hunk 2",
-     [EMPTY, (1, BSS, 0, RELOC32, 1, 1, 0, 0), EMPTY], [EMPTY, (1, BSS, 1, SHORT, 0x10002, 0), EMPTY]),
+     [EMPTY, (1, BSS, 0, RELOC32, 1, 1, 0, 0), EMPTY], [EMPTY, (1, BSS, 1, RELOC32SHORT, 0x10002, 0), EMPTY]),
     ("hunk 0 site 00000001: none and hunk 0", [(2, CODE, 2, 7, 7)], [(2, CODE, 2, 7, 7, RELOC32, 1, 0, 1, 0)]),
     ("hunk 0 site 00000003: hunk 0 and none", [(2, DATA, 0, RELOC32, 1, 0, 3, 0)], [(2, DATA, 0, RELOC32, 1, 0, 4, 0)]),
     ("hunk 0 site 00000003: hunk 0 and hunk 1", [(2, DATA, 0, RELOC32, 1, 0, 3, 0), EMPTY], [(2, DATA, 0, RELOC32, 1, 1, 3, 0), EMPTY]),
@@ -150,10 +149,10 @@ def the_form_of_a_file_makes_no_difference(program):
         load_file((5, CODE, 2, 7, 8, RELOC32, 2, 0, 0, 5, 1, 1, 16, 0, SYMBOL, 1, foo, 4, 1, foo, 5, 0, DEBUG, 1, 9, DEBUG, 0),
                   (CHIP | 2, BSS, 2)),
         # Zeros that are stored; a block for each entry, the debug blocks first; short and long lists, with any number after them.
-        load_file((5, CODE, 5, 7, 8, 0, 0, 0, DEBUG, 1, 9, SYMBOL, 1, foo, 4, 0, DEBUG, 0, SHORT, 0x00010001, 0x00100000,
+        load_file((5, CODE, 5, 7, 8, 0, 0, 0, DEBUG, 1, 9, SYMBOL, 1, foo, 4, 0, DEBUG, 0, RELOC32SHORT, 0x00010001, 0x00100000,
                    RELOC32, 1, 0, 5, 1, 0, 0, 0, SYMBOL, 1, foo, 5, 0), (CHIP | 2, BSS, 0)),
-        load_file((5, CODE, 3, 7, 8, 0, RELOC32, 0, SHORT, 0x00010000, 0x00050001, 0x00010010, 0x0000FFFF, RELOC32, 1, 0, 0, 0,
-                   SYMBOL, 2, foo, 0x12345678, 4, 0, SYMBOL, 0, SYMBOL, 2, foo, 0, 5, 0, DEBUG, 1, 9, DEBUG, 0), (CHIP | 2, BSS, 1)),
+        load_file((5, CODE, 3, 7, 8, 0, RELOC32, 0, RELOC32SHORT, 0x00010000, 0x00050001, 0x00010010, 0x0000FFFF, RELOC32, 1, 0, 0,
+                   0, SYMBOL, 2, foo, 0x12345678, 4, 0, SYMBOL, 0, SYMBOL, 2, foo, 0, 5, 0, DEBUG, 1, 9, DEBUG, 0), (CHIP | 2, BSS, 1)),
         # Bits that are ignored, and names of hunks.
         words(CHIP | FAST | HEADER, 0, 2, 0, 1, 5, CHIP | 2)
         + words(FAST | NAME, 1, foo, CHIP | CODE, FAST | 2, 7, 8, CHIP | RELOC32, 1, 1, 16, 2, 0, 5, 0, 0)

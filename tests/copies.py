@@ -12,9 +12,8 @@ from comparisons import CHIP, FAST, load_file, symbols
 from explanations import tells
 from harness import BAD_WORDS, DEVICE, DONE, REFUSED, equals, test
 from limits import at_a_limit_of_size, megabyte
-from load_files import SHORT
 from memory import STEPS, falls, least_pages
-from model import BSS, CODE, DATA, DEBUG, END, HEADER, NAME, RELOC32, SYMBOL, words
+from model import BSS, CODE, DATA, DEBUG, END, HEADER, NAME, RELOC32, RELOC32SHORT, SYMBOL, words
 from runs import LOAD_FILE, OBJECT_FILE
 
 OLD = b"was here" * 500
@@ -31,10 +30,10 @@ def each_form_is_written_as_by_hand(program):
     program.write("x", (
         words(CHIP | HEADER, 0, 3, 0, 2, 5, CHIP | 2, 16386)
         + words(NAME, 1, LOOP, FAST | CODE, CHIP | 5, 0x4E714E71, 0, 0, 0, 0)
-        + words(DEBUG, 2, 7, 8, SYMBOL, 2, LOOP, 0, 4, 0, RELOC32, 1, 2, 10, 1, 1, 5, 0, SHORT, 0x00010002, 0x00000000)
+        + words(DEBUG, 2, 7, 8, SYMBOL, 2, LOOP, 0, 4, 0, RELOC32, 1, 2, 10, 1, 1, 5, 0, RELOC32SHORT, 0x00010002, 0x00000000)
         + words(SYMBOL, 1, 0, 5, 0, FAST | END)
         + words(BSS, 0, RELOC32, 1, 0, 3, 0, DEBUG, 0, CHIP | END)
-        + words(DATA, 3, 0, 1, 0, SHORT, 0x00010001, 0x000A0000, RELOC32, 2, 0, 0x10000, 0, 0, CHIP | END)
+        + words(DATA, 3, 0, 1, 0, RELOC32SHORT, 0x00010001, 0x000A0000, RELOC32, 2, 0, 0x10000, 0, 0, CHIP | END)
     ))
     head = words(HEADER, 0, 3, 0, 2, 5, CHIP | 2, 16386)
     code = {
@@ -45,9 +44,9 @@ def each_form_is_written_as_by_hand(program):
     infos = [words(SYMBOL, 1, LOOP, 4, 1, 0, 5, 0, DEBUG, 2, 7, 8), words(DEBUG, 0), b""]
     long = [words(RELOC32, 1, 1, 5, 2, 2, 0, 10, 0), words(RELOC32, 1, 0, 3, 0), words(RELOC32, 2, 0, 0, 0x10000, 1, 1, 10, 0)]
     short = [
-        words(SHORT, 0x00010001, 0x00050002, 0x00020000, 0x000A0000),
-        words(SHORT, 0x00010000, 0x00030000),
-        words(SHORT, 0x00010000, 0x00000001, 0x0001000A, 0x00000000, RELOC32, 1, 0, 0x10000, 0),
+        words(RELOC32SHORT, 0x00010001, 0x00050002, 0x00020000, 0x000A0000),
+        words(RELOC32SHORT, 0x00010000, 0x00030000),
+        words(RELOC32SHORT, 0x00010000, 0x00000001, 0x0001000A, 0x00000000, RELOC32, 1, 0, 0x10000, 0),
     ]
     for form in FORMS:
         trim = None if "--normal" in form else "--trim" in form

@@ -6,9 +6,9 @@ import itertools
 import struct
 from typing import Any, NamedTuple, Optional
 
-from model import BSS, CODE, DATA, DEBUG, END, HEADER, KINDS, MEMORIES, MODULUS, NAME, RELOC32, SYMBOL, quoted, random_name, text, words
+from model import BSS, CODE, DATA, DEBUG, END, HEADER, KINDS, MEMORIES, MODULUS, NAME, RELOC32, RELOC32SHORT, SYMBOL
+from model import bases_apart, quoted, random_name, text, words
 
-SHORT = 0x3FC
 # What a list of 16-bit numbers can hold.
 FAR = 1 << 16
 
@@ -75,7 +75,7 @@ def read_hunk(reader, size, memory):
     while (block := reader.next() % (1 << 30)) != END:
         if block == RELOC32:
             hunk.sites.update(read_sites(iter(reader.next, None)))
-        elif block == SHORT:
+        elif block == RELOC32SHORT:
             hunk.sites.update(read_sites(reader.halves()))
         elif block == SYMBOL:
             while length := reader.next():
@@ -127,7 +127,7 @@ def written_hunk(hunk, short):
     near = {offset: target for offset, target in hunk.sites.items() if short and offset < FAR}
     far = {offset: target for offset, target in hunk.sites.items() if offset not in near}
     if near:
-        parts += [words(SHORT), halves(by_target(near) + [0])]
+        parts += [words(RELOC32SHORT), halves(by_target(near) + [0])]
     if far:
         parts.append(words(RELOC32, *by_target(far), 0))
     if hunk.symbols:
@@ -315,13 +315,7 @@ def random_hunks(dice):
 def random_bases(dice, *files):
     """Addresses at which the hunks of each of some files with equally many are apart, in any order, and somewhere in 32 bits."""
     sizes = [max(4 * hunk.size for hunk in hunks) for hunks in zip(*files)]
-    order, free = list(range(len(sizes))), dice.choice([0, 3, dice.randrange(1 << 31), 0xFFF00000])
-    dice.shuffle(order)
-    bases = [0] * len(sizes)
-    for number in order:
-        bases[number] = free
-        free += sizes[number] + dice.choice([0, 1, 100, 70000])
-    return bases
+    return bases_apart(dice, sizes, dice.choice([0, 3, dice.randrange(1 << 31), 0xFFF00000]), [0, 1, 100, 70000])
 
 
 # ---- other files that mean the same
@@ -361,7 +355,7 @@ def random_lists(dice, sites):
         if near or dice.random() < 0.1:
             numbers = random_groups(dice, near)
             pad = [dice.randrange(FAR)] * (len(numbers) % 2)
-            blocks.append(words(any_bits(dice, SHORT)) + halves(numbers + pad))
+            blocks.append(words(any_bits(dice, RELOC32SHORT)) + halves(numbers + pad))
         if far or dice.random() < 0.1:
             blocks.append(words(any_bits(dice, RELOC32), *random_groups(dice, far)))
     return blocks

@@ -23,12 +23,11 @@ import model
 import runs
 from harness import DONE, REFUSED, Program, equals
 from json_documents import NAMES, name_value
-from model import ABS, BSS, CODE, DATA, DEBUG, DEF, END, HEADER, RELOC32, SYMBOL, UNIT, Hunk, Unit, words
+from model import ABS, BSS, CODE, DATA, DEBUG, DEF, END, HEADER, RELOC32, RELOC32SHORT, SYMBOL, UNIT, Hunk, Unit, words
 from sources import TOP
 
 SEEDS = 300
 KINDS, MEMORIES = ("code", "data", "bss"), ("any", "chip", "fast")
-RELOC32SHORT = 0x3FC
 
 
 class Told:

@@ -7,6 +7,7 @@ import random
 import struct
 
 UNIT, NAME, CODE, DATA, BSS, RELOC32, EXT, SYMBOL, DEBUG, END, HEADER = *range(0x3E7, 0x3ED), *range(0x3EF, 0x3F4)
+RELOC32SHORT = 0x3FC
 DEF, ABS, REF32 = 1, 2, 129
 KINDS = {CODE: "code", DATA: "data", BSS: "bss"}
 MEMORIES = ("any", "chip", "fast")
@@ -247,14 +248,18 @@ def random_options(dice):
     return [it for it in ("--strip", "--short", "--trim") if dice.random() < 0.5]
 
 
+def bases_apart(dice, sizes, free, gaps):
+    """Addresses at which hunks of these sizes follow each other in any order, from the first free one on, with some of these gaps."""
+    order, bases = list(range(len(sizes))), [0] * len(sizes)
+    dice.shuffle(order)
+    for number in order:
+        bases[number] = free
+        free += sizes[number] + dice.choice(gaps)
+    return bases
+
+
 def random_bases(seed, units):
     """Addresses at which the hunks are apart, in any order, and somewhere in 32 bits."""
     dice = random.Random(seed)
     sizes = [4 * len(hunk.words) for unit in units for hunk in unit]
-    order, free = list(range(len(sizes))), dice.choice([0, 3, 0x10000, 0xFFFE0000])
-    dice.shuffle(order)
-    bases = [0] * len(sizes)
-    for number in order:
-        bases[number] = free
-        free += sizes[number] + dice.choice([0, 0, 1, 100])
-    return bases
+    return bases_apart(dice, sizes, dice.choice([0, 3, 0x10000, 0xFFFE0000]), [0, 0, 1, 100])

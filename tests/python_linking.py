@@ -3,7 +3,7 @@ import pathlib
 import unittest
 
 import model
-from model import ABS, BSS, CODE, DATA, DEBUG, DEF, END, EXT, HEADER, REF32, RELOC32, SYMBOL, UNIT, Hunk, Unit, words
+from model import ABS, BSS, CODE, DATA, DEBUG, DEF, END, EXT, HEADER, REF32, RELOC32, RELOC32SHORT, SYMBOL, UNIT, Hunk, Unit, words
 from python_setup import Pieces, amihunk, ended, example
 from amihunk import BadLink, Status, UndefinedName
 
@@ -32,7 +32,6 @@ hunk 2 code any 5 longwords library.o unit 0 "library" hunk 0 ""
   define "print" at 00000008
 hunk 3 bss chip 4 longwords library.o unit 0 "library" hunk 1 ""
 """
-RELOC32SHORT = 0x3FC
 
 
 def not_linked(status, line, unit=0, input=0, hunk=0, other=0, name=b"", undefined=()):
