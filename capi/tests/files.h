@@ -78,6 +78,37 @@ static inline struct file caller_and_definer(void)
                      0x3F2, 0x3E9, 2, 0x4E714E71, 0x4E754E71, 0x3F2);
 }
 
+/* An object file of so many hunks of no longwords. */
+static inline struct file empty_hunks(size_t count)
+{
+    uint32_t *longwords = some(malloc(4 * (2 + 3 * count)));
+    longwords[0] = 0x3E7;
+    longwords[1] = 0;
+    for (size_t i = 0; i < count; i++) {
+        const uint32_t hunk[] = {0x3EB, 0, 0x3F2};
+        memcpy(&longwords[2 + 3 * i], hunk, sizeof(hunk));
+    }
+    struct file file = file_of(longwords, 2 + 3 * count);
+    free(longwords);
+    return file;
+}
+
+/* A load file of so many hunks of one longword, which is zero. */
+static inline struct file zero_hunks(uint32_t count)
+{
+    uint32_t *longwords = some(malloc(4 * (5 + 4 * (size_t)count)));
+    const uint32_t header[] = {0x3F3, 0, count, 0, count - 1};
+    memcpy(longwords, header, sizeof(header));
+    for (size_t i = 0; i < count; i++) {
+        const uint32_t hunk[] = {0x3EB, 1, 0x3F2};
+        longwords[5 + i] = 1;
+        memcpy(&longwords[5 + count + 3 * i], hunk, sizeof(hunk));
+    }
+    struct file file = file_of(longwords, 5 + 4 * (size_t)count);
+    free(longwords);
+    return file;
+}
+
 /* A name of four letters for a number: another one for each number of 16 bits. */
 static inline uint32_t name_of(uint32_t number)
 {

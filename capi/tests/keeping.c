@@ -267,21 +267,6 @@ static void a_linker_that_is_not_done_tells_nothing(void)
     free(file.bytes);
 }
 
-/* So many hunks of nothing. */
-static struct file hunks(size_t count)
-{
-    uint32_t *longwords = some(malloc(4 * (2 + 3 * count)));
-    longwords[0] = 0x3E7;
-    longwords[1] = 0;
-    for (size_t i = 0; i < count; i++) {
-        const uint32_t hunk[] = {0x3EB, 0, 0x3F2};
-        memcpy(&longwords[2 + 3 * i], hunk, sizeof(hunk));
-    }
-    struct file file = file_of(longwords, 2 + 3 * count);
-    free(longwords);
-    return file;
-}
-
 /* In each pair of files a name is missing, too, but that is not why they are refused. */
 static void a_linker_that_is_refused_for_another_reason_tells_nothing(void)
 {
@@ -292,7 +277,7 @@ static void a_linker_that_is_refused_for_another_reason_tells_nothing(void)
         {AMIHUNK_BAD_FILE, {caller(), LONGWORDS(0x3E7, 0, 0x3E8)}},
         {AMIHUNK_BAD_FILE, {caller(), LONGWORDS(0x3E9)}},
         {AMIHUNK_NO_HUNKS, {LONGWORDS(0x3E7, 0), LONGWORDS(0x3E7, 0)}}, /* so there is no name */
-        {AMIHUNK_TOO_MANY_HUNKS, {caller(), hunks(65535)}},
+        {AMIHUNK_TOO_MANY_HUNKS, {caller(), empty_hunks(65535)}},
         {AMIHUNK_TOO_LARGE, {caller(), LONGWORDS(0x3E7, 0, 0x3EB, 0x00FFFFFF, 0x3F2)}},
         {AMIHUNK_NO_SUCH_HUNK, {caller(), with(table(), 7, 2)}},
         {AMIHUNK_DUPLICATE_NAME, {caller(), joined(late_definer(), 72, late_definer())}},

@@ -231,16 +231,7 @@ static void units_without_hunks_do_not_link(void)
 
 static void too_many_hunks_do_not_link(void)
 {
-    enum { HUNKS = 65536 };
-    uint32_t *longwords = some(malloc(4 * (2 + 3 * HUNKS)));
-    longwords[0] = 0x3E7;
-    longwords[1] = 0;
-    for (size_t i = 0; i < HUNKS; i++) {
-        const uint32_t hunk[] = {0x3EB, 0, 0x3F2};
-        memcpy(&longwords[2 + 3 * i], hunk, sizeof(hunk));
-    }
-    struct file file = file_of(longwords, 2 + 3 * HUNKS);
-    free(longwords);
+    struct file file = empty_hunks(65536);
     amihunk_linker linker = {0};
     CHECK(amihunk_linker_open(&linker, amihunk_from_malloc(), plain) == AMIHUNK_OK);
     amihunk_answer answer = link_pieces(&linker, &file, 1, 0);

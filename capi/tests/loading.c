@@ -125,17 +125,11 @@ static void empty_hunks_have_a_base_and_no_bytes(void)
 static void the_most_hunks_are_loaded(void)
 {
     enum { HUNKS = 65535 };
-    uint32_t *longwords = some(malloc(4 * (5 + 4 * HUNKS)));
     uint32_t *bases = some(malloc(4 * HUNKS));
-    const uint32_t header[] = {0x3F3, 0, HUNKS, 0, HUNKS - 1};
-    memcpy(longwords, header, sizeof(header));
     for (size_t i = 0; i < HUNKS; i++) {
-        const uint32_t hunk[] = {0x3EB, 1, 0x3F2};
-        longwords[5 + i] = 1;
-        memcpy(&longwords[5 + HUNKS + 3 * i], hunk, sizeof(hunk));
         bases[i] = (uint32_t)(4 * i);
     }
-    struct file file = file_of(longwords, 5 + 4 * HUNKS);
+    struct file file = zero_hunks(HUNKS);
     amihunk_loader loader = {0};
     CHECK(amihunk_loader_open(&loader, amihunk_from_malloc(), bases, HUNKS) == AMIHUNK_OK);
     CHECK(load_pieces(&loader, file, 1000).status == AMIHUNK_OK);
@@ -146,7 +140,6 @@ static void the_most_hunks_are_loaded(void)
     amihunk_loader_close(&loader);
     free(file.bytes);
     free(bases);
-    free(longwords);
 }
 
 static void pointers_hold_until_the_loader_is_closed(void)

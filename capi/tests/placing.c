@@ -300,18 +300,12 @@ static void many_hunks_stand_in_any_order(void)
 static void the_most_hunks_are_placed(void)
 {
     enum { HUNKS = 65535, JUMP = 7919 /* it has no factor of HUNKS */ };
-    uint32_t *longwords = some(calloc(5 + 4 * HUNKS, 4));
     uint8_t *memory = some(malloc(4 * HUNKS));
     amihunk_place *places = some(malloc(HUNKS * sizeof(amihunk_place)));
-    const uint32_t header[] = {0x3F3, 0, HUNKS, 0, HUNKS - 1};
-    memcpy(longwords, header, sizeof(header));
     for (size_t i = 0; i < HUNKS; i++) {
-        const uint32_t hunk[] = {0x3EB, 1, 0x3F2};
-        longwords[5 + i] = 1;
-        memcpy(&longwords[5 + HUNKS + 3 * i], hunk, sizeof(hunk));
         places[i] = (amihunk_place){memory + 4 * (i * JUMP % HUNKS), (uint32_t)(4 * i)};
     }
-    struct file file = file_of(longwords, 5 + 4 * HUNKS);
+    struct file file = zero_hunks(HUNKS);
     struct counted counted = {0};
     amihunk_loader loader = {0};
     memset(memory, FORGOTTEN, 4 * HUNKS);
@@ -329,7 +323,6 @@ static void the_most_hunks_are_placed(void)
     free(file.bytes);
     free(places);
     free(memory);
-    free(longwords);
 }
 
 int main(void)
