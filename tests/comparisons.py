@@ -8,6 +8,7 @@ import model
 from harness import BAD_WORDS, DEVICE, DONE, equals, test
 from memory import STEPS, falls, least_pages
 from model import BSS, CODE, DATA, DEBUG, END, HEADER, NAME, RELOC32, RELOC32SHORT, SYMBOL, words
+from random_load_files import altered, random_bases, random_hunks, spelt
 from runs import LITTLE_MEMORY, LOAD_FILE, OBJECT_FILE
 
 # What the status of a comparison means besides those that all commands have. A file that is refused has that of BAD_WORDS.
@@ -333,10 +334,10 @@ PAIRS = 500
 def random_pair(seed):
     """The hunks of two load files, of which the second has some changes or none, and both files, in any form."""
     dice = random.Random(seed)
-    first = load_files.random_hunks(dice)
-    second = load_files.altered(dice, first) if dice.random() < 0.7 else first
+    first = random_hunks(dice)
+    second = altered(dice, first) if dice.random() < 0.7 else first
     hunks = [first, second] if dice.randrange(2) else [second, first]
-    return dice, hunks, [load_files.spelt(dice, it) for it in hunks]
+    return dice, hunks, [spelt(dice, it) for it in hunks]
 
 
 @test
@@ -356,7 +357,7 @@ def random_files_are_the_same_exactly_if_their_memory_is(program):
         # What differs in memory differs at some bases, though not at all: these are drawn until the memory of the model does.
         memory, bases = None, None
         while not memory or differs and memory[0] == memory[1]:
-            bases = load_files.random_bases(dice, *hunks)
+            bases = random_bases(dice, *hunks)
             memory = [load_files.memory_of(it, bases) for it in hunks]
         equals(memory[0] == memory[1], not differs, seed)
         for name, it in zip("ab", memory):

@@ -14,6 +14,7 @@ from harness import BAD_WORDS, DEVICE, DONE, REFUSED, equals, test
 from limits import at_a_limit_of_size, megabyte
 from memory import STEPS, falls, least_pages
 from model import BSS, CODE, DATA, DEBUG, END, HEADER, NAME, RELOC32, RELOC32SHORT, SYMBOL, words
+from random_load_files import altered, random_bases, random_hunks, spelt
 from runs import LOAD_FILE, OBJECT_FILE
 
 OLD = b"was here" * 500
@@ -87,7 +88,7 @@ def a_copy_has_the_memory_of_its_file(program):
         program.prints("", "copy", *kept, "--out", "out", "x")
         program.prints("", "compare", *([] if plain or "--strip" in kept else ["--symbols"]), "x", "out")
         if len(hunks) < 10 and sum(hunk.size for hunk in hunks) < 1 << 16:
-            bases = load_files.random_bases(dice, hunks)
+            bases = random_bases(dice, hunks)
             report = model.report_of(bases, load_files.memory_of(hunks, bases))
             for name in ("x", "out"):
                 program.prints(report, "load", "--at", model.addresses(bases), name)
@@ -96,7 +97,7 @@ def a_copy_has_the_memory_of_its_file(program):
         compare(seed, bytes_)
     for seed in range(60):
         dice = random.Random(seed)
-        compare(seed, load_files.spelt(dice, load_files.random_hunks(dice)))
+        compare(seed, spelt(dice, random_hunks(dice)))
 
 
 @test
@@ -116,10 +117,10 @@ def files_that_mean_the_same_have_one_normal_form(program):
     seen = set()
     for seed in range(150):
         dice = random.Random(-seed)
-        first = load_files.random_hunks(dice)
-        second = load_files.altered(dice, first) if dice.random() < 0.6 else first
+        first = random_hunks(dice)
+        second = altered(dice, first) if dice.random() < 0.6 else first
         for name, hunks in (("a", first), ("b", second)):
-            program.write(name, load_files.spelt(dice, hunks))
+            program.write(name, spelt(dice, hunks))
             program.prints("", "copy", "--normal", "--out", f"{name} normal", name)
         same = not load_files.difference(first, second)
         equals(program.read("a normal") == program.read("b normal"), same, seed)

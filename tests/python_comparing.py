@@ -8,6 +8,7 @@ import unittest
 import load_files
 from model import BSS, CODE, DATA, DEBUG, END, HEADER, KINDS, RELOC32, SYMBOL, UNIT, words
 from python_setup import ONE_HUNK, THREE_HUNKS, TOP, Pieces, amihunk, ended, example
+from random_load_files import altered, random_bases, random_hunks, spelt
 from amihunk import Difference, DifferenceKind, HunkBase, HunkKind, LoadFile, MemoryKind, Reference, Site, compare
 
 PAIRS = 2000
@@ -90,19 +91,19 @@ class Comparing(unittest.TestCase):
     def loads_as_told(self, dice, files, hunks, told, seed):
         """Files that mean the same are the same memory, wherever they are; and bytes or sites that differ are another one somewhere."""
         if told is None:
-            for bases in (load_files.random_bases(dice, *hunks) for _ in range(5)):
+            for bases in (random_bases(dice, *hunks) for _ in range(5)):
                 self.assertEqual(*(amihunk.load(file, bases) for file in files), seed)
         elif told.kind in (DifferenceKind.BYTE, DifferenceKind.SITE):
-            places = (load_files.random_bases(dice, *hunks) for _ in range(20))
+            places = (random_bases(dice, *hunks) for _ in range(20))
             self.assertTrue(any(amihunk.load(files[0], bases) != amihunk.load(files[1], bases) for bases in places), seed)
 
     def test_random_pairs_are_compared_as_by_the_model(self):
         seen = {}
         for seed in range(PAIRS):
             dice = random.Random(seed)
-            first = load_files.random_hunks(dice)
-            second = load_files.altered(dice, first) if seed % 3 else first
-            files = [load_files.spelt(dice, it) for it in (first, second)]
+            first = random_hunks(dice)
+            second = altered(dice, first) if seed % 3 else first
+            files = [spelt(dice, it) for it in (first, second)]
             told = {symbols: as_told(load_files.difference(first, second, symbols)) for symbols in (False, True)}
             for symbols, wanted in told.items():
                 self.tells(*files, wanted, symbols, seed)
