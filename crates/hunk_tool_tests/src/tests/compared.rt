@@ -1,7 +1,8 @@
 //! Load files that are compared.
 
 use super::asserts::equals_at;
-use hunk_test_support::{CHUNKS, FILE, ROOM, bytes_of};
+use super::devices::{Devices, WHOLE};
+use hunk_test_support::{CHUNKS, FILE, bytes_of};
 use hunk_tool::{ToolFault, compare_run};
 use hunk_words::{Pieces, Room};
 use std::alloc::Global;
@@ -209,26 +210,6 @@ fn edited(alloc: Global, edit: Edit) -> Result<Vec<u8>, Fail> {
     words.extend_from_slice(rest.ok_or("no such place")?)?;
     Ok(bytes_of(alloc, &words, &[])?)
 }
-
-/// Readers of at most `chunk` bytes per read, of which these reads fail, and a writer that takes `room`
-/// bytes, at most `most` per write.
-#[derive(Clone, Copy, Debug)]
-pub(crate) struct Devices {
-    pub(crate) chunk: usize,
-    pub(crate) failing: (Option<u64>, Option<u64>),
-    pub(crate) most: usize,
-    pub(crate) room: usize,
-    pub(crate) zero: bool,
-}
-
-/// Whole files, and room for any line.
-pub(crate) const WHOLE: Devices = Devices {
-    chunk: ROOM,
-    failing: (None, None),
-    most: ROOM,
-    room: ROOM,
-    zero: false,
-};
 
 /// A comparison of these files ends so, and writes this text.
 pub(crate) fn is_compared(

@@ -1,7 +1,8 @@
 //! Comparisons of load files that fail.
 
 use super::asserts::{equals, holds};
-use super::compared::{Devices, FIRST, WHOLE, is_compared};
+use super::compared::{FIRST, is_compared};
+use super::devices::{Devices, WHOLE, short_of};
 use super::memory::{MOST_GROWTHS, is_done};
 use hunk_loadfile::read_load;
 use hunk_test_support::words::REFERS;
@@ -143,27 +144,17 @@ fn tells_a_read_that_failed(rt: HostRuntime) -> Result<(), Fail> {
 #[test]
 fn tells_what_a_writer_took(rt: HostRuntime) -> Result<(), Fail> {
     let (first, second) = files_of(rt.alloc())?;
-    for room in 0..LINE.len() {
-        for (most, zero) in [(64, false), (64, true), (1, false), (7, true)] {
-            let devices = Devices {
-                most,
-                room,
-                zero,
-                ..WHOLE
-            };
-            let written = room as u64;
-            let wanted = Err(ToolFault::Output { written });
-            let text = LINE.as_bytes().get(..room).ok_or("no such prefix")?;
-            is_compared(
-                &rt,
-                rt.alloc(),
-                devices,
-                (&first, &second),
-                true,
-                wanted,
-                text,
-            )?;
-        }
+    for (devices, taken) in &short_of(rt.alloc(), LINE.as_bytes())? {
+        let written = taken.len() as u64;
+        is_compared(
+            &rt,
+            rt.alloc(),
+            *devices,
+            (&first, &second),
+            true,
+            Err(ToolFault::Output { written }),
+            taken,
+        )?;
     }
     Ok(())
 }

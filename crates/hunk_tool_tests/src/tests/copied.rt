@@ -1,6 +1,7 @@
 //! Copies of load files.
 
 use super::asserts::{equals_at, holds};
+use super::devices::{Devices, WHOLE, short_of};
 use super::memory::MOST_GROWTHS;
 use hunk_test_support::words::REFERS;
 use hunk_test_support::{CHUNKS, ROOM, Refusing, bytes_of};
@@ -131,25 +132,6 @@ fn copy_of(alloc: Global, row: &Row) -> Result<Vec<u8>, Fail> {
     file_of(alloc, row.1, row.2, row.3)
 }
 
-// A reader of at most `chunk` bytes per read, of which this one fails, and a writer that takes `room` bytes, at
-// most `most` per write.
-#[derive(Clone, Copy, Debug)]
-struct Devices {
-    chunk: usize,
-    failing: Option<u64>,
-    most: usize,
-    room: usize,
-    zero: bool,
-}
-
-const WHOLE: Devices = Devices {
-    chunk: ROOM,
-    failing: None,
-    most: ROOM,
-    room: ROOM,
-    zero: false,
-};
-
 // A copy of these bytes in this form ends so, and writes these bytes.
 fn is_copied(
     rt: &impl Abort,
@@ -161,7 +143,7 @@ fn is_copied(
     copy: &[u8],
 ) -> Result<(), Fail> {
     assert!(rt; 1 <= devices.chunk && 1 <= devices.most);
-    let mut reader = Pieces::new(bytes.to_vec(alloc)?, devices.chunk, devices.failing);
+    let mut reader = Pieces::new(bytes.to_vec(alloc)?, devices.chunk, devices.failing.0);
     let mut writer = Room::new(alloc, devices.most, devices.room, devices.zero)?;
     let got = copy_run(alloc, &mut reader, form, &mut writer);
     equals_at(rt, &(devices, form), got, wanted);
@@ -251,7 +233,7 @@ fn tells_a_read_that_failed(rt: HostRuntime) -> Result<(), Fail> {
         for number in 0..count {
             let devices = Devices {
                 chunk,
-                failing: Some(number),
+                failing: (Some(number), None),
                 ..WHOLE
             };
             let wanted = Err(ToolFault::InputDevice { file: 0 });
@@ -259,7 +241,7 @@ fn tells_a_read_that_failed(rt: HostRuntime) -> Result<(), Fail> {
         }
         let devices = Devices {
             chunk,
-            failing: Some(count),
+            failing: (Some(count), None),
             ..WHOLE
         };
         let copy = file_of(alloc, &ONE, &LONG, &[])?;
@@ -274,19 +256,10 @@ fn tells_what_a_writer_took(rt: HostRuntime) -> Result<(), Fail> {
     let alloc = rt.alloc();
     let bytes = source(alloc)?;
     let copy = copy_of(alloc, &ROWS[0])?;
-    for room in 0..copy.len() {
-        for (most, zero) in [(64, false), (64, true), (1, false), (7, true)] {
-            let devices = Devices {
-                most,
-                room,
-                zero,
-                ..WHOLE
-            };
-            let written = room as u64;
-            let wanted = Err(ToolFault::Output { written });
-            let taken = copy.get(..room).ok_or("no such prefix")?;
-            is_copied(&rt, alloc, devices, &bytes, ROWS[0].0, wanted, taken)?;
-        }
+    for (devices, taken) in &short_of(alloc, &copy)? {
+        let written = taken.len() as u64;
+        let wanted = Err(ToolFault::Output { written });
+        is_copied(&rt, alloc, *devices, &bytes, ROWS[0].0, wanted, taken)?;
     }
     Ok(())
 }

@@ -1,7 +1,7 @@
 //! Readers and writers that fail.
 
 use super::asserts::{equals, equals_at};
-use hunk_test_support::{BASE, FILE, REPORT, Refusing, bytes_of};
+use hunk_test_support::{BASE, FILE, REPORT, ROOM, Refusing, bytes_of};
 use hunk_tool::{ToolFault, load_run};
 use hunk_words::{Pieces, Room, Sink, Source, Watched};
 use std::alloc::Global;
@@ -9,6 +9,48 @@ use std::io;
 use std::io::{ErrorKind, Read};
 use std::process::Abort;
 use std::test::Fail;
+
+/// Readers of one file or of two, at most `chunk` bytes per read, of which these reads of the first and of the
+/// second file fail; and a writer that takes `room` bytes, at most `most` per write. Then it fails, or takes
+/// none if `zero` is set.
+#[derive(Clone, Copy, Debug)]
+pub(crate) struct Devices {
+    pub(crate) chunk: usize,
+    pub(crate) failing: (Option<u64>, Option<u64>),
+    pub(crate) most: usize,
+    pub(crate) room: usize,
+    pub(crate) zero: bool,
+}
+
+/// Whole files, and room for any text of the tests.
+pub(crate) const WHOLE: Devices = Devices {
+    chunk: ROOM,
+    failing: (None, None),
+    most: ROOM,
+    room: ROOM,
+    zero: false,
+};
+
+/// Devices whose writer has room for each prefix of this text but for all of it, and that prefix.
+pub(crate) fn short_of<'t>(
+    alloc: Global,
+    text: &'t [u8],
+) -> Result<Vec<(Devices, &'t [u8])>, Fail> {
+    let mut rows = Vec::new(alloc);
+    for room in 0..text.len() {
+        let taken = text.get(..room).ok_or("no such prefix")?;
+        for (most, zero) in [(64, false), (64, true), (1, false), (7, true)] {
+            let devices = Devices {
+                most,
+                room,
+                zero,
+                ..WHOLE
+            };
+            rows.push((devices, taken))?;
+        }
+    }
+    Ok(rows)
+}
 
 // Runs the file, at most `chunk` bytes per read. The read with this number fails, if it comes.
 fn reads(
@@ -49,28 +91,21 @@ fn tells_a_read_that_failed(rt: HostRuntime) -> Result<(), Fail> {
     Ok(())
 }
 
-// Runs the file into a writer that takes this many bytes, at most `most` per write.
+// Runs the file into a writer that takes this part of the report.
 fn fails_to_write(
     rt: &impl Abort,
     alloc: Global,
+    devices: Devices,
     bytes: &[u8],
-    room: usize,
-    most: usize,
-    zero: bool,
+    taken: &[u8],
 ) -> Result<(), Fail> {
-    assert!(rt; 1 <= most);
+    assert!(rt; 1 <= devices.most);
     let mut reader = Pieces::new(bytes.to_vec(alloc)?, 64, None);
-    let mut writer = Room::new(alloc, most, room, zero)?;
+    let mut writer = Room::new(alloc, devices.most, devices.room, devices.zero)?;
     let got = load_run(alloc, &mut reader, &[BASE], &mut writer);
-    let written = room as u64;
-    equals_at(
-        rt,
-        &("room for", room),
-        got,
-        Err(ToolFault::Output { written }),
-    );
-    let taken = REPORT.as_bytes().get(..room);
-    equals_at(rt, &("room for", room), Some(writer.bytes()), taken);
+    let written = taken.len() as u64;
+    equals_at(rt, &devices, got, Err(ToolFault::Output { written }));
+    equals_at(rt, &devices, writer.bytes(), taken);
     assert!(rt; Sink::failed(&writer));
     Ok(())
 }
@@ -79,11 +114,8 @@ fn fails_to_write(
 #[test]
 fn tells_what_a_writer_took(rt: HostRuntime) -> Result<(), Fail> {
     let bytes = bytes_of(rt.alloc(), &FILE, &[])?;
-    equals(&rt, REPORT.len(), 44);
-    for room in 0..44 {
-        for (most, zero) in [(64, false), (64, true), (1, false), (7, true)] {
-            fails_to_write(&rt, rt.alloc(), &bytes, room, most, zero)?;
-        }
+    for (devices, taken) in &short_of(rt.alloc(), REPORT.as_bytes())? {
+        fails_to_write(&rt, rt.alloc(), *devices, &bytes, taken)?;
     }
     Ok(())
 }

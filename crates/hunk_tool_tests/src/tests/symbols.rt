@@ -1,7 +1,8 @@
 //! The symbols of load files, with their addresses.
 
 use super::asserts::{equals_at, holds};
-use super::memory::is_done;
+use super::devices::{Devices, WHOLE, short_of};
+use super::memory::{MOST_GROWTHS, is_done};
 use hunk_loader::PlaceFault;
 use hunk_test_support::{BASE, CHUNKS, FILE, ROOM, Refusing, bytes_of};
 use hunk_tool::{ToolFault, symbols_run};
@@ -9,9 +10,6 @@ use hunk_words::{Fault, Pieces, Reason, Room};
 use std::alloc::Global;
 use std::process::Abort;
 use std::test::Fail;
-
-// More allocations than a run makes.
-const MOST_GROWTHS: u64 = 64;
 
 // A hunk of code with the symbols `loop`, `a"b\`, and one of the bytes ff, 1 and `A`.
 const NAMED: [u32; 21] = [
@@ -80,23 +78,6 @@ const SEVERAL: [u32; 32] = [
 
 const SEVERAL_LINES: &str = "00003000 hunk 0 \"a\"\n00000000 hunk 2 \"a\"\n0000000c hunk 2 \"b\"\n";
 
-// A reader of at most `chunk` bytes per read, of which this one fails, and a writer that takes `room`
-// bytes, at most `most` per write.
-#[derive(Clone, Copy, Debug)]
-struct Devices {
-    chunk: usize,
-    failing: Option<u64>,
-    most: usize,
-    room: usize,
-}
-
-const WHOLE: Devices = Devices {
-    chunk: ROOM,
-    failing: None,
-    most: ROOM,
-    room: ROOM,
-};
-
 // A run over these longwords at these addresses ends so, and writes this text.
 fn is_run(
     rt: &impl Abort,
@@ -109,8 +90,8 @@ fn is_run(
 ) -> Result<(), Fail> {
     assert!(rt; 1 <= devices.chunk && 1 <= devices.most);
     let bytes = bytes_of(alloc, words, &[])?;
-    let mut reader = Pieces::new(bytes, devices.chunk, devices.failing);
-    let mut writer = Room::new(alloc, devices.most, devices.room, false)?;
+    let mut reader = Pieces::new(bytes, devices.chunk, devices.failing.0);
+    let mut writer = Room::new(alloc, devices.most, devices.room, devices.zero)?;
     let got = symbols_run(alloc, &mut reader, bases, &mut writer);
     equals_at(rt, &devices, got, wanted);
     equals_at(rt, &devices, writer.bytes(), text);
@@ -177,7 +158,7 @@ fn tells_a_read_that_failed(rt: HostRuntime) -> Result<(), Fail> {
         for number in 0..=count {
             let devices = Devices {
                 chunk,
-                failing: Some(number),
+                failing: (Some(number), None),
                 ..WHOLE
             };
             let (wanted, text) = if number < count {
@@ -201,26 +182,10 @@ fn tells_a_read_that_failed(rt: HostRuntime) -> Result<(), Fail> {
 
 #[test]
 fn tells_what_a_writer_took(rt: HostRuntime) -> Result<(), Fail> {
-    let lines = NAMED_LINES.as_bytes();
-    for room in 0..lines.len() {
-        for most in [64, 7, 1] {
-            let devices = Devices {
-                most,
-                room,
-                ..WHOLE
-            };
-            let written = room as u64;
-            let wanted = Err(ToolFault::Output { written });
-            is_run(
-                &rt,
-                rt.alloc(),
-                devices,
-                &NAMED,
-                &[BASE],
-                wanted,
-                &lines[..room],
-            )?;
-        }
+    for (devices, taken) in &short_of(rt.alloc(), NAMED_LINES.as_bytes())? {
+        let written = taken.len() as u64;
+        let wanted = Err(ToolFault::Output { written });
+        is_run(&rt, rt.alloc(), *devices, &NAMED, &[BASE], wanted, taken)?;
     }
     Ok(())
 }
