@@ -14,7 +14,7 @@
 //! - `links`: the load file of object files.
 //! - `loads`: the report and the symbols of a load file.
 //! - `maps`: the load file of object files, and its map.
-//! - `outcomes`: assertions about what was done with files.
+//! - `outcomes`: assertions about how a request ends, and about what was done with files.
 //! - `reasons`: why a file cannot be opened or read, after the line of its failure.
 //! - `replacements`: each way in which a load file takes the place of another file.
 //! - `requests`: the status of each request, and the line of its failure.

@@ -1,16 +1,15 @@
 //! Addresses in a list, and in a file.
 
 use super::asserts::{equals, equals_at, holds};
-use crate::fake_files::FakeFiles;
+use super::outcomes::prints;
 use crate::fake_log::Log;
 use crate::samples::Broken;
 use hunk_commands::addresses::read_addresses;
-use hunk_commands::{Addresses, Failure, LoadText, Request, answer};
+use hunk_commands::{Addresses, Failure, LoadText, Request};
 use hunk_tool::ImageForm;
 use hunk_words::Watched;
 use std::alloc::{AllocError, Global};
 use std::io::Read;
-use std::process::Abort;
 use std::test::Fail;
 
 /// The report of two hunks at 10000 and 20000.
@@ -55,36 +54,16 @@ fn image_of<'a>(
     })
 }
 
-// A request ends with this status and this line, and has printed this.
-fn ends(
-    rt: &impl Abort,
-    alloc: Global,
-    log: &Log,
-    request: Request<'_>,
-    status: u8,
-    line: &str,
-    printed: &str,
-) -> Result<(), Fail> {
-    log.prints.set(true);
-    let files = FakeFiles { openings: 40, log };
-    let mut errors = Watched::new(Vec::new(alloc));
-    equals(rt, answer(&(files, alloc), &mut errors, request), status);
-    equals(rt, errors.into_inner().as_slice(), line.as_bytes());
-    let told = log.printed.try_borrow().ok().ok_or("printed")?;
-    equals(rt, told.as_slice(), printed.as_bytes());
-    Ok(())
-}
-
 #[test]
 fn a_file_has_the_addresses_of_a_list(rt: HostRuntime) -> Result<(), Fail> {
     let alloc = rt.alloc();
     for addresses in [Addresses::List("10000,20000"), Addresses::File("addresses")] {
         let log = Log::new(alloc);
         let load = load_of(addresses, "program");
-        ends(&rt, alloc, &log, load, 0, "", REPORT)?;
+        prints(&rt, alloc, &log, load, (0, REPORT, ""))?;
         let log = Log::new(alloc);
         let image = image_of(alloc, addresses, &["caller", "callee"])?;
-        ends(&rt, alloc, &log, image, 0, "", REPORT)?;
+        prints(&rt, alloc, &log, image, (0, REPORT, ""))?;
     }
     Ok(())
 }
@@ -95,12 +74,18 @@ fn the_addresses_are_known_before_another_file_is_opened(rt: HostRuntime) -> Res
     for (name, status, line, opened) in FAILURES {
         let addresses = Addresses::File(name);
         let log = Log::new(alloc);
-        ends(&rt, alloc, &log, load_of(addresses, "y"), status, line, "")?;
+        prints(
+            &rt,
+            alloc,
+            &log,
+            load_of(addresses, "y"),
+            (status, "", line),
+        )?;
         equals_at(&rt, &name, log.opened.get(), opened);
         equals_at(&rt, &name, log.open.get(), 0);
         let log = Log::new(alloc);
         let image = image_of(alloc, addresses, &["y"])?;
-        ends(&rt, alloc, &log, image, status, line, "")?;
+        prints(&rt, alloc, &log, image, (status, "", line))?;
         equals_at(&rt, &name, log.opened.get(), opened);
         equals_at(&rt, &name, log.open.get(), 0);
     }
@@ -112,7 +97,7 @@ fn a_file_of_addresses_is_closed_before_another_is_opened(rt: HostRuntime) -> Re
     let alloc = rt.alloc();
     let log = Log::new(alloc);
     let load = load_of(Addresses::File("addresses"), "program");
-    ends(&rt, alloc, &log, load, 0, "", REPORT)?;
+    prints(&rt, alloc, &log, load, (0, REPORT, ""))?;
     equals(&rt, log.opened.get(), 2);
     equals(&rt, log.most_open.get(), 1);
     Ok(())

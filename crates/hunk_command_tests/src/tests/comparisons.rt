@@ -1,13 +1,13 @@
 //! Whether two load files mean the same.
 
 use super::asserts::{equals, holds};
-use crate::fake_files::FakeFiles;
+use super::outcomes::prints;
 use crate::fake_log::Log;
 use crate::samples::{Broken, ONE_HUNK, ONE_SYMBOL, PROGRAM, TRAILING, TRIMMED, ZERO_TAIL};
 use hunk_commands::compare::compare_to;
-use hunk_commands::{Failure, Request, answer};
+use hunk_commands::{Failure, Request};
 use hunk_tool::ToolFault;
-use hunk_words::{Fault, Reason, Watched};
+use hunk_words::{Fault, Reason};
 use std::alloc::Global;
 use std::process::Abort;
 use std::test::Fail;
@@ -66,29 +66,22 @@ fn tells_why_files_are_not_compared(rt: HostRuntime) {
     equals(&rt, got.err(), Some(Failure::Printing));
 }
 
-// `compare [--symbols] A B` ends with this status and this line on standard error, once it has printed this.
+// `compare [--symbols] A B` ends with this status and this line on standard error, once it has printed this. No
+// file is open any more.
 fn compare_ends(
     rt: &impl Abort,
     alloc: Global,
     (first, second): (&str, &str),
     with_symbols: bool,
-    (status, printed, line): (u8, &str, &str),
+    end: (u8, &str, &str),
 ) -> Result<(), Fail> {
     let log = Log::new(alloc);
-    log.prints.set(true);
-    let system = FakeFiles {
-        openings: 40,
-        log: &log,
-    };
     let request = Request::Compare {
         with_symbols,
         first,
         second,
     };
-    let mut errors = Watched::new(Vec::new(alloc));
-    equals(rt, answer(&(system, alloc), &mut errors, request), status);
-    equals(rt, errors.into_inner().as_slice(), line.as_bytes());
-    equals(rt, log.printed.try_borrow()?.as_slice(), printed.as_bytes());
+    prints(rt, alloc, &log, request, end)?;
     equals(rt, log.open.get(), 0);
     Ok(())
 }

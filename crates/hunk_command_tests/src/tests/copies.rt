@@ -1,14 +1,14 @@
 //! A load file, written again.
 
 use super::asserts::equals;
-use super::outcomes::{NEW_OUT, is_under, was_done};
+use super::outcomes::{is_answered, is_new_out, is_under, was_done};
 use crate::fake_files::FakeFiles;
 use crate::fake_log::Log;
 use crate::samples::{ONE_HUNK, ONE_SYMBOL, PLAIN, TRIMMED, ZERO_TAIL};
 use hunk_commands::copy::copy;
-use hunk_commands::{Failure, OpenFault, Request, answer};
+use hunk_commands::{Failure, OpenFault, Request};
 use hunk_tool::{CopyForm, LinkOptions, ToolFault};
-use hunk_words::{Fault, Reason, Watched};
+use hunk_words::{Fault, Reason};
 use std::alloc::Global;
 use std::process::Abort;
 use std::test::Fail;
@@ -25,8 +25,7 @@ const TRIM: CopyForm = CopyForm::Written(LinkOptions {
     ..PLAIN
 });
 
-// The copy of the file, put under the name `out`, is these bytes. One file was created beside it and renamed,
-// and nothing else is left.
+// The copy of the file, put under the name `out`, is these bytes.
 fn is_copied(
     rt: &impl Abort,
     alloc: Global,
@@ -40,9 +39,7 @@ fn is_copied(
         log: &log,
     };
     equals(rt, copy(&(system, alloc), "out", form, file), Ok(()));
-    was_done(rt, &log, NEW_OUT)?;
-    is_under(rt, alloc, system, "out", Some(bytes))?;
-    is_under(rt, alloc, system, ".amihunk-0", None)
+    is_new_out(rt, alloc, system, bytes)
 }
 
 #[test]
@@ -104,14 +101,7 @@ fn replaces_the_file_that_is_copied(rt: HostRuntime) -> Result<(), Fail> {
 }
 
 // `copy --out OUT FILE` ends with this status and this line.
-fn copy_ends(
-    rt: &impl Abort,
-    alloc: Global,
-    out: &str,
-    file: &str,
-    status: u8,
-    line: &str,
-) -> Result<(), Fail> {
+fn copy_ends(rt: &impl Abort, alloc: Global, out: &str, file: &str, status: u8, line: &str) {
     let log = Log::new(alloc);
     let system = FakeFiles {
         openings: 40,
@@ -123,24 +113,21 @@ fn copy_ends(
         explain: false,
         file,
     };
-    let mut errors = Watched::new(Vec::new(alloc));
-    equals(rt, answer(&(system, alloc), &mut errors, request), status);
-    equals(rt, errors.into_inner().as_slice(), line.as_bytes());
-    Ok(())
+    is_answered(rt, &(system, alloc), request, (status, line));
 }
 
 #[test]
-fn tells_how_a_copy_ended(rt: HostRuntime) -> Result<(), Fail> {
+fn tells_how_a_copy_ended(rt: HostRuntime) {
     let alloc = rt.alloc();
-    copy_ends(&rt, alloc, "out", "one-hunk", 0, "")?;
+    copy_ends(&rt, alloc, "out", "one-hunk", 0, "");
     let object = "amihunk: caller: longword 0: wrong first longword\n";
-    copy_ends(&rt, alloc, "out", "caller", 1, object)?;
+    copy_ends(&rt, alloc, "out", "caller", 1, object);
     let missing = "amihunk: x: cannot be opened\n";
-    copy_ends(&rt, alloc, "out", "x", 3, missing)?;
+    copy_ends(&rt, alloc, "out", "x", 3, missing);
     let unread = "amihunk: directory: read failed\n";
-    copy_ends(&rt, alloc, "out", "directory", 3, unread)?;
+    copy_ends(&rt, alloc, "out", "directory", 3, unread);
     let uncreated = "amihunk: directory: cannot be opened\n";
-    copy_ends(&rt, alloc, "directory", "one-hunk", 3, uncreated)?;
+    copy_ends(&rt, alloc, "directory", "one-hunk", 3, uncreated);
     let unwritten = "amihunk: output: write failed\n";
-    copy_ends(&rt, alloc, "full", "one-hunk", 3, unwritten)
+    copy_ends(&rt, alloc, "full", "one-hunk", 3, unwritten);
 }

@@ -1,7 +1,7 @@
 //! The load file of object files.
 
 use super::asserts::equals;
-use super::outcomes::{NEW_OUT, is_under, was_done};
+use super::outcomes::{NEW_OUT, is_new_out, is_under, was_done};
 use crate::fake_files::FakeFiles;
 use crate::fake_log::Log;
 use crate::samples::{CALLEE, PLAIN, PROGRAM};
@@ -27,8 +27,7 @@ const TRIM: LinkOptions = LinkOptions {
     ..PLAIN
 };
 
-// The load file of the files, put under the name `out`, is these bytes. One file was created beside it and
-// renamed, and nothing else is left.
+// The load file of the files, put under the name `out`, is these bytes.
 fn is_written(
     rt: &impl Abort,
     alloc: Global,
@@ -42,9 +41,7 @@ fn is_written(
         log: &log,
     };
     equals(rt, link(&(system, alloc), "out", options, files), Ok(()));
-    was_done(rt, &log, NEW_OUT)?;
-    is_under(rt, alloc, system, "out", Some(bytes))?;
-    is_under(rt, alloc, system, ".amihunk-0", None)
+    is_new_out(rt, alloc, system, bytes)
 }
 
 #[test]

@@ -1,10 +1,13 @@
-//! Assertions about what was done with files.
+//! Assertions about how a request ends, and about what was done with files.
 
 use super::asserts::{equals, equals_at};
 use crate::fake_files::FakeFiles;
 use crate::fake_log::Log;
+use hunk_commands::{Request, answer};
+use hunk_words::Watched;
 use std::alloc::Global;
 use std::process::Abort;
+use std::rt::Files;
 use std::test::Fail;
 
 /// What is done to put a new file under the name `out`.
@@ -36,5 +39,45 @@ pub(crate) fn is_under(
     let got = files.bytes_under(alloc, name)?;
     let bytes = got.as_ref().map(|bytes| bytes.as_slice());
     equals_at(rt, &name, bytes, wanted);
+    Ok(())
+}
+
+/// A new file with these bytes was put under the name `out`: one file was created beside it and renamed, and
+/// nothing else is left.
+pub(crate) fn is_new_out(
+    rt: &impl Abort,
+    alloc: Global,
+    files: FakeFiles<'_>,
+    bytes: &[u8],
+) -> Result<(), Fail> {
+    was_done(rt, files.log, NEW_OUT)?;
+    is_under(rt, alloc, files, "out", Some(bytes))?;
+    is_under(rt, alloc, files, ".amihunk-0", None)
+}
+
+/// The request ends with this status and this line on standard error.
+pub(crate) fn is_answered(
+    rt: &impl Abort,
+    system: &(impl Files + Print + AllocGlobal),
+    request: Request<'_>,
+    (status, line): (u8, &str),
+) {
+    let mut errors = Watched::new(Vec::new(system.alloc()));
+    equals(rt, answer(system, &mut errors, request), status);
+    equals(rt, errors.into_inner().as_slice(), line.as_bytes());
+}
+
+/// The request ends with this status and this line on standard error, once it has printed this.
+pub(crate) fn prints(
+    rt: &impl Abort,
+    alloc: Global,
+    log: &Log,
+    request: Request<'_>,
+    (status, printed, line): (u8, &str, &str),
+) -> Result<(), Fail> {
+    log.prints.set(true);
+    let files = FakeFiles { openings: 40, log };
+    is_answered(rt, &(files, alloc), request, (status, line));
+    equals(rt, log.printed.try_borrow()?.as_slice(), printed.as_bytes());
     Ok(())
 }

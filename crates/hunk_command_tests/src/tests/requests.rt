@@ -1,12 +1,11 @@
 //! The status of each request, and the line of its failure.
 
-use super::asserts::equals;
+use super::outcomes::is_answered;
 use crate::fake_files::FakeFiles;
 use crate::fake_log::Log;
 use crate::samples::PLAIN;
-use hunk_commands::{Addresses, Request, answer};
+use hunk_commands::{Addresses, Request};
 use hunk_tool::ImageForm;
-use hunk_words::Watched;
 use std::alloc::Global;
 use std::process::Abort;
 use std::test::Fail;
@@ -32,9 +31,7 @@ fn link_ends<'a>(
         explain: false,
         files: files.to_vec(alloc)?,
     };
-    let mut errors = Watched::new(Vec::new(alloc));
-    equals(rt, answer(&(system, alloc), &mut errors, request), status);
-    equals(rt, errors.into_inner().as_slice(), line.as_bytes());
+    is_answered(rt, &(system, alloc), request, (status, line));
     Ok(())
 }
 
@@ -95,21 +92,13 @@ fn tells_why_there_is_no_image(rt: HostRuntime) -> Result<(), Fail> {
             explain: false,
             files: ["no-such-file"].to_vec(rt.alloc())?,
         };
-        let mut errors = Watched::new(Vec::new(rt.alloc()));
-        equals(&rt, answer(&rt, &mut errors, request), status);
-        equals(&rt, errors.into_inner().as_slice(), line.as_bytes());
+        is_answered(&rt, &rt, request, (status, line));
     }
     Ok(())
 }
 
 #[test]
 fn tells_that_memory_ran_out(rt: HostRuntime) {
-    let mut errors = Watched::new(Vec::new(rt.alloc()));
-    let status = answer(&rt, &mut errors, Request::OutOfMemory);
-    equals(&rt, status, 4);
-    equals(
-        &rt,
-        errors.into_inner().as_slice(),
-        b"amihunk: out of memory\n".as_slice(),
-    );
+    let line = "amihunk: out of memory\n";
+    is_answered(&rt, &rt, Request::OutOfMemory, (4, line));
 }

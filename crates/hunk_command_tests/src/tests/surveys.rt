@@ -1,12 +1,12 @@
 //! What a survey tells of files.
 
 use super::asserts::{equals, holds};
+use super::outcomes::is_answered;
 use crate::fake_files::FakeFiles;
 use crate::fake_log::Log;
 use crate::samples::Broken;
 use hunk_commands::survey::survey_to;
-use hunk_commands::{Failure, Request, answer};
-use hunk_words::Watched;
+use hunk_commands::{Failure, Request};
 use std::alloc::Global;
 use std::process::Abort;
 use std::test::Fail;
@@ -98,9 +98,7 @@ fn ends_with_the_status_of_a_failed_write(rt: HostRuntime) -> Result<(), Fail> {
     let request = Request::Survey {
         files: ["callee"].to_vec(rt.alloc())?,
     };
-    let mut errors = Watched::new(Vec::new(rt.alloc()));
-    equals(&rt, answer(&(system, rt.alloc()), &mut errors, request), 3);
-    let line = b"amihunk: output: write failed\n";
-    equals(&rt, errors.into_inner().as_slice(), line.as_slice());
+    let line = "amihunk: output: write failed\n";
+    is_answered(&rt, &(system, rt.alloc()), request, (3, line));
     Ok(())
 }

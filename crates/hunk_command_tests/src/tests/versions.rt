@@ -1,11 +1,11 @@
 //! The version of the program.
 
 use super::asserts::{equals, holds};
+use super::outcomes::is_answered;
 use crate::fake_files::FakeFiles;
 use crate::fake_log::Log;
 use crate::samples::Broken;
-use hunk_commands::{Failure, Request, VERSION, answer, write_version};
-use hunk_words::Watched;
+use hunk_commands::{Failure, Request, VERSION, write_version};
 
 #[test]
 fn tells_the_version(rt: HostRuntime) {
@@ -27,12 +27,6 @@ fn tells_that_the_version_was_not_printed(rt: HostRuntime) {
         openings: 0,
         log: &log,
     };
-    let mut errors = Watched::new(Vec::new(rt.alloc()));
-    let status = answer(&(system, rt.alloc()), &mut errors, Request::Version);
-    equals(&rt, status, 3);
-    equals(
-        &rt,
-        errors.into_inner().as_slice(),
-        b"amihunk: output: write failed\n".as_slice(),
-    );
+    let line = "amihunk: output: write failed\n";
+    is_answered(&rt, &(system, rt.alloc()), Request::Version, (3, line));
 }
