@@ -1,7 +1,8 @@
-# What the benchmarks share: building, timing, and printing what is allowed and what was reached. A script
-# sources it, and ends with `exit "$missed"`.
+# What the benchmarks of the program share: building it, making files, and timing. A script sources it, and ends with
+# `exit "$missed"`.
 export LC_ALL=C
 benches="$(cd "$(dirname "${BASH_SOURCE[0]}")" && pwd)"
+. "$benches/figures.sh"
 crates="$(cd "$benches/../crates" && pwd)"
 # In memory, if there is such a file system: a link ends once its file is on the disk, and disks are not what is measured.
 folder="$(mktemp -d -p "$([ -w /dev/shm ] && echo /dev/shm || echo "${TMPDIR:-/tmp}")")"
@@ -40,17 +41,6 @@ peak() { # the most memory of COMMAND, in KiB: COMMAND..
     python3 -c 'import resource, subprocess, sys
 subprocess.run(sys.argv[1:], stdout=subprocess.DEVNULL, check=True)
 print(resource.getrusage(resource.RUSAGE_CHILDREN).ru_maxrss)' "$@"
-}
-
-missed=0
-
-figure() { # NAME ALLOWED REACHED UNIT
-    local mark=""
-    if awk -v allowed="$2" -v reached="$3" 'BEGIN { exit !(reached > allowed) }'; then
-        mark="  MISSED"
-        missed=1
-    fi
-    printf '%-66s allowed %8.2f, reached %8.2f %s%s\n' "$1" "$2" "$3" "$4" "$mark"
 }
 
 ratio() { # A / B

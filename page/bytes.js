@@ -12,9 +12,14 @@ function gapAfter(offset) {
   return offset % 8 === 7 ? "  " : " ";
 }
 
-/** The letters of a row with so many bytes: the offset, the bytes and the text, each after two spaces. */
+/** How many letters so many bytes of a row take in hexadecimal. */
+function hexLetters(columns) {
+  return 3 * columns - 1 + (columns === 16 ? 1 : 0);
+}
+
+/** The letters of a row with so many bytes: the offset, the bytes and the text, with the gaps of style.css between them. */
 function lettersOf(columns) {
-  return 8 + 2 + 3 * columns - 1 + (columns / 8 - 1) + 2 + columns;
+  return 8 + hexLetters(columns) + columns + 2 * (columns === 16 ? 2 : 1);
 }
 
 function hexOf(hunk, from, to) {
@@ -36,7 +41,7 @@ function asciiOf(hunk, from, to) {
 
 /** What a site adds, in words. */
 function addedBy(site) {
-  return site.hunk === undefined ? `the value of ${spelled(site.name) || "the empty name"}` : `the base of hunk ${site.hunk}`;
+  return site.hunk === undefined ? `value of ${spelled(site.name) || "the empty name"}` : `base of hunk ${site.hunk}`;
 }
 
 /** The dump. Its cursor is the one place in it that the tab key leads to: a site, or where one went. */
@@ -63,6 +68,7 @@ class Bytes {
     }
     const seen = this.columns && this.firstPlace();
     this.columns = columns;
+    this.viewport.dataset.columns = columns;
     let rows = 0;
     for (const hunk of this.file.hunks) {
       hunk.firstRow = rows;
@@ -102,7 +108,7 @@ class Bytes {
     const end = Math.min(start + this.columns, hunk.size);
     const row = element("div", "row");
     const bytes = element("span", "bytes");
-    bytes.style.width = `${lettersOf(this.columns) - 12 - this.columns}ch`;
+    bytes.style.width = `${hexLetters(this.columns)}ch`;
     const cuts = this.cuts(hunk, start, end);
     cuts.slice(1).forEach((to, index) => {
       bytes.append(this.drawRun(hunk, cuts[index], to), to < end ? gapAfter(to - 1) : "");
@@ -140,9 +146,10 @@ class Bytes {
     for (let index = sites; index < hunk.sites.length && hunk.sites[index].offset < end; index += 1) {
       cuts.push(hunk.sites[index].offset, hunk.sites[index].offset + 4);
     }
-    cuts.push(...this.labelsOf(hunk, start, end).map((label) => label.offset));
-    if (this.cursor.hunk === hunk) {
-      cuts.push(this.cursor.offset, this.cursor.offset + (hunk.siteWith(this.cursor.offset) ? 0 : 1));
+    const places = this.labelsOf(hunk, start, end).map((label) => label.offset);
+    cuts.push(...places.filter((offset) => !hunk.siteWith(offset)));
+    if (this.cursor.hunk === hunk && !hunk.siteWith(this.cursor.offset)) {
+      cuts.push(this.cursor.offset, this.cursor.offset + 1);
     }
     const inside = cuts.filter((offset) => offset >= start && offset <= end);
     return [...new Set(inside)].sort((one, other) => one - other);
@@ -179,7 +186,7 @@ class Bytes {
       link.href = addressOf(target.hunk, target.offset);
     }
     if (from === site.offset) {
-      link.setAttribute("aria-label", `site ${hex(site.offset)} adds ${addedBy(site)}`);
+      link.setAttribute("aria-label", `site ${hex(site.offset)}, adds ${addedBy(site)}`);
       link.setAttribute("aria-describedby", "detail");
     } else {
       link.classList.add("rest");
@@ -215,9 +222,9 @@ class Bytes {
     this.scroller.redraw(this.scroller.kept);
   }
 
-  /** Goes to a place, and gives it the focus. */
-  go(place) {
-    this.setCursor(place);
+  /** Goes to a place, or to the site that it lies in, and gives it the focus. */
+  go({ hunk, offset }) {
+    this.setCursor({ hunk, offset: hunk.siteWith(offset)?.offset ?? offset });
     this.scroller.reveal(this.scroller.kept);
     this.scroller.rows.get(this.scroller.kept)?.querySelector(".here")?.focus({ preventScroll: true });
   }

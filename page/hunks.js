@@ -58,12 +58,13 @@ class Hunks {
 
   /** A bar of two parts: what the file has of the hunk, and the zeros up to its size. */
   drawBar(hunk) {
-    const bar = element("span", "bar");
+    const track = element("span", "track");
+    const bar = track.appendChild(element("span", "bar"));
     bar.style.width = `${(100 * hunk.size) / this.largest}%`;
     bar.title = `${counted(hunk.stored, "byte")} stored, ${counted(hunk.size - hunk.stored, "zero")}`;
     const stored = bar.appendChild(element("span", "stored"));
     stored.style.width = hunk.size > 0 ? `${(100 * hunk.stored) / hunk.size}%` : "0";
-    return bar;
+    return track;
   }
 
   row(hunk) {

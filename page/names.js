@@ -38,7 +38,7 @@ class Names {
     const all = counted(this.all.length, "name");
     const some = `${this.found.length.toLocaleString("en")} of ${all}`;
     this.count.textContent = this.all.length === 0 ? "none in this file" : wanted === "" ? all : some;
-    this.list.viewport.setAttribute("aria-rowcount", this.found.length);
+    this.list.viewport.parentElement.setAttribute("aria-rowcount", this.found.length + 1);
     this.list.kept = 0;
     this.list.position = 0;
     this.list.reset(this.found.length);
@@ -52,7 +52,7 @@ class Names {
     const place = what === "number" ? hex(offset) : `${hunk.title} + ${hex(offset)}`;
     const row = element("div", "row");
     row.setAttribute("role", "row");
-    row.setAttribute("aria-rowindex", index + 1);
+    row.setAttribute("aria-rowindex", index + 2);
     const cells = [link, element("span", `what ${what}`, what), element("span", "place", place)].map((content) => {
       const cell = element("span", "cell");
       cell.setAttribute("role", "cell");

@@ -41,7 +41,7 @@ class Page {
 
   listen() {
     const bytes = this.bytes.viewport;
-    bytes.addEventListener("pointerover", (event) => this.tell(this.bytes.siteOf(event.target)));
+    bytes.addEventListener("pointerover", (event) => this.hovered(event));
     bytes.addEventListener("pointerleave", () => this.tell(undefined));
     bytes.addEventListener("focusin", (event) => this.tell(this.bytes.siteOf(event.target)));
     addEventListener("hashchange", () => this.follow());
@@ -52,6 +52,15 @@ class Page {
         byId("filter").select();
       }
     });
+  }
+
+  /** Tells of what the pointer has been moved to, and not of what was scrolled below it, perhaps by a key. */
+  hovered(event) {
+    const place = `${event.screenX} ${event.screenY}`;
+    if (place !== this.pointer) {
+      this.pointer = place;
+      this.tell(this.bytes.siteOf(event.target));
+    }
   }
 
   /** Lets the browser's way back lead to the site that one has left. A link to where one is does nothing in a browser. */
@@ -74,6 +83,7 @@ class Page {
     const hunk = this.file.hunks[index];
     if (hunk) {
       this.bytes.go({ hunk, offset: parseInt(digits, 16) });
+      this.tell(undefined);
     }
   }
 

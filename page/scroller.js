@@ -32,13 +32,30 @@ class Scroller {
     /** The row that is drawn wherever it is, since it holds what the tab key leads to. */
     this.kept = -1;
     viewport.addEventListener("scroll", () => this.scrolled(), { passive: true });
-    new ResizeObserver(() => this.draw()).observe(viewport);
+    new ResizeObserver(() => this.resized()).observe(viewport);
+  }
+
+  measure() {
+    const probe = this.canvas.appendChild(element("div", "row"));
+    const { height } = probe.getBoundingClientRect();
+    probe.remove();
+    return height;
+  }
+
+  /** The height of a row may depend on the width of the list. */
+  resized() {
+    const first = this.firstSeen;
+    if (this.measure() === this.rowHeight) {
+      this.moveTo(this.position);
+    } else {
+      this.reset(this.count);
+      this.moveTo(first * this.rowHeight);
+    }
   }
 
   /** Begins again with so many rows. */
   reset(count) {
-    const probe = this.canvas.appendChild(element("div", "row"));
-    this.rowHeight = probe.getBoundingClientRect().height;
+    this.rowHeight = this.measure();
     this.count = count;
     this.rows.clear();
     this.canvas.replaceChildren();
