@@ -10,7 +10,6 @@ import time
 
 SHIFT = 8
 KEYS = {"ArrowLeft": 37, "ArrowUp": 38, "ArrowRight": 39, "ArrowDown": 40, "Enter": 13, "Escape": 27, "Tab": 9, "End": 35, "Home": 36}
-WORDS = [sys_name for sys_name in ("chromium", "chromium-browser", "google-chrome") if shutil.which(sys_name)]
 
 
 class Browser:
@@ -19,7 +18,8 @@ class Browser:
         heard, said = os.pipe()
         # Chromium reads the third file and writes the fourth.
         start = ["bash", "-c", f'exec "$@" 3<&{take} 4>&{said} 2> /dev/null', "bash"]
-        words = [WORDS[0], "--headless=new", "--no-sandbox", "--disable-gpu", "--no-first-run", "--remote-debugging-pipe",
+        chromium = next(filter(shutil.which, ("chromium", "chromium-browser", "google-chrome")))
+        words = [chromium, "--headless=new", "--no-sandbox", "--disable-gpu", "--no-first-run", "--remote-debugging-pipe",
                  f"--user-data-dir={folder}"]
         self.process = subprocess.Popen(start + words, pass_fds=(take, said))
         os.close(take)
@@ -106,14 +106,14 @@ class Browser:
     def requests(self):
         return [event["params"]["request"]["url"] for event in self.events if event.get("method") == "Network.requestWillBeSent"]
 
-    def mouse(self, place, kind="mouseMoved"):
-        pressed = {"button": "left", "clickCount": 1} if kind != "mouseMoved" else {}
-        self.call("Input.dispatchMouseEvent", type=kind, x=place[0], y=place[1], **pressed)
+    def mouse(self, place, kind="mouseMoved", **words):
+        self.call("Input.dispatchMouseEvent", type=kind, x=place[0], y=place[1], **words)
+        self.drawn()
 
     def click(self, place):
-        for kind in ("mouseMoved", "mousePressed", "mouseReleased"):
-            self.mouse(place, kind)
-        self.drawn()
+        self.mouse(place)
+        for kind in ("mousePressed", "mouseReleased"):
+            self.mouse(place, kind, button="left", clickCount=1)
 
     def press(self, key, modifiers=0):
         """Presses a key: one of those with a name, or a letter."""

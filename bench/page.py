@@ -4,13 +4,12 @@
 Each line that it prints is a figure: its name, what is allowed, what was reached and the unit, with tabs between. What has to
 be as the model of the file says is a figure whose unit is `wrong`. FOLDER is for the pages and for pictures of them.
 """
-import base64
 import os
 import sys
 
 from browser import SHIFT, Browser
 from hunk_pages import (ATTACK, LoadHunk, document_of, example_units, game, large, linked, object_document_of, page_of, strange)
-from model import BSS, KINDS, words
+from model import BSS, KINDS, Unit
 
 FOLDER = os.path.abspath(sys.argv[1])
 WIDTHS = (360, 768, 1280, 1920, 3840)
@@ -107,14 +106,12 @@ def followed_site(browser, hunks):
     browser.drawn()
     site = browser.value(MIDDLE % f"#bytes .site[data-offset='{offset}']")
     browser.mouse(site)
-    browser.drawn()
     told = browser.value(DETAIL)
     marked = browser.value(TEXTS % "#hunks .target .title")
     browser.click(site)
     cursor = browser.value("document.querySelector('#bytes .here').closest('.row').firstChild.textContent")
     wrong("site: what is told when hovered over", (told[2:], ["base of hunk 3", f"{at:08x}", place]), (marked, ["hunk 3"]))
-    wrong("site: a click goes to its target", (browser.value("location.hash"), f"#3:{at:08x}"), (cursor, f"{at & ~15:08x}"),
-          (browser.value("document.querySelector('#where').textContent.startsWith('hunk')"), True))
+    wrong("site: a click goes to its target", (browser.value("location.hash"), f"#3:{at:08x}"), (cursor, f"{at & ~15:08x}"))
     browser.value("new Promise((done) => { addEventListener('hashchange', () => done(0), { once: true }); history.back() })")
     browser.drawn()
     wrong("site: the way back", (browser.value("document.activeElement.dataset.offset"), str(offset)))
@@ -195,6 +192,18 @@ def object_files(browser):
         "unit 0 hunk 2 + 38393a3b, past its end"]))
 
 
+def empty_files(browser):
+    """A unit without hunks, and a hunk without bytes."""
+    browser.open(page("none", object_document_of([Unit([], b"none")])))
+    told = browser.value("['#where', '#names-count'].map((it) => document.querySelector(it).textContent)")
+    browser.open(page("empty", document_of([LoadHunk(BSS, 0)])))
+    browser.press("ArrowRight")
+    browser.value("document.querySelector('#hunks a').click()")
+    browser.drawn()
+    here = browser.value("document.activeElement.textContent")
+    wrong("empty: units and hunks", (told, ["none in this file"] * 2), (here, "hunk 0"))
+
+
 # ---- large files
 
 
@@ -236,6 +245,14 @@ def largest_files(browser):
     last = browser.value("[...document.querySelectorAll('#bytes .row')].filter((it) => it.getBoundingClientRect().bottom <="
                          " document.querySelector('#bytes').getBoundingClientRect().bottom + 1).at(-1).firstChild.textContent")
     wrong("high: places that one goes to, and the end", *told, (last, f"{4 * longwords - 16:08x}"))
+    first = ("parseInt([...document.querySelectorAll('#bytes .row')].find((it) => it.getBoundingClientRect().top >="
+             " document.querySelector('#bytes').getBoundingClientRect().top).firstChild.textContent, 16)")
+    browser.value("location.hash = '#0:02000000'")
+    browser.drawn()
+    before = browser.value(first)
+    browser.mouse(browser.value(MIDDLE % "#bytes"), "mouseWheel", deltaX=0, deltaY=440)
+    browser.value("new Promise((done) => setTimeout(done, 1000))")
+    wrong("high: the wheel moves by rows", (browser.value(first) - before, 16 * 440 / browser.value("document.querySelector('#bytes .row').clientHeight")))
     path = page("many", document_of([LoadHunk(BSS, 1, b"", "any", {0: at}) for at in range(65_535)]))
     figure("drawn: 65,535 hunks", 2, browser.open(path), "s")
 
@@ -264,11 +281,12 @@ def looks(browser):
 def pictures(browser):
     page("hello", document_of(linked(example_units())))
     page("objects", object_document_of(example_units()))
-    for name, width, height in (("game", 1440, 900), ("strange", 1440, 900), ("hello", 1200, 640), ("objects", 1000, 800), ("game", 360, 1600),
+    for name, width, height in (("hello", 1280, 640), ("objects", 1000, 800), ("game", 1440, 900), ("strange", 768, 1024), ("game", 360, 1600),
                                 ("game", 3840, 2160)):
         for scheme in ("light", "dark"):
             browser.look(width, height, scheme)
             browser.open(os.path.join(FOLDER, f"{name}.html"))
+            browser.mouse(browser.value(MIDDLE % "#bytes .site:not(.here)"))
             browser.picture(os.path.join(FOLDER, f"{name}-{width}-{scheme}.png"))
 
 
@@ -282,7 +300,7 @@ def complaints(browser):
 
 def main():
     with Browser(os.path.join(FOLDER, "profile")) as browser:
-        for look in (load_files, object_files, large_files, largest_files, looks, pictures, complaints):
+        for look in (load_files, object_files, empty_files, large_files, largest_files, looks, pictures, complaints):
             look(browser)
 
 

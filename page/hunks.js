@@ -8,16 +8,19 @@ function addressOf(hunk, offset) {
 
 class Hunks {
   constructor(file, viewport) {
-    this.largest = Math.max(1, ...file.units.map((unit) => unit.hunks.reduce((most, it) => Math.max(most, it.size), 0)));
+    this.largest = file.hunks.reduce((most, hunk) => Math.max(most, hunk.size), 1);
     this.items = [];
+    /** The row of each hunk, by its index: an object file has rows for its units as well. */
+    this.rowOf = [];
     file.units.forEach((unit, number) => {
       if (file.isObject) {
         this.items.push({ unit, number });
       }
-      unit.hunks.forEach((hunk) => this.items.push({ hunk, row: this.items.length }));
+      for (const hunk of unit.hunks) {
+        this.rowOf.push(this.items.length);
+        this.items.push({ hunk });
+      }
     });
-    this.rowOf = [];
-    this.items.forEach((item, row) => item.hunk && (this.rowOf[item.hunk.index] = row));
     this.list = new LinkList(viewport, (row) => this.drawRow(row));
     this.list.reset(this.items.length);
   }
@@ -30,7 +33,7 @@ class Hunks {
     row.setAttribute("aria-posinset", index + 1);
     row.append(hunk ? this.drawHunk(hunk) : this.drawUnit(unit, number));
     if (hunk !== undefined) {
-      row.classList.toggle("current", hunk === this.current);
+      row.setAttribute("aria-current", hunk === this.current);
       row.classList.toggle("target", hunk === this.target);
     }
     return row;
@@ -42,7 +45,7 @@ class Hunks {
       link.href = addressOf(unit.hunks[0], 0);
     }
     const size = unit.hunks.length > 0 ? counted(unit.hunks.length, "hunk") : "no hunks";
-    link.append(element("span", "title", `unit ${number}`), element("span", "name", unit.name), element("span", "size", size));
+    link.append(this.drawLine([["title", `unit ${number}`], ["name", unit.name], ["size", size]]));
     return link;
   }
 
@@ -51,22 +54,27 @@ class Hunks {
     link.href = addressOf(hunk, 0);
     const number = hunk.title.slice(hunk.title.indexOf("hunk"));
     const parts = [["title", number], ["kind", hunk.kind], [`memory ${hunk.memory}`, hunk.memory], ["name", hunk.name]];
-    link.append(...parts.map(([name, text]) => element("span", name, text)));
-    link.append(element("span", "size", counted(hunk.size, "byte")), this.drawBar(hunk));
+    link.append(this.drawLine([...parts, ["size", counted(hunk.size, "byte")]]), this.drawBar(hunk));
     return link;
+  }
+
+  drawLine(parts) {
+    const line = element("span", "line");
+    line.append(...parts.map(([name, text]) => element("span", name, text)));
+    return line;
   }
 
   /** A bar of two parts: what the file has of the hunk, and the zeros up to its size. */
   drawBar(hunk) {
-    const track = element("span", "track");
-    const bar = track.appendChild(element("span", "bar"));
+    const bar = element("span", "bar");
     bar.style.width = `${(100 * hunk.size) / this.largest}%`;
     bar.title = `${counted(hunk.stored, "byte")} stored, ${counted(hunk.size - hunk.stored, "zero")}`;
     const stored = bar.appendChild(element("span", "stored"));
     stored.style.width = hunk.size > 0 ? `${(100 * hunk.stored) / hunk.size}%` : "0";
-    return track;
+    return bar;
   }
 
+  /** The row of a hunk, if it is drawn. */
   row(hunk) {
     return hunk && this.list.rows.get(this.rowOf[hunk.index]);
   }
@@ -74,9 +82,9 @@ class Hunks {
   /** Marks the hunk that is looked at. */
   setCurrent(hunk) {
     if (hunk !== this.current) {
-      this.row(this.current)?.classList.remove("current");
+      this.row(this.current)?.setAttribute("aria-current", false);
       this.current = hunk;
-      this.row(hunk)?.classList.add("current");
+      this.row(hunk)?.setAttribute("aria-current", true);
     }
   }
 

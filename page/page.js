@@ -106,7 +106,7 @@ class Page {
     byId("detail-longword").textContent = hunk && at + 4 <= hunk.size ? hex(hunk.longword(at)) : "–";
     byId("detail-target").textContent = target ? target.nowhere ?? placeInWords(target) : "–";
     const isStored = hunk && hunk.contentOffset !== undefined && at < hunk.stored;
-    byId("detail-file").textContent = isStored ? hex(hunk.contentOffset + at) : "not stored";
+    byId("detail-file").textContent = isStored ? hex(hunk.contentOffset + at) : hunk ? "not stored" : "–";
   }
 }
 
