@@ -19,6 +19,9 @@ TEXTS = "[...document.querySelectorAll(%r)].map((it) => it.textContent)"
 # What the tab key leads to: the part of the page, or what is outside of the parts.
 PART = "document.activeElement.id || document.activeElement.closest('.scroller')?.id || document.activeElement.tagName"
 DETAIL = "[...document.querySelectorAll('#detail dd')].map((it) => it.textContent)"
+# Whether each row of the dump ends inside it.
+FITS = """[...document.querySelectorAll('#bytes .ascii')].every((it) =>
+  it.getBoundingClientRect().right <= it.closest('.scroller').getBoundingClientRect().right)"""
 # The texts that are drawn with less contrast than 4.5, against the first opaque ground below them.
 PALE = """(() => {
   const numbers = (color) => color.match(/[0-9.]+/g).map(Number);
@@ -252,7 +255,8 @@ def largest_files(browser):
     before = browser.value(first)
     browser.mouse(browser.value(MIDDLE % "#bytes"), "mouseWheel", deltaX=0, deltaY=440)
     browser.value("new Promise((done) => setTimeout(done, 1000))")
-    wrong("high: the wheel moves by rows", (browser.value(first) - before, 16 * 440 / browser.value("document.querySelector('#bytes .row').clientHeight")))
+    height = browser.value("document.querySelector('#bytes .row').clientHeight")
+    wrong("high: the wheel moves by rows", (browser.value(first) - before, 16 * 440 / height))
     path = page("many", document_of([LoadHunk(BSS, 1, b"", "any", {0: at}) for at in range(65_535)]))
     figure("drawn: 65,535 hunks", 2, browser.open(path), "s")
 
@@ -268,8 +272,7 @@ def looks(browser):
             browser.look(width, 800 if width < 3000 else 2160)
             browser.open(path)
             wider.append((browser.value("document.documentElement.scrollWidth <= innerWidth"), True))
-            fits = "[...document.querySelectorAll('#bytes .ascii')].every((it) => it.getBoundingClientRect().right <= it.closest('.scroller').getBoundingClientRect().right)"
-            wider.append((browser.value(fits), True))
+            wider.append((browser.value(FITS), True))
         for scheme in ("light", "dark"):
             browser.look(1440, 900, scheme)
             browser.open(path)

@@ -177,7 +177,7 @@ class LinkList extends Scroller {
     super(viewport, drawRow);
     this.kept = 0;
     viewport.addEventListener("keydown", (event) => this.pressed(event));
-    viewport.addEventListener("focusin", (event) => this.keep(Number(event.target.closest(".row").dataset.index)));
+    viewport.addEventListener("focusin", (event) => this.focused(event.target.closest(".row")));
   }
 
   make(index) {
@@ -192,6 +192,13 @@ class LinkList extends Scroller {
       row.querySelector("a").tabIndex = at === index ? 0 : -1;
     }
     this.kept = index;
+  }
+
+  /** What has got the focus is the list itself in some browsers, and otherwise the link of a row. */
+  focused(row) {
+    if (row) {
+      this.keep(Number(row.dataset.index));
+    }
   }
 
   focus(index) {
