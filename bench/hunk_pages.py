@@ -115,7 +115,7 @@ def game():
 def strange():
     """Units with all that a page could stumble over: names in any bytes, targets that are nowhere, and empty hunks and units."""
     content = bytes.fromhex("ffffffff") + bytes(range(60)) + b"</script>   "
-    hunk = hunk_of(CODE, content, sites=[(0, 0), (5, 1), (14, 7), (20, ATTACK), (30, b"nobody"), (37, b"number"), (60, 2)],
+    hunk = hunk_of(CODE, content, sites=[(0, 0), (5, 1), (13, 7), (20, ATTACK), (30, b"nobody"), (37, b"number"), (60, 2)],
                    definitions=[(DEF, ATTACK, 4), (ABS, b"number", 0xDFF000)], symbols=[(name, 3 * at) for at, name in enumerate(NAMES)])
     hunk.name = ATTACK
     rest = [hunk_of(DATA, b""), hunk_of(BSS, bytes(400), "fast", symbols=[(b"far", 0xFFFFFFFF)])]

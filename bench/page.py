@@ -9,7 +9,7 @@ import sys
 
 from browser import SHIFT, Browser
 from hunk_pages import (ATTACK, LoadHunk, document_of, example_units, game, large, linked, object_document_of, page_of, strange)
-from model import BSS, KINDS, Unit
+from model import BSS, KINDS, Unit, words
 
 FOLDER = os.path.abspath(sys.argv[1])
 WIDTHS = (360, 768, 1280, 1920, 3840)
@@ -19,6 +19,7 @@ TEXTS = "[...document.querySelectorAll(%r)].map((it) => it.textContent)"
 # What the tab key leads to: the part of the page, or what is outside of the parts.
 PART = "document.activeElement.id || document.activeElement.closest('.scroller')?.id || document.activeElement.tagName"
 DETAIL = "[...document.querySelectorAll('#detail dd')].map((it) => it.textContent)"
+SITES = "[...document.querySelectorAll('#bytes .site')].map((it) => [+it.dataset.offset, it.textContent.replaceAll(' ', '')])"
 # Whether each row of the dump ends inside it.
 FITS = """[...document.querySelectorAll('#bytes .ascii')].every((it) =>
   it.getBoundingClientRect().right <= it.closest('.scroller').getBoundingClientRect().right)"""
@@ -76,18 +77,24 @@ def drawn_hunks(browser, hunks):
     figure("hunks: a bar from its share", 1, max(abs(it - most * hunk.size / largest) for it, hunk in zip(widths, hunks)), "pixels")
 
 
+def marked_sites(browser):
+    """The bytes that are marked as those of each site, by its offset."""
+    marked = {}
+    for offset, digits in browser.value(SITES):
+        marked[offset] = marked.get(offset, "") + digits
+    return marked
+
+
 def drawn_bytes(browser, hunks):
     rows = browser.value("[...document.querySelectorAll('#bytes .row:not(.heading)')]"
                          ".map((it) => [...it.children].slice(0, 3).map((part) => part.textContent).join('').replaceAll(' ', ''))")
     wrong("bytes: the rows of the first hunk", *((row, dump_row(hunks[0].bytes(), 16 * at)) for at, row in enumerate(rows[:20])))
     figure("bytes: rows that are drawn, of all", 200, len(rows), "rows")
-    sites = browser.value("[...document.querySelectorAll('#bytes .site')].map((it) => [+it.dataset.offset, it.textContent.replaceAll(' ', '')])")
-    marked = {}
-    for offset, digits in sites:
-        marked[offset] = marked.get(offset, "") + digits
-    due = {offset: hunks[0].bytes()[offset : offset + 4].hex() for offset in sorted(hunks[0].sites)[: len(marked)]}
-    last = max(marked)
-    wrong("bytes: the marked sites", ({it: marked[it] for it in marked if it != last}, {it: due[it] for it in due if it != last}))
+    marked = marked_sites(browser)
+    # The last may go on in a row that is not drawn.
+    del marked[max(marked)]
+    due = sorted(hunks[0].sites)[: len(marked)]
+    wrong("bytes: the marked sites", (marked, {it: hunks[0].bytes()[it : it + 4].hex() for it in due}))
 
 
 def drawn_zeros(browser, hunks):
@@ -101,11 +108,11 @@ def drawn_zeros(browser, hunks):
 
 def followed_site(browser, hunks):
     """A site is hovered over and clicked: its target is told, marked and gone to, and the way back leads to it."""
-    offset = next(it for it in sorted(hunks[0].sites) if hunks[0].sites[it] == 3)
+    offset = next(it for it in sorted(hunks[0].sites) if it > 1000 and hunks[0].sites[it] == 3)
     at = int.from_bytes(hunks[0].bytes()[offset : offset + 4], "big")
     name, start = max((it for it in hunks[3].symbols if it[1] <= at), key=lambda it: it[1])
     place = f"hunk 3 + {at:08x}, {name.decode()}" + (f" + {at - start}" if at > start else "")
-    browser.value(f"location.hash = '#0:{offset:08x}'")
+    browser.value(f"location.hash = '#0:{offset - 32:08x}'")
     browser.drawn()
     site = browser.value(MIDDLE % f"#bytes .site[data-offset='{offset}']")
     browser.mouse(site)
@@ -184,10 +191,13 @@ def object_files(browser):
     wrong("names: none is markup", (browser.value("document.querySelectorAll('img').length"), 0),
           (browser.value("document.querySelectorAll('script').length"), 2))
     told = []
-    for offset in (0, 5, 14, 20, 30, 37, 60):
+    hunk = strange()[0][0]
+    for offset, _ in hunk.sites:
         browser.value(f"location.hash = '#0:{offset:08x}'")
         browser.drawn()
         told.append(browser.value(DETAIL)[-1])
+    content = words(*hunk.words)
+    wrong("sites: their bytes, over the ends of rows", (marked_sites(browser), {it: content[it : it + 4].hex() for it, _ in hunk.sites}))
     attacked = 4 + 0x10111213
     wrong("sites: what they point at", (told, [
         "unit 0 hunk 0 − 00000001, before it", "unit 0 hunk 1 + 01020304, past its end", "there is no hunk 7 in its unit",
