@@ -294,7 +294,7 @@ def looks(browser):
 def pictures(browser):
     page("hello", document_of(linked(example_units())))
     page("objects", object_document_of(example_units()))
-    for name, width, height in (("hello", 1280, 640), ("objects", 1000, 800), ("game", 1440, 900), ("strange", 768, 1024), ("game", 360, 1600),
+    for name, width, height in (("hello", 1280, 520), ("objects", 1000, 800), ("game", 1440, 900), ("strange", 768, 1024), ("game", 360, 1600),
                                 ("game", 3840, 2160)):
         for scheme in ("light", "dark"):
             browser.look(width, height, scheme)
