@@ -15,7 +15,6 @@ pub mod CompareLemmas
 pub mod CopyLawsLemmas
 pub mod CompareLawsLemmas
 pub mod ImageLemmas
-pub mod RanksLemmas
 pub mod ObjectFilesLemmas
 pub mod MapLemmas
 pub mod OriginsLemmas
