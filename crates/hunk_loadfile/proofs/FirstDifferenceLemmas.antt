@@ -1,8 +1,8 @@
 -- What the walks over two load files find.
-use Rattle.std.proofs.Common.{◌≡◌, ◌≤◌, ◌<◌, ◌+◌, ◌*◌, ◌-◌, ◌^◌, ◌==◌, ◌&&◌, ◌∙◌, Bool, true, false, not, inl, inr, ℕ, min, max, Option, Some, None, List, [], ◌∷◌, length, drop, get_or, eq-eqb, refl, sym, ap, subst, zero-add, arith}
+use Rattle.std.proofs.Common.{◌≡◌, ◌≤◌, ◌<◌, ◌+◌, ◌*◌, ◌-◌, ◌^◌, ◌==◌, ◌&&◌, ◌∙◌, Bool, true, false, not, inl, inr, ℕ, min, max, Option, Some, None, List, [], ◌∷◌, length, drop, get_or, take, eq-eqb, refl, sym, ap, subst, zero-add, arith}
 use Rattle.std.specs.Option.{is_some, option_or}
 use Rattle.std.proofs.lemmas.Bool.{cases_eq, ne_eqb}
-use Rattle.std.proofs.lemmas.List.{at_drop_more, get_or_past}
+use Rattle.std.proofs.lemmas.List.{at_drop_more, get_or-take, get_or_past}
 use Rattle.hunk_base.specs.Sites.{AreApart, SiteMap, StandFrom}
 use Rattle.hunk_loadfile.specs.Difference.{LiesInItsSize, first_difference, first_offset, has_same_byte, has_same_target, hunks_difference, lowest}
 use Rattle.hunk_loadfile.specs.LoadHunk.{FileHunk}
@@ -23,6 +23,13 @@ other_byte first second offset = not (has_same_byte first second offset)
 
 abbrev pub nonzero : List ℕ → ℕ → Bool
 nonzero content offset = not (byte_or_zero content offset == 0)
+
+-- no byte differs in a front that both have
+pub same_front-byte : (first second : List ℕ) (count offset : ℕ) → offset < count → take count first ≡ take count second → other_byte first second offset ≡ false
+same_front-byte first second count offset low same =
+    let one = get_or-take count first offset 0 low in
+    let other = get_or-take count second offset 0 low in
+    ap not (eq-eqb (byte_or_zero first offset) (byte_or_zero second offset) (sym one ∙ ap (λ (bytes : List ℕ). get_or bytes offset 0) same ∙ other))
 
 -- the rest of the second content, or of the first one
 pub first_byte-in_second : (first second : List ℕ) (before place : Option ℕ) → length first < length second → before ≡ lowest (other_byte first second) 0 (min (length first) (length second)) → is_some before ≡ false

@@ -209,10 +209,17 @@ fn first_byte(first: &[u8], second: &[u8]) -> Option<usize>
 }
 
 /// The lowest offset at which two contents have another byte, up to the end of the shorter one.
+///
+/// Most contents that are compared are the same, and whole slices are compared faster than their bytes one
+/// by one.
 fn first_unlike(first: &[u8], second: &[u8]) -> Option<usize>
     ensures { result ≡ lowest (λ offset. not (has_same_byte first.now second.now offset)) 0 (min (length first.now) (length second.now)) }
 {
-    for offset in 0..first.len().min(second.len()) {
+    let count = first.len().min(second.len());
+    if first[..count] == second[..count] {
+        return None;
+    }
+    for offset in 0..count {
         if first[offset] != second[offset] {
             return Some(offset);
         }
