@@ -1,10 +1,11 @@
 -- What holds of the first difference of two load files.
-use Rattle.std.proofs.Common.{◌≡◌, ◌<◌, ◌+◌, ◌==◌, ◌&&◌, ◌∙◌, Bool, true, false, not, inl, inr, ℕ, min, Option, Some, None, List, [], ◌∷◌, if◌then◌else◌, get_or, eq-eqb, refl, sym, ap, arith}
+use Rattle.std.proofs.Common.{◌≡◌, ◌<◌, ◌+◌, ◌==◌, ◌&&◌, ◌∙◌, Bool, true, false, not, inl, inr, ℕ, min, Option, Some, None, List, [], ◌∷◌, if◌then◌else◌, get_or, slice_get, eq-eqb, refl, sym, ap, subst, arith}
 use Rattle.std.specs.Option.{option_eq}
 use Rattle.std.specs.Ordering.{nat_cmp}
 use Rattle.std.specs.Cmp.{nat_cmp_is}
 use Rattle.std.specs.declared.cmp.Ordering.TheVariants.{Equal}
 use Rattle.std.proofs.lemmas.Bool.{cases_Bool, cases_eq, cases_lt, eqb-true}
+use Rattle.std.proofs.lemmas.Option.{get_or_from_slice_get, slice_get_within}
 use Rattle.std.proofs.lemmas.List.Sums.{get_or-le-sum_by}
 use Rattle.std.specs.List.{All}
 use Rattle.hunk_base.specs.Sites.{StandFrom, target_at}
@@ -148,3 +149,6 @@ LiesInItsSize-from hunks valid i hunk low =
       limit = is.limit;
       small = omega (arith, valid.small, get_or-le-sum_by (λ (h : FileHunk). h.size) hunks i hunk low);
     }
+
+pub LiesInItsSize-at : (hunks : List FileHunk) (i : ℕ) (hunk : FileHunk) → IsLoadFile hunks → slice_get hunks i ≡ Some hunk → LiesInItsSize hunk
+LiesInItsSize-at hunks i hunk valid is = subst LiesInItsSize (get_or_from_slice_get hunks i hunk hunk is) (LiesInItsSize-from hunks valid i hunk (slice_get_within hunks i hunk is))

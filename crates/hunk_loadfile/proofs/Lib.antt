@@ -9,6 +9,8 @@ pub mod NormalFormLemmas
 pub mod LowestLemmas
 pub mod DifferenceLemmas
 pub mod FirstDifferenceLemmas
+pub mod ContentComparerLemmas
+pub mod ComparisonLemmas
 pub mod InfoDifferenceLemmas
 pub mod MeaningLemmas
 pub mod NormalMeaningLemmas
@@ -24,8 +26,11 @@ pub mod PutsLemmas
 pub mod LongwordWriterLemmas
 pub mod LoadWriterLemmas
 pub mod OpenHunkLemmas
+pub mod HunkBuilderLemmas
+pub mod EndedLemmas
 pub mod LoadBuilderLemmas
 pub mod PartialLemmas
+pub mod ComparerLemmas
 pub mod WrittenFormInsertLemmas
 pub mod WrittenFormSiteLemmas
 pub mod WrittenFormTree

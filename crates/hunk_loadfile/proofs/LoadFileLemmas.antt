@@ -1,5 +1,7 @@
 -- The value of a tree is determined by its header and its hunks.
 use Rattle.std.proofs.Common.{◌≡◌, ◌∙◌, ℕ, List, [], ◌∷◌, length, map, refl, ap, sym}
+use Rattle.hunk_words.specs.FieldLongwords.{longwords_of}
+use Rattle.hunk_words.specs.Spelling.{LoadFits, load_spelling}
 use Rattle.hunk_words.specs.Trees.{LoadHunkTree, LoadTree}
 use Rattle.hunk_words.specs.Values.{Hunk, load_sizes, load_hunk_values}
 use Rattle.hunk_words.proofs.ValuesLemmas.{load-one}
@@ -17,12 +19,15 @@ load_hunk_values-file_hunks last (t ∷ ts) = ap (λ (hs : List FileHunk). load_
 pub load_value-file_hunks : (t : LoadTree) → load_value t ≡ file_hunks (load_sizes t) (load_hunk_values (length t.others) (t.first ∷ t.others))
 load_value-file_hunks t = load_hunk_values-file_hunks (length t.others) (t.first ∷ t.others)
 
-pub one-load : OneLoad
-one-load one other ws a b =
-    let t = a.tree in
-    let u = b.tree in
-    let same = load-one t u a.is_file.fits b.is_file.fits (a.is_file.spelled ∙ sym b.is_file.spelled) in
-    sym a.value ∙ load_value-file_hunks t
+-- The same longwords have one value.
+pub load_value-one : (t u : LoadTree) → LoadFits t → LoadFits u → longwords_of (load_spelling t) ≡ longwords_of (load_spelling u) → load_value t ≡ load_value u
+load_value-one t u fits others spelled =
+    let same = load-one t u fits others spelled in
+    load_value-file_hunks t
     ∙ ap (λ (sizes : List (ℕ × ℕ)). file_hunks sizes (load_hunk_values (length t.others) (t.first ∷ t.others))) same.0
     ∙ ap (λ (hunks : List Hunk). file_hunks (load_sizes u) hunks) same.1
-    ∙ sym (load_value-file_hunks u) ∙ b.value
+    ∙ sym (load_value-file_hunks u)
+
+pub one-load : OneLoad
+one-load one other ws a b =
+    sym a.value ∙ load_value-one a.tree b.tree a.is_file.fits b.is_file.fits (a.is_file.spelled ∙ sym b.is_file.spelled) ∙ b.value

@@ -1,6 +1,6 @@
 -- The lowest number in a row that passes a test.
 use Rattle.std.proofs.Common.{◌≡◌, ◌≤◌, ◌<◌, ◌+◌, ◌-◌, ◌&&◌, ◌∙◌, Bool, true, false, not, inl, inr, ℕ, zero, suc, min, Option, Some, None, refl, sym, ap, subst, zero-add, arith}
-use Rattle.std.specs.Option.{is_some}
+use Rattle.std.specs.Option.{is_some, option_map}
 use Rattle.std.proofs.lemmas.Bool.{both_ways, cases_Bool, cases_eq, cases_lt}
 use Rattle.hunk_loadfile.specs.Difference.{lowest}
 
@@ -30,6 +30,10 @@ IsLowest-lowest passes (suc n) start = elim (cases_Bool (passes start)) [
       )
 ]
 
+-- it is below the end
+pub lowest-low : (passes : ℕ → Bool) (count k : ℕ) → lowest passes 0 count ≡ Some k → k < count
+lowest-low passes count k is = omega (arith, (subst (IsLowest passes 0 (0 + count)) is (IsLowest-lowest passes count 0)).1)
+
 -- and nothing else is.
 pub IsLowest-one : (passes : ℕ → Bool) (start end : ℕ) (one other : Option ℕ) → IsLowest passes start end one → IsLowest passes start end other → one ≡ other
 IsLowest-one passes start end None None is others = refl
@@ -53,6 +57,15 @@ lowest-is passes start count end place at is =
 pub IsLowest-same : (passes others : ℕ → Bool) (start end : ℕ) (place : Option ℕ) → ((i : ℕ) → start ≤ i → passes i ≡ others i) → IsLowest passes start end place → IsLowest others start end place
 IsLowest-same passes others start end None same is = λ i low high. sym (same i low) ∙ is i low high
 IsLowest-same passes others start end (Some k) same is = (is.0, is.1, sym (same k is.0) ∙ is.2, λ i low high. sym (same i low) ∙ is.3 i low high)
+
+-- within the range alone
+IsLowest-within : (passes others : ℕ → Bool) (start end : ℕ) (place : Option ℕ) → ((i : ℕ) → start ≤ i → i < end → passes i ≡ others i) → IsLowest passes start end place → IsLowest others start end place
+IsLowest-within passes others start end None same is = λ i low high. sym (same i low high) ∙ is i low high
+IsLowest-within passes others start end (Some k) same is = (is.0, is.1, sym (same k is.0 is.1) ∙ is.2, λ i low high. sym (same i low (omega (arith, is.1))) ∙ is.3 i low high)
+
+pub lowest-within : (passes others : ℕ → Bool) (start count : ℕ) → ((i : ℕ) → start ≤ i → i < start + count → passes i ≡ others i) → lowest passes start count ≡ lowest others start count
+lowest-within passes others start count same =
+    lowest-is others start count (start + count) (lowest passes start count) refl (IsLowest-within passes others start (start + count) (lowest passes start count) same (IsLowest-lowest passes count start))
 
 -- more numbers, none of which passes
 pub IsLowest-longer : (passes : ℕ → Bool) (start end more : ℕ) (place : Option ℕ) → end ≤ more → ((i : ℕ) → end ≤ i → passes i ≡ false) → IsLowest passes start end place → IsLowest passes start more place
@@ -86,6 +99,27 @@ lowest-in_second passes others start more None place fits first none same is =
     let end : start + (more - start) ≡ more = omega arith in
     let behind : IsLowest passes start more place = subst (λ e. IsLowest passes start e place) end (IsLowest-same others passes start (start + (more - start)) place same here) in
     lowest-is passes 0 more more place (zero-add more) (IsLowest-wider passes 0 start more place (omega arith) (λ i low high. before i low (omega arith)) behind)
+
+-- or it is that of the second one, counted from its start.
+pub lowest-behind : (passes : ℕ → Bool) (start count : ℕ) (place : Option ℕ) → lowest passes 0 start ≡ None → place ≡ lowest (λ i. passes (start + i)) 0 count → option_map (λ i. start + i) place ≡ lowest passes 0 (start + count)
+lowest-behind passes start count place none is =
+    lowest-is passes 0 (start + count) (start + count) (option_map (λ i. start + i) place) (zero-add (start + count))
+    (go place (subst (IsLowest (λ i. passes (start + i)) 0 (0 + count)) (sym is) (IsLowest-lowest (λ i. passes (start + i)) count 0)))
+  where
+    before : IsLowest passes 0 (0 + start) None
+    before = subst (IsLowest passes 0 (0 + start)) none (IsLowest-lowest passes start 0)
+
+    behind : (i : ℕ) → start ≤ i → passes (start + (i - start)) ≡ false → passes i ≡ false
+    behind i past out = let at : start + (i - start) ≡ i = omega arith in subst (λ j. passes j ≡ false) at out
+
+    go : (found : Option ℕ) → IsLowest (λ i. passes (start + i)) 0 (0 + count) found → IsLowest passes 0 (start + count) (option_map (λ i. start + i) found)
+    go None h = λ i low high. elim (cases_lt i start) [ inl here ↦ before i low (omega arith) | inr past ↦ behind i past (h (i - start) (omega arith) (omega arith)) ]
+    go (Some k) h = (
+      omega arith,
+      omega (arith, h.1),
+      h.2,
+      λ i low high. elim (cases_lt i start) [ inl here ↦ before i low (omega arith) | inr past ↦ behind i past (h.3 (i - start) (omega arith) (omega arith)) ],
+    )
 
 -- ---- either of two tests fails
 

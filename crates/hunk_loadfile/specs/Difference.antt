@@ -1,5 +1,5 @@
 -- Where two load files first differ in what they mean.
-use Rattle.std.specs.Prelude.{◌≡◌, ℕ, ◌+◌, ◌*◌, ◌≤◌, ◌==◌, ◌&&◌, not, Bool, true, false, if◌then◌else◌, List, ◌∷◌, length, Option, Some, None}
+use Rattle.std.specs.Prelude.{◌≡◌, ℕ, ◌+◌, ◌*◌, ◌≤◌, ◌==◌, ◌&&◌, not, Bool, true, false, if◌then◌else◌, List, ◌∷◌, length, max, Option, Some, None}
 use Rattle.std.specs.List.{position_from, range_with_len}
 use Rattle.std.specs.Option.{option_eq, option_map, option_or}
 use Rattle.hunk_base.specs.Sites.{target_at}
@@ -64,13 +64,24 @@ abbrev pub unless : Bool → Difference → Option Difference → Option Differe
 unless true difference next = next
 unless false difference next = Some difference
 
+-- in what the hunks with this number hold, in memory and size
+abbrev pub head_difference : ℕ → FileHunk → FileHunk → Option Difference
+head_difference number first second =
+    unless (is_same_kind first.kind second.kind) (difference_is.Kind number first.kind second.kind)
+    (unless (is_same_memory first.memory second.memory) (difference_is.Memory number first.memory second.memory)
+    (unless (first.size == second.size) (difference_is.Size number first.size second.size) None))
+
+-- in their bytes and sites
+abbrev pub inside_difference : ℕ → FileHunk → FileHunk → Option Difference
+inside_difference number first second = option_map (difference_at number first second) (first_offset first second)
+
 -- of the hunks with this number
 abbrev pub hunk_difference : ℕ → FileHunk → FileHunk → Option Difference
 hunk_difference number first second =
     unless (is_same_kind first.kind second.kind) (difference_is.Kind number first.kind second.kind)
     (unless (is_same_memory first.memory second.memory) (difference_is.Memory number first.memory second.memory)
     (unless (first.size == second.size) (difference_is.Size number first.size second.size)
-    (option_map (difference_at number first second) (first_offset first second))))
+    (inside_difference number first second)))
 
 -- ---- where two files differ
 
@@ -90,3 +101,19 @@ pub record LiesInItsSize (hunk : FileHunk) : Type 0 where
   pub content : length hunk.content ≤ 4 * hunk.size
   pub limit : hunk.sites.limit ≡ 4 * hunk.size
   pub small : hunk.size ≤ most_size
+
+-- ---- a content that is not at hand
+
+-- where the second content first differs, of so many bytes, and its byte there
+abbrev pub unlike_byte : List ℕ → List ℕ → ℕ → Option (ℕ × ℕ)
+unlike_byte first second count =
+    option_map (λ offset. (offset, byte_or_zero second offset)) (lowest (λ offset. not (has_same_byte first second offset)) 0 count)
+
+-- the hunk with this content in place of its own
+abbrev pub with_bytes : FileHunk → List ℕ → FileHunk
+with_bytes hunk content = record hunk { content = content }
+
+-- This is where this content of the second hunk, which lies in it, first differs, with zeros after the shorter one.
+pub record IsUnlike (first second : FileHunk) (content : List ℕ) (unlike : Option (ℕ × ℕ)) : Type 0 where
+  pub within : length content ≤ 4 * second.size
+  pub place : unlike ≡ unlike_byte first.content content (max (length first.content) (length content))

@@ -10,11 +10,15 @@ pub mod Stripping
 pub mod NormalForm
 pub mod Meaning
 pub mod Difference
+pub mod ContentComparer
 pub mod InfoDifference
+pub mod Comparison
 pub mod LoadForm
 pub mod NumberWidth
 pub mod WrittenForm
 pub mod OpenHunk
+pub mod HunkBuilder
 pub mod LoadBuilder
+pub mod Comparer
 pub mod LoadDecoder
 pub mod RelocationWriter

@@ -1,7 +1,8 @@
 -- The load file of the events so far: the hunks that have ended.
-use Rattle.std.specs.Prelude.{ℕ, List, [], ◌∷◌}
+use Rattle.std.specs.Prelude.{◌≡◌, ◌≤◌, ℕ, List, [], ◌∷◌, length}
 use Rattle.hunk_words.specs.Values.{Hunk, Part}
-use Rattle.hunk_words.specs.EventValue.{value_of_events, initial_load}
+use Rattle.hunk_words.specs.EventValue.{EventValue, value_of_events, initial_load}
+use Rattle.hunk_words.specs.SiteContext.{SiteContext}
 use Rattle.hunk_words.specs.declared.event.Event.{Event}
 use Rattle.hunk_loadfile.specs.LoadHunk.{FileHunk}
 use Rattle.hunk_loadfile.specs.LoadFile.{file_hunk}
@@ -20,3 +21,11 @@ first_hunks (p ∷ ps) = p.hunks
 -- the partial load file after events
 abbrev pub partial : List Event → List FileHunk
 partial told = file_hunks (value_of_events initial_load told).sizes (first_hunks (value_of_events initial_load told).parts)
+
+-- In the one part of the events these hunks have ended, with their memory and sizes from the header.
+pub record HaveEnded (hunks : List FileHunk) (told : EventValue) (watch : SiteContext) : Type 0 where
+  pub part : Part
+  pub one_part : told.parts ≡ part ∷ []
+  pub values : hunks ≡ file_hunks told.sizes part.hunks
+  pub few : length part.hunks ≤ length told.sizes
+  pub count : watch.position.ended ≡ length part.hunks

@@ -1,8 +1,9 @@
 //! Where two load files first differ in what they mean.
 
-ghost use Rattle.std.specs.Prelude.{◌≡◌, ◌+◌, ◌*◌, ◌-◌, ◌≤◌, ◌==◌, not, length, min, max};
-ghost use Rattle.hunk_loadfile.specs.Difference.{LiesInItsSize, difference_at, first_difference, first_offset, has_same_byte, has_same_target, hunk_difference, lowest};
+ghost use Rattle.std.specs.Prelude.{◌≡◌, ℕ, List, ◌+◌, ◌<◌, ◌^◌, ◌*◌, ◌-◌, ◌≤◌, ◌==◌, not, length, min, max};
+ghost use Rattle.hunk_loadfile.specs.Difference.{IsUnlike, LiesInItsSize, byte_of, first_difference, has_same_byte, has_same_target, head_difference, hunk_difference, inside_difference, lowest, target_of, unlike_byte, with_bytes};
 ghost use Rattle.hunk_loadfile.specs.Patching.{byte_or_zero};
+ghost use Rattle.hunk_loadfile.specs.declared.difference.Difference.TheVariants as difference_is;
 
 use crate::load_file::LoadFile;
 use crate::load_hunk::LoadHunk;
@@ -109,6 +110,41 @@ fn hunk_difference<A: Allocator + Copy, B: Allocator + Copy>(
     requires second { LiesInItsSize second.now }
     ensures { result ≡ hunk_difference number first.now second.now }
 {
+    let difference = head_difference(number, first, second);
+    if difference.is_some() {
+        return difference;
+    }
+    let unlike = unlike_byte(&first.content, &second.content);
+    inside_difference(number, first, second, unlike)
+}
+
+/// The same, where the content of the second hunk is not at hand: `unlike` is where it first differs from
+/// that of the first hunk, with zeros after the shorter one, and its byte there.
+pub(crate) fn hunk_difference_with<A: Allocator + Copy, B: Allocator + Copy>(
+    number: usize,
+    first: &LoadHunk<A>,
+    second: &LoadHunk<B>,
+    unlike: Option<(u32, u8)>,
+) -> Option<Difference>
+    requires first { LiesInItsSize first.now }
+    requires limit { second.now.sites.limit ≡ 4 * second.now.size }
+    ensures { (content : List ℕ) → IsUnlike first.now second.now content unlike → result ≡ hunk_difference number first.now (with_bytes second.now content) }
+{
+    let difference = head_difference(number, first, second);
+    if difference.is_some() {
+        return difference;
+    }
+    inside_difference(number, first, second, unlike)
+}
+
+/// How two hunks with this number differ in what they hold, in memory and size.
+fn head_difference<A: Allocator + Copy, B: Allocator + Copy>(
+    number: usize,
+    first: &LoadHunk<A>,
+    second: &LoadHunk<B>,
+) -> Option<Difference>
+    ensures { result ≡ head_difference number first.now second.now }
+{
     if first.kind != second.kind {
         return Some(Difference::Kind {
             hunk: number,
@@ -130,31 +166,63 @@ fn hunk_difference<A: Allocator + Copy, B: Allocator + Copy>(
             second: second.size,
         });
     }
-    match first_offset(first, second) {
-        Some(offset) => Some(difference_at(number, first, second, offset)),
-        None => None,
+    None
+}
+
+/// What differs first inside of two hunks of one size, by where their contents do. At one offset it is the
+/// byte.
+fn inside_difference<A: Allocator + Copy, B: Allocator + Copy>(
+    number: usize,
+    first: &LoadHunk<A>,
+    second: &LoadHunk<B>,
+    unlike: Option<(u32, u8)>,
+) -> Option<Difference>
+    requires size { first.now.size ≡ second.now.size }
+    requires first { LiesInItsSize first.now }
+    requires limit { second.now.sites.limit ≡ 4 * second.now.size }
+    ensures { (content : List ℕ) → IsUnlike first.now second.now content unlike → result ≡ inside_difference number first.now (with_bytes second.now content) }
+{
+    let site = first_site(&first.sites, &second.sites);
+    match (unlike, site) {
+        (None, None) => None,
+        (None, Some(offset)) => Some(site_difference(number, first, second, offset)),
+        (Some((offset, byte)), None) => Some(byte_difference(number, first, offset, byte)),
+        (Some((offset, byte)), Some(place)) => {
+            if offset <= place {
+                Some(byte_difference(number, first, offset, byte))
+            } else {
+                Some(site_difference(number, first, second, place))
+            }
+        }
     }
 }
 
-/// What differs at an offset, the byte before the site.
-fn difference_at<A: Allocator + Copy, B: Allocator + Copy>(
+/// The byte at an offset, and that of the second hunk.
+fn byte_difference<A: Allocator + Copy>(
+    number: usize,
+    first: &LoadHunk<A>,
+    offset: u32,
+    byte: u8,
+) -> Difference
+    ensures { result ≡ difference_is.Byte number offset (byte_of first.now offset) byte }
+{
+    Difference::Byte {
+        hunk: number,
+        offset,
+        first: byte_at(&first.content, offset as usize),
+        second: byte,
+    }
+}
+
+/// The targets of the sites at an offset.
+fn site_difference<A: Allocator + Copy, B: Allocator + Copy>(
     number: usize,
     first: &LoadHunk<A>,
     second: &LoadHunk<B>,
     offset: u32,
 ) -> Difference
-    ensures { result ≡ difference_at number first.now second.now offset }
+    ensures { result ≡ difference_is.Site number offset (target_of first.now offset) (target_of second.now offset) }
 {
-    let byte = byte_at(&first.content, offset as usize);
-    let other = byte_at(&second.content, offset as usize);
-    if byte != other {
-        return Difference::Byte {
-            hunk: number,
-            offset,
-            first: byte,
-            second: other,
-        };
-    }
     Difference::Site {
         hunk: number,
         offset,
@@ -164,7 +232,7 @@ fn difference_at<A: Allocator + Copy, B: Allocator + Copy>(
 }
 
 /// A byte of the content, or 0 after its end.
-fn byte_at(content: &[u8], offset: usize) -> u8
+pub(crate) fn byte_at(content: &[u8], offset: usize) -> u8
     ensures { result ≡ byte_or_zero content.now offset }
 {
     if offset < content.len() {
@@ -174,27 +242,20 @@ fn byte_at(content: &[u8], offset: usize) -> u8
     }
 }
 
-/// The lowest offset at which two hunks of one size have another byte or another site.
-fn first_offset<A: Allocator + Copy, B: Allocator + Copy>(
-    first: &LoadHunk<A>,
-    second: &LoadHunk<B>,
-) -> Option<u32>
-    requires size { first.now.size ≡ second.now.size }
-    requires first { LiesInItsSize first.now }
-    requires second { LiesInItsSize second.now }
-    ensures { result ≡ first_offset first.now second.now }
+/// Where two contents first differ, with zeros after the shorter one, and the byte of the second one there.
+fn unlike_byte(first: &[u8], second: &[u8]) -> Option<(u32, u8)>
+    requires first { length first.now < 2 ^ 32 }
+    requires second { length second.now < 2 ^ 32 }
+    ensures { result ≡ unlike_byte first.now second.now (max (length first.now) (length second.now)) }
 {
-    let byte = first_byte(&first.content, &second.content);
-    let site = first_site(&first.sites, &second.sites);
-    match (byte, site) {
-        (None, site) => site,
-        (Some(byte), None) => Some(byte as u32),
-        (Some(byte), Some(site)) => Some(site.min(byte as u32)),
+    match first_byte(first, second) {
+        Some(offset) => Some((offset as u32, byte_at(second, offset))),
+        None => None,
     }
 }
 
 /// The lowest offset at which two contents have another byte, with zeros after the shorter one.
-fn first_byte(first: &[u8], second: &[u8]) -> Option<usize>
+pub(crate) fn first_byte(first: &[u8], second: &[u8]) -> Option<usize>
     ensures { result ≡ lowest (λ offset. not (has_same_byte first.now second.now offset)) 0 (max (length first.now) (length second.now)) }
 {
     let unlike = first_unlike(first, second);
@@ -228,7 +289,7 @@ fn first_unlike(first: &[u8], second: &[u8]) -> Option<usize>
 }
 
 /// The lowest offset of a byte that is not 0, from `start` on.
-fn first_nonzero(content: &[u8], start: usize) -> Option<usize>
+pub(crate) fn first_nonzero(content: &[u8], start: usize) -> Option<usize>
     requires { start ≤ length content.now }
     ensures { result ≡ lowest (λ offset. not (byte_or_zero content.now offset == 0)) start (length content.now - start) }
 {

@@ -51,7 +51,7 @@ pub fn first_info_difference<A: Allocator + Copy, B: Allocator + Copy>(
 }
 
 /// The same for two hunks with this number.
-fn hunk_info_difference<A: Allocator + Copy, B: Allocator + Copy>(
+pub(crate) fn hunk_info_difference<A: Allocator + Copy, B: Allocator + Copy>(
     number: usize,
     first: &LoadHunk<A>,
     second: &LoadHunk<B>,

@@ -4,6 +4,7 @@
 //! - `rules`: the rules for the hunks of a load file.
 //! - `load_file`: a load file, made of hunks.
 //! - `load_builder`: a builder of load files from the events of their longwords.
+//! - `hunk_builder`: a builder of hunks, one after another, from the events of load files.
 //! - `open_hunk`: the current hunk of a load file.
 //! - `load_decoder`: load files from bytes.
 //! - `load_form`: the forms in which a load file is written.
@@ -18,12 +19,19 @@
 //! - `stripping`: leaving out symbols and debug blocks.
 //! - `normal_form`: the least that a file can have for the same memory.
 //! - `difference`: where two load files first differ in what they mean.
+//! - `comparer`: how a load file compares with a first one, while its bytes come.
+//! - `comparison`: how two load files compare.
+//! - `content_comparer`: where a content that comes in runs first differs from another one.
 //! - `info_difference`: where two load files first differ in what only debuggers read.
 //! - `laws`: laws about load files, their written forms, what they mean, trimming and patching.
 #![tactic(auto)]
 
+pub mod comparer;
+pub mod comparison;
+mod content_comparer;
 mod debug_writer;
 pub mod difference;
+mod hunk_builder;
 pub mod info_difference;
 pub mod laws;
 mod load_builder;
@@ -43,6 +51,8 @@ mod stripping;
 mod trimming;
 pub mod written_form;
 
+pub use comparer::read_comparison;
+pub use comparison::Comparison;
 pub use difference::{Difference, first_difference};
 pub use hunk_words::{HunkKind, Memory};
 pub use info_difference::{InfoDifference, first_info_difference};

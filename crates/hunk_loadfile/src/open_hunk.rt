@@ -35,7 +35,8 @@ impl<A: Allocator + Copy> OpenHunk<A> {
 
     /// The limit for its sites.
     pub(crate) fn limit(&self) -> u64
-        ensures { (limit : ℕ) (seen : List ℕ) (in_content : Bool) (told : Hunk) → Shows self.now limit seen in_content told → result ≡ limit }
+        ensures shown { (limit : ℕ) (seen : List ℕ) (in_content : Bool) (told : Hunk) → Shows self.now limit seen in_content told → result ≡ limit }
+        ensures kept { result ≡ self.now.partial.sites.limit }
     {
         self.partial.limit()
     }
@@ -113,7 +114,9 @@ impl<A: Allocator + Copy> OpenHunk<A> {
 
     /// The hunk, with the memory and the size that the header has for it.
     pub(crate) fn close(self, memory: Memory, size: u32) -> LoadHunk<A>
-        ensures { (bits : ℕ) (seen : List ℕ) (in_content : Bool) (told : Hunk) → Shows self (4 * size) seen in_content told → memory ≡ memory_of bits → result ≡ file_hunk bits size told }
+        ensures value { (bits : ℕ) (seen : List ℕ) (in_content : Bool) (told : Hunk) → Shows self (4 * size) seen in_content told → memory ≡ memory_of bits → result ≡ file_hunk bits size told }
+        ensures size { result.size ≡ size }
+        ensures limit { result.sites.limit ≡ self.partial.sites.limit }
     {
         let (content, sites) = self.partial.into_parts();
         let (symbols, debugs) = self.debug_info.into_lists();

@@ -1,25 +1,8 @@
--- The hunk takes the bytes, and they are those of the words.
-use Rattle.std.proofs.Common.{◌≡◌, ◌++◌, ap, subst, sym, ◌∙◌}
-use Rattle.std.proofs.lemmas.Result.{err_from_is_err_and}
-use Rattle.hunk_words.specs.Event.{word_events}
+-- The current hunk takes the words.
 use Rattle.hunk_base.specs.Longwords.{longwords}
-use Rattle.hunk_base.specs.Name.{bytes_of}
-use Rattle.hunk_words.specs.PartialHunk.{hunk_with_bytes}
-use Rattle.hunk_base.proofs.LongwordsByteLemmas.{are-bytes, bytes_of-longwords}
-use Rattle.hunk_loadfile.specs.LoadBuilder.{StandsFor}
-use Rattle.hunk_loadfile.proofs.LoadBuilderLemmas.{StandsFor-bytes}
+use Rattle.hunk_loadfile.proofs.LoadBuilderLemmas.{StandsFor-run}
 use Rattle.hunk_loadfile.proofs.load_builder.LoadBuilderTaker.take_words.Goals as goal
 
 pub returns-clause-takes : goal.returns-clause-takes
 returns-clause-takes g c = λ told stands few.
-    let bytes = c.args.bytes.now in
-    let b = c.args.self.now in
-    let same : bytes_of (longwords bytes) ≡ bytes = bytes_of-longwords bytes (are-bytes bytes c.type_inv.bytes) c.requires in
-    subst (λ k. StandsFor (record b { hunk = k }) (told ++ word_events (longwords bytes)))
-    (ap (λ bs. record b.hunk { partial = hunk_with_bytes b.hunk.partial bs }) same ∙ sym c.in_ok-add_bytes.ensures.takes)
-    (StandsFor-bytes (longwords bytes) b told c.in-Hunk.is stands)
-
-pub returns-in_err-add_bytes-clause-takes : goal.returns-in_err-add_bytes-clause-takes
-returns-in_err-add_bytes-clause-takes g c = λ told stands few.
-    let p = err_from_is_err_and c.from_residual.result c.from_residual.ensures.1 in
-    rw p.1 (subst (λ k. StandsFor (record c.args.self.now { hunk = k }) told) (sym c.in_err-add_bytes.ensures.refuses) stands)
+    StandsFor-run c.args.self.now c.add_bytes.new.self told (longwords c.args.bytes.now) c.add_bytes.result (c.add_bytes.ensures _ _ stands.builds) stands

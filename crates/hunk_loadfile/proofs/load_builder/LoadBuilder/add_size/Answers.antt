@@ -1,5 +1,0 @@
-use Rattle.hunk_loadfile.proofs.LoadBuilderLemmas.{Holds-size}
-use Rattle.hunk_loadfile.proofs.load_builder.LoadBuilder.add_size.Goals as goal
-
-pub returns-in-Ok : goal.returns-in-Ok
-returns-in-Ok g c = λ told watch h. Holds-size c.args.self.now c.push.new.self c.args.bits c.args.size told watch c.in-Ok.ensures.items h
