@@ -68,6 +68,12 @@ symbols_text (Some first) None = quoted first.0 ++ codes " " ++ eight_digits fir
 symbols_text None (Some second) = quoted second.0 ++ codes " none and " ++ eight_digits second.1
 symbols_text None None = []
 
+-- where two files differ, by the hunks of the first and the symbol that the second has there
+abbrev pub info_difference_told : List FileHunk → Option (List ℕ × ℕ) → InfoDifference → List ℕ
+info_difference_told first symbol (Symbol hunk index) =
+    adds_hunk hunk ++ codes " symbol " ++ decimal index ++ codes ": " ++ symbols_text (symbol_at first hunk index) symbol
+info_difference_told first symbol (Debug hunk index) = adds_hunk hunk ++ codes " debug " ++ decimal index
+
 -- where the files with these hunks differ
 abbrev pub info_difference_text : List FileHunk → List FileHunk → InfoDifference → List ℕ
 info_difference_text first second (Symbol hunk index) =

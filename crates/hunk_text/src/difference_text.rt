@@ -2,10 +2,10 @@
 
 ghost use Rattle.std.specs.Prelude.{◌≡◌, ◌++◌, option_copied};
 ghost use Rattle.std.specs.Fmt.{decimal};
-ghost use Rattle.hunk_base.specs.Text.{Puts};
+ghost use Rattle.hunk_base.specs.Text.{Puts, line};
 ghost use Rattle.hunk_loadfile.specs.declared.difference.Difference.{Difference};
 ghost use Rattle.hunk_text.specs.Listing.{adds_hunk};
-ghost use Rattle.hunk_text.specs.DifferenceText.{both, difference_line, difference_text, info_difference_line, symbol_at, symbols_text, target_text, two_digits, unlike_symbols};
+ghost use Rattle.hunk_text.specs.DifferenceText.{both, difference_line, difference_text, info_difference_told, symbol_at, symbols_text, target_text, two_digits, unlike_symbols};
 
 use crate::hunk_lines::{kind_word, memory_word, write_hunk_number};
 use hunk_loadfile::{Difference, InfoDifference, LoadHunk};
@@ -157,28 +157,25 @@ fn write_target<W: Sink>(text: &mut Text<'_, W>, target: Option<u32>)
     }
 }
 
-/// Writes the line that tells where the load files with these hunks first differ in what only debuggers
-/// read: the number of the hunk, the index of its symbol or debug block, and of a symbol what the first
-/// file has and what the second one has. All are counted from 0. Does not allocate.
+/// Writes the line that tells where two load files first differ in what only debuggers read: the number of the
+/// hunk, the index of its symbol or debug block, and of a symbol what the first file has and what the second
+/// one has. All are counted from 0. Of the first file it is given the hunks, and of the second one the symbol
+/// there, if there is one. Does not allocate.
 ///
 /// Of a symbol that neither file has, there is nothing to tell: only its index is written.
 pub fn write_info_difference<A: Allocator + Copy, B: Allocator + Copy, W: Sink>(
     text: &mut Text<'_, W>,
     first: &[LoadHunk<A>],
-    second: &[LoadHunk<B>],
+    second: Option<&(Name<B>, u32)>,
     difference: &InfoDifference,
 )
-    ensures { Puts W.taken W.failed text.old text.new (info_difference_line first.now second.now difference.now) }
+    ensures { Puts W.taken W.failed text.old text.new (line (info_difference_told first.now (option_copied second.entry) difference.now)) }
 {
     match *difference {
         InfoDifference::Symbol { hunk, index } => {
             write_index(text, hunk as u64, b" symbol ", index as u64);
             text.put(b": ");
-            write_symbols(
-                text,
-                symbol_at(first, hunk, index),
-                symbol_at(second, hunk, index),
-            );
+            write_symbols(text, symbol_at(first, hunk, index), second);
         }
         InfoDifference::Debug { hunk, index } => {
             write_index(text, hunk as u64, b" debug ", index as u64);

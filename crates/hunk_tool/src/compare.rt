@@ -1,11 +1,13 @@
 //! Compares two load files.
 
-ghost use Rattle.std.specs.Prelude.{◌≡◌, IfOk, IfErr};
+ghost use Rattle.std.specs.Prelude.{◌≡◌, List, IfOk, IfErr};
 ghost use Rattle.hunk_base.specs.Text.{Puts};
+ghost use Rattle.hunk_loadfile.specs.Comparison.{Compares};
+ghost use Rattle.hunk_loadfile.specs.LoadHunk.{FileHunk};
 ghost use Rattle.hunk_tool.specs.Compare.{comparison, input_of, is_same, taken_of, BothRead, IsCompared, IsCompareFault};
 
 use crate::tool_fault::ToolFault;
-use hunk_loadfile::{LoadFile, first_difference, first_info_difference, read_load};
+use hunk_loadfile::{Comparison, LoadFile, read_comparison, read_load};
 use hunk_text::{write_difference, write_info_difference};
 use hunk_words::{Sink, Source, Text};
 use std::alloc::Allocator;
@@ -15,8 +17,9 @@ use std::alloc::Allocator;
 /// mean the same, the line that tells where they first differ in their symbols and debug blocks. Returns
 /// whether it found no difference.
 ///
-/// It keeps both files. Nothing is read of the second before the first is known to be a load file, and
-/// nothing is written before both are. It does not flush.
+/// It keeps the first file, and of the second no content, and the sites, symbols and debug blocks of one hunk
+/// at a time. Nothing is read of the second before the first is known to be a load file, and nothing is
+/// written before both are. It does not flush.
 ///
 /// # Errors
 ///
@@ -42,36 +45,37 @@ pub fn compare_run<A: Allocator + Copy, R: Source, S: Source, W: Sink>(
         (taken_of W.taken W.failed writer.old writer.new)) }
 {
     let one = read_load(alloc, first)?;
-    let other = match read_load(alloc, second) {
-        Ok(file) => file,
+    let (one, comparison) = match read_comparison(alloc, one, second) {
+        Ok(both) => both,
         Err(fault) => return Err(ToolFault::of_read(1, fault)),
     };
     let mut text = Text::new(writer);
-    let same = write_comparison(&mut text, &one, &other, with_symbols);
+    let same = write_comparison(&mut text, &one, &comparison, with_symbols);
     text.finish()?;
     Ok(same)
 }
 
-/// Writes how two load files compare, and returns whether it found no difference.
+/// Writes how a load file compares with the first one, and returns whether it found no difference.
 fn write_comparison<A: Allocator + Copy, W: Sink>(
     text: &mut Text<'_, W>,
     first: &LoadFile<A>,
-    second: &LoadFile<A>,
+    found: &Comparison<A>,
     with_symbols: bool,
 ) -> bool
-    ensures puts { Puts W.taken W.failed text.old text.new (comparison with_symbols first.now second.now) }
-    ensures same { result ≡ is_same with_symbols first.now second.now }
+    ensures puts { (seconds : List FileHunk) → Compares found.now first.now seconds →
+        Puts W.taken W.failed text.old text.new (comparison with_symbols first.now seconds) }
+    ensures same { (seconds : List FileHunk) → Compares found.now first.now seconds → result ≡ is_same with_symbols first.now seconds }
 {
-    if let Some(difference) = first_difference(first, second) {
+    if let Some(difference) = found.difference {
         write_difference(text, &difference);
         return false;
     }
     if !with_symbols {
         return true;
     }
-    match first_info_difference(first, second) {
+    match found.info_difference {
         Some(difference) => {
-            write_info_difference(text, first.hunks(), second.hunks(), &difference);
+            write_info_difference(text, first.hunks(), found.symbol.as_ref(), &difference);
             false
         }
         None => true,
