@@ -1,6 +1,6 @@
 #!/usr/bin/env bash
 # Measures `amihunk compare` and `amihunk copy`: the time of comparing two load files of 60 MB that mean the same, with a million
-# relocations each, compared with that of `check` of both, and its memory beside their contents; and the time of copying such a
+# relocations each, compared with that of `check` of both, and its memory beside one content; and the time of copying such a
 # file, compared with that of linking the same content. It makes its own inputs, and prints for each figure what is allowed and
 # what was reached. Times are the least of five rounds, in which the commands take turns. It ends with status 1 where a figure is
 # missed. It needs the toolchain and python3 on the PATH, and 500 MB for temporary files.
@@ -38,6 +38,6 @@ checks="$((least[first] + least[second]))"
 echo "60 MB with $sites relocations"
 figure "compare of two files (${least[compare]} us) by check of both ($checks us)" 2.2 "$(ratio "${least[compare]}" "$checks")" times
 kib="$(peak "$amihunk" compare first second)"
-figure "memory of the same beside both contents" 32 "$(ratio "$((kib - 2 * 4 * longwords / 1024))" 1024)" MiB
+figure "memory of the same beside one content" 32 "$(ratio "$((kib - 4 * longwords / 1024))" 1024)" MiB
 figure "copy (${least[copy]} us) by link (${least[link]} us)" 1.1 "$(ratio "${least[copy]}" "${least[link]}")" times
 exit "$missed"

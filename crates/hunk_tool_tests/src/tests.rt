@@ -18,6 +18,7 @@
 //! - `records`: images as S-records.
 //! - `refusals`: addresses that are rejected.
 //! - `reports`: files that are loaded.
+//! - `runs`: contents that are compared while they come.
 //! - `streaming`: what `ImageLoader` allocates.
 //! - `surveys`: what a survey finds of files, and the lines that it writes.
 //! - `symbols`: the symbols of load files, with their addresses.
@@ -45,6 +46,7 @@ mod memory;
 mod records;
 mod refusals;
 mod reports;
+mod runs;
 mod streaming;
 mod surveys;
 mod symbols;
