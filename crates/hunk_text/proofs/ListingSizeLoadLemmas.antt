@@ -19,7 +19,7 @@ use Rattle.hunk_text.proofs.ListingSizeLemmas.{IsCounted, length-adds_hunk-le, l
 
 -- ---- a hunk
 
-most_content-le : (kind : HunkKind) (size : ℕ) → most_content kind size ≤ 4 * size
+pub most_content-le : (kind : HunkKind) (size : ℕ) → most_content kind size ≤ 4 * size
 most_content-le Code size = omega arith
 most_content-le Data size = omega arith
 most_content-le Bss size = omega arith
@@ -31,7 +31,7 @@ record IsPrintable (count : ℕ) (hunk : FileHunk) : Type 0 where
   carried : carried_by hunk < 2 ^ 32
 
 -- no fewer than its lines
-abbrev weight : FileHunk → ℕ
+abbrev pub weight : FileHunk → ℕ
 weight hunk = 1 + hunk.size + carried_by hunk
 
 -- the end of its line, with the number of longwords that the file has for it
@@ -65,7 +65,7 @@ length-load_hunk_lines-le count number hunk few fits is =
 
 -- ---- a file
 
-sum_by-weight : (hunks : List FileHunk) → sum_by weight hunks ≡ length hunks + size_of hunks + carried_longwords hunks
+pub sum_by-weight : (hunks : List FileHunk) → sum_by weight hunks ≡ length hunks + size_of hunks + carried_longwords hunks
 sum_by-weight [] = refl
 sum_by-weight (hunk ∷ hunks) = omega (arith, sum_by-weight hunks, sum_by-cons weight hunk hunks, sum_by-cons (λ (h : FileHunk). h.size) hunk hunks, sum_by-cons carried_by hunk hunks)
 

@@ -39,15 +39,15 @@ pub record IsPrintable (hunk : ObjectHunk) : Type 0 where
   pub symbols : All HasShortName hunk.symbols
   pub debugs : All IsCounted hunk.debugs
 
--- the lines of a hunk, and the bytes of its name
+-- the lines of a hunk, and the bytes of its name and of its content
 abbrev pub hunk_weight : ObjectHunk → ℕ
-hunk_weight hunk = 1 + length hunk.name + length hunk.sites.entries + length hunk.definitions + length hunk.symbols + length hunk.debugs
+hunk_weight hunk = 1 + length hunk.name + length hunk.content + length hunk.sites.entries + length hunk.definitions + length hunk.symbols + length hunk.debugs
 
--- the lines of a unit, and the bytes of its name and of those of its hunks
+-- the lines of a unit, and the bytes of its name and of those of its hunks, and of their contents
 abbrev pub unit_weight : ObjectUnit → ℕ
 unit_weight unit = 1 + length unit.name + sum_by hunk_weight unit.hunks
 
--- units with no more than 2^30 lines, and of hunks that can be printed
+-- units with no more than 2^30 lines and bytes of contents, and of hunks that can be printed
 pub record ArePrintable (units : List ObjectUnit) : Type 0 where
   pub each : All (λ unit. All IsPrintable unit.hunks) units
   pub few : sum_by unit_weight units ≤ 2 ^ 30
@@ -63,7 +63,7 @@ length-unit_hunk_line-le number hunk fits is =
     length-named-le (hunk_front number hunk.kind hunk.memory hunk.size) hunk.name (length-hunk_front-le number hunk.kind hunk.memory hunk.size fits is.size)
 
 -- the name of a reference, or none
-short-reference : (references : List (List ℕ)) (index : ℕ) → All IsShort references → IsShort (get_or references index [])
+pub short-reference : (references : List (List ℕ)) (index : ℕ) → All IsShort references → IsShort (get_or references index [])
 short-reference references index short = elim (cases_lt index (length references)) [
   | inl within ↦ All-get_or IsShort references index [] within short
   | inr past ↦ subst IsShort (sym (get_or_past references index [] past)) (omega arith)

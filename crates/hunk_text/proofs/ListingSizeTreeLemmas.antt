@@ -1,5 +1,5 @@
 -- The lines of the units of an object file, together with the longwords of the names of its units
--- and hunks, are no more than the longwords of the file.
+-- and hunks and of the contents of its hunks, are no more than the longwords of the file.
 use Rattle.std.proofs.Common.{ℕ, ◌+◌, ◌*◌, ◌^◌, ◌<◌, ◌≤◌, List, [], ◌∷◌, length, map, sum_by, Option, Some, None, arith}
 use Rattle.std.specs.List.{AllByRecursion}
 use Rattle.std.proofs.lemmas.List.Sums.{sum_by-cons}
@@ -25,9 +25,9 @@ pub record HunkFits (h : Hunk) : Type 0 where
   pub size : h.size < 2 ^ 32
   pub tables : TablesFit h.tables
 
--- its lines, and the longwords of its name
+-- its lines, and the longwords of its name and of its content
 abbrev pub hunk_lines : Hunk → ℕ
-hunk_lines h = 1 + length h.name + line_count h.tables
+hunk_lines h = 1 + length h.name + length h.content + line_count h.tables
 
 -- The fields before begin with a hunk that fits, except for `named` longwords of its name, and the
 -- rest passes too.
@@ -80,7 +80,7 @@ ended-hunks (t ∷ ts) rest p =
 
 -- ---- units
 
--- the lines of a unit, and the longwords of its name and of those of its hunks
+-- the lines of a unit, and the longwords of its name and of those of its hunks, and of their contents
 abbrev pub part_lines : Part → ℕ
 part_lines p = 1 + length p.name + sum_by hunk_lines p.hunks
 

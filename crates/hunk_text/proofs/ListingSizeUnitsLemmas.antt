@@ -86,6 +86,7 @@ hunk_weight-le h =
     omega (
       arith,
       length-name_of-le h.name,
+      length-bytes_of h.content,
       length-with_sites-le [] h.tables.sites,
       length-map {B = List ℕ × Definition} h.tables.definitions (λ d. (name_of d.0, definition_of d.1)),
       length-map {B = List ℕ × ℕ} h.tables.symbols (λ s. (name_of s.0, s.1)),
