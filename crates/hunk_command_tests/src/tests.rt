@@ -8,7 +8,8 @@
 //! - `failures`: the line of each failure, and its status.
 //! - `images`: the report of object files.
 //! - `inputs`: files that are open at once.
-//! - `json_load`, `json_object`: load files and object files as JSON values and texts.
+//! - `json_forms`: the forms of JSON documents.
+//! - `json_load`, `json_object`: load files and object files as JSON texts.
 //! - `json_runs`: files of either kind as JSON, from readers to writers.
 //! - `lines`: lines that reach a writer whole.
 //! - `links`: the load file of object files.
@@ -30,6 +31,7 @@ mod explanations;
 mod failures;
 mod images;
 mod inputs;
+mod json_forms;
 mod json_load;
 mod json_object;
 mod json_runs;

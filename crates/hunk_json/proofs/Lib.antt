@@ -1,3 +1,9 @@
-pub mod ListsLemmas
-pub mod PartsLemmas
-pub mod TextLemmas
+pub mod ContentLemmas
+pub mod DocumentLemmas
+pub mod DocumentSizeLemmas
+pub mod EscapesLemmas
+pub mod FileJsonLemmas
+pub mod FileSizeLemmas
+pub mod LoadSizeLemmas
+pub mod ObjectSizeLemmas
+pub mod RunLemmas

@@ -1,6 +1,9 @@
--- What a hunk file is as one JSON value. The members of an object stand in the order of their keys.
-use Rattle.std.specs.Prelude.{ℕ, ◌/◌, List, [], ◌∷◌, Bool, true, false, if◌then◌else◌, length, map, get_or, codes}
+-- What a hunk file is as one JSON value. The members of an object stand in the order of their keys,
+-- except that those about the content of a hunk stand behind its size.
+use Rattle.std.specs.Prelude.{ℕ, ◌/◌, List, [], ◌∷◌, ◌++◌, Bool, true, false, if◌then◌else◌, length, map, get_or, codes}
 use Rattle.std.specs.Str.{is_utf8}
+use Rattle.base64.specs.Engines.{standard}
+use Rattle.base64.specs.GeneralPurpose.{encode_of}
 use Rattle.serde_json.specs.Data.{Data, boolean, number, unsigned, string, array, object, Members, no_members, member}
 use Rattle.serde_json.specs.View.{items_of}
 use Rattle.hunk_words.specs.declared.kinds.HunkKind.{HunkKind}
@@ -14,6 +17,8 @@ use Rattle.hunk_objects.specs.declared.unit_hunk.Adds.TheVariants.{Hunk, Referen
 use Rattle.hunk_objects.specs.declared.unit_hunk.Definition.{Definition}
 use Rattle.hunk_objects.specs.declared.unit_hunk.Definition.TheVariants.{At, Absolute}
 use Rattle.hunk_loadfile.specs.LoadHunk.{FileHunk}
+use Rattle.hunk_json.specs.declared.form.JsonForm.{JsonForm}
+use Rattle.hunk_json.specs.declared.form.JsonForm.TheVariants.{Plain, WithContent, InPage}
 
 -- ---- numbers, lists, and objects of named parts
 
@@ -60,23 +65,34 @@ symbol_json symbol = named ((codes "name", name_json symbol.0) ∷ (codes "value
 abbrev pub debug_json : List ℕ → Data
 debug_json words = natural (length words)
 
+-- the stored bytes in base64
+abbrev pub content_member : List ℕ → List ℕ × Data
+content_member content = (codes "content", string (encode_of standard content))
+
+-- in the forms that have them
+abbrev pub content_members : JsonForm → List ℕ → List (List ℕ × Data)
+content_members Plain content = []
+content_members WithContent content = content_member content ∷ []
+content_members InPage content = content_member content ∷ []
+
 -- ---- load files
 
 -- `stored` is the number of longwords that the file has for the hunk
-abbrev pub load_hunk_json : FileHunk → Data
-load_hunk_json hunk = named (
+abbrev pub load_hunk_json : JsonForm → FileHunk → Data
+load_hunk_json form hunk = named (
     (codes "debugs", listed debug_json hunk.debugs)
     ∷ (codes "kind", kind_json hunk.kind)
     ∷ (codes "memory", memory_json hunk.memory)
     ∷ (codes "sites", listed hunk_site_json hunk.sites.entries)
     ∷ (codes "size", natural hunk.size)
     ∷ (codes "stored", natural (length hunk.content / 4))
-    ∷ (codes "symbols", listed symbol_json hunk.symbols)
+    ∷ content_members form hunk.content
+    ++ (codes "symbols", listed symbol_json hunk.symbols)
     ∷ [])
 
 -- the load file of these hunks
-abbrev pub load_json : List FileHunk → Data
-load_json hunks = named ((codes "hunks", listed load_hunk_json hunks) ∷ (codes "kind", string (codes "load file")) ∷ [])
+abbrev pub load_json : JsonForm → List FileHunk → Data
+load_json form hunks = named ((codes "hunks", listed (load_hunk_json form) hunks) ∷ (codes "kind", string (codes "load file")) ∷ [])
 
 -- ---- object files
 
@@ -104,8 +120,8 @@ meaning_json name (Absolute value) = stands_for_json name true value
 abbrev pub definition_json : List ℕ × Definition → Data
 definition_json definition = meaning_json definition.0 definition.1
 
-abbrev pub unit_hunk_json : ObjectHunk → Data
-unit_hunk_json hunk = named (
+abbrev pub unit_hunk_json : JsonForm → ObjectHunk → Data
+unit_hunk_json form hunk = named (
     (codes "debugs", listed debug_json hunk.debugs)
     ∷ (codes "definitions", listed definition_json hunk.definitions)
     ∷ (codes "kind", kind_json hunk.kind)
@@ -113,12 +129,13 @@ unit_hunk_json hunk = named (
     ∷ (codes "name", name_json hunk.name)
     ∷ (codes "sites", listed (site_json hunk.references) hunk.sites.entries)
     ∷ (codes "size", natural hunk.size)
-    ∷ (codes "symbols", listed symbol_json hunk.symbols)
+    ∷ content_members form hunk.content
+    ++ (codes "symbols", listed symbol_json hunk.symbols)
     ∷ [])
 
-abbrev pub unit_json : ObjectUnit → Data
-unit_json unit = named ((codes "hunks", listed unit_hunk_json unit.hunks) ∷ (codes "name", name_json unit.name) ∷ [])
+abbrev pub unit_json : JsonForm → ObjectUnit → Data
+unit_json form unit = named ((codes "hunks", listed (unit_hunk_json form) unit.hunks) ∷ (codes "name", name_json unit.name) ∷ [])
 
 -- the object file of these units
-abbrev pub object_json : List ObjectUnit → Data
-object_json units = named ((codes "kind", string (codes "object file")) ∷ (codes "units", listed unit_json units) ∷ [])
+abbrev pub object_json : JsonForm → List ObjectUnit → Data
+object_json form units = named ((codes "kind", string (codes "object file")) ∷ (codes "units", listed (unit_json form) units) ∷ [])

@@ -1,2 +1,4 @@
+pub mod Document
+pub mod Escapes
 pub mod FileJson
 pub mod Run

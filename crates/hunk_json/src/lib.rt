@@ -1,18 +1,25 @@
 //! What is in a hunk file, as JSON.
 //!
-//! - `lists`: what has a JSON value, and lists of it.
+//! - `form`: the forms of a document.
+//! - `escapes`: strings, and which characters are escaped in them.
+//! - `document`: what has a JSON value, and how its text is written.
 //! - `parts`: names, and what hunks of either kind of file have.
+//! - `content`: the stored bytes of a hunk.
 //! - `load`: load files.
 //! - `object`: object files.
 //! - `run`: reads a file of either kind, and writes its JSON.
 #![tactic(auto)]
 
-mod lists;
+mod content;
+mod document;
+mod escapes;
+pub mod form;
 pub mod load;
 pub mod object;
 mod parts;
 pub mod run;
 
-pub use load::{load_json, load_json_text};
-pub use object::{object_json, object_json_text};
-pub use run::json_run;
+pub use form::JsonForm;
+pub use load::write_load_json;
+pub use object::write_object_json;
+pub use run::{json_run, json_run_with};

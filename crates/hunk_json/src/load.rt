@@ -1,82 +1,70 @@
 //! Load files as JSON.
 
-ghost use Rattle.std.specs.Prelude.{◌≡◌, IfOk, string_bytes};
-ghost use Rattle.serde_json.specs.View.{view};
-ghost use Rattle.serde_json.specs.Written.{compact_text};
+ghost use Rattle.std.specs.Prelude.{◌≡◌};
+ghost use Rattle.hunk_base.specs.Text.{Puts};
+ghost use Rattle.hunk_json.specs.Document.{document};
 ghost use Rattle.hunk_json.specs.FileJson.{hunk_site_json, listed, load_hunk_json, load_json};
 
-use crate::lists::{ToJson, list_json};
-use crate::parts::{hunk_site_json, kind_json, memory_json};
-use hunk_loadfile::{LoadFile, LoadHunk};
-use hunk_words::Sites;
-use serde_json::{Map, Value, put};
-use std::alloc::{AllocError, Allocator, Global};
+use crate::content::write_content;
+use crate::document::{WriteJson, write_comma, write_list};
+use crate::escapes::write_string;
+use crate::form::JsonForm;
+use crate::parts::{kind_word, memory_word, write_hunk_site};
+use hunk_loadfile::LoadHunk;
+use hunk_words::{Sink, Sites, Text};
+use std::alloc::Allocator;
 
-/// What is in a load file, as one JSON value: what its listing tells of each hunk, in order.
-///
-/// # Errors
-///
-/// [`AllocError`] only if an allocation failed.
-pub fn load_json<A: Allocator + Copy>(
-    alloc: Global,
-    file: &LoadFile<A>,
-) -> Result<Value, AllocError>
-    ensures { IfOk result (λ v. view v ≡ load_json file.now) }
+/// Writes what is in a load file with these hunks, as one JSON value in this form: what its listing
+/// tells of each hunk, in order. Does not allocate.
+pub fn write_load_json<A: Allocator + Copy, W: Sink>(
+    text: &mut Text<'_, W>,
+    form: JsonForm,
+    hunks: &[LoadHunk<A>],
+)
+    ensures { Puts W.taken W.failed text.old text.new (document form (load_json form hunks.now)) }
 {
-    let hunks = list_json(alloc, file.hunks())?;
-    let kind = Value::try_from_str(alloc, "load file")?;
-    let mut members = Map::new(alloc);
-    put(&mut members, alloc, "hunks", hunks)?;
-    put(&mut members, alloc, "kind", kind)?;
-    Ok(Value::Object(members))
+    text.put(b"{\"hunks\":");
+    write_list(text, form, hunks);
+    text.put(b",\"kind\":\"load file\"}");
 }
 
-/// The text of what is in a load file, as one JSON value, without spaces.
-///
-/// # Errors
-///
-/// [`AllocError`] only if an allocation failed.
-pub fn load_json_text<A: Allocator + Copy>(
-    alloc: Global,
-    file: &LoadFile<A>,
-) -> Result<String, AllocError>
-    ensures { IfOk result (λ s. string_bytes s ≡ compact_text (load_json file.now)) }
-{
-    load_json(alloc, file)?.to_string(alloc)
-}
-
-impl<A: Allocator + Copy> ToJson for LoadHunk<A> {
+impl<A: Allocator + Copy> WriteJson for LoadHunk<A> {
     ghost json = { load_hunk_json };
 
-    fn to_json(&self, alloc: Global) -> Result<Value, AllocError> {
-        let debugs = list_json(alloc, &self.debugs)?;
-        let kind = kind_json(alloc, self.kind)?;
-        let memory = memory_json(alloc, self.memory)?;
-        let sites = sites_json(alloc, &self.sites)?;
-        let stored = Value::from(self.content.len() / 4);
-        let symbols = list_json(alloc, &self.symbols)?;
-        let mut members = Map::new(alloc);
-        put(&mut members, alloc, "debugs", debugs)?;
-        put(&mut members, alloc, "kind", kind)?;
-        put(&mut members, alloc, "memory", memory)?;
-        put(&mut members, alloc, "sites", sites)?;
-        put(&mut members, alloc, "size", Value::from(self.size))?;
-        put(&mut members, alloc, "stored", stored)?;
-        put(&mut members, alloc, "symbols", symbols)?;
-        Ok(Value::Object(members))
+    fn write_json<W: Sink>(&self, text: &mut Text<'_, W>, form: JsonForm) {
+        text.put(b"{\"debugs\":");
+        write_list(text, form, &self.debugs);
+        text.put(b",\"kind\":");
+        write_string(text, form, kind_word(self.kind));
+        text.put(b",\"memory\":");
+        write_string(text, form, memory_word(self.memory));
+        text.put(b",\"sites\":");
+        write_sites(text, form, &self.sites);
+        text.put(b",\"size\":");
+        text.put_decimal(u64::from(self.size));
+        text.put(b",\"stored\":");
+        text.put_decimal((self.content.len() / 4) as u64);
+        write_content(text, form, &self.content);
+        text.put(b",\"symbols\":");
+        write_list(text, form, &self.symbols);
+        text.put(b"}");
     }
 }
 
-/// The sites, by rising offset.
-fn sites_json<A: Allocator + Copy>(
-    alloc: Global,
+/// Writes the sites, by rising offset.
+fn write_sites<A: Allocator + Copy, W: Sink>(
+    text: &mut Text<'_, W>,
+    form: JsonForm,
     sites: &Sites<u32, A>,
-) -> Result<Value, AllocError>
-    ensures { IfOk result (λ v. view v ≡ listed hunk_site_json sites.now.entries) }
+)
+    ensures { Puts W.taken W.failed text.old text.new (document form (listed hunk_site_json sites.now.entries)) }
 {
-    let mut items = Vec::new(alloc);
+    text.put(b"[");
+    let mut later = false;
     for (offset, hunk) in sites.walk() {
-        items.push(hunk_site_json(alloc, offset, *hunk)?)?;
+        write_comma(text, later);
+        write_hunk_site(text, form, offset, *hunk);
+        later = true;
     }
-    Ok(Value::Array(items))
+    text.put(b"]");
 }

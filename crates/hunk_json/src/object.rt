@@ -1,114 +1,109 @@
 //! Object files as JSON.
 
-ghost use Rattle.std.specs.Prelude.{◌≡◌, [], get_or, IfOk, string_bytes};
-ghost use Rattle.serde_json.specs.View.{view};
+ghost use Rattle.std.specs.Prelude.{◌≡◌, [], get_or};
+ghost use Rattle.serde_json.specs.Data.{boolean};
 ghost use Rattle.serde_json.specs.Written.{compact_text};
+ghost use Rattle.hunk_base.specs.Text.{Puts};
+ghost use Rattle.hunk_json.specs.Document.{document};
 ghost use Rattle.hunk_json.specs.FileJson.{adds_json, definition_json, listed, object_json, site_json, stands_for_json, unit_hunk_json, unit_json};
 
-use crate::lists::{ToJson, list_json};
-use crate::parts::{hunk_site_json, kind_json, memory_json, name_json};
+use crate::content::write_content;
+use crate::document::{WriteJson, write_comma, write_list};
+use crate::escapes::write_string;
+use crate::form::JsonForm;
+use crate::parts::{kind_word, memory_word, write_hunk_site, write_name};
 use hunk_objects::{Adds, Definition, ProgramUnit, UnitHunk};
-use hunk_words::Name;
-use serde_json::{Map, Value, json, put};
-use std::alloc::{AllocError, Allocator, Global};
+use hunk_words::{Name, Sink, Text};
+use std::alloc::Allocator;
 
-/// What is in an object file with these units, as one JSON value: what its listing tells of each
-/// unit and of each hunk, in order.
-///
-/// # Errors
-///
-/// [`AllocError`] only if an allocation failed.
-pub fn object_json<A: Allocator + Copy>(
-    alloc: Global,
+/// Writes what is in an object file with these units, as one JSON value in this form: what its
+/// listing tells of each unit and of each hunk, in order. Does not allocate.
+pub fn write_object_json<A: Allocator + Copy, W: Sink>(
+    text: &mut Text<'_, W>,
+    form: JsonForm,
     units: &[ProgramUnit<A>],
-) -> Result<Value, AllocError>
-    ensures { IfOk result (λ v. view v ≡ object_json units.now) }
+)
+    ensures { Puts W.taken W.failed text.old text.new (document form (object_json form units.now)) }
 {
-    let kind = Value::try_from_str(alloc, "object file")?;
-    let units = list_json(alloc, units)?;
-    let mut members = Map::new(alloc);
-    put(&mut members, alloc, "kind", kind)?;
-    put(&mut members, alloc, "units", units)?;
-    Ok(Value::Object(members))
+    text.put(b"{\"kind\":\"object file\",\"units\":");
+    write_list(text, form, units);
+    text.put(b"}");
 }
 
-/// The text of what is in an object file with these units, as one JSON value, without spaces.
-///
-/// # Errors
-///
-/// [`AllocError`] only if an allocation failed.
-pub fn object_json_text<A: Allocator + Copy>(
-    alloc: Global,
-    units: &[ProgramUnit<A>],
-) -> Result<String, AllocError>
-    ensures { IfOk result (λ s. string_bytes s ≡ compact_text (object_json units.now)) }
-{
-    object_json(alloc, units)?.to_string(alloc)
-}
-
-impl<A: Allocator + Copy> ToJson for ProgramUnit<A> {
+impl<A: Allocator + Copy> WriteJson for ProgramUnit<A> {
     ghost json = { unit_json };
 
-    fn to_json(&self, alloc: Global) -> Result<Value, AllocError> {
-        let hunks = list_json(alloc, self.hunks())?;
-        let name = name_json(alloc, self.name().bytes())?;
-        let mut members = Map::new(alloc);
-        put(&mut members, alloc, "hunks", hunks)?;
-        put(&mut members, alloc, "name", name)?;
-        Ok(Value::Object(members))
+    fn write_json<W: Sink>(&self, text: &mut Text<'_, W>, form: JsonForm) {
+        text.put(b"{\"hunks\":");
+        write_list(text, form, self.hunks());
+        text.put(b",\"name\":");
+        write_name(text, form, self.name().bytes());
+        text.put(b"}");
     }
 }
 
-impl<A: Allocator + Copy> ToJson for UnitHunk<A> {
+impl<A: Allocator + Copy> WriteJson for UnitHunk<A> {
     ghost json = { unit_hunk_json };
 
-    fn to_json(&self, alloc: Global) -> Result<Value, AllocError> {
-        let debugs = list_json(alloc, self.debugs())?;
-        let definitions = list_json(alloc, self.definitions())?;
-        let kind = kind_json(alloc, self.kind())?;
-        let memory = memory_json(alloc, self.memory())?;
-        let name = name_json(alloc, self.name().bytes())?;
-        let sites = sites_json(alloc, self)?;
-        let symbols = list_json(alloc, self.symbols())?;
-        let mut members = Map::new(alloc);
-        put(&mut members, alloc, "debugs", debugs)?;
-        put(&mut members, alloc, "definitions", definitions)?;
-        put(&mut members, alloc, "kind", kind)?;
-        put(&mut members, alloc, "memory", memory)?;
-        put(&mut members, alloc, "name", name)?;
-        put(&mut members, alloc, "sites", sites)?;
-        put(&mut members, alloc, "size", Value::from(self.size()))?;
-        put(&mut members, alloc, "symbols", symbols)?;
-        Ok(Value::Object(members))
+    fn write_json<W: Sink>(&self, text: &mut Text<'_, W>, form: JsonForm) {
+        text.put(b"{\"debugs\":");
+        write_list(text, form, self.debugs());
+        text.put(b",\"definitions\":");
+        write_list(text, form, self.definitions());
+        text.put(b",\"kind\":");
+        write_string(text, form, kind_word(self.kind()));
+        text.put(b",\"memory\":");
+        write_string(text, form, memory_word(self.memory()));
+        text.put(b",\"name\":");
+        write_name(text, form, self.name().bytes());
+        text.put(b",\"sites\":");
+        write_sites(text, form, self);
+        text.put(b",\"size\":");
+        text.put_decimal(u64::from(self.size()));
+        write_content(text, form, self.content());
+        text.put(b",\"symbols\":");
+        write_list(text, form, self.symbols());
+        text.put(b"}");
     }
 }
 
-/// The sites of a hunk, by rising offset.
-fn sites_json<A: Allocator + Copy>(alloc: Global, hunk: &UnitHunk<A>) -> Result<Value, AllocError>
-    ensures { IfOk result (λ v. view v ≡ listed (site_json hunk.now.references) hunk.now.sites.entries) }
+/// Writes the sites of a hunk, by rising offset.
+fn write_sites<A: Allocator + Copy, W: Sink>(
+    text: &mut Text<'_, W>,
+    form: JsonForm,
+    hunk: &UnitHunk<A>,
+)
+    ensures { Puts W.taken W.failed text.old text.new (document form (listed (site_json hunk.now.references) hunk.now.sites.entries)) }
 {
     let references = hunk.references();
-    let mut items = Vec::new(alloc);
+    text.put(b"[");
+    let mut later = false;
     for (offset, adds) in hunk.sites().walk() {
-        items.push(site_json(alloc, references, offset, *adds)?)?;
+        write_comma(text, later);
+        write_site(text, form, references, offset, *adds);
+        later = true;
     }
-    Ok(Value::Array(items))
+    text.put(b"]");
 }
 
-/// A site to which the base of a hunk, or the value of one of these names, is added.
-fn site_json<A: Allocator + Copy>(
-    alloc: Global,
+/// Writes a site to which the base of a hunk, or the value of one of these names, is added.
+fn write_site<A: Allocator + Copy, W: Sink>(
+    text: &mut Text<'_, W>,
+    form: JsonForm,
     references: &[Name<A>],
     offset: u32,
     adds: Adds,
-) -> Result<Value, AllocError>
-    ensures { IfOk result (λ v. view v ≡ adds_json references.now offset adds) }
+)
+    ensures { Puts W.taken W.failed text.old text.new (document form (adds_json references.now offset adds)) }
 {
     match adds {
-        Adds::Hunk(hunk) => hunk_site_json(alloc, offset, hunk),
+        Adds::Hunk(hunk) => write_hunk_site(text, form, offset, hunk),
         Adds::Reference(index) => {
-            let name = name_json(alloc, name_at(references, index))?;
-            json!(in alloc; {"name": name, "offset": offset})
+            text.put(b"{\"name\":");
+            write_name(text, form, name_at(references, index));
+            text.put(b",\"offset\":");
+            text.put_decimal(u64::from(offset));
+            text.put(b"}");
         }
     }
 }
@@ -123,26 +118,40 @@ fn name_at<A: Allocator + Copy>(names: &[Name<A>], index: u32) -> &[u8]
     }
 }
 
-impl<A: Allocator + Copy> ToJson for (Name<A>, Definition) {
-    ghost json = { definition_json };
+impl<A: Allocator + Copy> WriteJson for (Name<A>, Definition) {
+    ghost json = { λ form. definition_json };
 
-    fn to_json(&self, alloc: Global) -> Result<Value, AllocError> {
+    fn write_json<W: Sink>(&self, text: &mut Text<'_, W>, form: JsonForm) {
         let name = self.0.bytes();
         match self.1 {
-            Definition::At(offset) => stands_for_json(alloc, name, false, offset),
-            Definition::Absolute(number) => stands_for_json(alloc, name, true, number),
+            Definition::At(offset) => write_meaning(text, form, name, false, offset),
+            Definition::Absolute(number) => write_meaning(text, form, name, true, number),
         }
     }
 }
 
-/// A name that stands for an offset in its hunk, or for an absolute number.
-fn stands_for_json(
-    alloc: Global,
+/// Writes a name that stands for an offset in its hunk, or for an absolute number.
+fn write_meaning<W: Sink>(
+    text: &mut Text<'_, W>,
+    form: JsonForm,
     name: &[u8],
     absolute: bool,
     value: u32,
-) -> Result<Value, AllocError>
-    ensures { IfOk result (λ v. view v ≡ stands_for_json name.now absolute value) }
+)
+    ensures { Puts W.taken W.failed text.old text.new (document form (stands_for_json name.now absolute value)) }
 {
-    json!(in alloc; {"absolute": absolute, "name": name_json(alloc, name)?, "value": value})
+    text.put(b"{\"absolute\":");
+    text.put(boolean_word(absolute));
+    text.put(b",\"name\":");
+    write_name(text, form, name);
+    text.put(b",\"value\":");
+    text.put_decimal(u64::from(value));
+    text.put(b"}");
+}
+
+/// JSON's word for a truth value.
+fn boolean_word(value: bool) -> &'static [u8]
+    ensures { result.now ≡ compact_text (boolean value) }
+{
+    if value { b"true" } else { b"false" }
 }

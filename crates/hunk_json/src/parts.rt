@@ -1,75 +1,89 @@
 //! Names, and what hunks of either kind of file have.
 
-ghost use Rattle.std.specs.Prelude.{◌≡◌, IfOk};
-ghost use Rattle.serde_json.specs.View.{view};
+ghost use Rattle.std.specs.Prelude.{◌≡◌};
+ghost use Rattle.serde_json.specs.Data.{string};
+ghost use Rattle.hunk_base.specs.Text.{Puts};
+ghost use Rattle.hunk_json.specs.Document.{document};
 ghost use Rattle.hunk_json.specs.FileJson.{debug_json, hunk_site_json, kind_json, memory_json, name_json, natural, symbol_json};
 
-use crate::lists::{ToJson, list_json};
-use hunk_words::{HunkKind, Memory, Name};
-use serde_json::{Value, json};
-use std::alloc::{AllocError, Allocator, Global};
+use crate::document::{WriteJson, write_list};
+use crate::escapes::write_string;
+use crate::form::JsonForm;
+use hunk_words::{HunkKind, Memory, Name, Sink, Text};
+use std::alloc::Allocator;
 
 /// The word for the kind of a hunk.
-pub(crate) fn kind_json(alloc: Global, kind: HunkKind) -> Result<Value, AllocError>
-    ensures { IfOk result (λ v. view v ≡ kind_json kind) }
+pub(crate) fn kind_word(kind: HunkKind) -> &'static str
+    ensures { string result.now ≡ kind_json kind }
 {
-    let word = match kind {
+    match kind {
         HunkKind::Code => "code",
         HunkKind::Data => "data",
         HunkKind::Bss => "bss",
-    };
-    Value::try_from_str(alloc, word)
+    }
 }
 
 /// The word for the memory that a hunk asks for.
-pub(crate) fn memory_json(alloc: Global, memory: Memory) -> Result<Value, AllocError>
-    ensures { IfOk result (λ v. view v ≡ memory_json memory) }
+pub(crate) fn memory_word(memory: Memory) -> &'static str
+    ensures { string result.now ≡ memory_json memory }
 {
-    let word = match memory {
+    match memory {
         Memory::Any => "any",
         Memory::Chip => "chip",
         Memory::Fast => "fast",
-    };
-    Value::try_from_str(alloc, word)
+    }
 }
 
-/// The bytes of a name as a text where they are UTF-8, and otherwise as an array.
-pub(crate) fn name_json(alloc: Global, name: &[u8]) -> Result<Value, AllocError>
-    ensures { IfOk result (λ v. view v ≡ name_json name.now) }
+/// Writes the bytes of a name as a string where they are UTF-8, and otherwise as an array.
+pub(crate) fn write_name<W: Sink>(text: &mut Text<'_, W>, form: JsonForm, name: &[u8])
+    ensures { Puts W.taken W.failed text.old text.new (document form (name_json name.now)) }
 {
     match std::str::from_utf8(name) {
-        Ok(text) => Value::try_from_str(alloc, text),
-        Err(_) => list_json(alloc, name),
+        Ok(string) => write_string(text, form, string),
+        Err(_) => write_list(text, form, name),
     }
 }
 
-/// A site to which the base of a hunk is added.
-pub(crate) fn hunk_site_json(alloc: Global, offset: u32, hunk: u32) -> Result<Value, AllocError>
-    ensures { IfOk result (λ v. view v ≡ hunk_site_json (offset, hunk)) }
+/// Writes a site to which the base of a hunk is added.
+pub(crate) fn write_hunk_site<W: Sink>(
+    text: &mut Text<'_, W>,
+    form: JsonForm,
+    offset: u32,
+    hunk: u32,
+)
+    ensures { Puts W.taken W.failed text.old text.new (document form (hunk_site_json (offset, hunk))) }
 {
-    json!(in alloc; {"hunk": hunk, "offset": offset})
+    text.put(b"{\"hunk\":");
+    text.put_decimal(u64::from(hunk));
+    text.put(b",\"offset\":");
+    text.put_decimal(u64::from(offset));
+    text.put(b"}");
 }
 
-impl ToJson for u8 {
-    ghost json = { natural };
+impl WriteJson for u8 {
+    ghost json = { λ form. natural };
 
-    fn to_json(&self, _alloc: Global) -> Result<Value, AllocError> {
-        Ok(Value::from(*self))
+    fn write_json<W: Sink>(&self, text: &mut Text<'_, W>, form: JsonForm) {
+        text.put_decimal(u64::from(*self));
     }
 }
 
-impl<A: Allocator + Copy> ToJson for (Name<A>, u32) {
-    ghost json = { symbol_json };
+impl<A: Allocator + Copy> WriteJson for (Name<A>, u32) {
+    ghost json = { λ form. symbol_json };
 
-    fn to_json(&self, alloc: Global) -> Result<Value, AllocError> {
-        json!(in alloc; {"name": name_json(alloc, self.0.bytes())?, "value": self.1})
+    fn write_json<W: Sink>(&self, text: &mut Text<'_, W>, form: JsonForm) {
+        text.put(b"{\"name\":");
+        write_name(text, form, self.0.bytes());
+        text.put(b",\"value\":");
+        text.put_decimal(u64::from(self.1));
+        text.put(b"}");
     }
 }
 
-impl<A: Allocator + Copy> ToJson for Vec<u32, A> {
-    ghost json = { λ words. debug_json words.items };
+impl<A: Allocator + Copy> WriteJson for Vec<u32, A> {
+    ghost json = { λ form words. debug_json words.items };
 
-    fn to_json(&self, _alloc: Global) -> Result<Value, AllocError> {
-        Ok(Value::from(self.len()))
+    fn write_json<W: Sink>(&self, text: &mut Text<'_, W>, form: JsonForm) {
+        text.put_decimal(self.len() as u64);
     }
 }

@@ -1,24 +1,26 @@
 //! Reads a file of either kind, and writes what is in it as JSON.
 
-ghost use Rattle.std.specs.Prelude.{◌≡◌, IsTrue, OnOk, IfOk, IfErr, string_bytes};
-ghost use Rattle.serde_json.specs.Written.{compact_text};
+ghost use Rattle.std.specs.Prelude.{◌^◌, ◌<◌, length, IsTrue, OnOk, IfErr};
 ghost use Rattle.hunk_base.specs.Streams.{HasRead, IsDevice, WroteAll};
+ghost use Rattle.hunk_base.specs.Text.{Puts};
 ghost use Rattle.hunk_tool.specs.FileText.{IsTextFault, IsWritten};
 ghost use Rattle.hunk_files.specs.HunkFile.{value_of};
 ghost use Rattle.hunk_tool.specs.Load.{ends_of};
-ghost use Rattle.hunk_json.specs.Run.{file_json, json_text};
+ghost use Rattle.hunk_json.specs.Document.{document};
+ghost use Rattle.hunk_json.specs.Run.{file_json, json_text, json_text_in};
 
-use crate::load::load_json_text;
-use crate::object::object_json_text;
+use crate::form::JsonForm;
+use crate::load::write_load_json;
+use crate::object::write_object_json;
 use hunk_tool::{File, HunkFile, ToolFault, read_hunk_file};
 use hunk_words::{Sink, Source, Text, WriteFault};
-use std::alloc::{AllocError, Global};
+use std::alloc::Allocator;
 
 /// Reads a file to the reader's end, and writes what is in it as one JSON document, on one line: what
 /// its listing tells of it. It is read as [`read_hunk_file`] reads it.
 ///
-/// It keeps the contents of the file, and its text. Nothing is written before the whole file has been
-/// read and the whole text is made. It does not flush.
+/// It keeps the contents of the file, and no text: the document is written piece by piece. Nothing is
+/// written before the whole file has been read. It does not flush.
 ///
 /// # Errors
 ///
@@ -28,47 +30,67 @@ use std::alloc::{AllocError, Global};
 /// - [`ToolFault::Output`] if a write failed or took no byte, with the number of bytes of the text
 ///   that were written.
 /// - [`ToolFault::OutOfMemory`] if an allocation failed, with nothing written.
-pub fn json_run<R: Source, W: Sink>(
-    alloc: Global,
+pub fn json_run<A: Allocator + Copy, R: Source, W: Sink>(
+    alloc: A,
     reader: &mut R,
     writer: &mut W,
-) -> Result<(), ToolFault>
+) -> Result<(), ToolFault<A>>
     ensures ok { OnOk result (HasRead (R.left reader.old) (R.left reader.new) (IsWritten json_text (W.taken writer.old) (W.taken writer.new))) }
     ensures ended { OnOk result (IsTrue (R.ended reader.new)) }
     ensures err { IfErr result (IsTextFault json_text (ends_of
         (R.left reader.old) (R.left reader.new) (R.failed reader.new) (R.ended reader.new)
         (W.taken writer.old) (W.taken writer.new) (W.failed writer.new))) }
 {
-    let file = read_hunk_file(alloc, reader)?;
-    let line = line_of(alloc, &file)?;
-    Ok(write_line(line.as_str(), writer)?)
+    json_run_with(alloc, reader, JsonForm::Plain, writer)
 }
 
-/// Writes this line.
-fn write_line<W: Sink>(line: &str, writer: &mut W) -> Result<(), WriteFault>
-    ensures wrote { WroteAll W.taken W.failed writer.old writer.new line.now result }
+/// Does what [`json_run`] does, for the document in this form.
+///
+/// # Errors
+///
+/// Those of [`json_run`].
+pub fn json_run_with<A: Allocator + Copy, R: Source, W: Sink>(
+    alloc: A,
+    reader: &mut R,
+    form: JsonForm,
+    writer: &mut W,
+) -> Result<(), ToolFault<A>>
+    ensures ok { OnOk result (HasRead (R.left reader.old) (R.left reader.new) (IsWritten (json_text_in form) (W.taken writer.old) (W.taken writer.new))) }
+    ensures ended { OnOk result (IsTrue (R.ended reader.new)) }
+    ensures err { IfErr result (IsTextFault (json_text_in form) (ends_of
+        (R.left reader.old) (R.left reader.new) (R.failed reader.new) (R.ended reader.new)
+        (W.taken writer.old) (W.taken writer.new) (W.failed writer.new))) }
+{
+    let file = read_hunk_file(alloc, reader)?;
+    Ok(write_line(form, &file, writer)?)
+}
+
+/// Writes the document of a file, and the end of its line. Does not allocate.
+fn write_line<A: Allocator + Copy, W: Sink>(
+    form: JsonForm,
+    file: &HunkFile<A>,
+    writer: &mut W,
+) -> Result<(), WriteFault>
+    requires { length (json_text_in form (value_of file.now)) < 2 ^ 64 }
+    ensures wrote { WroteAll W.taken W.failed writer.old writer.new (json_text_in form (value_of file.now)) result }
     ensures device { IfErr result IsDevice }
 {
     let mut text = Text::new(writer);
-    text.put(line.as_bytes());
+    write_file(&mut text, form, file);
+    text.end_line();
     text.finish()
 }
 
-/// The text of a file, and the end of its line.
-fn line_of(alloc: Global, file: &HunkFile) -> Result<String, AllocError>
-    ensures { IfOk result (λ s. string_bytes s ≡ json_text (value_of file.now)) }
-{
-    let mut text = text_of(alloc, file)?;
-    text.push_str("\n")?;
-    Ok(text)
-}
-
-/// The text of a file.
-fn text_of(alloc: Global, file: &HunkFile) -> Result<String, AllocError>
-    ensures { IfOk result (λ s. string_bytes s ≡ compact_text (file_json (value_of file.now))) }
+/// Writes the document of a file of its kind.
+pub(crate) fn write_file<A: Allocator + Copy, W: Sink>(
+    text: &mut Text<'_, W>,
+    form: JsonForm,
+    file: &HunkFile<A>,
+)
+    ensures { Puts W.taken W.failed text.old text.new (document form (file_json form (value_of file.now))) }
 {
     match file {
-        File::Object(units) => object_json_text(alloc, units),
-        File::Load(file) => load_json_text(alloc, file),
+        File::Object(units) => write_object_json(text, form, units),
+        File::Load(file) => write_load_json(text, form, file.hunks()),
     }
 }

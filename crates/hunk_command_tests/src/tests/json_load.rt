@@ -1,11 +1,12 @@
-//! Load files as JSON values and texts, written by hand.
+//! Load files as JSON texts, written by hand.
 
 use super::asserts::equals_at;
-use hunk_json::{load_json, load_json_text};
+use super::json_runs::ENOUGH;
+use hunk_json::{JsonForm, write_load_json};
 use hunk_loadfile::{LoadFile, read_load};
 use hunk_test_support::load_words::{TWO_HUNKS, ZEROS};
 use hunk_test_support::{ROOM, bytes_of};
-use hunk_words::Pieces;
+use hunk_words::{Pieces, Room, Text};
 use std::alloc::Global;
 use std::test::Fail;
 
@@ -32,36 +33,24 @@ pub(super) static FILES: [(&[u32], &str); 2] = [
     ),
 ];
 
+// The most bytes that are taken by each write.
+const CHUNK: usize = 64;
+
 // The load file of these longwords.
 fn file_of(alloc: Global, words: &[u32]) -> Result<LoadFile, Fail> {
     let mut reader = Pieces::new(bytes_of(alloc, words, &[])?, ROOM, None);
     Ok(read_load(alloc, &mut reader)?)
 }
 
-// Where an allocation failed, the text is asked for again: the file is as it was.
-fn text_of(alloc: Global, file: &LoadFile) -> Result<String, Fail> {
-    match load_json_text(alloc, file) {
-        Ok(text) => Ok(text),
-        Err(_) => Ok(load_json_text(alloc, file)?),
-    }
-}
-
 #[test]
 fn writes_load_files(rt: HostRuntime) -> Result<(), Fail> {
     for (row, (words, wanted)) in FILES.iter().enumerate() {
         let file = file_of(rt.alloc(), words)?;
-        let text = text_of(rt.alloc(), &file)?;
-        equals_at(&rt, &row, text.as_str(), *wanted);
-    }
-    Ok(())
-}
-
-#[test]
-fn gives_load_files_as_values(rt: HostRuntime) -> Result<(), Fail> {
-    for (row, (words, wanted)) in FILES.iter().enumerate() {
-        let value = load_json(rt.alloc(), &file_of(rt.alloc(), words)?)?;
-        let text = value.to_string(rt.alloc())?;
-        equals_at(&rt, &row, text.as_str(), *wanted);
+        let mut writer = Room::new(rt.alloc(), CHUNK, ENOUGH, false)?;
+        let mut text = Text::new(&mut writer);
+        write_load_json(&mut text, JsonForm::Plain, file.hunks());
+        equals_at(&rt, &row, text.finish(), Ok(()));
+        equals_at(&rt, &row, writer.bytes(), wanted.as_bytes());
     }
     Ok(())
 }

@@ -1,10 +1,11 @@
-//! Object files as JSON values and texts, written by hand.
+//! Object files as JSON texts, written by hand.
 
 use super::asserts::equals_at;
-use hunk_json::{object_json, object_json_text};
+use super::json_runs::ENOUGH;
+use hunk_json::{JsonForm, write_object_json};
 use hunk_objects::{ProgramUnit, read_object};
 use hunk_test_support::{ROOM, bytes_of};
-use hunk_words::Pieces;
+use hunk_words::{Pieces, Room, Text};
 use std::alloc::Global;
 use std::test::Fail;
 
@@ -60,36 +61,24 @@ pub(super) static FILES: [(&[u32], &str); 3] = [
     ),
 ];
 
+// The most bytes that are taken by each write.
+const CHUNK: usize = 64;
+
 // The units of the object file of these longwords.
 fn units_of(alloc: Global, words: &[u32]) -> Result<Vec<ProgramUnit>, Fail> {
     let mut reader = Pieces::new(bytes_of(alloc, words, &[])?, ROOM, None);
     Ok(read_object(alloc, &mut reader)?)
 }
 
-// Where an allocation failed, the text is asked for again: the units are as they were.
-fn text_of(alloc: Global, units: &[ProgramUnit]) -> Result<String, Fail> {
-    match object_json_text(alloc, units) {
-        Ok(text) => Ok(text),
-        Err(_) => Ok(object_json_text(alloc, units)?),
-    }
-}
-
 #[test]
 fn writes_object_files(rt: HostRuntime) -> Result<(), Fail> {
     for (row, (words, wanted)) in FILES.iter().enumerate() {
         let units = units_of(rt.alloc(), words)?;
-        let text = text_of(rt.alloc(), &units)?;
-        equals_at(&rt, &row, text.as_str(), *wanted);
-    }
-    Ok(())
-}
-
-#[test]
-fn gives_object_files_as_values(rt: HostRuntime) -> Result<(), Fail> {
-    for (row, (words, wanted)) in FILES.iter().enumerate() {
-        let value = object_json(rt.alloc(), &units_of(rt.alloc(), words)?)?;
-        let text = value.to_string(rt.alloc())?;
-        equals_at(&rt, &row, text.as_str(), *wanted);
+        let mut writer = Room::new(rt.alloc(), CHUNK, ENOUGH, false)?;
+        let mut text = Text::new(&mut writer);
+        write_object_json(&mut text, JsonForm::Plain, &units);
+        equals_at(&rt, &row, text.finish(), Ok(()));
+        equals_at(&rt, &row, writer.bytes(), wanted.as_bytes());
     }
     Ok(())
 }

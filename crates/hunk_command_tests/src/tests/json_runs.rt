@@ -1,9 +1,9 @@
 //! Files of either kind as JSON, from readers to writers.
 
-use super::asserts::equals_at;
+use super::asserts::{equals_at, holds};
 use super::{json_load, json_object};
 use hunk_json::json_run;
-use hunk_test_support::{CHUNKS, bytes_of};
+use hunk_test_support::{CHUNKS, Refusing, bytes_of};
 use hunk_tool::ToolFault;
 use hunk_words::{Fault, Pieces, Reason, Room};
 use std::alloc::Global;
@@ -17,7 +17,7 @@ static LINE: &[u8] =
     b"{\"kind\":\"object file\",\"units\":[{\"hunks\":[],\"name\":[65,34,92,255]}]}\n";
 
 // Room for every line.
-const ENOUGH: usize = 2048;
+pub(super) const ENOUGH: usize = 2048;
 
 // The limits of a reader and of a writer.
 #[derive(Clone, Copy)]
@@ -119,5 +119,37 @@ fn tells_what_a_writer_took(rt: HostRuntime) -> Result<(), Fail> {
             is_run(&rt, rt.alloc(), devices, &NAMED, wanted, &LINE[..room])?;
         }
     }
+    Ok(())
+}
+
+// More allocations than a run makes.
+const MOST_GROWTHS: u64 = 64;
+
+// Whether a run in which this allocation is to fail makes fewer; otherwise it has written nothing.
+fn is_made_without(rt: &impl Abort, alloc: Global, refused: u64) -> Result<bool, Fail> {
+    let heap = Refusing::new(alloc, refused);
+    let mut reader = Pieces::new(bytes_of(alloc, &NAMED, &[])?, 64, None);
+    let mut writer = Room::new(alloc, 64, ENOUGH, false)?;
+    let got = json_run(&heap, &mut reader, &mut writer);
+    if heap.asked() <= refused {
+        holds(rt, &("growth", refused), got.is_ok());
+        equals_at(rt, &refused, writer.bytes(), LINE);
+        return Ok(true);
+    }
+    let out_of_memory = matches!(got, Err(ToolFault::OutOfMemory { written: 0 }));
+    holds(rt, &("growth", refused), out_of_memory);
+    holds(rt, &("growth", refused), writer.bytes().is_empty());
+    Ok(false)
+}
+
+#[test]
+fn is_out_of_memory_with_each_growth_refused(rt: HostRuntime) -> Result<(), Fail> {
+    for refused in 0..MOST_GROWTHS {
+        if is_made_without(&rt, rt.alloc(), refused)? {
+            holds(&rt, &("growths", refused), 1 <= refused);
+            return Ok(());
+        }
+    }
+    holds(&rt, &("each run was refused a growth", MOST_GROWTHS), false);
     Ok(())
 }

@@ -1,0 +1,65 @@
+-- How many bytes the documents of the parts of a file have.
+use Rattle.std.proofs.Common.{ℕ, ◌+◌, ◌*◌, ◌^◌, ◌≤◌, List, [], ◌∷◌, length, codes, arith}
+use Rattle.std.specs.List.{All}
+use Rattle.std.proofs.lemmas.List.{length-append}
+use Rattle.base64.specs.Engines.{standard}
+use Rattle.base64.specs.GeneralPurpose.{encode_of}
+use Rattle.json.specs.Print.{escape_byte}
+use Rattle.hunk_words.specs.declared.kinds.HunkKind.{HunkKind}
+use Rattle.hunk_words.specs.declared.kinds.HunkKind.TheVariants.{Code, Data as DataHunk, Bss}
+use Rattle.hunk_words.specs.declared.kinds.Memory.{Memory}
+use Rattle.hunk_words.specs.declared.kinds.Memory.TheVariants.{Any, Chip, Fast}
+use Rattle.hunk_text.proofs.ListingSizeLemmas.{HasShortName}
+use Rattle.hunk_json.specs.Document.{document, further_members}
+use Rattle.hunk_json.specs.FileJson.{content_member, content_members, debug_json, hunk_site_json, kind_json, listed, memory_json, symbol_json}
+use Rattle.hunk_json.specs.declared.form.JsonForm.{JsonForm}
+use Rattle.hunk_json.specs.declared.form.JsonForm.TheVariants.{Plain, WithContent, InPage}
+use Rattle.hunk_json.proofs.ContentLemmas.{length-encoded}
+use Rattle.hunk_json.proofs.DocumentLemmas.{document-told, told-utf8}
+use Rattle.hunk_json.proofs.DocumentSizeLemmas.{length-each-le, length-name-le, length-natural-le, length-string-le}
+use Rattle.hunk_json.proofs.FileJsonLemmas.{hunk_site-told, natural-utf8, symbol-told}
+
+-- the most bytes of an element whose names have no more than 2^26 bytes
+abbrev pub most_element : ℕ
+most_element = 2 ^ 32 + 2 ^ 28
+
+-- the most bytes of a hunk or a unit for each element, and for each byte of its name
+abbrev pub most_part : ℕ
+most_part = 2 ^ 33
+
+pub length-hunk_site-le : (form : JsonForm) (site : ℕ × ℕ) → length (document form (hunk_site_json site)) + 1 ≤ most_element
+unfolding escape_byte
+length-hunk_site-le form site =
+    rw (document-told form (hunk_site_json site) (hunk_site-told site)) (simp length-append (omega (arith, length-natural-le form site.0, length-natural-le form site.1)))
+
+length-symbol-le : (form : JsonForm) (symbol : List ℕ × ℕ) → HasShortName symbol → length (document form (symbol_json symbol)) + 1 ≤ most_element
+unfolding escape_byte
+length-symbol-le form symbol short =
+    rw (document-told form (symbol_json symbol) (symbol-told symbol)) (simp length-append (omega (arith, length-name-le form symbol.0, length-natural-le form symbol.1)))
+
+pub length-symbols-le : (form : JsonForm) (symbols : List (List ℕ × ℕ)) → All HasShortName symbols → length (document form (listed symbol_json symbols)) ≤ 2 + most_element * length symbols
+length-symbols-le form symbols short = length-each-le form symbol_json most_element HasShortName symbols (λ symbol. told-utf8 (symbol_json symbol) (symbol-told symbol)) (length-symbol-le form) short
+
+pub length-debugs-le : (form : JsonForm) (debugs : List (List ℕ)) → length (document form (listed debug_json debugs)) ≤ 2 + most_element * length debugs
+length-debugs-le form debugs =
+    length-each-le form debug_json most_element (λ words. Unit {0}) debugs (λ words. natural-utf8 (length words)) (λ words is. omega (arith, length-natural-le form (length words))) (λ k d within. tt)
+
+pub length-kind-le : (form : JsonForm) (kind : HunkKind) → length (document form (kind_json kind)) ≤ 200
+length-kind-le form Code = omega (arith, length-string-le form (codes "code"))
+length-kind-le form DataHunk = omega (arith, length-string-le form (codes "data"))
+length-kind-le form Bss = omega (arith, length-string-le form (codes "bss"))
+
+pub length-memory-le : (form : JsonForm) (memory : Memory) → length (document form (memory_json memory)) ≤ 200
+length-memory-le form Any = omega (arith, length-string-le form (codes "any"))
+length-memory-le form Chip = omega (arith, length-string-le form (codes "chip"))
+length-memory-le form Fast = omega (arith, length-string-le form (codes "fast"))
+
+length-content_member-le : (form : JsonForm) (content : List ℕ) → length (further_members form (content_member content ∷ [])) ≤ 100 * length content + 200
+unfolding escape_byte
+length-content_member-le form content =
+    simp length-append (omega (arith, length-string-le form (encode_of standard content), length-encoded content))
+
+pub length-content-le : (form : JsonForm) (content : List ℕ) → length (further_members form (content_members form content)) ≤ 100 * length content + 200
+length-content-le Plain content = omega arith
+length-content-le WithContent content = length-content_member-le WithContent content
+length-content-le InPage content = length-content_member-le InPage content

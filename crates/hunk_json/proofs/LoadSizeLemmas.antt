@@ -1,0 +1,55 @@
+-- How many bytes the document of a load file has.
+use Rattle.std.proofs.Common.{ℕ, ◌+◌, ◌*◌, ◌/◌, ◌^◌, ◌<◌, ◌≤◌, List, length, sum_by, arith}
+use Rattle.std.proofs.lemmas.List.{length-append}
+use Rattle.json.specs.Print.{escape_byte}
+use Rattle.hunk_base.specs.Longwords.{longwords}
+use Rattle.hunk_base.proofs.SitesLemmas.{AreApart-few}
+use Rattle.hunk_loadfile.specs.LoadFile.{IsLoadOf}
+use Rattle.hunk_loadfile.specs.LoadHunk.{FileHunk}
+use Rattle.hunk_loadfile.specs.Rules.{IsLoadFile, IsLoadHunk, debug_longwords, symbol_longwords}
+use Rattle.hunk_loadfile.proofs.RulesReadLemmas.{IsLoadFile-load}
+use Rattle.hunk_text.proofs.ListingSizeLemmas.{length-le-sum_by}
+use Rattle.hunk_text.proofs.ListingSizeLoadLemmas.{most_content-le, sum_by-weight, weight}
+use Rattle.hunk_json.specs.Document.{document}
+use Rattle.hunk_json.specs.FileJson.{hunk_site_json, listed, load_hunk_json, load_json}
+use Rattle.hunk_json.specs.declared.form.JsonForm.{JsonForm}
+use Rattle.hunk_json.proofs.DocumentLemmas.{document-told, told-utf8}
+use Rattle.hunk_json.proofs.DocumentSizeLemmas.{length-each-le, length-listed-le, length-natural-le}
+use Rattle.hunk_json.proofs.FileJsonLemmas.{content-members, hunk_site-told, kind_load-document, load-told, load_hunk-told}
+use Rattle.hunk_json.proofs.FileSizeLemmas.{length-content-le, length-debugs-le, length-hunk_site-le, length-kind-le, length-memory-le, length-symbols-le, most_element, most_part}
+
+length-load_hunk-le : (form : JsonForm) (count : ℕ) (hunk : FileHunk) → IsLoadHunk count hunk → length (document form (load_hunk_json form hunk)) + 1 ≤ most_part * weight hunk
+unfolding escape_byte
+length-load_hunk-le form count hunk is =
+    let sites : length (document form (listed hunk_site_json hunk.sites.entries)) ≤ 2 + most_element * length hunk.sites.entries =
+    length-each-le form hunk_site_json most_element (λ site. Unit {0}) hunk.sites.entries (λ site. told-utf8 (hunk_site_json site) (hunk_site-told site)) (λ site any. length-hunk_site-le form site) (λ k d within. tt) in
+    rw (document-told form (load_hunk_json form hunk) (load_hunk-told form hunk))
+    (simp (content-members, length-append)
+    (omega (
+      arith,
+      sites,
+      length-debugs-le form hunk.debugs,
+      length-kind-le form hunk.kind,
+      length-memory-le form hunk.memory,
+      length-natural-le form hunk.size,
+      length-natural-le form (length hunk.content / 4),
+      length-content-le form hunk.content,
+      length-symbols-le form hunk.symbols is.names,
+      AreApart-few hunk.sites is.typed.apart,
+      is.limit,
+      is.content,
+      most_content-le hunk.kind hunk.size,
+      length-le-sum_by symbol_longwords hunk.symbols (λ symbol. omega arith),
+      length-le-sum_by debug_longwords hunk.debugs (λ words. omega arith),
+    )))
+
+length-load-lt : (form : JsonForm) (hunks : List FileHunk) → IsLoadFile hunks → length (document form (load_json form hunks)) + 1 < 2 ^ 64
+unfolding escape_byte
+length-load-lt form hunks is =
+    let each : length (document form (listed (load_hunk_json form) hunks)) ≤ 2 + most_part * sum_by weight hunks =
+    length-listed-le form (load_hunk_json form) weight most_part (IsLoadHunk (length hunks)) hunks (λ hunk. told-utf8 (load_hunk_json form hunk) (load_hunk-told form hunk)) (length-load_hunk-le form (length hunks)) is.each in
+    rw (document-told form (load_json form hunks) (load-told form hunks))
+    (simp (kind_load-document, length-append) (omega (arith, each, sum_by-weight hunks, is.few, is.small, is.carries)))
+
+pub load-fits : (form : JsonForm) (hunks : List FileHunk) (bytes : List ℕ) → IsLoadOf hunks bytes → length (document form (load_json form hunks)) + 1 < 2 ^ 64
+load-fits form hunks bytes file = length-load-lt form hunks (IsLoadFile-load hunks (longwords bytes) file.is_load)

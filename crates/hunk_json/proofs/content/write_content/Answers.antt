@@ -1,0 +1,18 @@
+-- The member is there in these forms.
+use Rattle.std.proofs.Common.{ap, inl, inr, sym}
+use Rattle.hunk_base.proofs.LongwordsByteLemmas.{are-bytes}
+use Rattle.hunk_base.proofs.TextLemmas.{◌⨾◌, Puts-as}
+use Rattle.hunk_json.specs.FileJson.{content_members}
+use Rattle.hunk_json.proofs.ContentLemmas.{content-further}
+use Rattle.hunk_json.proofs.content.write_content.Goals as goal
+
+pub returns-in-WithContent : goal.returns-in-WithContent
+returns-in-WithContent g c =
+    let form = c.args.form in
+    let content = c.args.content.now in
+    let typed = are-bytes content c.type_inv.content in
+    let pieces = c.put.ensures ⨾ c.write_base64.ensures ⨾ c.put-in-WithContent.ensures in
+    elim c.in-WithContent.is [
+      | inl is ↦ Puts-as (sym (content-further form content typed (ap (λ f. content_members f content) is))) pieces
+      | inr is ↦ Puts-as (sym (content-further form content typed (ap (λ f. content_members f content) is))) pieces
+    ]

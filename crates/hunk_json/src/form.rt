@@ -1,0 +1,13 @@
+//! The forms of a JSON document.
+
+/// A form of the JSON document of a file.
+#[derive(Clone, Copy, Debug, PartialEq, Eq)]
+pub enum JsonForm {
+    /// What the listing of the file tells.
+    Plain,
+    /// Likewise, with the stored bytes of each hunk.
+    WithContent,
+    /// Likewise, with each less-than sign escaped: so the document can stand in a page, where none
+    /// of it is read as a tag.
+    InPage,
+}
