@@ -10,6 +10,7 @@
 //! - `inputs`: files that are open at once.
 //! - `json_forms`: the forms of JSON documents.
 //! - `json_load`, `json_object`: load files and object files as JSON texts.
+//! - `json_pages`: pages of files.
 //! - `json_runs`: files of either kind as JSON, from readers to writers.
 //! - `lines`: lines that reach a writer whole.
 //! - `links`: the load file of object files.
@@ -34,6 +35,7 @@ mod inputs;
 mod json_forms;
 mod json_load;
 mod json_object;
+mod json_pages;
 mod json_runs;
 mod lines;
 mod links;

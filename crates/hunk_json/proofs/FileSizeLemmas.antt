@@ -27,6 +27,10 @@ most_element = 2 ^ 32 + 2 ^ 28
 abbrev pub most_part : ℕ
 most_part = 2 ^ 33
 
+-- the most bytes of a document
+abbrev pub most_document : ℕ
+most_document = 2 ^ 63 + 2 ^ 32
+
 pub length-hunk_site-le : (form : JsonForm) (site : ℕ × ℕ) → length (document form (hunk_site_json site)) + 1 ≤ most_element
 unfolding escape_byte
 length-hunk_site-le form site =

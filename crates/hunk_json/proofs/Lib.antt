@@ -4,6 +4,7 @@ pub mod DocumentSizeLemmas
 pub mod EscapesLemmas
 pub mod FileJsonLemmas
 pub mod FileSizeLemmas
+pub mod LawsLemmas
 pub mod LoadSizeLemmas
 pub mod ObjectSizeLemmas
 pub mod RunLemmas

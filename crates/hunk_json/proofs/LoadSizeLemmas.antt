@@ -16,7 +16,7 @@ use Rattle.hunk_json.specs.declared.form.JsonForm.{JsonForm}
 use Rattle.hunk_json.proofs.DocumentLemmas.{document-told, told-utf8}
 use Rattle.hunk_json.proofs.DocumentSizeLemmas.{length-each-le, length-listed-le, length-natural-le}
 use Rattle.hunk_json.proofs.FileJsonLemmas.{content-members, hunk_site-told, kind_load-document, load-told, load_hunk-told}
-use Rattle.hunk_json.proofs.FileSizeLemmas.{length-content-le, length-debugs-le, length-hunk_site-le, length-kind-le, length-memory-le, length-symbols-le, most_element, most_part}
+use Rattle.hunk_json.proofs.FileSizeLemmas.{length-content-le, length-debugs-le, length-hunk_site-le, length-kind-le, length-memory-le, length-symbols-le, most_document, most_element, most_part}
 
 length-load_hunk-le : (form : JsonForm) (count : ℕ) (hunk : FileHunk) → IsLoadHunk count hunk → length (document form (load_hunk_json form hunk)) + 1 ≤ most_part * weight hunk
 unfolding escape_byte
@@ -43,13 +43,13 @@ length-load_hunk-le form count hunk is =
       length-le-sum_by debug_longwords hunk.debugs (λ words. omega arith),
     )))
 
-length-load-lt : (form : JsonForm) (hunks : List FileHunk) → IsLoadFile hunks → length (document form (load_json form hunks)) + 1 < 2 ^ 64
+length-load-le : (form : JsonForm) (hunks : List FileHunk) → IsLoadFile hunks → length (document form (load_json form hunks)) ≤ most_document
 unfolding escape_byte
-length-load-lt form hunks is =
+length-load-le form hunks is =
     let each : length (document form (listed (load_hunk_json form) hunks)) ≤ 2 + most_part * sum_by weight hunks =
     length-listed-le form (load_hunk_json form) weight most_part (IsLoadHunk (length hunks)) hunks (λ hunk. told-utf8 (load_hunk_json form hunk) (load_hunk-told form hunk)) (length-load_hunk-le form (length hunks)) is.each in
     rw (document-told form (load_json form hunks) (load-told form hunks))
     (simp (kind_load-document, length-append) (omega (arith, each, sum_by-weight hunks, is.few, is.small, is.carries)))
 
-pub load-fits : (form : JsonForm) (hunks : List FileHunk) (bytes : List ℕ) → IsLoadOf hunks bytes → length (document form (load_json form hunks)) + 1 < 2 ^ 64
-load-fits form hunks bytes file = length-load-lt form hunks (IsLoadFile-load hunks (longwords bytes) file.is_load)
+pub load-fits : (form : JsonForm) (hunks : List FileHunk) (bytes : List ℕ) → IsLoadOf hunks bytes → length (document form (load_json form hunks)) ≤ most_document
+load-fits form hunks bytes file = length-load-le form hunks (IsLoadFile-load hunks (longwords bytes) file.is_load)

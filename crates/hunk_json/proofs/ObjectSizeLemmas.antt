@@ -19,7 +19,7 @@ use Rattle.hunk_json.specs.declared.form.JsonForm.{JsonForm}
 use Rattle.hunk_json.proofs.DocumentLemmas.{document-told, told-utf8}
 use Rattle.hunk_json.proofs.DocumentSizeLemmas.{length-each-le, length-listed-le, length-name-le, length-natural-le}
 use Rattle.hunk_json.proofs.FileJsonLemmas.{adds-told, boolean-document, content-members, kind_object-document, meaning-told, object-told, stands_for-told, unit-told, unit_hunk-told}
-use Rattle.hunk_json.proofs.FileSizeLemmas.{length-content-le, length-debugs-le, length-hunk_site-le, length-kind-le, length-memory-le, length-symbols-le, most_element, most_part}
+use Rattle.hunk_json.proofs.FileSizeLemmas.{length-content-le, length-debugs-le, length-hunk_site-le, length-kind-le, length-memory-le, length-symbols-le, most_document, most_element, most_part}
 
 length-adds-le : (form : JsonForm) (references : List (List ℕ)) (offset : ℕ) (adds : Adds) → All IsShort references → length (document form (adds_json references offset adds)) + 1 ≤ most_element
 unfolding escape_byte
@@ -80,12 +80,12 @@ length-unit-le form unit is =
     length-listed-le form (unit_hunk_json form) hunk_weight most_part IsPrintable unit.hunks (λ hunk. told-utf8 (unit_hunk_json form hunk) (unit_hunk-told form hunk)) (length-unit_hunk-le form) is in
     rw (document-told form (unit_json form unit) (unit-told form unit)) (simp length-append (omega (arith, hunks, length-name-le form unit.name)))
 
-length-object-lt : (form : JsonForm) (units : List ObjectUnit) → ArePrintable units → length (document form (object_json form units)) + 1 < 2 ^ 64
+length-object-le : (form : JsonForm) (units : List ObjectUnit) → ArePrintable units → length (document form (object_json form units)) ≤ most_document
 unfolding escape_byte
-length-object-lt form units is =
+length-object-le form units is =
     let each : length (document form (listed (unit_json form) units)) ≤ 2 + most_part * sum_by unit_weight units =
     length-listed-le form (unit_json form) unit_weight most_part HasPrintable units (λ unit. told-utf8 (unit_json form unit) (unit-told form unit)) (length-unit-le form) is.each in
     rw (document-told form (object_json form units) (object-told form units)) (simp (kind_object-document, length-append) (omega (arith, each, is.few)))
 
-pub object-fits : (form : JsonForm) (units : List ObjectUnit) (bytes : List ℕ) → IsObjectOf units bytes → length (document form (object_json form units)) + 1 < 2 ^ 64
-object-fits form units bytes file = length-object-lt form units (printable-object units bytes file)
+pub object-fits : (form : JsonForm) (units : List ObjectUnit) (bytes : List ℕ) → IsObjectOf units bytes → length (document form (object_json form units)) ≤ most_document
+object-fits form units bytes file = length-object-le form units (printable-object units bytes file)

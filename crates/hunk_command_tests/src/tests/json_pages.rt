@@ -1,0 +1,122 @@
+//! Pages of files, whatever begins and ends every page.
+
+use super::asserts::{equals_at, holds};
+use hunk_json::page_run;
+use hunk_test_support::{Refusing, bytes_of};
+use hunk_tool::ToolFault;
+use hunk_words::{Pieces, Room};
+use std::alloc::Global;
+use std::process::Abort;
+use std::test::Fail;
+
+// Room for every page.
+const ENOUGH: usize = 0x4_0000;
+
+// The most bytes of each read and each write.
+const CHUNK: usize = 4096;
+
+// A unit without a name, and its document.
+static UNNAMED: [u32; 2] = [0x3E7, 0];
+
+static UNNAMED_TEXT: &str = "{\"kind\":\"object file\",\"units\":[{\"hunks\":[],\"name\":\"\"}]}";
+
+// A unit whose name ends a script, and its document in a page.
+static TAG: [u32; 5] = [0x3E7, 3, 0x3C2F7363, 0x72697074, 0x3E000000];
+
+static TAG_TEXT: &str =
+    "{\"kind\":\"object file\",\"units\":[{\"hunks\":[],\"name\":\"\\u003c/script>\"}]}";
+
+// A run over these longwords ends so, and its writer has room for this many bytes; what it took.
+fn taken(
+    rt: &impl Abort,
+    alloc: Global,
+    words: &[u32],
+    room: usize,
+    wanted: Result<(), ToolFault>,
+) -> Result<Vec<u8>, Fail> {
+    let mut reader = Pieces::new(bytes_of(alloc, words, &[])?, CHUNK, None);
+    let mut writer = Room::new(alloc, CHUNK, room, false)?;
+    let got = page_run(alloc, &mut reader, &mut writer);
+    equals_at(rt, &room, got, wanted);
+    Ok(writer.bytes().to_vec(alloc)?)
+}
+
+// Where the document begins in its page.
+fn start_of(page: &[u8], document: &str) -> Result<usize, Fail> {
+    let starts = page
+        .windows(document.len())
+        .position(|part| part == document.as_bytes());
+    Ok(starts.ok_or("no document")?)
+}
+
+#[test]
+fn has_the_document_of_a_file(rt: HostRuntime) -> Result<(), Fail> {
+    let alloc = rt.alloc();
+    let page = taken(&rt, alloc, &UNNAMED, ENOUGH, Ok(()))?;
+    let start = start_of(&page, UNNAMED_TEXT)?;
+    let mut wanted = page[..start].to_vec(alloc)?;
+    wanted.extend_from_slice(TAG_TEXT.as_bytes())?;
+    wanted.extend_from_slice(&page[start + UNNAMED_TEXT.len()..])?;
+    let page = taken(&rt, alloc, &TAG, ENOUGH, Ok(()))?;
+    equals_at(&rt, &"page", page.as_slice(), wanted.as_slice());
+    Ok(())
+}
+
+#[test]
+fn refuses_what_is_no_file(rt: HostRuntime) -> Result<(), Fail> {
+    let mut reader = Pieces::new(bytes_of(rt.alloc(), &[0x3F3], &[])?, CHUNK, None);
+    let mut writer = Room::new(rt.alloc(), CHUNK, ENOUGH, false)?;
+    let got = page_run(rt.alloc(), &mut reader, &mut writer);
+    holds(
+        &rt,
+        &"no file",
+        matches!(got, Err(ToolFault::Input { file: 0, .. })),
+    );
+    holds(&rt, &"no page", writer.bytes().is_empty());
+    Ok(())
+}
+
+#[test]
+fn tells_what_a_writer_took(rt: HostRuntime) -> Result<(), Fail> {
+    let alloc = rt.alloc();
+    let page = taken(&rt, alloc, &TAG, ENOUGH, Ok(()))?;
+    let start = start_of(&page, TAG_TEXT)?;
+    let around = start.saturating_sub(1)..start + TAG_TEXT.len() + 2;
+    for room in [0, 1, page.len() - 1].into_iter().chain(around) {
+        let written = room as u64;
+        let front = taken(&rt, alloc, &TAG, room, Err(ToolFault::Output { written }))?;
+        equals_at(&rt, &room, front.as_slice(), &page[..room]);
+    }
+    Ok(())
+}
+
+// More allocations than a run makes.
+const MOST_GROWTHS: u64 = 64;
+
+// Whether a run in which this allocation is to fail makes fewer; otherwise it has written nothing.
+fn is_made_without(rt: &impl Abort, alloc: Global, refused: u64) -> Result<bool, Fail> {
+    let heap = Refusing::new(alloc, refused);
+    let mut reader = Pieces::new(bytes_of(alloc, &TAG, &[])?, CHUNK, None);
+    let mut writer = Room::new(alloc, CHUNK, ENOUGH, false)?;
+    let got = page_run(&heap, &mut reader, &mut writer);
+    if heap.asked() <= refused {
+        holds(rt, &("growth", refused), got.is_ok());
+        return Ok(true);
+    }
+    let out_of_memory = matches!(got, Err(ToolFault::OutOfMemory { written: 0 }));
+    holds(rt, &("growth", refused), out_of_memory);
+    holds(rt, &("growth", refused), writer.bytes().is_empty());
+    Ok(false)
+}
+
+#[test]
+fn is_out_of_memory_with_each_growth_refused(rt: HostRuntime) -> Result<(), Fail> {
+    for refused in 0..MOST_GROWTHS {
+        if is_made_without(&rt, rt.alloc(), refused)? {
+            holds(&rt, &("growths", refused), 1 <= refused);
+            return Ok(());
+        }
+    }
+    holds(&rt, &("each run was refused a growth", MOST_GROWTHS), false);
+    Ok(())
+}
