@@ -1,9 +1,10 @@
 """What `show --json` prints, against Python's own writer of JSON, and against texts written by hand."""
 import json
 import random
+import re
 
 import model
-from harness import DEVICE, DONE, NO_MEMORY, equals, test
+from harness import DEVICE, DONE, equals, test
 from model import ABS, BSS, CODE, DATA, DEF, END, HEADER, KINDS, Hunk, Unit, words
 from runs import LITTLE_MEMORY, write_parts
 
@@ -65,14 +66,23 @@ def load_value(units, options=()):
     return {"hunks": values, "kind": "load file"}
 
 
-def prints_document(program, value, name):
-    """`show --json` prints the value, and as Python writes it."""
-    status, out, errors = program.run("show", "--json", name)
+# The characters that a terminal obeys, although JSON lets them stand for themselves.
+OBEYED = re.compile("[\x7f-\x9f\u061c\u200e\u200f\u202a-\u202e\u2066-\u2069]")
+
+
+def without_obeyed(text):
+    """The text with escapes for what a terminal obeys."""
+    return OBEYED.sub(lambda found: f"\\u{ord(found[0]):04x}", text)
+
+
+def prints_document(program, value, name, limit=None):
+    """`show --json` prints the value, and as Python writes it but for what a terminal obeys."""
+    status, out, errors = program.run("show", "--json", name, limit=limit)
     equals((status, errors), (DONE, ""), name)
     bytes_ = out.encode("latin-1")
     equals(json.loads(bytes_), value, name)
     text = json.dumps(value, separators=(",", ":"), ensure_ascii=False, sort_keys=True)
-    equals(bytes_, text.encode() + b"\n", name)
+    equals(bytes_, without_obeyed(text).encode() + b"\n", name)
 
 
 @test
@@ -121,8 +131,13 @@ NAMES = (
     (b"", '""'),
     (b'"\\/', '"\\"\\\\/"'),
     (bytes(range(1, 16)), '"\\u0001\\u0002\\u0003\\u0004\\u0005\\u0006\\u0007\\b\\t\\n\\u000b\\f\\r\\u000e\\u000f"'),
-    (b"\x10\x1a\x1f \x7f", '"\\u0010\\u001a\\u001f \x7f"'),
-    ("\x80\xe9\u0800\u2028\uffff\U00010000\U0010ffff".encode(), '"\x80\xe9\u0800\u2028\uffff\U00010000\U0010ffff"'),
+    (b"\x10\x1a\x1f ~\x7f", '"\\u0010\\u001a\\u001f ~\\u007f"'),
+    ("\x80\x9f\xa0\xe9\u0800\u2028\uffff\U00010000\U0010ffff".encode(), '"\\u0080\\u009f\xa0\xe9\u0800\u2028\uffff\U00010000\U0010ffff"'),
+    # What turns the direction of text, and the characters beside it.
+    ("\u061b\u061c\u061d".encode(), '"\u061b\\u061c\u061d"'),
+    ("\u200d\u200e\u200f\u2010".encode(), '"\u200d\\u200e\\u200f\u2010"'),
+    ("\u2029\u202a\u202e\u202f".encode(), '"\u2029\\u202a\\u202e\u202f"'),
+    ("\u2065\u2066\u2069\u206a".encode(), '"\u2065\\u2066\\u2069\u206a"'),
     (b"\xff", "[255]"),
     (b"caf\xe9", "[99,97,102,233]"),
     (b"a\xe2\x82", "[97,226,130]"),
@@ -158,5 +173,9 @@ def a_document_is_as_long_as_it_must_be(program):
     prints_document(program, load_value([[Hunk(DATA, [])] * hunks]), "most")
     with open("/dev/full", "wb") as full:
         program.fails(DEVICE, "output: write failed", "show", "--json", "most", stdout=full)
-    # It is made whole before any of it is printed.
-    program.fails(NO_MEMORY, "out of memory", "show", "--json", "most", limit=LITTLE_MEMORY)
+    # It is printed piece by piece, so it may be longer than there is memory.
+    name = b"n" * 16384
+    hunk = Hunk(CODE, [0] * 4096)
+    hunk.sites = [(4 * number, name) for number in range(4096)]
+    program.write("long.o", model.object_file([[hunk]]))
+    prints_document(program, object_value([[hunk]]), "long.o", limit=LITTLE_MEMORY)
