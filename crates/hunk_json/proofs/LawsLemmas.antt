@@ -1,10 +1,10 @@
 -- No byte of a document in a page is a less-than sign.
-use Rattle.std.proofs.Common.{◌≡◌, ◌≢◌, ◌∙◌, ℕ, ◌/◌, ◌%◌, ◌<◌, ◌≤◌, ◌==◌, List, [], ◌∷◌, ◌++◌, Bool, true, false, ◌||◌, ◌&&◌, not, length, get_or, slice_index, inl, inr, refl, subst, sym, arith}
+use Rattle.std.proofs.Common.{◌≡◌, ◌≢◌, ℕ, ◌/◌, ◌%◌, ◌==◌, List, [], ◌∷◌, false, ◌||◌, slice_index, inl, inr, refl, subst, sym, arith}
 use Rattle.std.specs.Char.{encode_utf8}
 use Rattle.std.specs.Int.{bytes_high_first}
 use Rattle.std.specs.List.{All, flat_map}
 use Rattle.std.specs.Str.{chars}
-use Rattle.std.proofs.lemmas.Bool.{agree_below, agree_below_at, cases_lt, cond_both, eqb-false, or_parts}
+use Rattle.std.proofs.lemmas.Bool.{agree_below_at, cases_lt, cond_both, eqb-false, or_parts}
 use Rattle.std.proofs.lemmas.List.{get_or_past}
 use Rattle.std.proofs.lemmas.List.Elements.{All-append, All-cons, All-from_get_or, All-nil}
 use Rattle.std.proofs.lemmas.Str.{encode_ascii}

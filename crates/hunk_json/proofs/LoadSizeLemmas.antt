@@ -1,5 +1,5 @@
 -- How many bytes the document of a load file has.
-use Rattle.std.proofs.Common.{ℕ, ◌+◌, ◌*◌, ◌/◌, ◌^◌, ◌<◌, ◌≤◌, List, length, sum_by, arith}
+use Rattle.std.proofs.Common.{ℕ, ◌+◌, ◌*◌, ◌/◌, ◌≤◌, List, length, sum_by, arith}
 use Rattle.std.proofs.lemmas.List.{length-append}
 use Rattle.json.specs.Print.{escape_byte}
 use Rattle.hunk_base.specs.Longwords.{longwords}
