@@ -120,6 +120,10 @@ meaning_json name (Absolute value) = stands_for_json name true value
 abbrev pub definition_json : List ℕ × Definition → Data
 definition_json definition = meaning_json definition.0 definition.1
 
+-- the sites of a hunk
+abbrev pub sites_json : ObjectHunk → Data
+sites_json hunk = listed (site_json hunk.references) hunk.sites.entries
+
 abbrev pub unit_hunk_json : JsonForm → ObjectHunk → Data
 unit_hunk_json form hunk = named (
     (codes "debugs", listed debug_json hunk.debugs)
@@ -127,7 +131,7 @@ unit_hunk_json form hunk = named (
     ∷ (codes "kind", kind_json hunk.kind)
     ∷ (codes "memory", memory_json hunk.memory)
     ∷ (codes "name", name_json hunk.name)
-    ∷ (codes "sites", listed (site_json hunk.references) hunk.sites.entries)
+    ∷ (codes "sites", sites_json hunk)
     ∷ (codes "size", natural hunk.size)
     ∷ content_members form hunk.content
     ++ (codes "symbols", listed symbol_json hunk.symbols)

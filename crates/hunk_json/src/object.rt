@@ -5,7 +5,7 @@ ghost use Rattle.serde_json.specs.Data.{boolean};
 ghost use Rattle.serde_json.specs.Written.{compact_text};
 ghost use Rattle.hunk_base.specs.Text.{Puts};
 ghost use Rattle.hunk_json.specs.Document.{document};
-ghost use Rattle.hunk_json.specs.FileJson.{adds_json, definition_json, listed, object_json, site_json, stands_for_json, unit_hunk_json, unit_json};
+ghost use Rattle.hunk_json.specs.FileJson.{adds_json, definition_json, object_json, sites_json, stands_for_json, unit_hunk_json, unit_json};
 
 use crate::content::write_content;
 use crate::document::{WriteJson, write_comma, write_list};
@@ -73,7 +73,7 @@ fn write_sites<A: Allocator + Copy, W: Sink>(
     form: JsonForm,
     hunk: &UnitHunk<A>,
 )
-    ensures { Puts W.taken W.failed text.old text.new (document form (listed (site_json hunk.now.references) hunk.now.sites.entries)) }
+    ensures { Puts W.taken W.failed text.old text.new (document form (sites_json hunk.now)) }
 {
     let references = hunk.references();
     text.put(b"[");
