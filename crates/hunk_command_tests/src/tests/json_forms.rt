@@ -134,7 +134,8 @@ static CONTENTS: [(&[u32], &str); 6] = [
 
 // An object file of one hunk with this content.
 fn object_words(alloc: Global, content: &[u32]) -> Result<Vec<u32>, Fail> {
-    let mut words = vec![in alloc; 0x3E7, 0, 0x3EA, content.len() as u32]?;
+    let size = u32::try_from(content.len()).ok().ok_or("too long")?;
+    let mut words = vec![in alloc; 0x3E7, 0, 0x3EA, size]?;
     words.extend_from_slice(content)?;
     words.push(0x3F2)?;
     Ok(words)
@@ -151,8 +152,9 @@ fn object_text(alloc: Global, size: usize, content: &str) -> Result<String, Fail
 
 // A load file of one hunk with this content, and one more longword of memory.
 fn load_words(alloc: Global, content: &[u32]) -> Result<Vec<u32>, Fail> {
-    let stored = content.len() as u32;
-    let mut words = vec![in alloc; 0x3F3, 0, 1, 0, 0, stored + 1, 0x3EA, stored]?;
+    let stored = u32::try_from(content.len()).ok().ok_or("too long")?;
+    let size = stored.saturating_add(1);
+    let mut words = vec![in alloc; 0x3F3, 0, 1, 0, 0, size, 0x3EA, stored]?;
     words.extend_from_slice(content)?;
     words.push(0x3F2)?;
     Ok(words)
@@ -160,7 +162,7 @@ fn load_words(alloc: Global, content: &[u32]) -> Result<Vec<u32>, Fail> {
 
 // What is told of it.
 fn load_text(alloc: Global, stored: usize, content: &str) -> Result<String, Fail> {
-    let size = stored + 1;
+    let size = stored.saturating_add(1);
     Ok(format!(in alloc;
         "{{\"hunks\":[{{\"debugs\":[],\"kind\":\"data\",\"memory\":\"any\",\"sites\":[],\
          \"size\":{size},\"stored\":{stored}{content},\"symbols\":[]}}],\"kind\":\"load file\"}}"

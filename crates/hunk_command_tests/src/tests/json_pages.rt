@@ -41,22 +41,24 @@ fn taken(
     Ok(writer.bytes().to_vec(alloc)?)
 }
 
-// Where the document begins in its page.
-fn start_of(page: &[u8], document: &str) -> Result<usize, Fail> {
-    let starts = page
-        .windows(document.len())
-        .position(|part| part == document.as_bytes());
-    Ok(starts.ok_or("no document")?)
+// What stands before the document in its page, and behind it.
+fn around<'p>(page: &'p [u8], document: &str) -> Result<(&'p [u8], &'p [u8]), Fail> {
+    for start in 0..page.len() {
+        if let Some(behind) = page[start..].strip_prefix(document.as_bytes()) {
+            return Ok((&page[..start], behind));
+        }
+    }
+    Err("no document")?
 }
 
 #[test]
 fn has_the_document_of_a_file(rt: HostRuntime) -> Result<(), Fail> {
     let alloc = rt.alloc();
     let page = taken(&rt, alloc, &UNNAMED, ENOUGH, Ok(()))?;
-    let start = start_of(&page, UNNAMED_TEXT)?;
-    let mut wanted = page[..start].to_vec(alloc)?;
+    let (before, behind) = around(&page, UNNAMED_TEXT)?;
+    let mut wanted = before.to_vec(alloc)?;
     wanted.extend_from_slice(TAG_TEXT.as_bytes())?;
-    wanted.extend_from_slice(&page[start + UNNAMED_TEXT.len()..])?;
+    wanted.extend_from_slice(behind)?;
     let page = taken(&rt, alloc, &TAG, ENOUGH, Ok(()))?;
     equals_at(&rt, &"page", page.as_slice(), wanted.as_slice());
     Ok(())
@@ -76,16 +78,26 @@ fn refuses_what_is_no_file(rt: HostRuntime) -> Result<(), Fail> {
     Ok(())
 }
 
+// A writer with room for this many bytes takes so many of this page.
+fn takes_front(rt: &impl Abort, alloc: Global, page: &[u8], room: usize) -> Result<(), Fail> {
+    let written = room as u64;
+    let front = taken(rt, alloc, &TAG, room, Err(ToolFault::Output { written }))?;
+    let wanted = page.get(..room).ok_or("a shorter page")?;
+    equals_at(rt, &room, front.as_slice(), wanted);
+    Ok(())
+}
+
 #[test]
 fn tells_what_a_writer_took(rt: HostRuntime) -> Result<(), Fail> {
     let alloc = rt.alloc();
     let page = taken(&rt, alloc, &TAG, ENOUGH, Ok(()))?;
-    let start = start_of(&page, TAG_TEXT)?;
-    let around = start.saturating_sub(1)..start + TAG_TEXT.len() + 2;
-    for room in [0, 1, page.len() - 1].into_iter().chain(around) {
-        let written = room as u64;
-        let front = taken(&rt, alloc, &TAG, room, Err(ToolFault::Output { written }))?;
-        equals_at(&rt, &room, front.as_slice(), &page[..room]);
+    let (before, behind) = around(&page, TAG_TEXT)?;
+    let end = page.len().saturating_sub(behind.len());
+    for room in before.len().saturating_sub(1)..end.saturating_add(2) {
+        takes_front(&rt, alloc, &page, room)?;
+    }
+    for room in [0, 1, page.len().saturating_sub(1)] {
+        takes_front(&rt, alloc, &page, room)?;
     }
     Ok(())
 }
