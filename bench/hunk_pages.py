@@ -1,6 +1,6 @@
 """Pages that show hunk files, and the model files that they show.
 
-A document is made of the model's values, as `amihunk show --json --content` writes it of their files.
+A document is made of the model's values, as `page_run` of hunk_json writes it of their files.
 """
 import base64
 import json

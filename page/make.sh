@@ -1,5 +1,5 @@
 #!/usr/bin/env bash
-# Makes head.html and tail.html, between which `amihunk show --html` writes the document of a file, of page.html, style.css and
+# Makes head.html and tail.html, between which `page_run` of hunk_json writes the document of a file, of page.html, style.css and
 # the scripts here.
 #
 #     page/make.sh            writes both
