@@ -4,6 +4,8 @@ use Rattle.std.proofs.Common.{◌≡◌, ◌∙◌, ℕ, zero, suc, ◌+◌, ◌
 use Rattle.std.specs.Io.KnownBytes.{Appends}
 use Rattle.std.proofs.KnownBytes.{Appends-trans}
 use Rattle.std.proofs.lemmas.List.{get_or-map, length-map}
+use Rattle.std.proofs.lemmas.List.Elements.{All-cons, All-head, All-tail}
+use Rattle.std.specs.List.{zip}
 use Rattle.hunk_base.specs.Streams.{HasRead}
 use Rattle.hunk_words.specs.declared.event.FileKind.{FileKind}
 use Rattle.hunk_words.specs.declared.event.FileKind.TheVariants as kind_is
@@ -12,8 +14,9 @@ use Rattle.hunk_files.specs.Counters.{CountsLoad, CountsObject, header_hunks, hu
 use Rattle.hunk_files.specs.FileDecoder.{IsFileOf}
 use Rattle.hunk_files.specs.FileValue.{kind_of_bytes}
 use Rattle.hunk_files.specs.FileValue.FileValue.{load_file, object_file}
+use Rattle.hunk_tool.specs.FileSystem.{FileContent}
 use Rattle.hunk_tool.specs.Inputs.{file_names}
-use Rattle.hunk_tool.specs.Survey.{IsFoundIn, finding_line, finding_lines}
+use Rattle.hunk_tool.specs.Survey.{AreOfFiles, IsFoundIn, IsOfFile, finding_line, finding_lines}
 use Rattle.hunk_files.specs.declared.counters.LoadCounter.{LoadCounter}
 use Rattle.hunk_files.specs.declared.counters.ObjectCounter.{ObjectCounter}
 use Rattle.hunk_files.specs.declared.file_decoder.File.TheVariants as file
@@ -79,3 +82,30 @@ written-more files none findings finding index before between now is within fron
     let both = Appends-trans before between now (finding_lines (take index (file_names files)) findings) (finding_line (get_or files index none).now finding) front next in
     subst (λ count. Appends before now (finding_lines (take count (file_names files)) (findings ++ finding ∷ []))) one
     (subst (Appends before now) (sym (more ∙ ap (λ it. finding_lines (take index (file_names files)) findings ++ finding_line it finding) here)) both)
+
+-- ---- what is found
+
+-- the findings so far are of their files, and the next one is of its file
+findings-more : (content : List ℕ → FileContent) (names : List (List ℕ)) (findings : List Finding) (finding : Finding) (index : ℕ) → length findings ≡ index → index < length names
+    → AreOfFiles content (take index names) findings → IsOfFile (content (get_or names index [])) finding
+    → AreOfFiles content (take (suc index) names) (findings ++ finding ∷ [])
+findings-more content [] findings finding index is within front next = absurd (omega (arith, within))
+findings-more content (name ∷ names) [] finding zero is within front next = All-cons (λ about. IsOfFile (content about.0) about.1) (name, finding) [] next front
+findings-more content (name ∷ names) [] finding (suc index) is within front next = absurd (omega (arith, is))
+findings-more content (name ∷ names) (found ∷ rest) finding zero is within front next = absurd (omega (arith, is))
+findings-more content (name ∷ names) (found ∷ rest) finding (suc index) is within front next =
+    let Holds : List ℕ × Finding → Type 0 = λ about. IsOfFile (content about.0) about.1 in
+    All-cons Holds (name, found) (zip (take (suc index) names) (rest ++ finding ∷ [])) (All-head Holds (name, found) (zip (take index names) rest) front)
+    (findings-more content names rest finding index (omega (arith, is)) (omega (arith, within)) (All-tail Holds (name, found) (zip (take index names) rest) front) next)
+
+pub AreOfFiles-more : (content : List ℕ → FileContent) (files : List (Bor (List ℕ))) (none : Bor (List ℕ)) (findings : List Finding) (finding : Finding) (index : ℕ)
+    → length findings ≡ index → index < length files
+    → AreOfFiles content (take index (file_names files)) findings → IsOfFile (content (get_or files index none).now) finding
+    → AreOfFiles content (take (index + 1) (file_names files)) (findings ++ finding ∷ [])
+AreOfFiles-more content files none findings finding index is within front next =
+    let name : Bor (List ℕ) → List ℕ = λ file. file.now in
+    let here : get_or (file_names files) index [] ≡ (get_or files index none).now = get_or-map name files index none [] within in
+    let one : suc index ≡ index + 1 = omega arith in
+    subst (λ count. AreOfFiles content (take count (file_names files)) (findings ++ finding ∷ [])) one
+    (findings-more content (file_names files) findings finding index is (omega (arith, within, length-map files name)) front
+    (subst (λ it. IsOfFile (content it) finding) (sym here) next))

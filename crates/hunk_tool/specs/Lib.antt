@@ -6,6 +6,7 @@ pub mod ToolFault
 pub mod FileText
 pub mod Check
 pub mod Show
+pub mod FileSystem
 pub mod Survey
 pub mod Direct
 pub mod Inputs

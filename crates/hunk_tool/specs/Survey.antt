@@ -8,6 +8,7 @@ use Rattle.hunk_objects.specs.ProgramUnit.{hunk_count}
 use Rattle.hunk_text.specs.Listing.{load_line, object_line}
 use Rattle.hunk_base.specs.Text.{line}
 use Rattle.hunk_tool.specs.FaultLine.{reason_text}
+use Rattle.hunk_tool.specs.FileSystem.{FileContent, MayBeMissing, OfFile}
 use Rattle.hunk_files.specs.FileDecoder.{IsRefused}
 use Rattle.hunk_files.specs.FileValue.{FileValue, IsOfItsKind}
 use Rattle.hunk_files.specs.FileValue.FileValue.{object_file, load_file}
@@ -37,17 +38,11 @@ IsFound left left_then failed ended Unread = IsTrue failed
 IsFound left left_then failed ended Unopened = ⊥
 IsFound left left_then failed ended finding = IsTrue ended × HasRead left left_then (IsFoundIn finding)
 
--- this is found of what some reader has
-pub record IsOfReader (finding : Finding) : Type 0 where
-  pub left : Option (List ℕ)
-  pub left_then : Option (List ℕ)
-  pub failed : Bool
-  pub ended : Bool
-  pub found : IsFound left left_then failed ended finding
-
--- this is found of some file
-abbrev pub IsOfFile : Finding → Type 0
-IsOfFile finding = (finding ≡ Unopened) ⊎ IsOfReader finding
+-- this is found of the file of which this is known
+abbrev pub IsOfFile : FileContent → Finding → Type 0
+IsOfFile content finding =
+    ((finding ≡ Unopened) × MayBeMissing content)
+    ⊎ OfFile content (λ input. IsFound input.left input.left_then input.failed input.ended finding)
 
 -- ---- the line about a file
 
@@ -68,11 +63,15 @@ finding_line name finding = name ++ codes ": " ++ finding_text finding
 abbrev pub finding_lines : (names : List (List ℕ)) → List Finding → List ℕ
 finding_lines names findings = flat_map (λ about. finding_line about.0 about.1) (zip names findings)
 
+-- each of these is found of the file with the name in the same place
+abbrev pub AreOfFiles : (content : List ℕ → FileContent) → (names : List (List ℕ)) → List Finding → Type 0
+AreOfFiles content names findings = All (λ about. IsOfFile (content about.0) about.1) (zip names findings)
+
 -- these are the findings of the files with these names, one for each, and the lines about them were
 -- written
-pub record AreFound (names : List (List ℕ)) (old new : Option (List ℕ)) (findings : List Finding) : Type 0 where
+pub record AreFound (content : List ℕ → FileContent) (names : List (List ℕ)) (old new : Option (List ℕ)) (findings : List Finding) : Type 0 where
   pub one_each : length findings ≡ length names
-  pub of_files : All IsOfFile findings
+  pub of_files : AreOfFiles content names findings
   pub written : Appends old new (finding_lines names findings)
 
 -- why the lines were not all written, where this says whether a write of the writer failed before

@@ -58,7 +58,7 @@ pub use compare::compare_run;
 pub use copy::{CopyForm, copy_run};
 pub use fault_line::write_fault;
 pub use file_name::FileName;
-pub use file_system::FileSystem;
+pub use file_system::{FileSystem, OpenFault};
 pub use hunk_files::{
     CountedFile, Explanation, File, Found, HunkFile, HunkFileDecoder, LoadCounter, ObjectCounter,
     count_file, explain_file, explain_load, explain_object, read_hunk_file, write_explanation,

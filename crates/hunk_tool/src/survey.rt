@@ -115,7 +115,7 @@ pub fn survey_files<A: Allocator + Copy, S: FileSystem, W: Sink>(
     names: &[&str],
     writer: &mut W,
 ) -> Result<Vec<Finding, A>, SurveyFault>
-    ensures ok { IfOk result (λ findings. AreFound (file_names names.now) (W.taken writer.old) (W.taken writer.new) findings.items) }
+    ensures ok { IfOk result (λ findings. AreFound (S.content system.now) (file_names names.now) (W.taken writer.old) (W.taken writer.new) findings.items) }
     ensures err { IfErr result (IsSurveyFault (W.failed writer.old) (W.failed writer.new)) }
 {
     let mut findings = Vec::new(alloc);
@@ -139,11 +139,11 @@ fn finding_of<A: Allocator + Copy, S: FileSystem>(
     system: &S,
     name: &str,
 ) -> Result<Finding, AllocError>
-    ensures { IfOk result IsOfFile }
+    ensures { IfOk result (IsOfFile (S.content system.now name.now)) }
 {
     match system.open(name) {
-        Some(mut file) => survey_file(alloc, &mut file),
-        None => Ok(Finding::Unopened),
+        Ok(mut file) => survey_file(alloc, &mut file),
+        Err(_) => Ok(Finding::Unopened),
     }
 }
 

@@ -4,10 +4,10 @@ use super::asserts::{equals, equals_at, holds};
 use hunk_test_support::words::{ASSEMBLED, LINKED_ALONE};
 use hunk_test_support::{CHUNKS, Refusing, bytes_of};
 use hunk_tool::{
-    FileSystem, Finding, SurveyFault, survey_file, survey_files, survey_status, write_finding,
-    write_totals,
+    FileSystem, Finding, OpenFault, SurveyFault, survey_file, survey_files, survey_status,
+    write_finding, write_totals,
 };
-use hunk_words::{Fault, Pieces, Reason, Room, Text, WriteFault};
+use hunk_words::{DeviceFault, Fault, Pieces, Reason, Room, Source, Text, WriteFault};
 use std::alloc::{AllocError, Global};
 use std::process::Abort;
 use std::test::Fail;
@@ -193,6 +193,34 @@ fn tells_the_status_of_a_survey(rt: HostRuntime) {
     }
 }
 
+// A reader of whose bytes nothing is known.
+#[derive(Drop)]
+struct Unknown<R> {
+    reader: R,
+}
+
+impl<R: Source> Source for Unknown<R> {
+    ghost use Rattle.std.specs.Prelude.{None};
+
+    ghost left = { λ unknown. None };
+
+    ghost failed = { λ unknown. R.failed unknown.reader };
+
+    ghost ended = { λ unknown. R.ended unknown.reader };
+
+    fn read(&mut self, buffer: &mut [u8]) -> Result<usize, DeviceFault> {
+        self.reader.read(buffer)
+    }
+
+    fn failed(&self) -> bool {
+        self.reader.failed()
+    }
+
+    fn ended(&self) -> bool {
+        self.reader.ended()
+    }
+}
+
 // A few files in memory, of which one cannot be read.
 #[derive(Drop)]
 struct Shelf {
@@ -200,19 +228,29 @@ struct Shelf {
 }
 
 impl FileSystem for Shelf {
-    type File = Pieces<Global>;
+    ghost use Rattle.hunk_tool.specs.FileSystem.FileContent.{unknown};
 
-    fn open(&self, name: &str) -> Option<Pieces<Global>> {
+    ghost content = { λ shelf name. unknown };
+
+    type File = Unknown<Pieces<Global>>;
+
+    fn open(&self, name: &str) -> Result<Unknown<Pieces<Global>>, OpenFault> {
         let (words, fails_at): (&[u32], _) = match name {
             "a.o" => (&ASSEMBLED, None),
             "ls" => (&LINKED_ALONE, None),
             "x" => (&[0x7F45_4C46], None),
             "bad" => (&ASSEMBLED, Some(0)),
-            _ => return None,
+            _ => return Err(OpenFault::NotFound),
         };
-        let bytes = bytes_of(self.alloc, words, &[]).ok()?;
-        Some(Pieces::new(bytes, 64, fails_at))
+        match bytes_of(self.alloc, words, &[]) {
+            Ok(bytes) => Ok(Unknown {
+                reader: Pieces::new(bytes, 64, fails_at),
+            }),
+            Err(_) => Err(OpenFault::Unknown),
+        }
     }
+
+    ghost at_end = { λ file ended. tt };
 }
 
 // The files that are surveyed, and what is found of them.

@@ -2,9 +2,7 @@
 use Rattle.std.proofs.Common.{[], ◌∷◌, ◌∙◌, arith, rules}
 use Rattle.std.proofs.lemmas.Grind.{common_steps}
 use Rattle.std.proofs.lemmas.List.{length-append}
-use Rattle.std.proofs.lemmas.List.Elements.{All-append, All-cons, All-nil}
-use Rattle.hunk_tool.specs.Survey.{IsOfFile}
-use Rattle.hunk_tool.proofs.SurveyLemmas.{written-more}
+use Rattle.hunk_tool.proofs.SurveyLemmas.{AreOfFiles-more, written-more}
 use Rattle.hunk_tool.proofs.survey.survey_files.Goals as goal
 
 pub loop-name-preserved : goal.loop-name-preserved
@@ -15,7 +13,7 @@ loop-name-preserved g c =
     rw c.in-Ok-push.ensures.items
     (record {
       one_each = omega (arith, kept.one_each, length-append before (found ∷ []));
-      of_files = All-append IsOfFile before (found ∷ []) kept.of_files (All-cons IsOfFile found [] c.in-Ok.ensures (All-nil IsOfFile));
+      of_files = AreOfFiles-more (g.S.FileSystem.content c.args.system.now) c.args.names.now _ before found c.loop-name.name-index kept.one_each c.loop-name-test.true kept.of_files c.in-Ok.ensures;
       written = written-more c.args.names.now _ before found c.loop-name.name-index _ _ _ kept.one_each c.loop-name-test.true kept.written c.in-Ok-write_about.ensures.wrote.0;
       same_failed = c.in-Ok-write_about.ensures.wrote.1 ∙ kept.same_failed;
     })
