@@ -1,6 +1,7 @@
 //! Contents that are compared while they come, in runs.
 
-use super::compared::{Devices, WHOLE, is_compared};
+use super::compared::is_compared;
+use super::devices::{Devices, WHOLE};
 use hunk_test_support::{ROOM, bytes_of};
 use std::alloc::Global;
 use std::process::Abort;
@@ -86,7 +87,8 @@ static ROWS: [(usize, &[u32], &str, &str); 10] = [
 // The bytes of a file with so many longwords of the content, and then these.
 fn file_with(alloc: Global, count: usize, more: &[u32]) -> Result<Vec<u8>, Fail> {
     let mut words = FRONT.to_vec(alloc)?;
-    words.push(count.saturating_add(more.len()) as u32)?;
+    let size = u32::try_from(count.saturating_add(more.len()));
+    words.push(size.ok().ok_or("too many longwords")?)?;
     words.extend_from_slice(CONTENT.get(..count).ok_or("no such place")?)?;
     words.extend_from_slice(more)?;
     words.push(0x3F2)?;
