@@ -1,77 +1,87 @@
 -- The status after the plain forms, and where memory ran out.
 use Rattle.std.proofs.Common.{◌∷◌, [], Bool, inl, inr, List, Option, refl, subst, ℕ}
 use Rattle.std.specs.Prelude.{⊤}
-use Rattle.hunk_commands.specs.Request.{Ends, EndsCompare, EndsCopy, EndsImage, EndsLink, EndsLoad, EndsSurvey, EndsText, EndsVersion, NoMore, shown}
+use Rattle.hunk_commands.specs.Request.{Ends, EndsCompare, EndsCopy, EndsImage, EndsLink, EndsLoad, EndsSurvey, EndsText, EndsVersion, NoMore, OrExhausted, OrUntouched, Reads, Replaces, Run, shown}
 use Rattle.hunk_commands.specs.Compare.{IsCompareFailure}
 use Rattle.hunk_commands.specs.Copy.{IsCopyFailure}
-use Rattle.hunk_commands.specs.Devices.{IsCutShort}
 use Rattle.hunk_commands.specs.Explain.{AreImageLines, AreLinkLines, AreLoadFileLines, AreLoadLines, AreTextLines, IfAsked}
 use Rattle.hunk_commands.specs.Failure.{status_of_comparison}
 use Rattle.hunk_commands.specs.Image.{IsImageFailure}
 use Rattle.hunk_commands.specs.Link.{IsUndone}
 use Rattle.hunk_commands.specs.Load.{IsLoadFailure}
 use Rattle.hunk_commands.specs.Text.{IsTextFailure}
-use Rattle.hunk_commands.specs.Version.{IsVersionFailure}
+use Rattle.hunk_commands.specs.Output.{IsUnprinted}
+use Rattle.hunk_commands.specs.Store.{AreUnchanged}
+use Rattle.hunk_commands.specs.Survey.{IsCutShort}
 use Rattle.hunk_tool.specs.declared.tool_fault.ToolFault.TheVariants as tool_fault
 use Rattle.hunk_commands.specs.declared.failure.Failure.TheVariants.{Tool}
 use Rattle.hunk_commands.specs.declared.text.Text.{Text}
 use Rattle.hunk_commands.specs.declared.text.Text.TheVariants.{Line}
 use Rattle.hunk_commands.specs.declared.request.Request.{Request}
 use Rattle.hunk_commands.specs.declared.request.Request.TheVariants.{Load, Link, Image, Check, Show, Survey, Copy, Compare, Version, Help, Refused, OutOfMemory}
-use Rattle.hunk_commands.proofs.LinkLemmas.{IsUndone-memory}
 use Rattle.hunk_commands.proofs.RequestLemmas.{fails_with, not_begun}
 use Rattle.amihunk.specs.CommandLine.{Call, Meaning, Means}
 use Rattle.amihunk.specs.CommandLine.Meaning.{calls, help, nothing, rejection, version}
 use Rattle.amihunk.specs.CommandLine.Call.{conflict, to_check, to_compare, to_copy, to_image, to_link, to_load, to_show, to_survey}
 
-module _ {W : Type 0} (taken : W → Option (List ℕ)) (failed : W → Bool) (old new : W) where
+module _ {W : Type 0} (run : Run) (taken : W → Option (List ℕ)) (failed : W → Bool) (old new : W) where
   -- the status after a call; a conflict has none
   abbrev pub EndsCall : Call → ℕ → Type 0
-  EndsCall (to_link out map options explain files) status = EndsLink taken failed old new out map options explain files status
-  EndsCall (to_load origin text explain file) status = EndsLoad taken failed old new origin text explain file status
-  EndsCall (to_image origin form explain files) status = EndsImage taken failed old new origin form explain files status
-  EndsCall (to_check explain file) status = EndsText taken failed old new Line explain file status
-  EndsCall (to_show json explain file) status = EndsText taken failed old new (shown json) explain file status
-  EndsCall (to_survey files) status = EndsSurvey taken failed old new files status
-  EndsCall (to_copy out form explain file) status = EndsCopy taken failed old new out form explain file status
-  EndsCall (to_compare with_symbols first second) status = EndsCompare taken failed old new with_symbols first second status
-  EndsCall conflict status = Ends taken failed old new OutOfMemory status
+  EndsCall (to_link out map options explain files) status = Replaces run (λ contents contents_then. EndsLink contents contents_then taken failed old new out map options explain files status)
+  EndsCall (to_load origin text explain file) status = Reads run (λ contents printed. EndsLoad contents printed taken failed old new origin text explain file status)
+  EndsCall (to_image origin form explain files) status = Reads run (λ contents printed. EndsImage contents printed taken failed old new origin form explain files status)
+  EndsCall (to_check explain file) status = Reads run (λ contents printed. EndsText contents printed taken failed old new Line explain file status)
+  EndsCall (to_show json explain file) status = Reads run (λ contents printed. EndsText contents printed taken failed old new (shown json) explain file status)
+  EndsCall (to_survey files) status = Reads run (λ contents printed. EndsSurvey contents printed taken failed old new files status)
+  EndsCall (to_copy out form explain file) status = Replaces run (λ contents contents_then. EndsCopy contents contents_then taken failed old new out form explain file status)
+  EndsCall (to_compare with_symbols first second) status = Reads run (λ contents printed. EndsCompare contents printed taken failed old new with_symbols first second status)
+  EndsCall conflict status = Ends run taken failed old new OutOfMemory status
 
   -- the status of a text about FILE where memory ran out
-  ends_text : (text : Text) (explain : Bool) (file : List ℕ) (status : ℕ) → Ends taken failed old new OutOfMemory status → EndsText taken failed old new text explain file status
+  ends_text : (text : Text) (explain : Bool) (file : List ℕ) (status : ℕ) → Ends run taken failed old new OutOfMemory status
+      → Reads run (λ contents printed. EndsText contents printed taken failed old new text explain file status)
   ends_text text explain file status ends =
-      inr (not_begun taken failed (IsTextFailure text file) (IfAsked explain (AreTextLines (file ∷ []))) (file ∷ []) status old new (inl refl) ends)
+      (inr (not_begun taken failed (OrExhausted run.printed (IsTextFailure text run.contents file run.printed)) (IfAsked explain (AreTextLines run.contents (file ∷ []))) (file ∷ []) status old new (inl (refl, ends.2)) ends.0), ends.1)
 
-  ends_memory : (call : Call) (status : ℕ) → Ends taken failed old new OutOfMemory status → EndsCall call status
-  ends_memory (to_link out map options explain files) status ends =
-      inr (not_begun taken failed (IsUndone options files out map) (IfAsked explain (AreLinkLines files)) files status old new (IsUndone-memory options files out map) ends)
+  ends_memory : (call : Call) (status : ℕ) → Ends run taken failed old new OutOfMemory status → EndsCall call status
+  ends_memory (to_link out map options explain files) status ends = (
+    inr (not_begun taken failed (OrUntouched run.contents run.contents_then (IsUndone options run.contents files out map run.contents_then)) (IfAsked explain (AreLinkLines run.contents_then files)) files status old new
+        (inl (refl, ends.1)) ends.0),
+    ends.2,
+  )
   ends_memory (to_load origin text explain file) status ends =
-      inr (not_begun taken failed (IsLoadFailure text origin file) (IfAsked explain (AreLoadLines origin (file ∷ []))) (file ∷ []) status old new (inl refl) ends)
+      (inr (not_begun taken failed (OrExhausted run.printed (IsLoadFailure text run.contents origin file run.printed)) (IfAsked explain (AreLoadLines run.contents origin file)) (file ∷ []) status old new (inl (refl, ends.2)) ends.0), ends.1)
   ends_memory (to_image origin form explain files) status ends =
-      inr (not_begun taken failed (IsImageFailure form origin files) (IfAsked explain (AreImageLines origin files)) files status old new (inl refl) ends)
+      (inr (not_begun taken failed (OrExhausted run.printed (IsImageFailure form run.contents origin files run.printed)) (IfAsked explain (AreImageLines run.contents origin files)) files status old new (inl (refl, ends.2)) ends.0), ends.1)
   ends_memory (to_check explain file) status ends = ends_text Line explain file status ends
   ends_memory (to_show json explain file) status ends = ends_text (shown json) explain file status ends
-  ends_memory (to_survey files) status ends = inr (not_begun taken failed IsCutShort NoMore [] status old new refl ends)
-  ends_memory (to_copy out form explain file) status ends =
-      inr (not_begun taken failed (IsCopyFailure form file out) (IfAsked explain (AreLoadFileLines (file ∷ []))) (file ∷ []) status old new (inr refl) ends)
-  ends_memory (to_compare with_symbols first second) status ends =
-      inr (fails_with status_of_comparison taken failed (IsCompareFailure with_symbols first second) NoMore (first ∷ second ∷ []) status old new (Tool (tool_fault.OutOfMemory 0)) (inl refl) ends.0 ends.1)
+  ends_memory (to_survey files) status ends = (inr (not_begun taken failed (IsCutShort run.printed) NoMore [] status old new refl ends.0), ends.1)
+  ends_memory (to_copy out form explain file) status ends = (
+    inr (not_begun taken failed (OrUntouched run.contents run.contents_then (λ failure. IsCopyFailure form run.contents file out failure × AreUnchanged run.contents run.contents_then))
+        (IfAsked explain (AreLoadFileLines run.contents_then (file ∷ []))) (file ∷ []) status old new (inl (refl, ends.1)) ends.0),
+    ends.2,
+  )
+  ends_memory (to_compare with_symbols first second) status ends = (
+    inr (fails_with status_of_comparison taken failed (OrExhausted run.printed (IsCompareFailure with_symbols run.contents first second run.printed)) NoMore (first ∷ second ∷ []) status old new (Tool (tool_fault.OutOfMemory 0))
+        (inl (refl, ends.2)) ends.0.0 ends.0.1),
+    ends.1,
+  )
   ends_memory conflict status ends = ends
 
   -- the status where this was asked for; of help and rejections nothing is said
   abbrev pub EndsAsked : Meaning → ℕ → Type 0
   EndsAsked (calls call) status = EndsCall call status
-  EndsAsked version status = EndsVersion taken failed old new status
+  EndsAsked version status = Reads run (λ contents printed. EndsVersion printed taken failed old new status)
   EndsAsked _ status = ⊤
 
-  ends_nothing : (m : Meaning) (status : ℕ) → Ends taken failed old new OutOfMemory status → EndsAsked m status
+  ends_nothing : (m : Meaning) (status : ℕ) → Ends run taken failed old new OutOfMemory status → EndsAsked m status
   ends_nothing (calls call) status ends = ends_memory call status ends
-  ends_nothing version status ends = inr (not_begun taken failed IsVersionFailure NoMore [] status old new (inr refl) ends)
+  ends_nothing version status ends = (inr (not_begun taken failed (OrExhausted run.printed (IsUnprinted run.printed)) NoMore [] status old new (inl (refl, ends.2)) ends.0), ends.1)
   ends_nothing help status ends = tt
   ends_nothing rejection status ends = tt
   ends_nothing nothing status ends = tt
 
-  pub ends_asked : (m : Meaning) (request : Request) (status : ℕ) → Means m request → Ends taken failed old new request status → EndsAsked m status
+  pub ends_asked : (m : Meaning) (request : Request) (status : ℕ) → Means m request → Ends run taken failed old new request status → EndsAsked m status
   ends_asked m (Link out map options explain files) status asks ends = subst (λ x. EndsAsked x status) asks ends
   ends_asked m (Load addresses text explain file) status asks ends = subst (λ x. EndsAsked x status) asks ends
   ends_asked m (Image addresses form explain files) status asks ends = subst (λ x. EndsAsked x status) asks ends

@@ -18,9 +18,9 @@ use std::process::ExitCode;
 fn main(rt: HostRuntime) -> ExitCode {
     let has_stack = stack::take(rt.alloc());
     let status = match Lines::new(rt.alloc(), rt.stderr()) {
-        Ok(lines) => program::start(&rt, &mut Watched::new(lines), has_stack),
+        Ok(lines) => program::begin(&rt, &mut Watched::new(lines), has_stack),
         // Lines that may be mixed with those of other programs are better than none.
-        Err(_) => program::start(&rt, &mut Watched::new(rt.stderr()), has_stack),
+        Err(_) => program::begin(&rt, &mut Watched::new(rt.stderr()), has_stack),
     };
     ExitCode::from(status)
 }

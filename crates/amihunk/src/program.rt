@@ -1,88 +1,113 @@
 //! The program: the arguments of the command line, what they ask for, and the exit status.
-ghost use Rattle.std.specs.Prelude.{◌≡◌, ◌<◌, ◌≤◌, ℕ, Bool, List, Option, codes, false, length, map};
+ghost use Rattle.std.specs.Prelude.{◌≡◌, ◌⊎◌, ◌<◌, ◌≤◌, ℕ, Bool, List, Option, codes, false, length, map};
 ghost use Rattle.std.specs.List.{All};
 ghost use Rattle.hunk_memory.specs.declared.image_form.ImageForm.{ImageForm};
 ghost use Rattle.hunk_tool.specs.declared.copy.CopyForm.{CopyForm};
 ghost use Rattle.hunk_tool.specs.declared.link_options.LinkOptions.{LinkOptions};
 ghost use Rattle.hunk_commands.specs.Addresses.{Origin};
 ghost use Rattle.hunk_commands.specs.declared.load.LoadText.{LoadText};
-ghost use Rattle.hunk_commands.specs.Request.{EndsCompare, EndsCopy, EndsImage, EndsLink, EndsLoad, EndsSurvey, EndsText, EndsVersion, shown};
-ghost use Rattle.amihunk.specs.Program.{EndsLine, EndsStart};
+ghost use Rattle.hunk_commands.specs.Request.{EndsCompare, EndsCopy, EndsImage, EndsLink, EndsLoad, EndsSurvey, EndsText, EndsVersion, Reads, Replaces, Run, run_between, shown};
+ghost use Rattle.amihunk.specs.Program.{EndsLine, EndsStart, IsNotBegun};
 ghost use Rattle.amihunk.specs.CommandLine.{IsNoFlag, IsNoFlagIn, IsVersionWord, brief_link_line, compare_line, copy_line, file_line, image_line, link_line, load_line};
 ghost use Rattle.amihunk.specs.CommandLine.{normal_line, show_line, survey_line, text_in, version_line};
 
 use crate::command_line::{read_words, refuse_bytes};
-use hunk_commands::{Request, Text, answer};
+use hunk_commands::{
+    Failure, Output, Printer, Request, Store, System, Text, answer, report_failure,
+};
 use hunk_words::Sink;
+use std::alloc::Global;
 use std::convert::AsStr;
 use std::io::ErrorKind;
 use std::rt::{Env, Files};
 use std::{env, io};
 
-/// Does what the system's command line asks for, if there is the stack for it, and returns the exit
-/// status. Nothing is known of the arguments before they are read.
-pub fn start<R: Env + Files + Print + AllocGlobal, W: Sink>(
+/// Does what the system's command line asks for with the system's files, and prints to the standard output.
+/// Returns the exit status.
+pub fn begin<R: Env + Files + Print + AllocGlobal, W: Sink>(
     rt: &R,
     errors: &mut W,
     has_stack: bool,
 ) -> u8
-    ensures ends { EndsStart W.taken W.failed errors.old errors.new result }
+    ensures begun { ((run : Run) × EndsStart run W.taken W.failed errors.old errors.new result) ⊎ IsNotBegun W.taken W.failed errors.old errors.new result }
     ensures status { result ≤ 4 }
 {
+    match Printer::new(rt.alloc(), io::writer(rt)) {
+        Ok(mut output) => start(rt, &mut System::new(rt), &mut output, errors, has_stack),
+        Err(_) => report_failure(errors, &[], &Failure::out_of_memory()),
+    }
+}
+
+/// Does what the system's command line asks for with the files of `store`, if there is the stack for it, and
+/// returns the exit status. Nothing is known of the arguments before they are read.
+fn start<R: Env + AllocGlobal, S: Store, O: Output, W: Sink>(
+    rt: &R,
+    store: &mut S,
+    output: &mut O,
+    errors: &mut W,
+    has_stack: bool,
+) -> u8
+    ensures ends { EndsStart (run_between S.content O.taken O.failed O.waiting store.old store.new output.old output.new) W.taken W.failed errors.old errors.new result }
+    ensures status { result ≤ 4 }
+{
+    let alloc = rt.alloc();
     if !has_stack {
-        return answer(rt, errors, Request::OutOfMemory);
+        return answer(alloc, store, output, errors, Request::OutOfMemory);
     }
     match words_of(rt) {
-        Ok(words) => run(rt, errors, words.as_slice()),
+        Ok(words) => run(alloc, store, output, errors, words.as_slice()),
         Err(error) if error.kind() == ErrorKind::OutOfMemory => {
-            answer(rt, errors, Request::OutOfMemory)
+            answer(alloc, store, output, errors, Request::OutOfMemory)
         }
-        Err(_) => answer(rt, errors, refuse_bytes(rt.alloc())),
+        Err(_) => answer(alloc, store, output, errors, refuse_bytes(alloc)),
     }
 }
 
 /// Does what the words of a command line ask for, and gives the exit status. The line of what is
 /// refused is appended to `errors`, and what explains it if it is asked for, or a write to it failed.
-pub fn run<R: Files + Print + AllocGlobal, W: Sink, S: AsStr>(
-    rt: &R,
+pub fn run<S: Store, O: Output, W: Sink, T: AsStr>(
+    alloc: Global,
+    store: &mut S,
+    output: &mut O,
     errors: &mut W,
-    words: &[S],
+    words: &[T],
 ) -> u8
-    ensures line { EndsLine W.taken W.failed errors.old errors.new (map S.text words.now) result }
+    ensures line { EndsLine (run_between S.content O.taken O.failed O.waiting store.old store.new output.old output.new) W.taken W.failed errors.old errors.new (map T.text words.now) result }
     ensures link { (program : List ℕ) (options : LinkOptions) (out : List ℕ) (map_file : Option (List ℕ)) (files : List (List ℕ))
-        → map S.text words.now ≡ link_line program options out map_file files
-        → IsNoFlag out → IsNoFlagIn map_file → 0 < length files → All IsNoFlag files → EndsLink W.taken W.failed errors.old errors.new out map_file options false files result }
+        → map T.text words.now ≡ link_line program options out map_file files
+        → IsNoFlag out → IsNoFlagIn map_file → 0 < length files → All IsNoFlag files → Replaces (run_between S.content O.taken O.failed O.waiting store.old store.new output.old output.new) (λ contents contents_then. EndsLink contents contents_then W.taken W.failed errors.old errors.new out map_file options false files result) }
     ensures brief { (program : List ℕ) (options : LinkOptions) (out : List ℕ) (map_file : Option (List ℕ)) (files : List (List ℕ))
-        → map S.text words.now ≡ brief_link_line program options out map_file files
-        → IsNoFlag out → IsNoFlagIn map_file → 0 < length files → All IsNoFlag files → EndsLink W.taken W.failed errors.old errors.new out map_file options false files result }
+        → map T.text words.now ≡ brief_link_line program options out map_file files
+        → IsNoFlag out → IsNoFlagIn map_file → 0 < length files → All IsNoFlag files → Replaces (run_between S.content O.taken O.failed O.waiting store.old store.new output.old output.new) (λ contents contents_then. EndsLink contents contents_then W.taken W.failed errors.old errors.new out map_file options false files result) }
     ensures load { (program : List ℕ) (origin : Origin) (text : LoadText) (file : List ℕ)
-        → map S.text words.now ≡ load_line program origin text file
-        → IsNoFlag (text_in origin) → IsNoFlag file → EndsLoad W.taken W.failed errors.old errors.new origin text false file result }
+        → map T.text words.now ≡ load_line program origin text file
+        → IsNoFlag (text_in origin) → IsNoFlag file → Reads (run_between S.content O.taken O.failed O.waiting store.old store.new output.old output.new) (λ contents printed. EndsLoad contents printed W.taken W.failed errors.old errors.new origin text false file result) }
     ensures image { (program : List ℕ) (origin : Origin) (form : ImageForm) (files : List (List ℕ))
-        → map S.text words.now ≡ image_line program origin form files
-        → IsNoFlag (text_in origin) → 0 < length files → All IsNoFlag files → EndsImage W.taken W.failed errors.old errors.new origin form false files result }
+        → map T.text words.now ≡ image_line program origin form files
+        → IsNoFlag (text_in origin) → 0 < length files → All IsNoFlag files → Reads (run_between S.content O.taken O.failed O.waiting store.old store.new output.old output.new) (λ contents printed. EndsImage contents printed W.taken W.failed errors.old errors.new origin form false files result) }
     ensures check { (program file : List ℕ)
-        → map S.text words.now ≡ file_line program (codes "check") file
-        → IsNoFlag file → EndsText W.taken W.failed errors.old errors.new Text.Line false file result }
+        → map T.text words.now ≡ file_line program (codes "check") file
+        → IsNoFlag file → Reads (run_between S.content O.taken O.failed O.waiting store.old store.new output.old output.new) (λ contents printed. EndsText contents printed W.taken W.failed errors.old errors.new Text.Line false file result) }
     ensures show { (program : List ℕ) (json : Bool) (file : List ℕ)
-        → map S.text words.now ≡ show_line program json file
-        → IsNoFlag file → EndsText W.taken W.failed errors.old errors.new (shown json) false file result }
+        → map T.text words.now ≡ show_line program json file
+        → IsNoFlag file → Reads (run_between S.content O.taken O.failed O.waiting store.old store.new output.old output.new) (λ contents printed. EndsText contents printed W.taken W.failed errors.old errors.new (shown json) false file result) }
     ensures survey { (program : List ℕ) (files : List (List ℕ))
-        → map S.text words.now ≡ survey_line program files
-        → 0 < length files → All IsNoFlag files → EndsSurvey W.taken W.failed errors.old errors.new files result }
+        → map T.text words.now ≡ survey_line program files
+        → 0 < length files → All IsNoFlag files → Reads (run_between S.content O.taken O.failed O.waiting store.old store.new output.old output.new) (λ contents printed. EndsSurvey contents printed W.taken W.failed errors.old errors.new files result) }
     ensures copy { (program : List ℕ) (options : LinkOptions) (out file : List ℕ)
-        → map S.text words.now ≡ copy_line program options out file
-        → IsNoFlag out → IsNoFlag file → EndsCopy W.taken W.failed errors.old errors.new out (CopyForm.Written options) false file result }
+        → map T.text words.now ≡ copy_line program options out file
+        → IsNoFlag out → IsNoFlag file → Replaces (run_between S.content O.taken O.failed O.waiting store.old store.new output.old output.new) (λ contents contents_then. EndsCopy contents contents_then W.taken W.failed errors.old errors.new out (CopyForm.Written options) false file result) }
     ensures normal { (program out file : List ℕ)
-        → map S.text words.now ≡ normal_line program out file
-        → IsNoFlag out → IsNoFlag file → EndsCopy W.taken W.failed errors.old errors.new out CopyForm.Normal false file result }
+        → map T.text words.now ≡ normal_line program out file
+        → IsNoFlag out → IsNoFlag file → Replaces (run_between S.content O.taken O.failed O.waiting store.old store.new output.old output.new) (λ contents contents_then. EndsCopy contents contents_then W.taken W.failed errors.old errors.new out CopyForm.Normal false file result) }
     ensures compare { (program : List ℕ) (with_symbols : Bool) (first second : List ℕ)
-        → map S.text words.now ≡ compare_line program with_symbols first second
-        → IsNoFlag first → IsNoFlag second → EndsCompare W.taken W.failed errors.old errors.new with_symbols first second result }
+        → map T.text words.now ≡ compare_line program with_symbols first second
+        → IsNoFlag first → IsNoFlag second → Reads (run_between S.content O.taken O.failed O.waiting store.old store.new output.old output.new) (λ contents printed. EndsCompare contents printed W.taken W.failed errors.old errors.new with_symbols first second result) }
     ensures version { (program word : List ℕ)
-        → map S.text words.now ≡ version_line program word → IsVersionWord word → EndsVersion W.taken W.failed errors.old errors.new result }
+        → map T.text words.now ≡ version_line program word → IsVersionWord word → Reads (run_between S.content O.taken O.failed O.waiting store.old store.new output.old output.new) (λ contents printed. EndsVersion printed W.taken W.failed errors.old errors.new result) }
 {
-    answer(rt, errors, read_words(rt.alloc(), words))
+    let request = read_words(alloc, words);
+    answer(alloc, store, output, errors, request)
 }
 
 /// The arguments of the command line. One that is not UTF-8 is an error.

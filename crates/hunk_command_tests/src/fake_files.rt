@@ -246,11 +246,19 @@ impl Print for FakeFiles<'_> {
         failed(ErrorKind::Unsupported)
     }
 
-    fn write_all(&self, bytes: &[u8]) -> io::Result<()> {
-        if !self.log.prints.get() {
-            return failed(ErrorKind::Unsupported);
+    fn write_all(&self, _bytes: &[u8]) -> io::Result<()> {
+        failed(ErrorKind::Unsupported)
+    }
+
+    fn write_some(&self, bytes: &[u8]) -> io::Result<usize> {
+        let room = self.log.faults.printable.get();
+        if room == 0 && !bytes.is_empty() {
+            return Err(io::Error::from(ErrorKind::StorageFull));
         }
-        self.log.printed.try_borrow_mut()?.extend_from_slice(bytes)?;
-        Ok(())
+        let count = bytes.len().min(room);
+        let mut printed = self.log.printed.try_borrow_mut()?;
+        printed.extend_from_slice(&bytes[..count])?;
+        self.log.faults.printable.set(room.saturating_sub(count));
+        Ok(count)
     }
 }

@@ -13,6 +13,8 @@ pub struct Faults {
     pub good_reads: Cell<usize>,
     /// How many bytes files and devices take, all together, before a write fails.
     pub room: Cell<usize>,
+    /// How many bytes the standard output takes before a write to it fails.
+    pub printable: Cell<usize>,
     /// Why no new file can be created under a name that no file may have, if none can.
     pub new_file: Cell<Option<ErrorKind>>,
     /// Why no file can be renamed, if none can.
@@ -34,8 +36,6 @@ pub struct Log {
     pub opened: Cell<usize>,
     /// How many reads there were.
     pub reads: Cell<usize>,
-    /// Whether the standard output takes what is printed.
-    pub prints: Cell<bool>,
     /// What was printed.
     pub printed: RefCell<Vec<u8>>,
     /// What was done with files that are written, each in a line of a word and the names.
@@ -52,11 +52,12 @@ pub fn add_one(count: &Cell<usize>) {
 }
 
 impl Faults {
-    // Nothing is to fail.
+    // Nothing is to fail but the first write to the standard output.
     fn none() -> Faults {
         Faults {
             good_reads: Cell::new(usize::MAX),
             room: Cell::new(usize::MAX),
+            printable: Cell::new(0),
             new_file: Cell::new(None),
             rename: Cell::new(None),
             sync: Cell::new(false),
@@ -66,14 +67,13 @@ impl Faults {
 }
 
 impl Log {
-    /// Nothing has been done, and nothing is to fail.
+    /// Nothing has been done, and nothing is to fail but the first write to the standard output.
     pub fn new(alloc: Global) -> Log {
         Log {
             open: Cell::new(0),
             most_open: Cell::new(0),
             opened: Cell::new(0),
             reads: Cell::new(0),
-            prints: Cell::new(false),
             printed: RefCell::new(Vec::new(alloc)),
             events: RefCell::new(String::new(alloc)),
             faults: Faults::none(),

@@ -1,8 +1,8 @@
 //! The files that the tests' file system has from the start, and the names that cannot be opened.
 
 use crate::samples::{
-    CALLEE, CALLER, LOOP, MISTYPED, ONE_HUNK, ONE_SYMBOL, PROGRAM, TRAILING, UNENDED, ZERO_TAIL,
-    ZEROS,
+    CALLEE, CALLER, LOOP, MISTYPED, ONE_HUNK, ONE_SYMBOL, PROGRAM, TRAILING, TRIMMED, UNENDED,
+    ZERO_TAIL, ZEROS,
 };
 use std::fs::Metadata;
 use std::io;
@@ -34,6 +34,7 @@ pub fn find(name: &str, opened: usize) -> Option<(Kind, &'static [u8])> {
         "one-hunk" => Some((Kind::Regular, &ONE_HUNK)),
         "one-symbol" => Some((Kind::Regular, &ONE_SYMBOL)),
         "zero-tail" => Some((Kind::Regular, &ZERO_TAIL)),
+        "trimmed" => Some((Kind::Regular, &TRIMMED)),
         "addresses" => Some((Kind::Regular, b"10000, 20000\r\n")),
         "mistyped" => Some((Kind::Regular, &MISTYPED)),
         "unended" => Some((Kind::Regular, &UNENDED)),

@@ -20,7 +20,9 @@
 //! - `reasons`: why a file cannot be opened or read, after the line of its failure.
 //! - `replacements`: each way in which a load file takes the place of another file.
 //! - `requests`: the status of each request, and the line of its failure.
+//! - `stores`: commands over files in memory.
 //! - `surveys`: what a survey tells of files.
+//! - `systems`: requests and commands over the files of a system.
 //! - `texts`: the texts about a file.
 //! - `versions`: the version of the program.
 
@@ -45,6 +47,8 @@ mod outcomes;
 mod reasons;
 mod replacements;
 mod requests;
+mod stores;
 mod surveys;
+mod systems;
 mod texts;
 mod versions;

@@ -1,25 +1,46 @@
 -- Why addresses are not known.
-use Rattle.std.proofs.Common.{◌≡◌, ap, sym, List, ℕ, IfErr, Result, subst}
+use Rattle.std.proofs.Common.{◌≡◌, refl, sym, List, ℕ, IfErr, Result, subst}
 use Rattle.std.proofs.lemmas.Result.{IfErr-weaker}
+use Rattle.hunk_tool.specs.FileSystem.{IsReaderOf}
 use Rattle.hunk_tool.specs.Inputs.{Input}
-use Rattle.hunk_commands.specs.Addresses.{IsAddressesFailure, IsReadFailure, Origin}
-use Rattle.hunk_commands.specs.Addresses.Origin.{in_file}
+use Rattle.hunk_commands.specs.Addresses.{IsAddressesFailure, IsListFailure, IsReadFailure, Origin}
+use Rattle.hunk_commands.specs.Addresses.Origin.{in_file, in_list}
+use Rattle.hunk_commands.specs.Store.{Contents}
 use Rattle.hunk_commands.specs.declared.failure.Failure.{Failure}
 use Rattle.hunk_commands.specs.declared.failure.Failure.TheVariants.{BadNumber, MapOverFile, Opening, Printing, Reading, SameFile, Tool, Writing}
 
-failure_of_file : (name : List ℕ) (input : Input) (failure : Failure) → IsReadFailure name input failure → IsAddressesFailure (in_file name) failure
-failure_of_file name input (BadNumber found index) why = (why.0, (input, why.1))
-failure_of_file name input (Opening file reason) why = absurd why
-failure_of_file name input (Reading file) why = ap in_file (sym why.0)
-failure_of_file name input (Writing file) why = absurd why
-failure_of_file name input (SameFile file) why = absurd why
-failure_of_file name input (MapOverFile file) why = absurd why
-failure_of_file name input Printing why = absurd why
-failure_of_file name input (Tool fault) why = why
+module _ (contents : Contents) where
+  failure_of_file : (name : List ℕ) (input : Input) (failure : Failure) → IsReaderOf (contents name) input → IsReadFailure name input failure → IsAddressesFailure contents (in_file name) failure
+  failure_of_file name input (BadNumber found index) is_reader why = (why.0, record { input = input; is_reader = is_reader; holds = why.1 })
+  failure_of_file name input (Opening file reason) is_reader why = absurd why
+  failure_of_file name input (Reading file) is_reader why =
+      subst (λ n. IsAddressesFailure contents (in_file n) (Reading file)) why.0
+      (refl, record { input = input; is_reader = subst (λ n. IsReaderOf (contents n) input) (sym why.0) is_reader; holds = why.1 })
+  failure_of_file name input (Writing file) is_reader why = absurd why
+  failure_of_file name input (SameFile file) is_reader why = absurd why
+  failure_of_file name input (MapOverFile file) is_reader why = absurd why
+  failure_of_file name input Printing is_reader why = absurd why
+  failure_of_file name input (Tool fault) is_reader why = why
 
--- the addresses in a file are not known, since its reader stopped
-pub IsAddressesFailure-read : {T : Type 0} (origin : Origin) (name : List ℕ) (input : Input) (r : Result T Failure) → origin ≡ in_file name
-    → IfErr r (IsReadFailure name input) → IfErr r (IsAddressesFailure origin)
-IsAddressesFailure-read origin name input r is why =
-    subst (λ o. IfErr r (IsAddressesFailure o)) (sym is)
-    (IfErr-weaker r (IsReadFailure name input) (IsAddressesFailure (in_file name)) (failure_of_file name input) why)
+  -- the addresses in a file are not known, since its reader stopped
+  pub IsAddressesFailure-read : {T : Type 0} (origin : Origin) (name : List ℕ) (input : Input) (r : Result T Failure) → origin ≡ in_file name → IsReaderOf (contents name) input
+      → IfErr r (IsReadFailure name input) → IfErr r (IsAddressesFailure contents origin)
+  IsAddressesFailure-read origin name input r is is_reader why =
+      subst (λ o. IfErr r (IsAddressesFailure contents o)) (sym is)
+      (IfErr-weaker r (IsReadFailure name input) (IsAddressesFailure contents (in_file name)) (λ failure. failure_of_file name input failure is_reader) why)
+
+  failure_of_list : (list : List ℕ) (failure : Failure) → IsListFailure list failure → IsAddressesFailure contents (in_list list) failure
+  failure_of_list list (BadNumber found index) why = why
+  failure_of_list list (Opening file reason) why = absurd why
+  failure_of_list list (Reading file) why = absurd why
+  failure_of_list list (Writing file) why = absurd why
+  failure_of_list list (SameFile file) why = absurd why
+  failure_of_list list (MapOverFile file) why = absurd why
+  failure_of_list list Printing why = absurd why
+  failure_of_list list (Tool fault) why = why
+
+  -- those in a list are not known
+  pub IsAddressesFailure-list : {T : Type 0} (origin : Origin) (list : List ℕ) (r : Result T Failure) → origin ≡ in_list list → IfErr r (IsListFailure list) → IfErr r (IsAddressesFailure contents origin)
+  IsAddressesFailure-list origin list r is why =
+      subst (λ o. IfErr r (IsAddressesFailure contents o)) (sym is)
+      (IfErr-weaker r (IsListFailure list) (IsAddressesFailure contents (in_list list)) (failure_of_list list) why)

@@ -16,6 +16,7 @@ use Rattle.hunk_files.specs.declared.explanation.Explanation.{Explanation}
 use Rattle.hunk_commands.specs.Addresses.{HaveNumbers, Origin}
 use Rattle.hunk_commands.specs.Explain.{ArePlaceLines, IfAsked, IsMore, IsOffence, TellsMore, sizes_of}
 use Rattle.hunk_commands.specs.Failure.{TellsLine}
+use Rattle.hunk_commands.specs.Store.{Contents}
 use Rattle.hunk_commands.specs.declared.failure.Failure.{Failure}
 use Rattle.hunk_commands.proofs.FaultLemmas.{one_fault}
 
@@ -39,9 +40,9 @@ EndsWith-found (Some e) ended ends = ends
 
 -- ---- hunks beside addresses
 
-place_lines : (origin : Origin) (AreHunks : List FileHunk → Type 0) (loaded hunks : List FileHunk) (bases : List ℕ) → hunks ≡ loaded → AreHunks loaded → HaveNumbers origin bases
-    → ArePlaceLines origin AreHunks (places_text (sizes_of hunks) bases)
-place_lines origin AreHunks loaded hunks bases same are numbers_are = record {
+place_lines : (contents : Contents) (origin : Origin) (AreHunks : List FileHunk → Type 0) (loaded hunks : List FileHunk) (bases : List ℕ) → hunks ≡ loaded → AreHunks loaded → HaveNumbers contents origin bases
+    → ArePlaceLines contents origin AreHunks (places_text (sizes_of hunks) bases)
+place_lines contents origin AreHunks loaded hunks bases same are numbers_are = record {
   bases = bases;
   numbers_are = numbers_are;
   holds = (hunks, subst AreHunks (sym same) are, refl);
@@ -58,10 +59,10 @@ module _ {W : Type 0} (taken : W → Option (List ℕ)) (failed : W → Bool) wh
   tells_lines old new Holds lines holds told = record { more = lines; is_more = inr holds; told = told }
 
   -- the lines about hunks beside their addresses
-  pub tells_places : (old new : W) (origin : Origin) (AreHunks : List FileHunk → Type 0) (loaded hunks : List FileHunk) (bases : List ℕ)
-      → hunks ≡ loaded → AreHunks loaded → HaveNumbers origin bases → TellsLine taken failed old new (places_text (sizes_of hunks) bases) → TellsMore taken failed old new (ArePlaceLines origin AreHunks)
-  tells_places old new origin AreHunks loaded hunks bases same are numbers_are told =
-      tells_lines old new (ArePlaceLines origin AreHunks) (places_text (sizes_of hunks) bases) (place_lines origin AreHunks loaded hunks bases same are numbers_are) told
+  pub tells_places : (old new : W) (contents : Contents) (origin : Origin) (AreHunks : List FileHunk → Type 0) (loaded hunks : List FileHunk) (bases : List ℕ)
+      → hunks ≡ loaded → AreHunks loaded → HaveNumbers contents origin bases → TellsLine taken failed old new (places_text (sizes_of hunks) bases) → TellsMore taken failed old new (ArePlaceLines contents origin AreHunks)
+  tells_places old new contents origin AreHunks loaded hunks bases same are numbers_are told =
+      tells_lines old new (ArePlaceLines contents origin AreHunks) (places_text (sizes_of hunks) bases) (place_lines contents origin AreHunks loaded hunks bases same are numbers_are) told
 
   -- a line, and nothing after it
   pub tells_line_alone : (old new : W) (line : List ℕ) → TellsLine taken failed old new line → TellsLine taken failed old new (line ++ [])

@@ -1,13 +1,17 @@
 -- The files that a request reads, and the inputs of an operation over them.
-use Rattle.std.proofs.Common.{◌≡◌, ℕ, ◌<◌, Bool, Bor, List, Option, length, get_or, arith, subst, sym}
+use Rattle.std.proofs.Common.{◌≡◌, ℕ, zero, suc, ◌+◌, ◌<◌, Bool, Bor, IsTrue, List, [], ◌∷◌, ◌++◌, Option, Some, None, length, take, get_or, arith, subst, sym, refl, ap}
+use Rattle.std.specs.Io.KnownBytes.{IsAtEnd}
 use Rattle.std.specs.List.{Contains}
 use Rattle.std.proofs.lemmas.List.{get_or-map, length-map}
-use Rattle.hunk_tool.specs.Inputs.{Input, inputs_of, file_names}
-use Rattle.hunk_tool.proofs.InputsLemmas.{length-inputs_of}
+use Rattle.hunk_tool.specs.FileSystem.{FileContent}
+use Rattle.hunk_tool.specs.Inputs.{HaveRead, Input, inputs_of, file_names}
+use Rattle.hunk_tool.proofs.InputsLemmas.{HaveRead-weaker}
 use Rattle.hunk_commands.specs.Devices.{IsOpening}
-use Rattle.hunk_commands.specs.Inputs.{IsOpenFailure, OfInputs}
+use Rattle.hunk_commands.specs.Inputs.{AreInputs, AreReadersOf, IsInput, IsOpenFailure, OfFiles, OfWholeFiles, ended_in, ended_where, failed_in, left_in, left_where}
+use Rattle.hunk_commands.specs.Store.{Contents}
 use Rattle.hunk_commands.specs.declared.failure.Failure.{Failure}
 use Rattle.hunk_commands.specs.declared.failure.Failure.TheVariants.{BadNumber, MapOverFile, Opening, Printing, Reading, SameFile, Tool, Writing}
+use Rattle.hunk_commands.specs.declared.inputs.Input.{Input as FileInput}
 
 -- the name of the file with this number is among the names
 pub Contains-name : (files : List (Bor (List ℕ))) (index : ℕ) (none : Bor (List ℕ)) → index < length files → Contains (file_names files) (get_or files index none).now
@@ -16,26 +20,74 @@ Contains-name files index none within =
     (index, omega (arith, length-map files name), get_or-map name files index none (get_or files index none).now within)
 
 -- one of the files cannot be opened
-pub IsOpenFailure-opening : (files : List (List ℕ)) (file : Bor (List ℕ)) (failure : Failure) → Contains files file.now → IsOpening file failure → IsOpenFailure files failure
-IsOpenFailure-opening files file (BadNumber addresses index) among is = absurd is
-IsOpenFailure-opening files file (Opening name reason) among is = subst (λ n. Contains files n.now) (sym is) among
-IsOpenFailure-opening files file (Reading name) among is = absurd is
-IsOpenFailure-opening files file (Writing name) among is = absurd is
-IsOpenFailure-opening files file (SameFile name) among is = absurd is
-IsOpenFailure-opening files file (MapOverFile name) among is = absurd is
-IsOpenFailure-opening files file Printing among is = absurd is
-IsOpenFailure-opening files file (Tool fault) among is = absurd is
+pub IsOpenFailure-opening : (contents : Contents) (names : List (List ℕ)) (file : Bor (List ℕ)) (failure : Failure) → Contains names file.now → IsOpening contents file failure → IsOpenFailure contents names failure
+IsOpenFailure-opening contents names file (BadNumber addresses index) among is = absurd is
+IsOpenFailure-opening contents names file (Opening name reason) among is = subst (λ n. IsOpenFailure contents names (Opening n reason)) (sym is.0) (among, is.1)
+IsOpenFailure-opening contents names file (Reading name) among is = absurd is
+IsOpenFailure-opening contents names file (Writing name) among is = absurd is
+IsOpenFailure-opening contents names file (SameFile name) among is = absurd is
+IsOpenFailure-opening contents names file (MapOverFile name) among is = absurd is
+IsOpenFailure-opening contents names file Printing among is = absurd is
+IsOpenFailure-opening contents names file (Tool fault) among is = absurd is
 
--- the inputs of readers, of which there is one for each file
-pub OfInputs-readers : {R : Type 0} (files : List (Bor (List ℕ))) (left : R → Option (List ℕ)) (failed ended : R → Bool) (olds news : List R) (Holds : List Input → Type 0)
-    → length olds ≡ length files → length news ≡ length olds → Holds (inputs_of left failed ended olds news) → OfInputs (file_names files) Holds
-OfInputs-readers files left failed ended olds news Holds count same holds =
-    let name : Bor (List ℕ) → List ℕ = λ file. file.now in
-    record {
-      inputs = inputs_of left failed ended olds news;
-      count_is = omega (arith, count, same, length-inputs_of left failed ended olds news, length-map files name);
+module _ {S F : Type 0} (content : S → Contents) (left : F → Option (List ℕ)) (store : S) where
+  -- there is one input for each file
+  pub length-inputs : (names : List (List ℕ)) (inputs : List (FileInput S F)) → AreInputs content left store names inputs → length inputs ≡ length names
+  length-inputs [] [] are = refl
+  length-inputs [] (input ∷ inputs) are = absurd are
+  length-inputs (name ∷ names) [] are = absurd are
+  length-inputs (name ∷ names) (input ∷ inputs) are = ap suc (length-inputs names inputs are.1)
+
+  -- the inputs so far, and the next one
+  inputs_more : (names : List (List ℕ)) (inputs : List (FileInput S F)) (input : FileInput S F) (index : ℕ) → index < length names
+      → AreInputs content left store (take index names) inputs → IsInput content left store (get_or names index []) input → AreInputs content left store (take (suc index) names) (inputs ++ input ∷ [])
+  inputs_more [] inputs input index within are is = absurd (omega (arith, within))
+  inputs_more (name ∷ names) [] input zero within are is = (is, tt)
+  inputs_more (name ∷ names) [] input (suc index) within are is = absurd are
+  inputs_more (name ∷ names) (first ∷ rest) input zero within are is = absurd are
+  inputs_more (name ∷ names) (first ∷ rest) input (suc index) within are is = (are.0, inputs_more names rest input index (omega (arith, within)) are.1 is)
+
+  pub AreInputs-more : (files : List (Bor (List ℕ))) (none : Bor (List ℕ)) (inputs : List (FileInput S F)) (input : FileInput S F) (index : ℕ) → index < length files
+      → AreInputs content left store (take index (file_names files)) inputs → IsInput content left store (get_or files index none).now input
+      → AreInputs content left store (take (index + 1) (file_names files)) (inputs ++ input ∷ [])
+  AreInputs-more files none inputs input index within are is =
+      let name : Bor (List ℕ) → List ℕ = λ file. file.now in
+      let here : get_or (file_names files) index [] ≡ (get_or files index none).now = get_or-map name files index none [] within in
+      let one : suc index ≡ index + 1 = omega arith in
+      subst (λ count. AreInputs content left store (take count (file_names files)) (inputs ++ input ∷ [])) one
+      (inputs_more (file_names files) inputs input index (omega (arith, within, length-map files name)) are (subst (λ it. IsInput content left store it input) (sym here) is))
+
+  -- ---- what was read of them
+
+  module _ (failed ended : F → Bool) (at_end : (file : F) → IsTrue (ended file) → IsAtEnd (left file)) where
+    where_at_end : (content_is : FileContent) (file : Option F) → IsTrue (ended_where ended file) → IsAtEnd (left_where left content_is file)
+    where_at_end content_is (Some file) is = at_end file is
+    where_at_end content_is None is = cc
+
+    -- each of these is what is known of a reader of its file
+    pub AreReadersOf-inputs : (names : List (List ℕ)) (olds news : List (FileInput S F)) → length news ≡ length olds → AreInputs content left store names olds
+        → AreReadersOf (content store) names (inputs_of (left_in content left) failed_in (ended_in ended) olds news)
+    AreReadersOf-inputs [] [] news same are = tt
+    AreReadersOf-inputs [] (old ∷ olds) news same are = absurd are
+    AreReadersOf-inputs (name ∷ names) [] news same are = absurd are
+    AreReadersOf-inputs (name ∷ names) (old ∷ olds) [] same are = absurd (omega (arith, same))
+    AreReadersOf-inputs (name ∷ names) (old ∷ olds) (new ∷ news) same are = (
+      record { from_start = are.0.from_start; to_end = where_at_end (content new.store.now new.name.now) new.file },
+      AreReadersOf-inputs names olds news (omega (arith, same)) are.1,
+    )
+
+    -- this holds of readers of the files, since it holds of what was read of their inputs
+    pub OfFiles-inputs : (names : List (List ℕ)) (olds news : List (FileInput S F)) (Holds : List Input → Type 0) → length news ≡ length olds → AreInputs content left store names olds
+        → Holds (inputs_of (left_in content left) failed_in (ended_in ended) olds news) → OfFiles (content store) names Holds
+    OfFiles-inputs names olds news Holds same are holds = record {
+      inputs = inputs_of (left_in content left) failed_in (ended_in ended) olds news;
+      are_readers = AreReadersOf-inputs names olds news same are;
       holds = holds;
     }
 
-pub OfInputs-weaker : (files : List (List ℕ)) (Holds Weaker : List Input → Type 0) → ((inputs : List Input) → Holds inputs → Weaker inputs) → OfInputs files Holds → OfInputs files Weaker
-OfInputs-weaker files Holds Weaker weaker of = record { inputs = of.inputs; count_is = of.count_is; holds = weaker of.inputs of.holds }
+pub OfFiles-weaker : (contents : Contents) (names : List (List ℕ)) (Holds Weaker : List Input → Type 0) → ((inputs : List Input) → Holds inputs → Weaker inputs) → OfFiles contents names Holds → OfFiles contents names Weaker
+OfFiles-weaker contents names Holds Weaker weaker of = record { inputs = of.inputs; are_readers = of.are_readers; holds = weaker of.inputs of.holds }
+
+pub OfWholeFiles-weaker : (contents : Contents) (names : List (List ℕ)) (Holds Weaker : List (List ℕ) → Type 0) → ((files : List (List ℕ)) → Holds files → Weaker files) → OfWholeFiles contents names Holds → OfWholeFiles contents names Weaker
+OfWholeFiles-weaker contents names Holds Weaker weaker of =
+    OfFiles-weaker contents names (λ inputs. HaveRead inputs Holds) (λ inputs. HaveRead inputs Weaker) (λ inputs read. HaveRead-weaker inputs Holds Weaker weaker read) of

@@ -1,12 +1,12 @@
 pub mod AddressesLemmas
-pub mod DevicesLemmas
+pub mod CopyLemmas
 pub mod ExplainLemmas
 pub mod FailureLemmas
 pub mod FaultLemmas
-pub mod ImageLemmas
+pub mod HeadlineLemmas
 pub mod InputsLemmas
 pub mod LinkLemmas
-pub mod CopyLemmas
-pub mod CompareLemmas
+mod MemoryStoreLemmas
+pub mod PrintingLemmas
 pub mod RequestLemmas
 pub mod SurveyLemmas

@@ -1,11 +1,13 @@
 -- Where the addresses of hunks come from, what is known of them, and why they are not known.
-use Rattle.std.specs.Prelude.{◌≡◌, ℕ, Bool, IsTrue, List, Option, Some, ⊤, map}
+use Rattle.std.specs.Prelude.{◌≡◌, ℕ, Bool, IsTrue, List, Option, Some, map}
 use Rattle.hunk_base.specs.Streams.{HasRead}
 use Rattle.hunk_memory.specs.Bases.{IsBasesFault, numbers}
 use Rattle.hunk_memory.specs.BasesFile.{IsRejected, file_numbers}
+use Rattle.hunk_tool.specs.FileSystem.{MayBeMissing, OfFile}
 use Rattle.hunk_tool.specs.Inputs.{Input, WasRead}
 use Rattle.hunk_memory.specs.declared.bases.BasesFault.TheVariants as bases_fault
 use Rattle.hunk_tool.specs.declared.tool_fault.ToolFault.TheVariants.{OutOfMemory}
+use Rattle.hunk_commands.specs.Store.{Contents}
 use Rattle.hunk_commands.specs.declared.addresses.Addresses.{Addresses}
 use Rattle.hunk_commands.specs.declared.addresses.Addresses.TheVariants as addresses
 use Rattle.hunk_commands.specs.declared.failure.Failure.{Failure}
@@ -34,33 +36,43 @@ abbrev pub HasBadPart : Input → ℕ → Type 0
 HasBadPart input index = HasRead input.left input.left_then (λ bytes. IsRejected bytes (bases_fault.BadNumber index))
 
 -- each part of the addresses is a number, and these are the numbers
-abbrev pub HaveNumbers : Origin → List ℕ → Type 0
-HaveNumbers (in_list list) bases = numbers list ≡ map Some bases
-HaveNumbers (in_file name) bases = (input : Input) × HasNumbers input bases
+abbrev pub HaveNumbers : Contents → Origin → List ℕ → Type 0
+HaveNumbers contents (in_list list) bases = numbers list ≡ map Some bases
+HaveNumbers contents (in_file name) bases = OfFile (contents name) (λ input. HasNumbers input bases)
 
 -- the first part of the addresses that is no number has this index
-abbrev pub HaveBadPart : Origin → ℕ → Type 0
-HaveBadPart (in_list list) index = IsBasesFault list (bases_fault.BadNumber index)
-HaveBadPart (in_file name) index = (input : Input) × HasBadPart input index
+abbrev pub HaveBadPart : Contents → Origin → ℕ → Type 0
+HaveBadPart contents (in_list list) index = IsBasesFault list (bases_fault.BadNumber index)
+HaveBadPart contents (in_file name) index = OfFile (contents name) (λ input. HasBadPart input index)
 
 -- each part of the addresses is a number, and this holds of the numbers
-pub record AtBases (origin : Origin) (Holds : List ℕ → Type 0) : Type 0 where
+pub record AtBases (contents : Contents) (origin : Origin) (Holds : List ℕ → Type 0) : Type 0 where
   pub bases : List ℕ
-  pub numbers_are : HaveNumbers origin bases
+  pub numbers_are : HaveNumbers contents origin bases
   pub holds : Holds bases
 
--- each part of the addresses is a number
-abbrev pub AreAddresses : Origin → Type 0
-AreAddresses origin = AtBases origin (λ bases. ⊤)
+-- the addresses are in the file with this name, which cannot be opened
+abbrev pub AreUnopened : Contents → Origin → (name : List ℕ) → Type 0
+AreUnopened contents origin name = (origin ≡ in_file name) × MayBeMissing (contents name)
+
+-- the addresses are in the file with this name, of which a read failed
+abbrev pub AreUnread : Contents → Origin → (name : List ℕ) → Type 0
+AreUnread contents origin name = (origin ≡ in_file name) × OfFile (contents name) (λ input. IsTrue input.failed)
 
 -- why the addresses are not known: a part of them is no number, their file cannot be opened or a read
 -- of it failed, or out of memory
-abbrev pub IsAddressesFailure : Origin → Failure → Type 0
-IsAddressesFailure origin (BadNumber found index) = (origin_of found ≡ origin) × HaveBadPart origin index
-IsAddressesFailure origin (Opening name reason) = origin ≡ in_file name.now
-IsAddressesFailure origin (Reading name) = origin ≡ in_file name.now
-IsAddressesFailure origin (Tool fault) = fault ≡ OutOfMemory 0
-IsAddressesFailure origin _ = ⊥
+abbrev pub IsAddressesFailure : Contents → Origin → Failure → Type 0
+IsAddressesFailure contents origin (BadNumber found index) = (origin_of found ≡ origin) × HaveBadPart contents origin index
+IsAddressesFailure contents origin (Opening name reason) = AreUnopened contents origin name.now
+IsAddressesFailure contents origin (Reading name) = AreUnread contents origin name.now
+IsAddressesFailure contents origin (Tool fault) = fault ≡ OutOfMemory 0
+IsAddressesFailure contents origin _ = ⊥
+
+-- why the addresses in a list are not known
+abbrev pub IsListFailure : List ℕ → Failure → Type 0
+IsListFailure list (BadNumber found index) = (origin_of found ≡ in_list list) × IsBasesFault list (bases_fault.BadNumber index)
+IsListFailure list (Tool fault) = fault ≡ OutOfMemory 0
+IsListFailure list _ = ⊥
 
 -- why the addresses that the reader of the file with this name has are not known
 abbrev pub IsReadFailure : (name : List ℕ) → Input → Failure → Type 0

@@ -1,23 +1,29 @@
 -- What is known of a load file and of OUT after `copy`, or why it failed.
-use Rattle.std.specs.Prelude.{◌≡◌, ◌⊎◌, ℕ, List}
+use Rattle.std.specs.Prelude.{◌≡◌, ◌⊎◌, ℕ, List, Option}
 use Rattle.hunk_tool.specs.Copy.{IsCopied, IsCopyFault}
+use Rattle.hunk_tool.specs.FileSystem.{MayBeMissing, OfFile, OfWholeFile}
 use Rattle.hunk_tool.specs.declared.copy.CopyForm.{CopyForm}
-use Rattle.hunk_commands.specs.Devices.{Printed, StoppedBy}
-use Rattle.hunk_commands.specs.Replacement.{IsUnplaced}
+use Rattle.hunk_tool.specs.declared.tool_fault.ToolFault.TheVariants.{OutOfMemory}
+use Rattle.hunk_commands.specs.Output.{Printed, ends_between}
+use Rattle.hunk_commands.specs.Store.{Contents, IsBegun, IsReplaced, IsUnplaced}
 use Rattle.hunk_commands.specs.declared.failure.Failure.{Failure}
 use Rattle.hunk_commands.specs.declared.failure.Failure.TheVariants.{Opening, Tool}
 
--- the bytes that were read are a load file, and its copy is all that was written to OUT
-abbrev pub IsCopiedOut : CopyForm → Type 0
-IsCopiedOut form = Printed (IsCopied form)
+-- the file is a load file, and its copy was put in the place of OUT
+pub record IsCopiedOut (form : CopyForm) (contents : Contents) (file out : List ℕ) (contents_then : Contents) : Type 0 where
+  pub start : Option (List ℕ)
+  pub taken : Option (List ℕ)
+  pub begun : IsBegun (contents out) start
+  pub copied : OfWholeFile (contents file) (IsCopied form start taken)
+  pub replaced : IsReplaced out taken contents contents_then
 
--- why the copy was not made: the file cannot be opened, or `copy_run` returned this fault for a reader
--- and a writer
-abbrev pub IsUncopied : CopyForm → (file : List ℕ) → Failure → Type 0
-IsUncopied form file (Opening name reason) = name.now ≡ file
-IsUncopied form file (Tool fault) = StoppedBy (IsCopyFault form) fault
-IsUncopied form file _ = ⊥
+-- why the copy was not made: the file cannot be opened, `copy_run` returned this fault for it, or out of memory
+abbrev pub IsUncopied : CopyForm → Contents → (file : List ℕ) → Failure → Type 0
+IsUncopied form contents file (Opening name reason) = (name.now ≡ file) × MayBeMissing (contents file)
+IsUncopied form contents file (Tool fault) =
+    (fault ≡ OutOfMemory 0) ⊎ OfFile (contents file) (λ input. (printed : Printed) × IsCopyFault form (ends_between input printed) fault)
+IsUncopied form contents file _ = ⊥
 
 -- why `copy` failed: the copy was not made, or it was not put in the place of OUT
-abbrev pub IsCopyFailure : CopyForm → (file out : List ℕ) → Failure → Type 0
-IsCopyFailure form file out failure = IsUncopied form file failure ⊎ IsUnplaced out failure
+abbrev pub IsCopyFailure : CopyForm → Contents → (file out : List ℕ) → Failure → Type 0
+IsCopyFailure form contents file out failure = IsUncopied form contents file failure ⊎ IsUnplaced (contents out) out failure

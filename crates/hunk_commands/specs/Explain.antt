@@ -1,6 +1,6 @@
 -- What is told of a failure after its line, if `--explain` is given.
 use Rattle.std.specs.declared.alloc.Global.{Global}
-use Rattle.std.specs.Prelude.{◌≡◌, ◌⊎◌, ℕ, List, [], length, map, Bool, true, false, Option, Some, None}
+use Rattle.std.specs.Prelude.{◌≡◌, ◌⊎◌, ℕ, List, [], ◌∷◌, get_or, length, map, Bool, true, false, Option, Some, None}
 use Rattle.hunk_words.specs.FirstOffence.{FirstOffence}
 use Rattle.hunk_base.specs.Longwords.{longwords, unfinished}
 use Rattle.hunk_words.specs.declared.event.FileKind.{FileKind}
@@ -12,7 +12,8 @@ use Rattle.hunk_link.specs.declared.refusal.LinkRefusal.{LinkRefusal}
 use Rattle.hunk_files.specs.Explanation.{Explains}
 use Rattle.hunk_files.specs.ExplanationText.{explanation_text}
 use Rattle.hunk_files.specs.FileValue.{kind_of_bytes}
-use Rattle.hunk_tool.specs.Inputs.{HaveRead}
+use Rattle.hunk_base.specs.Streams.{HasRead}
+use Rattle.hunk_tool.specs.FileSystem.{FileContent, OfFile, OfWholeFile}
 use Rattle.hunk_tool.specs.LinkExplanation.{told_of, told_text}
 use Rattle.hunk_tool.specs.ObjectFiles.{AreFileUnits, FileUnit}
 use Rattle.hunk_memory.specs.PlacesText.{places_text}
@@ -20,15 +21,16 @@ use Rattle.hunk_files.specs.declared.explanation.Explanation.{Explanation}
 use Rattle.hunk_tool.specs.declared.tool_fault.ToolFault.TheVariants.{Input, InputDevice, Link, Place}
 use Rattle.hunk_commands.specs.Addresses.{AtBases, Origin, origin_of}
 use Rattle.hunk_commands.specs.Failure.{TellsLine}
-use Rattle.hunk_commands.specs.Inputs.{OfInputs}
+use Rattle.hunk_commands.specs.Inputs.{OfWholeFiles}
+use Rattle.hunk_commands.specs.Store.{Contents}
 use Rattle.hunk_commands.specs.Link.{DoLinkTo}
 use Rattle.hunk_commands.specs.declared.explain.Command.{Command}
 use Rattle.hunk_commands.specs.declared.explain.Command.TheVariants as command
 use Rattle.hunk_commands.specs.declared.failure.Failure.{Failure}
 use Rattle.hunk_commands.specs.declared.failure.Failure.TheVariants.{Opening, Reading, Tool}
 use Rattle.hunk_commands.specs.OpenFault.{reason_line}
-use Rattle.hunk_commands.specs.declared.open_fault.OpenFault.{OpenFault}
-use Rattle.hunk_commands.specs.declared.open_fault.OpenFault.TheVariants.{Directory}
+use Rattle.hunk_tool.specs.declared.file_system.OpenFault.{OpenFault}
+use Rattle.hunk_tool.specs.declared.file_system.OpenFault.TheVariants.{Directory}
 
 -- ---- a file that is refused
 
@@ -56,37 +58,46 @@ abbrev pub IsGiven : (kind_of : List ℕ → FileKind) → Fault → Option Expl
 IsGiven kind_of fault (Some e) bytes = (e.fault ≡ fault) × Explains (kind_of bytes) e bytes
 IsGiven kind_of fault None bytes = IsOffence (kind_of bytes) fault bytes → ⊥
 
--- the lines that explain this fault, the first offence of some bytes
-pub record AreOffenceLines (kind_of : List ℕ → FileKind) (fault : Fault) (more : List ℕ) : Type 0 where
-  pub bytes : List ℕ
+-- some bytes are given this explanation of this fault, and these are its lines
+pub record IsOffenceText (kind_of : List ℕ → FileKind) (fault : Fault) (more bytes : List ℕ) : Type 0 where
   pub explanation : Explanation
   pub given : IsGiven kind_of fault (Some explanation) bytes
   pub lines_are : more ≡ explanation_text explanation
 
+-- the lines that explain this fault, the first offence of what was read of the file
+abbrev pub AreOffenceLines : FileContent → (kind_of : List ℕ → FileKind) → Fault → (more : List ℕ) → Type 0
+AreOffenceLines content kind_of fault more =
+    OfFile content (λ input. HasRead input.left input.left_then (IsOffenceText kind_of fault more))
+
+-- what is known of the file with this number
+abbrev pub content_at : Contents → (files : List (List ℕ)) → (number : ℕ) → FileContent
+content_at contents files number = contents (get_or files number [])
+
 -- ---- hunks that cannot be placed
 
--- some bytes are the load file of these hunks
-abbrev pub IsLoadFile : List FileHunk → Type 0
-IsLoadFile hunks = (bytes : List ℕ) × IsLoadOf hunks bytes
+-- the file is the load file of these hunks
+abbrev pub IsLoadFile : FileContent → List FileHunk → Type 0
+IsLoadFile content hunks = OfWholeFile content (IsLoadOf hunks)
 
 -- the sizes of hunks, in longwords
 abbrev pub sizes_of : List FileHunk → List ℕ
 sizes_of hunks = map (λ hunk. hunk.size) hunks
 
 -- the lines about hunks of which this holds, beside the numbers of these addresses
-abbrev pub ArePlaceLines : Origin → (AreHunks : List FileHunk → Type 0) → (more : List ℕ) → Type 0
-ArePlaceLines origin AreHunks more = AtBases origin (λ bases. (hunks : List FileHunk) × AreHunks hunks × (more ≡ places_text (sizes_of hunks) bases))
+abbrev pub ArePlaceLines : Contents → Origin → (AreHunks : List FileHunk → Type 0) → (more : List ℕ) → Type 0
+ArePlaceLines contents origin AreHunks more =
+    AtBases contents origin (λ bases. (hunks : List FileHunk) × AreHunks hunks × (more ≡ places_text (sizes_of hunks) bases))
 
 -- ---- units that do not link
 
--- some inputs, one for each file, are object files with these units
-abbrev pub HaveUnits : (files : List (List ℕ)) → List FileUnit → Type 0
-HaveUnits files units = OfInputs files (λ inputs. HaveRead inputs (AreFileUnits units))
+-- the files are object files with these units
+abbrev pub HaveUnits : Contents → (files : List (List ℕ)) → List FileUnit → Type 0
+HaveUnits contents files units = OfWholeFiles contents files (AreFileUnits units)
 
--- the lines about a refusal to link the units of some files with these names
-pub record AreRefusalLines (files : List (List ℕ)) (refusal : LinkRefusal Global) (more : List ℕ) : Type 0 where
+-- the lines about a refusal to link the units of the files
+pub record AreRefusalLines (contents : Contents) (files : List (List ℕ)) (refusal : LinkRefusal Global) (more : List ℕ) : Type 0 where
   pub units : List FileUnit
-  pub are : HaveUnits files units
+  pub are : HaveUnits contents files units
   pub lines_are : more ≡ told_text files (told_of units refusal)
 
 -- ---- a file that cannot be opened or read
@@ -103,41 +114,42 @@ AreNoLines more = ⊥
 
 -- the lines about a failure for these files, if files are read so, and these are the lines about hunks
 -- that cannot be placed
-abbrev pub AreLines : (kind_of : List ℕ → FileKind) (ArePlaces : List ℕ → Type 0) (files : List (List ℕ)) → Failure → (more : List ℕ) → Type 0
-AreLines kind_of ArePlaces files (Tool (Input file fault)) more = AreOffenceLines kind_of fault more
-AreLines kind_of ArePlaces files (Tool (Link refusal)) more = AreRefusalLines files refusal more
-AreLines kind_of ArePlaces files (Tool (Place fault)) more = ArePlaces more
-AreLines kind_of ArePlaces files (Tool (InputDevice file)) more = IsReason Directory more
-AreLines kind_of ArePlaces files (Reading name) more = IsReason Directory more
-AreLines kind_of ArePlaces files (Opening name reason) more = IsReason reason more
-AreLines kind_of ArePlaces files _ more = ⊥
-
-abbrev pub AreLinkLines : (files : List (List ℕ)) → Failure → (more : List ℕ) → Type 0
-AreLinkLines files = AreLines reads_objects AreNoLines files
-
-abbrev pub AreImageLines : Origin → (files : List (List ℕ)) → Failure → (more : List ℕ) → Type 0
-AreImageLines origin files = AreLines reads_objects (ArePlaceLines origin (DoLinkTo true files)) files
-
-abbrev pub AreLoadLines : Origin → (files : List (List ℕ)) → Failure → (more : List ℕ) → Type 0
-AreLoadLines origin files = AreLines reads_a_load_file (ArePlaceLines origin IsLoadFile) files
-
-abbrev pub AreLoadFileLines : (files : List (List ℕ)) → Failure → (more : List ℕ) → Type 0
-AreLoadFileLines files = AreLines reads_a_load_file AreNoLines files
-
-abbrev pub AreTextLines : (files : List (List ℕ)) → Failure → (more : List ℕ) → Type 0
-AreTextLines files = AreLines kind_of_bytes AreNoLines files
+abbrev pub AreLines : Contents → (kind_of : List ℕ → FileKind) (ArePlaces : List ℕ → Type 0) (files : List (List ℕ)) → Failure → (more : List ℕ) → Type 0
+AreLines contents kind_of ArePlaces files (Tool (Input file fault)) more = AreOffenceLines (content_at contents files file) kind_of fault more
+AreLines contents kind_of ArePlaces files (Tool (Link refusal)) more = AreRefusalLines contents files refusal more
+AreLines contents kind_of ArePlaces files (Tool (Place fault)) more = ArePlaces more
+AreLines contents kind_of ArePlaces files (Tool (InputDevice file)) more = IsReason Directory more
+AreLines contents kind_of ArePlaces files (Reading name) more = IsReason Directory more
+AreLines contents kind_of ArePlaces files (Opening name reason) more = IsReason reason more
+AreLines contents kind_of ArePlaces files _ more = ⊥
 
 -- the lines about hunks that cannot be placed, for a command and its files
-abbrev pub ArePlaceLinesOf : Command → (files : List (List ℕ)) → (more : List ℕ) → Type 0
-ArePlaceLinesOf command.Link files = AreNoLines
-ArePlaceLinesOf (command.Image addresses) files = ArePlaceLines (origin_of addresses) (DoLinkTo true files)
-ArePlaceLinesOf (command.Load addresses) files = ArePlaceLines (origin_of addresses) IsLoadFile
-ArePlaceLinesOf command.LoadFile files = AreNoLines
-ArePlaceLinesOf command.Text files = AreNoLines
+abbrev pub ArePlaceLinesOf : Contents → Command → (files : List (List ℕ)) → (more : List ℕ) → Type 0
+ArePlaceLinesOf contents command.Link files = AreNoLines
+ArePlaceLinesOf contents (command.Image addresses) files = ArePlaceLines contents (origin_of addresses) (DoLinkTo true contents files)
+ArePlaceLinesOf contents (command.Load addresses) files = ArePlaceLines contents (origin_of addresses) (IsLoadFile (content_at contents files 0))
+ArePlaceLinesOf contents command.LoadFile files = AreNoLines
+ArePlaceLinesOf contents command.Text files = AreNoLines
 
 -- the lines about a failure of a command for these files
-abbrev pub AreLinesOf : Command → (files : List (List ℕ)) → Failure → (more : List ℕ) → Type 0
-AreLinesOf command files = AreLines (kind_read command) (ArePlaceLinesOf command files) files
+abbrev pub AreLinesOf : Contents → Command → (files : List (List ℕ)) → Failure → (more : List ℕ) → Type 0
+AreLinesOf contents command files = AreLines contents (kind_read command) (ArePlaceLinesOf contents command files) files
+
+-- and for each command
+abbrev pub AreLinkLines : Contents → (files : List (List ℕ)) → Failure → (more : List ℕ) → Type 0
+AreLinkLines contents files = AreLines contents reads_objects AreNoLines files
+
+abbrev pub AreImageLines : Contents → Origin → (files : List (List ℕ)) → Failure → (more : List ℕ) → Type 0
+AreImageLines contents origin files = AreLines contents reads_objects (ArePlaceLines contents origin (DoLinkTo true contents files)) files
+
+abbrev pub AreLoadLines : Contents → Origin → (file : List ℕ) → Failure → (more : List ℕ) → Type 0
+AreLoadLines contents origin file = AreLines contents reads_a_load_file (ArePlaceLines contents origin (IsLoadFile (contents file))) (file ∷ [])
+
+abbrev pub AreLoadFileLines : Contents → (files : List (List ℕ)) → Failure → (more : List ℕ) → Type 0
+AreLoadFileLines contents files = AreLines contents reads_a_load_file AreNoLines files
+
+abbrev pub AreTextLines : Contents → (files : List (List ℕ)) → Failure → (more : List ℕ) → Type 0
+AreTextLines contents files = AreLines contents kind_of_bytes AreNoLines files
 
 -- the same, if they are asked for
 abbrev pub IfAsked : (explain : Bool) (Holds : Failure → List ℕ → Type 0) → Failure → (more : List ℕ) → Type 0

@@ -1,52 +1,39 @@
--- What is known of addresses, object files and the standard output after `image`, or why it failed.
-use Rattle.std.specs.declared.alloc.Global.{Global}
-use Rattle.std.specs.Prelude.{◌≡◌, ◌⊎◌, ℕ, List, Option, Contains}
+-- What is known of addresses, object files and the output after `image`, or why it failed.
+use Rattle.std.specs.Prelude.{◌≡◌, ◌⊎◌, ℕ, List, IsTrue}
 use Rattle.hunk_tool.specs.Image.{IsImageFault, IsImaged}
-use Rattle.hunk_tool.specs.Inputs.{HaveRead, Input}
-use Rattle.hunk_tool.specs.Link.{Taken}
 use Rattle.hunk_memory.specs.declared.image_form.ImageForm.{ImageForm}
-use Rattle.hunk_tool.specs.declared.tool_fault.ToolFault.{ToolFault}
-use Rattle.hunk_tool.specs.declared.tool_fault.ToolFault.TheVariants.{OutOfMemory}
 use Rattle.hunk_commands.specs.declared.failure.Failure.{Failure}
-use Rattle.hunk_commands.specs.declared.failure.Failure.TheVariants.{Opening, Printing, Tool}
-use Rattle.hunk_commands.specs.Addresses.{AreAddresses, AtBases, IsAddressesFailure, Origin}
-use Rattle.hunk_commands.specs.Inputs.{OfInputs}
+use Rattle.hunk_commands.specs.declared.failure.Failure.TheVariants.{Printing, Tool}
+use Rattle.hunk_commands.specs.Addresses.{AtBases, IsAddressesFailure, Origin}
+use Rattle.hunk_commands.specs.Inputs.{IsOpenFailure, OfFiles, OfWholeFiles}
+use Rattle.hunk_commands.specs.Output.{IsFlushed, IsNothing, Printed, taken_by}
+use Rattle.hunk_commands.specs.Store.{Contents}
 
--- the inputs, read to their ends, are object files that link and whose hunks are placed at the bases,
--- and a writer, which had taken `old`, took the memory that they define in this form
-abbrev pub HaveReport : ImageForm → (bases : List ℕ) (inputs : List Input) (old : Option (List ℕ)) → Type 0
-HaveReport form bases inputs old = (new : Option (List ℕ)) × HaveRead inputs (IsImaged form bases old new)
+-- the files are object files that link and whose hunks are placed at the numbers of the addresses, and the
+-- memory that they define in this form is what the output has taken
+abbrev pub AreWrittenOf : ImageForm → Contents → Origin → (files : List (List ℕ)) → Printed → Type 0
+AreWrittenOf form contents origin files printed = AtBases contents origin
+    (λ bases. OfWholeFiles contents files (IsImaged form bases printed.old printed.new))
 
--- `image_run_with` returned this fault for this form, these inputs and a writer that had taken `old`
-pub record HaveNoReport (form : ImageForm) (bases : List ℕ) (inputs : List Input) (old : Option (List ℕ)) (fault : ToolFault Global) : Type 0 where
-  pub taken : Taken
-  pub old_is : taken.old ≡ old
-  pub why : IsImageFault form bases inputs taken fault
+-- it was printed
+abbrev pub AreImaged : ImageForm → Contents → Origin → (files : List (List ℕ)) → Printed → Type 0
+AreImaged form contents origin files printed = AreWrittenOf form contents origin files printed × IsFlushed printed
 
--- why the memory of the inputs was not printed: what `image_run_with` returned; or that its text went
--- to the buffer, and the output did not take it
-abbrev pub IsUnprinted : ImageForm → (bases : List ℕ) (inputs : List Input) (old : Option (List ℕ)) → Failure → Type 0
-IsUnprinted form bases inputs old Printing = HaveReport form bases inputs old
-IsUnprinted form bases inputs old (Tool fault) = HaveNoReport form bases inputs old fault
-IsUnprinted form bases inputs old _ = ⊥
+-- `image_run_with` returned this failure for the files
+abbrev pub AreStopped : ImageForm → Contents → Origin → (files : List (List ℕ)) → Printed → Failure → Type 0
+AreStopped form contents origin files printed (Tool fault) = AtBases contents origin
+    (λ bases. OfFiles contents files (λ inputs. IsImageFault form bases inputs (taken_by printed) fault))
+AreStopped form contents origin files printed _ = ⊥
 
--- the numbers of the addresses are bases, and this holds of them, of some inputs and of what some
--- writer had taken
-abbrev pub AtBasesOfInputs : Origin → (files : List (List ℕ)) (Holds : List ℕ → List Input → Option (List ℕ) → Type 0) → Type 0
-AtBasesOfInputs origin files Holds = AtBases origin (λ bases. OfInputs files (λ inputs. (old : Option (List ℕ)) × Holds bases inputs old))
-
--- the memory of the inputs at the numbers of the addresses, in this form, is all that was written
-abbrev pub AreImaged : ImageForm → Origin → (files : List (List ℕ)) → Type 0
-AreImaged form origin files = AtBasesOfInputs origin files (HaveReport form)
-
--- why the memory of the files was not printed at addresses that are known
-abbrev pub AreUnimaged : ImageForm → Origin → (files : List (List ℕ)) → Failure → Type 0
-AreUnimaged form origin files (Opening name reason) = Contains files name.now × AreAddresses origin
-AreUnimaged form origin files Printing = AtBasesOfInputs origin files (HaveReport form)
-AreUnimaged form origin files (Tool fault) = (fault ≡ OutOfMemory 0)
-    ⊎ AtBasesOfInputs origin files (λ bases inputs old. HaveNoReport form bases inputs old fault)
-AreUnimaged form origin files _ = ⊥
+-- why the memory of the files was not printed at addresses that are known: they cannot be opened, the run over
+-- them failed, or the output did not pass on what it had taken
+abbrev pub AreUnimaged : ImageForm → Contents → Origin → (files : List (List ℕ)) → Printed → Failure → Type 0
+AreUnimaged form contents origin files printed failure =
+    (AtBases contents origin (λ bases. IsOpenFailure contents files failure) × IsNothing printed)
+    ⊎ (AreStopped form contents origin files printed failure
+    ⊎ ((failure ≡ Printing) × AreWrittenOf form contents origin files printed × IsTrue printed.failed))
 
 -- why `image` failed: the addresses are known before the files are opened
-abbrev pub IsImageFailure : ImageForm → Origin → (files : List (List ℕ)) → Failure → Type 0
-IsImageFailure form origin files failure = IsAddressesFailure origin failure ⊎ AreUnimaged form origin files failure
+abbrev pub IsImageFailure : ImageForm → Contents → Origin → (files : List (List ℕ)) → Printed → Failure → Type 0
+IsImageFailure form contents origin files printed failure =
+    (IsAddressesFailure contents origin failure × IsNothing printed) ⊎ AreUnimaged form contents origin files printed failure

@@ -2,6 +2,11 @@ pub mod Request
 pub mod Failure
 pub mod Explain
 pub mod Devices
+pub mod Output
+pub mod Printer
+pub mod Store
+pub mod SystemFile
+pub mod MemoryStore
 pub mod Inputs
 pub mod Addresses
 pub mod Load
@@ -15,3 +20,4 @@ pub mod Version
 pub mod OpenFault
 pub mod Replacement
 pub mod Lines
+pub mod Headline

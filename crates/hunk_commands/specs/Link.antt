@@ -6,8 +6,9 @@ use Rattle.hunk_base.specs.Name.{bytes_of}
 use Rattle.hunk_loadfile.specs.LoadHunk.{FileHunk}
 use Rattle.hunk_loadfile.specs.Rules.{IsLoadFile}
 use Rattle.hunk_loadfile.specs.WrittenForm.{written_in}
-use Rattle.hunk_tool.specs.Inputs.{HaveRead}
 use Rattle.hunk_objects.specs.ProgramUnit.{ObjectUnit}
+use Rattle.hunk_tool.specs.FileSystem.{FileContent}
+use Rattle.hunk_tool.specs.FileSystem.FileContent.{unknown}
 use Rattle.hunk_tool.specs.Link.{DoLink, IsLinked, IsLinkFault, IsUnlinked, LinkTo, Taken, linked_hunks}
 use Rattle.hunk_tool.specs.LinkOptions.{form_of, trimmed_if}
 use Rattle.hunk_tool.specs.Map.{LinkFiles, map_text}
@@ -16,93 +17,102 @@ use Rattle.hunk_tool.specs.declared.link_options.LinkOptions.{LinkOptions}
 use Rattle.hunk_tool.specs.declared.tool_fault.ToolFault.TheVariants.{Output, OutOfMemory}
 use Rattle.hunk_commands.specs.declared.failure.Failure.{Failure}
 use Rattle.hunk_commands.specs.declared.failure.Failure.TheVariants.{MapOverFile, Opening, Printing, SameFile, Tool, Writing}
-use Rattle.hunk_commands.specs.Inputs.{IsOpenFailure, OfInputs}
-use Rattle.hunk_commands.specs.Replacement.{IsUnplaced}
+use Rattle.hunk_commands.specs.Inputs.{IsOpenFailure, IsUnopened, OfFiles, OfWholeFiles}
+use Rattle.hunk_commands.specs.Store.{AreUnchanged, Contents, IsBegun, IsKnown, IsReplaced, IsUnplaced}
 
--- the inputs, read to their ends, are object files that link, and this is their load file
-abbrev pub DoLinkTo : (strip : Bool) (files : List (List ℕ)) (file : List FileHunk) → Type 0
-DoLinkTo strip files file = OfInputs files (λ inputs. HaveRead inputs (LinkTo strip file))
+-- the files are object files that link, and this is their load file
+abbrev pub DoLinkTo : (strip : Bool) → Contents → (files : List (List ℕ)) (file : List FileHunk) → Type 0
+DoLinkTo strip contents files file = OfWholeFiles contents files (LinkTo strip file)
 
--- the inputs link, and the bytes of their load file are all that was written to OUT
-pub record IsMade (options : LinkOptions) (files : List (List ℕ)) : Type 0 where
-  pub old : Option (List ℕ)
-  pub new : Option (List ℕ)
-  pub linked : OfInputs files (λ inputs. HaveRead inputs (IsLinked options old new))
+-- the files are object files that link, and their load file was put in the place of OUT
+pub record IsMade (options : LinkOptions) (contents : Contents) (files : List (List ℕ)) (out : List ℕ) (contents_then : Contents) : Type 0 where
+  pub start : Option (List ℕ)
+  pub taken : Option (List ℕ)
+  pub begun : IsBegun (contents out) start
+  pub linked : OfWholeFiles contents files (IsLinked options start taken)
+  pub replaced : IsReplaced out taken contents contents_then
 
 -- why the files were not linked: one of them cannot be opened, they do not link, or out of memory
-abbrev pub AreUnlinked : Bool → (files : List (List ℕ)) → Failure → Type 0
-AreUnlinked strip files (Opening name reason) = Contains files name.now
-AreUnlinked strip files (Tool fault) = (fault ≡ OutOfMemory 0) ⊎ OfInputs files (λ inputs. IsUnlinked strip inputs fault)
-AreUnlinked strip files _ = ⊥
+abbrev pub AreUnlinked : Bool → Contents → (files : List (List ℕ)) → Failure → Type 0
+AreUnlinked strip contents files (Opening name reason) = IsUnopened contents files name.now
+AreUnlinked strip contents files (Tool fault) = (fault ≡ OutOfMemory 0) ⊎ OfFiles contents files (λ inputs. IsUnlinked strip inputs fault)
+AreUnlinked strip contents files _ = ⊥
 
--- the inputs, read to their ends, are object files that link
-abbrev pub DoLinkAll : (strip : Bool) (files : List (List ℕ)) → Type 0
-DoLinkAll strip files = OfInputs files (λ inputs. HaveRead inputs (λ bytes. (units : List ObjectUnit) × DoLink strip bytes units))
+-- the files are object files that link
+abbrev pub DoLinkAll : (strip : Bool) → Contents → (files : List (List ℕ)) → Type 0
+DoLinkAll strip contents files = OfWholeFiles contents files (λ bytes. (units : List ObjectUnit) × DoLink strip bytes units)
 
--- `link_run` returned this fault for inputs, and for a writer
-abbrev pub HasRunFault : LinkOptions → (files : List (List ℕ)) → Failure → Type 0
-HasRunFault options files (Tool fault) = OfInputs files (λ inputs. (taken : Taken) × IsLinkFault options inputs taken fault)
-HasRunFault options files _ = ⊥
+-- `link_run` returned this fault for readers of the files, and for a writer
+abbrev pub HasRunFault : LinkOptions → Contents → (files : List (List ℕ)) → Failure → Type 0
+HasRunFault options contents files (Tool fault) = OfFiles contents files (λ inputs. (taken : Taken) × IsLinkFault options inputs taken fault)
+HasRunFault options contents files _ = ⊥
 
 -- why `link` failed: the files cannot be opened, the run over them failed, or what it wrote was not put
 -- in the place of OUT, which is not touched before the files have been linked
-abbrev pub IsLinkFailure : LinkOptions → (files : List (List ℕ)) (out : List ℕ) → Failure → Type 0
-IsLinkFailure options files out failure =
-    IsOpenFailure files failure ⊎ (HasRunFault options files failure ⊎ (DoLinkAll options.strip files × IsUnplaced out failure))
+abbrev pub IsLinkFailure : LinkOptions → Contents → (files : List (List ℕ)) (out : List ℕ) → Failure → Type 0
+IsLinkFailure options contents files out failure =
+    IsOpenFailure contents files failure
+    ⊎ (HasRunFault options contents files failure ⊎ (DoLinkAll options.strip contents files × IsUnplaced (contents out) out failure))
 
 -- ---- with a map
 
--- the inputs, read to their ends, are object files with these units, which link, and this is their load
--- file
-abbrev pub DoLinkFiles : (strip : Bool) (files : List (List ℕ)) (units : List FileUnit) (file : List FileHunk) → Type 0
-DoLinkFiles strip files units file = OfInputs files (λ inputs. HaveRead inputs (LinkFiles strip units file))
+-- the files are object files with these units, which link, and this is their load file
+abbrev pub DoLinkFiles : (strip : Bool) → Contents → (files : List (List ℕ)) (units : List FileUnit) (file : List FileHunk) → Type 0
+DoLinkFiles strip contents files units file = OfWholeFiles contents files (LinkFiles strip units file)
 
--- the load file as the options have it, which was written to some file in full
-pub record IsWrittenOut (options : LinkOptions) (linked file : List FileHunk) : Type 0 where
+-- the load file as the options have it, which was put in the place of OUT
+pub record IsWrittenOut (options : LinkOptions) (linked : List FileHunk) (out : List ℕ) (contents contents_then : Contents) (file : List FileHunk) : Type 0 where
   pub file_is : file ≡ trimmed_if options.trim linked
   pub valid : IsLoadFile file
-  pub old : Option (List ℕ)
-  pub new : Option (List ℕ)
-  pub written : Appends old new (bytes_of (written_in (form_of options) file))
+  pub start : Option (List ℕ)
+  pub taken : Option (List ℕ)
+  pub begun : IsBegun (contents out) start
+  pub written : Appends start taken (bytes_of (written_in (form_of options) file))
+  pub replaced : IsReplaced out taken contents contents_then
 
--- the map of this load file and these units is all that was written to some file
-pub record HasMap (names : List (List ℕ)) (file : List FileHunk) (units : List FileUnit) : Type 0 where
-  pub old : Option (List ℕ)
-  pub new : Option (List ℕ)
-  pub written : Appends old new (map_text names file units)
+-- the map of this load file and these units was put in the place of MAP
+pub record HasMap (names : List (List ℕ)) (file : List FileHunk) (units : List FileUnit) (map : List ℕ) (contents contents_then : Contents) : Type 0 where
+  pub start : Option (List ℕ)
+  pub taken : Option (List ℕ)
+  pub begun : IsBegun (contents map) start
+  pub written : Appends start taken (map_text names file units)
+  pub replaced : IsReplaced map taken contents contents_then
 
 -- the object files link, the bytes of their load file were written, and its map, with these names of the
--- files
-pub record IsLinkedWithMap (options : LinkOptions) (names : List (List ℕ)) (old new : Option (List ℕ)) (files : List (List ℕ)) : Type 0 where
-  pub linked : IsLinked options old new files
+-- files, was put in the place of MAP
+pub record IsLinkedWithMap (options : LinkOptions) (names : List (List ℕ)) (start taken : Option (List ℕ)) (map : List ℕ) (contents contents_then : Contents) (files : List (List ℕ)) : Type 0 where
+  pub linked : IsLinked options start taken files
   pub units : List FileUnit
   pub are : AreFileUnits units files
   pub units_are : linked.units ≡ units_of units
-  pub has_map : HasMap names (linked_hunks linked.units options) units
+  pub has_map : HasMap names (linked_hunks linked.units options) units map contents contents_then
 
--- the inputs link, the bytes of their load file are all that was written to OUT, and its map is all that
--- was written to MAP
-pub record IsMapped (options : LinkOptions) (names files : List (List ℕ)) : Type 0 where
-  pub old : Option (List ℕ)
-  pub new : Option (List ℕ)
-  pub linked : OfInputs files (λ inputs. HaveRead inputs (IsLinkedWithMap options names old new))
+-- the files are object files that link, their load file was put in the place of OUT, and then its map in the
+-- place of MAP
+pub record IsMapped (options : LinkOptions) (names : List (List ℕ)) (contents : Contents) (files : List (List ℕ)) (out map : List ℕ) (contents_then : Contents) : Type 0 where
+  pub between : Contents
+  pub start : Option (List ℕ)
+  pub taken : Option (List ℕ)
+  pub begun : IsBegun (contents out) start
+  pub linked : OfWholeFiles contents files (IsLinkedWithMap options names start taken map between contents_then)
+  pub replaced : IsReplaced out taken contents between
 
 -- why a load file is not in the place of OUT: OUT cannot be opened or replaced, a write failed, or out of
 -- memory
-abbrev pub IsUnwritten : (out : List ℕ) → Failure → Type 0
-IsUnwritten out (Opening name reason) = name.now ≡ out
-IsUnwritten out Printing = ⊤
-IsUnwritten out (Tool (Output written)) = ⊤
-IsUnwritten out (Tool (OutOfMemory written)) = ⊤
-IsUnwritten out _ = ⊥
+abbrev pub IsUnwritten : FileContent → (out : List ℕ) → Failure → Type 0
+IsUnwritten content out (Opening name reason) = (name.now ≡ out) × (content ≡ unknown)
+IsUnwritten content out Printing = content ≡ unknown
+IsUnwritten content out (Tool (Output written)) = ⊤
+IsUnwritten content out (Tool (OutOfMemory written)) = ⊤
+IsUnwritten content out _ = ⊥
 
 -- why a map is not in the place of MAP: MAP cannot be opened or replaced, a write to it failed, or out of
 -- memory
-abbrev pub IsUnmapped : (map : List ℕ) → Failure → Type 0
-IsUnmapped map (Opening name reason) = name.now ≡ map
-IsUnmapped map (Writing name) = name.now ≡ map
-IsUnmapped map (Tool (OutOfMemory written)) = ⊤
-IsUnmapped map _ = ⊥
+abbrev pub IsUnmapped : FileContent → (map : List ℕ) → Failure → Type 0
+IsUnmapped content map (Opening name reason) = (name.now ≡ map) × (content ≡ unknown)
+IsUnmapped content map (Writing name) = name.now ≡ map
+IsUnmapped content map (Tool (OutOfMemory written)) = ⊤
+IsUnmapped content map _ = ⊥
 
 -- why a map is not in its place, if what it was written to tells this failure
 abbrev pub map_failure : (map : Bor (List ℕ)) → Failure → Failure
@@ -111,28 +121,35 @@ map_failure map (Tool (Output written)) = Writing map
 map_failure map failure = failure
 
 -- MAP is one file with OUT, or with one of the files
-abbrev pub IsTaken : (map : List ℕ) → Failure → Type 0
-IsTaken map (SameFile name) = name.now ≡ map
-IsTaken map (MapOverFile name) = name.now ≡ map
-IsTaken map _ = ⊥
+abbrev pub IsTaken : Contents → (files : List (List ℕ)) (out map : List ℕ) → Failure → Type 0
+IsTaken contents files out map (SameFile name) = (name.now ≡ map) × (IsKnown (contents out) → out ≡ map)
+IsTaken contents files out map (MapOverFile name) = (name.now ≡ map) × (IsKnown (contents map) → Contains files map)
+IsTaken contents files out map _ = ⊥
 
 -- the load file was made, and is not in the place of OUT
-abbrev pub IsNotPlaced : (strip : Bool) (files : List (List ℕ)) (out : List ℕ) → Failure → Type 0
-IsNotPlaced strip files out failure = (file : List FileHunk) × DoLinkTo strip files file × IsUnwritten out failure
+abbrev pub IsNotPlaced : (strip : Bool) → Contents → (files : List (List ℕ)) (out : List ℕ) → Failure → Type 0
+IsNotPlaced strip contents files out failure = (file : List FileHunk) × DoLinkTo strip contents files file × IsUnwritten (contents out) out failure
 
--- why `link` with a map failed: what MAP is comes first, and MAP is begun once OUT is in its place
-abbrev pub IsMapFailure : LinkOptions → (files : List (List ℕ)) (out map : List ℕ) → Failure → Type 0
-IsMapFailure options files out map failure =
-    IsTaken map failure ⊎ (AreUnlinked options.strip files failure ⊎ (IsNotPlaced options.strip files out failure ⊎ (IsMade options files × IsUnmapped map failure)))
+-- why `link` with a map failed before OUT was in its place: what MAP is comes first
+abbrev pub IsMapFailureBefore : LinkOptions → Contents → (files : List (List ℕ)) (out map : List ℕ) → Failure → Type 0
+IsMapFailureBefore options contents files out map failure =
+    IsTaken contents files out map failure
+    ⊎ (AreUnlinked options.strip contents files failure ⊎ IsNotPlaced options.strip contents files out failure)
+
+-- why `link` with a map failed: before any file was touched, or once OUT was in its place
+abbrev pub IsMapFailure : LinkOptions → Contents → (files : List (List ℕ)) (out map : List ℕ) → (contents_then : Contents) → Failure → Type 0
+IsMapFailure options contents files out map contents_then failure =
+    (IsMapFailureBefore options contents files out map failure × AreUnchanged contents contents_then)
+    ⊎ (IsMade options contents files out contents_then × IsUnmapped (contents_then map) map failure)
 
 -- ---- as MAP is given, or not
 
 -- what was done
-abbrev pub IsDone : LinkOptions → (files : List (List ℕ)) (out : List ℕ) → Option (List ℕ) → Type 0
-IsDone options files out None = IsMade options files
-IsDone options files out (Some map) = IsMapped options files files × (out ≢ map)
+abbrev pub IsDone : LinkOptions → Contents → (files : List (List ℕ)) (out : List ℕ) → Option (List ℕ) → (contents_then : Contents) → Type 0
+IsDone options contents files out None contents_then = IsMade options contents files out contents_then
+IsDone options contents files out (Some map) contents_then = IsMapped options files contents files out map contents_then × (out ≢ map)
 
 -- and why not
-abbrev pub IsUndone : LinkOptions → (files : List (List ℕ)) (out : List ℕ) → Option (List ℕ) → Failure → Type 0
-IsUndone options files out None failure = IsLinkFailure options files out failure
-IsUndone options files out (Some map) failure = IsMapFailure options files out map failure
+abbrev pub IsUndone : LinkOptions → Contents → (files : List (List ℕ)) (out : List ℕ) → Option (List ℕ) → (contents_then : Contents) → Failure → Type 0
+IsUndone options contents files out None contents_then failure = IsLinkFailure options contents files out failure × AreUnchanged contents contents_then
+IsUndone options contents files out (Some map) contents_then failure = IsMapFailure options contents files out map contents_then failure

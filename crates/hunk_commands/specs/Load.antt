@@ -1,33 +1,43 @@
--- What is known of addresses, a file and the standard output after `load`, or why it failed.
-use Rattle.std.specs.Prelude.{◌≡◌, ◌⊎◌, ℕ, List}
+-- What is known of addresses, a file and the output after `load`, or why it failed.
+use Rattle.std.specs.Prelude.{◌≡◌, ◌⊎◌, ℕ, List, IsTrue}
 use Rattle.hunk_loadfile.specs.LoadHunk.{FileHunk}
+use Rattle.hunk_tool.specs.FileSystem.{MayBeMissing, OfFile, OfWholeFile}
 use Rattle.hunk_tool.specs.Load.{IsFaultAt, IsWrittenAt, loaded_text}
 use Rattle.hunk_tool.specs.Symbols.{symbols_text}
 use Rattle.hunk_commands.specs.declared.failure.Failure.{Failure}
 use Rattle.hunk_commands.specs.declared.failure.Failure.TheVariants.{Opening, Printing, Tool}
 use Rattle.hunk_commands.specs.declared.load.LoadText.{LoadText}
 use Rattle.hunk_commands.specs.declared.load.LoadText.TheVariants.{Image, Symbols}
-use Rattle.hunk_commands.specs.Addresses.{AreAddresses, AtBases, IsAddressesFailure, Origin}
-use Rattle.hunk_commands.specs.Devices.{Printed, StoppedBy}
+use Rattle.hunk_commands.specs.Addresses.{AtBases, IsAddressesFailure, Origin}
+use Rattle.hunk_commands.specs.Output.{IsFlushed, IsNothing, Printed, ends_between}
+use Rattle.hunk_commands.specs.Store.{Contents}
 
 -- the text of the hunks of a load file at these bases
 abbrev pub text_of : LoadText → List FileHunk → List ℕ → List ℕ
 text_of (Image form) = loaded_text form
 text_of Symbols = symbols_text
 
--- the numbers of the addresses are the bases at which a load file was placed: the bytes that were read
--- are a load file, and this text of it at these bases is all that was written
-abbrev pub IsLoaded : LoadText → Origin → Type 0
-IsLoaded text origin = AtBases origin (λ bases. Printed (IsWrittenAt (text_of text) bases))
+-- the numbers of the addresses are the bases at which the load file was placed, and this text of it at
+-- these bases is what the output has taken
+abbrev pub IsWrittenOf : LoadText → Contents → Origin → (file : List ℕ) → Printed → Type 0
+IsWrittenOf text contents origin file printed = AtBases contents origin
+    (λ bases. OfWholeFile (contents file) (IsWrittenAt (text_of text) bases printed.old printed.new))
 
--- why the text of a file was not printed at addresses that are known: the numbers of the addresses are
--- the bases at which it was to be written
-abbrev pub IsUnloaded : LoadText → Origin → (file : List ℕ) → Failure → Type 0
-IsUnloaded text origin file (Opening name reason) = (name.now ≡ file) × AreAddresses origin
-IsUnloaded text origin file Printing = AreAddresses origin
-IsUnloaded text origin file (Tool fault) = AtBases origin (λ bases. StoppedBy (IsFaultAt (text_of text) bases) fault)
-IsUnloaded text origin file _ = ⊥
+-- the text was printed
+abbrev pub IsLoaded : LoadText → Contents → Origin → (file : List ℕ) → Printed → Type 0
+IsLoaded text contents origin file printed = IsWrittenOf text contents origin file printed × IsFlushed printed
+
+-- why the text of the file was not printed at addresses that are known: it cannot be opened, the output did
+-- not pass on what it had taken, or a run over it failed
+abbrev pub IsUnloaded : LoadText → Contents → Origin → (file : List ℕ) → Printed → Failure → Type 0
+IsUnloaded text contents origin file printed (Opening name reason) =
+    AtBases contents origin (λ bases. (name.now ≡ file) × MayBeMissing (contents file)) × IsNothing printed
+IsUnloaded text contents origin file printed Printing = IsWrittenOf text contents origin file printed × IsTrue printed.failed
+IsUnloaded text contents origin file printed (Tool fault) = AtBases contents origin
+    (λ bases. OfFile (contents file) (λ input. IsFaultAt (text_of text) bases (ends_between input printed) fault))
+IsUnloaded text contents origin file printed _ = ⊥
 
 -- why `load` failed: the addresses are known before the file is opened
-abbrev pub IsLoadFailure : LoadText → Origin → (file : List ℕ) → Failure → Type 0
-IsLoadFailure text origin file failure = IsAddressesFailure origin failure ⊎ IsUnloaded text origin file failure
+abbrev pub IsLoadFailure : LoadText → Contents → Origin → (file : List ℕ) → Printed → Failure → Type 0
+IsLoadFailure text contents origin file printed failure =
+    (IsAddressesFailure contents origin failure × IsNothing printed) ⊎ IsUnloaded text contents origin file printed failure

@@ -3,8 +3,8 @@ use Rattle.std.specs.Prelude.{◌≡◌, ◌++◌, ℕ, List, [], codes, decimal
 use Rattle.std_io.specs.declared.io.kind.ErrorKind.{ErrorKind}
 use Rattle.std_io.specs.declared.io.kind.ErrorKind.TheVariants as kind
 use Rattle.hunk_base.specs.Text.{line}
-use Rattle.hunk_commands.specs.declared.open_fault.OpenFault.{OpenFault}
-use Rattle.hunk_commands.specs.declared.open_fault.OpenFault.TheVariants.{Directory, NoDirectory, NotAllowed, NotFound, Other, ReadOnly, TooManyFiles, TooManyLinks, Unknown}
+use Rattle.hunk_tool.specs.declared.file_system.OpenFault.{OpenFault}
+use Rattle.hunk_tool.specs.declared.file_system.OpenFault.TheVariants.{Directory, NoDirectory, NotAllowed, NotFound, Other, ReadOnly, TooManyFiles, TooManyLinks, Unknown}
 
 -- the reason for an error of this kind: each of six kinds has its own, and any other has one by its number
 abbrev pub IsReasonFor : ErrorKind → OpenFault → Type 0

@@ -1,6 +1,6 @@
 -- The exit status after a request, the line of its failure, and what is told after it.
 use Rattle.std.specs.Borrow.{Bor}
-use Rattle.std.specs.Prelude.{◌≡◌, ◌⊎◌, ◌∷◌, ◌++◌, [], ℕ, List, Bool, Option, if◌then◌else◌, option_map}
+use Rattle.std.specs.Prelude.{◌≡◌, ◌⊎◌, ◌∷◌, ◌++◌, [], ℕ, List, Bool, Option, if◌then◌else◌, option_map, string_bytes}
 use Rattle.hunk_memory.specs.declared.image_form.ImageForm.{ImageForm}
 use Rattle.hunk_tool.specs.Inputs.{file_names}
 use Rattle.hunk_tool.specs.declared.copy.CopyForm.{CopyForm}
@@ -14,10 +14,11 @@ use Rattle.hunk_commands.specs.Copy.{IsCopiedOut, IsCopyFailure}
 use Rattle.hunk_commands.specs.Load.{IsLoadFailure, IsLoaded}
 use Rattle.hunk_commands.specs.Link.{IsDone, IsUndone}
 use Rattle.hunk_commands.specs.Image.{AreImaged, IsImageFailure}
-use Rattle.hunk_commands.specs.Devices.{IsCutShort}
-use Rattle.hunk_commands.specs.Survey.{IsSurveyedSomewhere}
+use Rattle.hunk_commands.specs.Output.{IsExhausted, IsNothing, IsPrinted, IsUnprinted, Printed, printed_of}
+use Rattle.hunk_commands.specs.Store.{AreUnchanged, Contents}
+use Rattle.hunk_commands.specs.Survey.{IsCutShort, IsSurveyed}
 use Rattle.hunk_commands.specs.Text.{IsTextFailure, IsTold}
-use Rattle.hunk_commands.specs.Version.{IsVersionFailure}
+use Rattle.hunk_commands.specs.Version.{version_line}
 use Rattle.hunk_commands.specs.declared.failure.Failure.{Failure}
 use Rattle.hunk_commands.specs.declared.failure.Failure.TheVariants.{Tool}
 use Rattle.hunk_commands.specs.declared.load.LoadText.{LoadText}
@@ -44,70 +45,130 @@ IsFailed = IsFailedWith status_of
 abbrev pub NoMore : Failure → List ℕ → Type 0
 NoMore failure = AreNoLines
 
+-- memory ran out before anything was printed, or this holds of the failure
+abbrev pub OrExhausted : Printed → (Why : Failure → Type 0) → Failure → Type 0
+OrExhausted printed Why failure = IsExhausted printed failure ⊎ Why failure
+
+-- memory ran out before any file was touched, or this holds of the failure
+abbrev pub OrUntouched : (contents contents_then : Contents) → (Why : Failure → Type 0) → Failure → Type 0
+OrUntouched contents contents_then Why failure =
+    ((failure ≡ Tool (tool_fault.OutOfMemory 0)) × AreUnchanged contents contents_then) ⊎ Why failure
+
+-- ---- requests that print
+
 -- the status after `load`
-abbrev pub EndsLoad : {W : Type 0} (taken : W → Option (List ℕ)) (failed : W → Bool) (old new : W) (origin : Origin) (text : LoadText) (explain : Bool) (file : List ℕ) → ℕ → Type 0
-EndsLoad taken failed old new origin text explain file status =
-    ((status ≡ 0) × IsLoaded text origin) ⊎ IsFailed taken failed old new (IsLoadFailure text origin file) (IfAsked explain (AreLoadLines origin (file ∷ []))) (file ∷ []) status
-
--- the argument, if it is given
-abbrev pub given_text : Option (Bor (List ℕ)) → Option (List ℕ)
-given_text = option_map (λ text. text.now)
-
--- the status after `link`
-abbrev pub EndsLink : {W : Type 0} (taken : W → Option (List ℕ)) (failed : W → Bool) (old new : W) (out : List ℕ) (map : Option (List ℕ)) (options : LinkOptions) (explain : Bool) (files : List (List ℕ)) → ℕ → Type 0
-EndsLink taken failed old new out map options explain files status =
-    ((status ≡ 0) × IsDone options files out map) ⊎ IsFailed taken failed old new (IsUndone options files out map) (IfAsked explain (AreLinkLines files)) files status
+abbrev pub EndsLoad : {W : Type 0} → Contents → Printed → (taken : W → Option (List ℕ)) (failed : W → Bool) (old new : W) (origin : Origin) (text : LoadText) (explain : Bool) (file : List ℕ) → ℕ → Type 0
+EndsLoad contents printed taken failed old new origin text explain file status =
+    ((status ≡ 0) × IsLoaded text contents origin file printed)
+    ⊎ IsFailed taken failed old new (OrExhausted printed (IsLoadFailure text contents origin file printed))
+    (IfAsked explain (AreLoadLines contents origin file)) (file ∷ []) status
 
 -- the status after `image`
-abbrev pub EndsImage : {W : Type 0} (taken : W → Option (List ℕ)) (failed : W → Bool) (old new : W) (origin : Origin) (form : ImageForm) (explain : Bool) (files : List (List ℕ)) → ℕ → Type 0
-EndsImage taken failed old new origin form explain files status =
-    ((status ≡ 0) × AreImaged form origin files) ⊎ IsFailed taken failed old new (IsImageFailure form origin files) (IfAsked explain (AreImageLines origin files)) files status
+abbrev pub EndsImage : {W : Type 0} → Contents → Printed → (taken : W → Option (List ℕ)) (failed : W → Bool) (old new : W) (origin : Origin) (form : ImageForm) (explain : Bool) (files : List (List ℕ)) → ℕ → Type 0
+EndsImage contents printed taken failed old new origin form explain files status =
+    ((status ≡ 0) × AreImaged form contents origin files printed)
+    ⊎ IsFailed taken failed old new (OrExhausted printed (IsImageFailure form contents origin files printed))
+    (IfAsked explain (AreImageLines contents origin files)) files status
 
 -- what `show` prints of a file, with `--json` or without
 abbrev pub shown : (json : Bool) → Text
 shown json = if json then Json else Listing
 
 -- the status after a text about FILE
-abbrev pub EndsText : {W : Type 0} (taken : W → Option (List ℕ)) (failed : W → Bool) (old new : W) (text : Text) (explain : Bool) (file : List ℕ) → ℕ → Type 0
-EndsText taken failed old new text explain file status =
-    ((status ≡ 0) × IsTold text) ⊎ IsFailed taken failed old new (IsTextFailure text file) (IfAsked explain (AreTextLines (file ∷ []))) (file ∷ []) status
+abbrev pub EndsText : {W : Type 0} → Contents → Printed → (taken : W → Option (List ℕ)) (failed : W → Bool) (old new : W) (text : Text) (explain : Bool) (file : List ℕ) → ℕ → Type 0
+EndsText contents printed taken failed old new text explain file status =
+    ((status ≡ 0) × IsTold text contents file printed)
+    ⊎ IsFailed taken failed old new (OrExhausted printed (IsTextFailure text contents file printed))
+    (IfAsked explain (AreTextLines contents (file ∷ []))) (file ∷ []) status
 
 -- the status after `survey`: no file stops it
-abbrev pub EndsSurvey : {W : Type 0} (taken : W → Option (List ℕ)) (failed : W → Bool) (old new : W) (files : List (List ℕ)) → ℕ → Type 0
-EndsSurvey taken failed old new files status =
-    IsSurveyedSomewhere files status ⊎ IsFailed taken failed old new IsCutShort NoMore [] status
-
--- the status after `copy`
-abbrev pub EndsCopy : {W : Type 0} (taken : W → Option (List ℕ)) (failed : W → Bool) (old new : W) (out : List ℕ) (form : CopyForm) (explain : Bool) (file : List ℕ) → ℕ → Type 0
-EndsCopy taken failed old new out form explain file status =
-    ((status ≡ 0) × IsCopiedOut form) ⊎ IsFailed taken failed old new (IsCopyFailure form file out) (IfAsked explain (AreLoadFileLines (file ∷ []))) (file ∷ []) status
+abbrev pub EndsSurvey : {W : Type 0} → Contents → Printed → (taken : W → Option (List ℕ)) (failed : W → Bool) (old new : W) (files : List (List ℕ)) → ℕ → Type 0
+EndsSurvey contents printed taken failed old new files status =
+    IsSurveyed contents files printed status ⊎ IsFailed taken failed old new (IsCutShort printed) NoMore [] status
 
 -- the status of a comparison that was made
 abbrev pub compared_status : (same : Bool) → ℕ
 compared_status same = if same then 0 else 1
 
 -- the status after `compare`
-abbrev pub EndsCompare : {W : Type 0} (taken : W → Option (List ℕ)) (failed : W → Bool) (old new : W) (with_symbols : Bool) (first second : List ℕ) → ℕ → Type 0
-EndsCompare taken failed old new with_symbols first second status =
-    ((same : Bool) × AreCompared with_symbols same × (status ≡ compared_status same))
-    ⊎ IsFailedWith status_of_comparison taken failed old new (IsCompareFailure with_symbols first second) NoMore (first ∷ second ∷ []) status
+abbrev pub EndsCompare : {W : Type 0} → Contents → Printed → (taken : W → Option (List ℕ)) (failed : W → Bool) (old new : W) (with_symbols : Bool) (first second : List ℕ) → ℕ → Type 0
+EndsCompare contents printed taken failed old new with_symbols first second status =
+    ((same : Bool) × AreCompared with_symbols same contents first second printed × (status ≡ compared_status same))
+    ⊎ IsFailedWith status_of_comparison taken failed old new (OrExhausted printed (IsCompareFailure with_symbols contents first second printed))
+    NoMore (first ∷ second ∷ []) status
 
--- the status after `--version`; nothing is known of the standard output
-abbrev pub EndsVersion : {W : Type 0} (taken : W → Option (List ℕ)) (failed : W → Bool) (old new : W) → ℕ → Type 0
-EndsVersion taken failed old new status =
-    (status ≡ 0) ⊎ IsFailed taken failed old new IsVersionFailure NoMore [] status
+-- the status after a request for a text of the program's own
+abbrev pub EndsHelp : {W : Type 0} (text : List ℕ) → Printed → (taken : W → Option (List ℕ)) (failed : W → Bool) (old new : W) → ℕ → Type 0
+EndsHelp text printed taken failed old new status =
+    ((status ≡ 0) × IsPrinted text printed) ⊎ IsFailed taken failed old new (OrExhausted printed (IsUnprinted printed)) NoMore [] status
+
+-- the status after `--version`
+abbrev pub EndsVersion : {W : Type 0} → Printed → (taken : W → Option (List ℕ)) (failed : W → Bool) (old new : W) → ℕ → Type 0
+EndsVersion printed taken failed old new status = EndsHelp version_line printed taken failed old new status
+
+-- ---- requests that replace files
+
+-- the argument, if it is given
+abbrev pub given_text : Option (Bor (List ℕ)) → Option (List ℕ)
+given_text = option_map (λ text. text.now)
+
+-- the status after `link`
+abbrev pub EndsLink : {W : Type 0} → (contents contents_then : Contents) → (taken : W → Option (List ℕ)) (failed : W → Bool) (old new : W) (out : List ℕ) (map : Option (List ℕ)) (options : LinkOptions) (explain : Bool) (files : List (List ℕ)) → ℕ → Type 0
+EndsLink contents contents_then taken failed old new out map options explain files status =
+    ((status ≡ 0) × IsDone options contents files out map contents_then)
+    ⊎ IsFailed taken failed old new (OrUntouched contents contents_then (IsUndone options contents files out map contents_then))
+    (IfAsked explain (AreLinkLines contents_then files)) files status
+
+-- the status after `copy`
+abbrev pub EndsCopy : {W : Type 0} → (contents contents_then : Contents) → (taken : W → Option (List ℕ)) (failed : W → Bool) (old new : W) (out : List ℕ) (form : CopyForm) (explain : Bool) (file : List ℕ) → ℕ → Type 0
+EndsCopy contents contents_then taken failed old new out form explain file status =
+    ((status ≡ 0) × IsCopiedOut form contents file out contents_then)
+    ⊎ IsFailed taken failed old new (OrUntouched contents contents_then (λ failure. IsCopyFailure form contents file out failure × AreUnchanged contents contents_then))
+    (IfAsked explain (AreLoadFileLines contents_then (file ∷ []))) (file ∷ []) status
+
+-- ---- any request
+
+-- what is known of the files before and after a request, and of what was printed
+pub record Run : Type 0 where
+  pub contents : Contents
+  pub contents_then : Contents
+  pub printed : Printed
+
+abbrev pub run_between : {S O : Type 0} (content : S → Contents) (taken : O → Option (List ℕ)) (failed : O → Bool) (waiting : O → List ℕ) → (store store_then : S) (output output_then : O) → Run
+run_between content taken failed waiting store store_then output output_then =
+    record { contents = content store; contents_then = content store_then; printed = printed_of taken failed waiting output output_then }
+
+-- no file was touched, and this holds
+abbrev pub Reads : Run → (Holds : Contents → Printed → Type 0) → Type 0
+Reads run Holds = Holds run.contents run.printed × AreUnchanged run.contents run.contents_then
+
+-- nothing was printed, and this holds
+abbrev pub Replaces : Run → (Holds : (contents contents_then : Contents) → Type 0) → Type 0
+Replaces run Holds = Holds run.contents run.contents_then × IsNothing run.printed
+
+-- nothing was done, and this holds
+abbrev pub Refuses : Run → (Holds : Type 0) → Type 0
+Refuses run Holds = Holds × AreUnchanged run.contents run.contents_then × IsNothing run.printed
 
 -- the status after a request
-abbrev pub Ends : {W : Type 0} (taken : W → Option (List ℕ)) (failed : W → Bool) (old new : W) → Request → ℕ → Type 0
-Ends taken failed old new (Load addresses text explain file) status = EndsLoad taken failed old new (origin_of addresses) text explain file.now status
-Ends taken failed old new (Link out map options explain files) status = EndsLink taken failed old new out.now (given_text map) options explain (file_names files.items) status
-Ends taken failed old new (Image addresses form explain files) status = EndsImage taken failed old new (origin_of addresses) form explain (file_names files.items) status
-Ends taken failed old new (Check explain file) status = EndsText taken failed old new Line explain file.now status
-Ends taken failed old new (Show json explain file) status = EndsText taken failed old new (shown json) explain file.now status
-Ends taken failed old new (Survey files) status = EndsSurvey taken failed old new (file_names files.items) status
-Ends taken failed old new (Copy out form explain file) status = EndsCopy taken failed old new out.now form explain file.now status
-Ends taken failed old new (Compare with_symbols first second) status = EndsCompare taken failed old new with_symbols first.now second.now status
-Ends taken failed old new Version status = EndsVersion taken failed old new status
-Ends taken failed old new (Help text) status = (status ≡ 0) ⊎ (status ≡ 3)
-Ends taken failed old new (Refused text) status = status ≡ 2
-Ends taken failed old new OutOfMemory status = (status ≡ 4) × TellsLine taken failed old new (failure_line [] (Tool (tool_fault.OutOfMemory 0)))
+abbrev pub Ends : {W : Type 0} → Run → (taken : W → Option (List ℕ)) (failed : W → Bool) (old new : W) → Request → ℕ → Type 0
+Ends run taken failed old new (Load addresses text explain file) status =
+    Reads run (λ contents printed. EndsLoad contents printed taken failed old new (origin_of addresses) text explain file.now status)
+Ends run taken failed old new (Image addresses form explain files) status =
+    Reads run (λ contents printed. EndsImage contents printed taken failed old new (origin_of addresses) form explain (file_names files.items) status)
+Ends run taken failed old new (Check explain file) status =
+    Reads run (λ contents printed. EndsText contents printed taken failed old new Line explain file.now status)
+Ends run taken failed old new (Show json explain file) status =
+    Reads run (λ contents printed. EndsText contents printed taken failed old new (shown json) explain file.now status)
+Ends run taken failed old new (Survey files) status =
+    Reads run (λ contents printed. EndsSurvey contents printed taken failed old new (file_names files.items) status)
+Ends run taken failed old new (Compare with_symbols first second) status =
+    Reads run (λ contents printed. EndsCompare contents printed taken failed old new with_symbols first.now second.now status)
+Ends run taken failed old new (Link out map options explain files) status =
+    Replaces run (λ contents contents_then. EndsLink contents contents_then taken failed old new out.now (given_text map) options explain (file_names files.items) status)
+Ends run taken failed old new (Copy out form explain file) status =
+    Replaces run (λ contents contents_then. EndsCopy contents contents_then taken failed old new out.now form explain file.now status)
+Ends run taken failed old new Version status = Reads run (λ contents printed. EndsVersion printed taken failed old new status)
+Ends run taken failed old new (Help text) status = Reads run (λ contents printed. EndsHelp (string_bytes text) printed taken failed old new status)
+Ends run taken failed old new (Refused text) status = Refuses run ((status ≡ 2) × TellsLine taken failed old new (string_bytes text))
+Ends run taken failed old new OutOfMemory status = Refuses run ((status ≡ 4) × TellsLine taken failed old new (failure_line [] (Tool (tool_fault.OutOfMemory 0))))

@@ -1,17 +1,17 @@
--- What is known of a file and the standard output after a text about the file was printed, or why it
--- was not.
-use Rattle.std.specs.Prelude.{◌≡◌, ◌⊎◌, ℕ, List, ⊤}
+-- What is known of a file and the output after a text about the file was printed, or why it was not.
+use Rattle.std.specs.Prelude.{◌≡◌, ℕ, List, IsTrue}
 use Rattle.hunk_json.specs.Run.{json_text}
 use Rattle.hunk_tool.specs.Check.{check_text}
+use Rattle.hunk_tool.specs.FileSystem.{MayBeMissing, OfFile, OfWholeFile}
 use Rattle.hunk_tool.specs.FileText.{IsTextFault, IsWritten}
 use Rattle.hunk_files.specs.FileValue.{FileValue}
 use Rattle.hunk_tool.specs.Show.{show_text}
-use Rattle.hunk_tool.specs.declared.tool_fault.ToolFault.TheVariants.{OutOfMemory}
 use Rattle.hunk_commands.specs.declared.failure.Failure.{Failure}
 use Rattle.hunk_commands.specs.declared.failure.Failure.TheVariants.{Opening, Printing, Tool}
 use Rattle.hunk_commands.specs.declared.text.Text.{Text}
 use Rattle.hunk_commands.specs.declared.text.Text.TheVariants.{Json, Line, Listing}
-use Rattle.hunk_commands.specs.Devices.{Printed, StoppedBy}
+use Rattle.hunk_commands.specs.Output.{IsFlushed, IsNothing, Printed, ends_between}
+use Rattle.hunk_commands.specs.Store.{Contents}
 
 -- the text about a file of this value
 abbrev pub text_of : Text → FileValue → List ℕ
@@ -19,14 +19,20 @@ text_of Line = check_text
 text_of Listing = show_text
 text_of Json = json_text
 
--- the bytes that were read are a file of the kind that its first four bytes tell, and its text is
--- all that was written
-abbrev pub IsTold : Text → Type 0
-IsTold text = Printed (IsWritten (text_of text))
+-- the text about the file, of the kind that its first four bytes tell, is what the output has taken
+abbrev pub IsWrittenOf : Text → Contents → (file : List ℕ) → Printed → Type 0
+IsWrittenOf text contents file printed = OfWholeFile (contents file) (IsWritten (text_of text) printed.old printed.new)
 
--- why the text was not printed
-abbrev pub IsTextFailure : Text → (file : List ℕ) → Failure → Type 0
-IsTextFailure text file (Opening name reason) = name.now ≡ file
-IsTextFailure text file Printing = ⊤
-IsTextFailure text file (Tool fault) = (fault ≡ OutOfMemory 0) ⊎ StoppedBy (IsTextFault (text_of text)) fault
-IsTextFailure text file _ = ⊥
+-- it was printed
+abbrev pub IsTold : Text → Contents → (file : List ℕ) → Printed → Type 0
+IsTold text contents file printed = IsWrittenOf text contents file printed × IsFlushed printed
+
+-- why the text was not printed: the file cannot be opened, the output did not pass on what it had taken, or a
+-- run over the file failed
+abbrev pub IsTextFailure : Text → Contents → (file : List ℕ) → Printed → Failure → Type 0
+IsTextFailure text contents file printed (Opening name reason) =
+    (name.now ≡ file) × MayBeMissing (contents file) × IsNothing printed
+IsTextFailure text contents file printed Printing = IsWrittenOf text contents file printed × IsTrue printed.failed
+IsTextFailure text contents file printed (Tool fault) =
+    OfFile (contents file) (λ input. IsTextFault (text_of text) (ends_between input printed) fault)
+IsTextFailure text contents file printed _ = ⊥

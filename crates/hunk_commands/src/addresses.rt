@@ -1,14 +1,14 @@
 //! Where the addresses of the hunks come from: a list, or a file.
-ghost use Rattle.std.specs.Prelude.{IfOk, IfErr};
-ghost use Rattle.hunk_commands.specs.Addresses.{HasNumbers, HaveNumbers, IsAddressesFailure, IsReadFailure, input_of, origin_of};
-ghost use Rattle.hunk_commands.specs.Addresses.Origin.{in_list};
+ghost use Rattle.std.specs.Prelude.{◌≡◌, IfOk, IfErr, Some, map};
+ghost use Rattle.hunk_memory.specs.Bases.{numbers};
+ghost use Rattle.hunk_commands.specs.Addresses.{HasNumbers, HaveNumbers, IsAddressesFailure, IsListFailure, IsReadFailure, input_of, origin_of};
 
 use crate::devices::open;
 use crate::failure::Failure;
+use crate::store::Store;
 use hunk_tool::{BasesFault, BasesFileFault, parse_bases, read_bases};
-use hunk_words::{Source, Watched};
+use hunk_words::Source;
 use std::alloc::Global;
-use std::rt::Files;
 
 /// Where the addresses of the hunks come from.
 #[derive(Clone, Copy, Debug, PartialEq, Eq)]
@@ -27,26 +27,27 @@ pub enum Addresses<'a> {
 /// - [`Failure::Opening`] if the file of addresses cannot be opened.
 /// - [`Failure::Reading`] if a read of it failed.
 /// - [`Failure::out_of_memory`] if an allocation failed.
-pub fn addresses_of<'a, R: Files + AllocGlobal>(
-    rt: &R,
+pub fn addresses_of<'a, S: Store>(
+    alloc: Global,
+    store: &S,
     addresses: Addresses<'a>,
 ) -> Result<Vec<u32>, Failure<'a>>
-    ensures ok { IfOk result (λ bases. HaveNumbers (origin_of addresses.entry) bases.items) }
-    ensures err { IfErr result (IsAddressesFailure (origin_of addresses.entry)) }
+    ensures ok { IfOk result (λ bases. HaveNumbers (S.content store.now) (origin_of addresses.entry) bases.items) }
+    ensures err { IfErr result (IsAddressesFailure (S.content store.now) (origin_of addresses.entry)) }
 {
     match addresses {
-        Addresses::List(list) => parse_list(rt.alloc(), list),
+        Addresses::List(list) => parse_list(alloc, list),
         Addresses::File(name) => {
-            let mut reader = Watched::new(open(rt, name)?);
-            read_addresses(rt.alloc(), name, &mut reader)
+            let mut reader = open(store, name)?;
+            read_addresses(alloc, name, &mut reader)
         }
     }
 }
 
 /// The addresses in a list.
 fn parse_list<'a>(alloc: Global, list: &'a str) -> Result<Vec<u32>, Failure<'a>>
-    ensures ok { IfOk result (λ bases. HaveNumbers (in_list list.entry.now) bases.items) }
-    ensures err { IfErr result (IsAddressesFailure (in_list list.entry.now)) }
+    ensures ok { IfOk result (λ bases. numbers list.entry.now ≡ map Some bases.items) }
+    ensures err { IfErr result (IsListFailure list.entry.now) }
 {
     match parse_bases(alloc, list) {
         Ok(bases) => Ok(bases),

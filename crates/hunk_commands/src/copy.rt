@@ -1,13 +1,13 @@
 //! The request `copy`: a load file, written again.
-ghost use Rattle.std.specs.Prelude.{IfErr, OnOk};
+ghost use Rattle.std.specs.Prelude.{IfErr, OnErr, OnOk};
 ghost use Rattle.hunk_commands.specs.Copy.{IsCopiedOut, IsCopyFailure};
+ghost use Rattle.hunk_commands.specs.Store.{AreUnchanged};
 
-use crate::devices::open;
+use crate::devices::{begin, open};
 use crate::failure::Failure;
-use crate::replacement::Replacement;
+use crate::store::Store;
 use hunk_tool::{CopyForm, copy_run};
-use hunk_words::Watched;
-use std::rt::Files;
+use std::alloc::Global;
 
 /// Reads the load file named `file`, and puts a copy of it, in this form, in the place of the file named
 /// `out`: [`copy_run`], over what replaces `out`.
@@ -22,17 +22,19 @@ use std::rt::Files;
 ///   replaced.
 /// - [`Failure::Tool`] with what [`copy_run`] returns, or out of memory.
 /// - [`Failure::Printing`] if `out` did not take everything that was written to it.
-pub fn copy<'a, R: Files + AllocGlobal>(
-    rt: &R,
+pub fn copy<'a, S: Store>(
+    alloc: Global,
+    store: &mut S,
     out: &'a str,
     form: CopyForm,
     file: &'a str,
 ) -> Result<(), Failure<'a>>
-    ensures ok { OnOk result (IsCopiedOut form) }
-    ensures err { IfErr result (IsCopyFailure form file.entry.now out.entry.now) }
+    ensures ok { OnOk result (IsCopiedOut form (S.content store.old) file.entry.now out.entry.now (S.content store.new)) }
+    ensures err { IfErr result (IsCopyFailure form (S.content store.old) file.entry.now out.entry.now) }
+    ensures unchanged { OnErr result (AreUnchanged (S.content store.old) (S.content store.new)) }
 {
-    let mut reader = Watched::new(open(rt, file)?);
-    let mut output = Replacement::new(rt, out);
-    let ran = copy_run(rt.alloc(), &mut reader, form, &mut output);
-    output.finish(out, ran)
+    let mut reader = open(store, file)?;
+    let mut new = begin(store, out)?;
+    let ran = copy_run(alloc, &mut reader, form, &mut new);
+    store.finish(out, new, ran)
 }

@@ -1,75 +1,79 @@
-//! The file that a request reads, the file that it writes, and the output that it prints to through a
-//! buffer.
-ghost use Rattle.std.specs.Prelude.{◌≡◌, false, IfOk, IfErr};
-ghost use Rattle.std.specs.Io.Buffered.{writer_contents};
-ghost use Rattle.std.specs.Io.KnownBytes.{Appends, Keeps};
-ghost use Rattle.hunk_base.specs.Watched.{inner_of, saw_failure};
+//! The file that a request reads, and the output that it prints to.
+ghost use Rattle.std.specs.Prelude.{◌≡◌, false, IfErr, IfOk, OnErr, OnOk, IsTrue, [], refl};
+ghost use Rattle.std.specs.Io.KnownBytes.{Keeps};
+ghost use Rattle.hunk_tool.specs.FileSystem.{IsContent};
 ghost use Rattle.hunk_commands.specs.Devices.{IsOpening};
+ghost use Rattle.hunk_commands.specs.Output.{IsPrinted, IsUnprinted, printed_of};
+ghost use Rattle.hunk_commands.specs.Store.{IsBegun};
 
 use crate::failure::Failure;
-use crate::open_fault::reason_of;
+use crate::output::Output;
+use crate::store::Store;
 use hunk_tool::ToolFault;
-use hunk_words::Watched;
-use std::alloc::Global;
-use std::fs;
-use std::io::{BufWriter, Write};
-use std::rt::Files;
+use hunk_words::Text;
 
 /// Opens the file named `file`.
-pub fn open<'a, R: Files>(rt: &R, file: &'a str) -> Result<R::File, Failure<'a>>
-    ensures { IfErr result (IsOpening file.entry) }
+///
+/// # Errors
+///
+/// [`Failure::Opening`] if it cannot be opened.
+pub fn open<'a, S: Store>(store: &S, file: &'a str) -> Result<S::File, Failure<'a>>
+    ensures there { IfOk result (λ input. IsContent (S.content store.now file.entry.now) (S.File.left input)) }
+    ensures unread { IfOk result (λ input. (S.File.failed input ≡ false) × (S.File.ended input ≡ false)) }
+    ensures err { IfErr result (IsOpening (S.content store.now) file.entry) }
 {
-    match fs::open(rt, file) {
+    match store.open(file) {
         Ok(input) => Ok(input),
-        Err(error) => Err(Failure::Opening(file, reason_of(&error))),
+        Err(reason) => Err(Failure::Opening(file, reason)),
     }
 }
 
-/// Creates the file named `out`, or empties it if there is one.
-pub fn create<'a, R: Files>(rt: &R, out: &'a str) -> Result<R::File, Failure<'a>>
-    ensures { IfErr result (IsOpening out.entry) }
+/// Passes on what `output` keeps.
+///
+/// # Errors
+///
+/// [`Failure::Printing`] if not all of it was passed on.
+pub fn flush<'a, O: Output>(output: &mut O) -> Result<(), Failure<'a>>
+    ensures same { Keeps (O.taken output.old) (O.taken output.new) }
+    ensures flushed { OnOk result (O.waiting output.new ≡ []) }
+    ensures failed { OnErr result (IsTrue (O.failed output.new)) }
+    ensures err { IfErr result (λ failure. failure ≡ Failure.Printing) }
 {
-    match fs::create(rt, out) {
-        Ok(output) => Ok(output),
-        Err(error) => Err(Failure::Opening(out, reason_of(&error))),
+    match output.flush() {
+        Ok(()) => Ok(()),
+        Err(_) => Err(Failure::Printing),
     }
 }
 
-/// Puts a buffer in front of `output`.
-pub fn buffered<'a, O: Write + Drop>(
-    alloc: Global,
-    output: O,
-) -> Result<Watched<BufWriter<O>>, Failure<'a>>
-    ensures ok { IfOk result (λ writer.
-        writer_contents O.contents (inner_of writer) ≡ O.contents output) }
-    ensures failed { IfOk result (λ writer. saw_failure writer ≡ false) }
+/// Begins what is to take the place of the file named `out`.
+///
+/// # Errors
+///
+/// [`Failure::out_of_memory`] if an allocation failed.
+pub fn begin<'a, S: Store>(store: &S, out: &str) -> Result<S::New, Failure<'a>>
+    ensures begun { IfOk result (λ new. IsBegun (S.content store.now out.now) (S.New.taken new)) }
+    ensures fresh { IfOk result (λ new. S.New.failed new ≡ false) }
     ensures err { IfErr result (λ failure. failure ≡ Failure.Tool (ToolFault.OutOfMemory 0)) }
 {
-    match BufWriter::new(alloc, output) {
-        Ok(buffered) => Ok(Watched::new(buffered)),
+    match store.begin(out) {
+        Ok(new) => Ok(new),
         Err(_) => Err(Failure::out_of_memory()),
     }
 }
 
-/// Returns the writer under a buffer, flushed, with everything that the buffer held.
-pub fn flushed<'a, O: Write + Drop>(writer: Watched<BufWriter<O>>) -> Result<O, Failure<'a>>
-    ensures ok { IfOk result (λ output.
-        Keeps (writer_contents O.contents (inner_of writer)) (O.contents output)) }
-    ensures err { IfErr result (λ failure. failure ≡ Failure.Printing) }
+/// Prints these bytes.
+///
+/// # Errors
+///
+/// [`Failure::Printing`] if the output did not take or pass on all of them.
+pub fn print<'a, O: Output>(output: &mut O, bytes: &[u8]) -> Result<(), Failure<'a>>
+    ensures ok { OnOk result (IsPrinted bytes.now (printed_of O.taken O.failed O.waiting output.old output.new)) }
+    ensures err { IfErr result (IsUnprinted (printed_of O.taken O.failed O.waiting output.old output.new)) }
 {
-    let Ok(output) = writer.into_inner().into_inner() else {
+    let mut text = Text::new(output);
+    text.put(bytes);
+    let Ok(()) = text.finish() else {
         return Err(Failure::Printing);
     };
     flush(output)
-}
-
-/// Flushes `output`, and returns it.
-pub fn flush<'a, O: Write + Drop>(mut output: O) -> Result<O, Failure<'a>>
-    ensures ok { IfOk result (λ after. Keeps (O.contents output) (O.contents after)) }
-    ensures err { IfErr result (λ failure. failure ≡ Failure.Printing) }
-{
-    match output.flush() {
-        Ok(()) => Ok(output),
-        Err(_) => Err(Failure::Printing),
-    }
 }

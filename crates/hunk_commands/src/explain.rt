@@ -4,6 +4,7 @@ ghost use Rattle.std.specs.Prelude.{◌≡◌, true, IfErr, IfOk, IfSome, IsTrue
 ghost use Rattle.hunk_base.specs.Streams.{HasRead};
 ghost use Rattle.hunk_files.specs.Explanation.{IsEnd, IsExplained, IsUnexplained};
 ghost use Rattle.hunk_memory.specs.PlacesText.{places_text};
+ghost use Rattle.hunk_tool.specs.FileSystem.{IsContent};
 ghost use Rattle.hunk_tool.specs.Inputs.{file_names};
 ghost use Rattle.hunk_commands.specs.Addresses.{HaveNumbers, origin_of};
 ghost use Rattle.hunk_commands.specs.Explain.{AreLinesOf, AreOffenceLines, ArePlaceLines, ArePlaceLinesOf, AreRefusalLines, HaveUnits, IsGiven, IsLoadFile, IsReason, TellsMore, kind_read, sizes_of};
@@ -15,17 +16,16 @@ use crate::devices::open;
 use crate::failure::Failure;
 use crate::inputs::{names_of, open_inputs};
 use crate::link::linked;
-use crate::open_fault::{OpenFault, write_reason_line};
+use crate::open_fault::write_reason_line;
+use crate::store::Store;
 use hunk_link::LinkRefusal;
 use hunk_loadfile::{LoadFile, LoadHunk, read_load};
 use hunk_tool::{
-    Explanation, ObjectFiles, ToolFault, explain_file, explain_link, explain_load, explain_object,
-    read_object_files, write_explanation, write_link_explanation, write_places,
+    Explanation, ObjectFiles, OpenFault, ToolFault, explain_file, explain_link, explain_load,
+    explain_object, read_object_files, write_explanation, write_link_explanation, write_places,
 };
-use hunk_words::{Fault, ReadFault, Sink, Source, Text, Watched};
+use hunk_words::{Fault, ReadFault, Sink, Source, Text};
 use std::alloc::Global;
-use std::fs;
-use std::rt::Files;
 
 /// A command whose failures are explained.
 #[derive(Clone, Copy, Debug, PartialEq, Eq)]
@@ -51,14 +51,15 @@ pub enum Command<'a> {
 /// unless each of them is a regular file: a pipe cannot be read again. Nothing is told either if a file that was refused has another first
 /// offence by now, if a file cannot be read, if memory runs out, or if a write to `errors` has failed
 /// before.
-pub fn explain_failure<R: Files + AllocGlobal, W: Sink>(
-    rt: &R,
+pub fn explain_failure<S: Store, W: Sink>(
+    alloc: Global,
+    store: &S,
     errors: &mut W,
     command: Command<'_>,
     files: &[&str],
     failure: &Failure<'_>,
 )
-    ensures told { TellsMore W.taken W.failed errors.old errors.new (AreLinesOf command.entry (file_names files.now) failure.now) }
+    ensures told { TellsMore W.taken W.failed errors.old errors.new (AreLinesOf (S.content store.now) command.entry (file_names files.now) failure.now) }
     ensures silent { IsTrue (W.failed errors.old) → errors.new ≡ errors.old }
 {
     if errors.failed() {
@@ -67,27 +68,31 @@ pub fn explain_failure<R: Files + AllocGlobal, W: Sink>(
     match failure {
         Failure::Tool(ToolFault::Input { file, fault }) => {
             if let Some(name) = files.get(*file) {
-                explain_offence(rt, errors, command, name, *fault);
+                explain_offence(alloc, store, errors, command, name, *fault);
             }
         }
-        Failure::Tool(ToolFault::Link(refusal)) => explain_refusal(rt, errors, files, refusal),
-        Failure::Tool(ToolFault::Place(_)) => explain_places(rt, errors, command, files),
+        Failure::Tool(ToolFault::Link(refusal)) => {
+            explain_refusal(alloc, store, errors, files, refusal)
+        },
+        Failure::Tool(ToolFault::Place(_)) => {
+            explain_places(alloc, store, errors, command, files)
+        },
         Failure::Tool(ToolFault::InputDevice { file }) => {
             if let Some(name) = files.get(*file) {
-                explain_unread(rt, errors, name);
+                explain_unread(store, errors, name);
             }
         }
-        Failure::Reading(name) => explain_unread(rt, errors, name),
+        Failure::Reading(name) => explain_unread(store, errors, name),
         Failure::Opening(_, reason) => tell_reason(errors, *reason),
         _ => {}
     }
 }
 
 /// Tells that the file named `name`, of which a read failed, is a directory, if it is one.
-fn explain_unread<R: Files, W: Sink>(rt: &R, errors: &mut W, name: &str)
+fn explain_unread<S: Store, W: Sink>(store: &S, errors: &mut W, name: &str)
     ensures { TellsMore W.taken W.failed errors.old errors.new (IsReason OpenFault.Directory) }
 {
-    if fs::metadata(rt, name).is_ok_and(|metadata| metadata.is_dir()) {
+    if store.is_directory(name) {
         tell_reason(errors, OpenFault::Directory);
     }
 }
@@ -102,19 +107,20 @@ fn tell_reason<W: Sink>(errors: &mut W, reason: OpenFault)
 }
 
 /// Tells of the offence `fault` of the file named `name`.
-fn explain_offence<R: Files + AllocGlobal, W: Sink>(
-    rt: &R,
+fn explain_offence<S: Store, W: Sink>(
+    alloc: Global,
+    store: &S,
     errors: &mut W,
     command: Command<'_>,
     name: &str,
     fault: Fault,
 )
-    ensures { TellsMore W.taken W.failed errors.old errors.new (AreOffenceLines (kind_read command.entry) fault) }
+    ensures { TellsMore W.taken W.failed errors.old errors.new (AreOffenceLines (S.content store.now name.now) (kind_read command.entry) fault) }
 {
-    let Some(mut reader) = open_again(rt, name) else {
+    let Some(mut reader) = open_again(store, name) else {
         return;
     };
-    let Ok(Some(explanation)) = explanation_of(rt.alloc(), command, fault, &mut reader) else {
+    let Ok(Some(explanation)) = explanation_of(alloc, command, fault, &mut reader) else {
         return;
     };
     let mut text = Text::new(errors);
@@ -168,21 +174,22 @@ fn explain<R: Source>(
 }
 
 /// Tells of a refusal to link the units of the object files named `files`.
-fn explain_refusal<R: Files + AllocGlobal, W: Sink>(
-    rt: &R,
+fn explain_refusal<S: Store, W: Sink>(
+    alloc: Global,
+    store: &S,
     errors: &mut W,
     files: &[&str],
     refusal: &LinkRefusal,
 )
-    ensures { TellsMore W.taken W.failed errors.old errors.new (AreRefusalLines (file_names files.now) refusal.now) }
+    ensures { TellsMore W.taken W.failed errors.old errors.new (AreRefusalLines (S.content store.now) (file_names files.now) refusal.now) }
 {
-    let Some(units) = units_again(rt, files) else {
+    let Some(units) = units_again(alloc, store, files) else {
         return;
     };
-    let Ok(names) = names_of(rt.alloc(), files) else {
+    let Ok(names) = names_of(alloc, files) else {
         return;
     };
-    let Ok(explanation) = explain_link(rt.alloc(), &units, refusal) else {
+    let Ok(explanation) = explain_link(alloc, &units, refusal) else {
         return;
     };
     let mut text = Text::new(errors);
@@ -191,59 +198,62 @@ fn explain_refusal<R: Files + AllocGlobal, W: Sink>(
 }
 
 /// Tells of hunks that cannot be placed at the addresses of this command, if it has addresses.
-fn explain_places<R: Files + AllocGlobal, W: Sink>(
-    rt: &R,
+fn explain_places<S: Store, W: Sink>(
+    alloc: Global,
+    store: &S,
     errors: &mut W,
     command: Command<'_>,
     files: &[&str],
 )
-    ensures { TellsMore W.taken W.failed errors.old errors.new (ArePlaceLinesOf command.entry (file_names files.now)) }
+    ensures { TellsMore W.taken W.failed errors.old errors.new (ArePlaceLinesOf (S.content store.now) command.entry (file_names files.now)) }
 {
     match command {
         Command::Load(addresses) => {
             if let [name] = files {
-                explain_loaded_places(rt, errors, addresses, name);
+                explain_loaded_places(alloc, store, errors, addresses, name);
             }
         }
-        Command::Image(addresses) => explain_linked_places(rt, errors, addresses, files),
+        Command::Image(addresses) => explain_linked_places(alloc, store, errors, addresses, files),
         Command::Link | Command::LoadFile | Command::Text => {}
     }
 }
 
 /// Tells of the hunks of the load file named `name`, beside these addresses.
-fn explain_loaded_places<R: Files + AllocGlobal, W: Sink>(
-    rt: &R,
+fn explain_loaded_places<S: Store, W: Sink>(
+    alloc: Global,
+    store: &S,
     errors: &mut W,
     addresses: Addresses<'_>,
     name: &str,
 )
-    ensures { TellsMore W.taken W.failed errors.old errors.new (ArePlaceLines (origin_of addresses.entry) IsLoadFile) }
+    ensures { TellsMore W.taken W.failed errors.old errors.new (ArePlaceLines (S.content store.now) (origin_of addresses.entry) (IsLoadFile (S.content store.now name.now))) }
 {
-    let Some(bases) = addresses_again(rt, addresses) else {
+    let Some(bases) = addresses_again(alloc, store, addresses) else {
         return;
     };
-    let Some(mut reader) = open_again(rt, name) else {
+    let Some(mut reader) = open_again(store, name) else {
         return;
     };
-    let Ok(loaded) = read_load(rt.alloc(), &mut reader) else {
+    let Ok(loaded) = read_load(alloc, &mut reader) else {
         return;
     };
     tell_places(errors, loaded.hunks(), bases.as_slice());
 }
 
 /// Tells of the hunks of the load file of the object files named `files`, beside these addresses.
-fn explain_linked_places<R: Files + AllocGlobal, W: Sink>(
-    rt: &R,
+fn explain_linked_places<S: Store, W: Sink>(
+    alloc: Global,
+    store: &S,
     errors: &mut W,
     addresses: Addresses<'_>,
     files: &[&str],
 )
-    ensures { TellsMore W.taken W.failed errors.old errors.new (ArePlaceLines (origin_of addresses.entry) (DoLinkTo true (file_names files.now))) }
+    ensures { TellsMore W.taken W.failed errors.old errors.new (ArePlaceLines (S.content store.now) (origin_of addresses.entry) (DoLinkTo true (S.content store.now) (file_names files.now))) }
 {
-    let Some(bases) = addresses_again(rt, addresses) else {
+    let Some(bases) = addresses_again(alloc, store, addresses) else {
         return;
     };
-    let Some(loaded) = linked_again(rt, files) else {
+    let Some(loaded) = linked_again(alloc, store, files) else {
         return;
     };
     tell_places(errors, loaded.hunks(), bases.as_slice());
@@ -259,53 +269,49 @@ fn tell_places<W: Sink>(errors: &mut W, hunks: &[LoadHunk], bases: &[u32])
 }
 
 /// The addresses, unless they are in a file that cannot be read again.
-fn addresses_again<R: Files + AllocGlobal>(rt: &R, addresses: Addresses<'_>) -> Option<Vec<u32>>
-    ensures { IfSome result (λ bases. HaveNumbers (origin_of addresses.entry) bases.items) }
+fn addresses_again<S: Store>(alloc: Global, store: &S, addresses: Addresses<'_>) -> Option<Vec<u32>>
+    ensures { IfSome result (λ bases. HaveNumbers (S.content store.now) (origin_of addresses.entry) bases.items) }
 {
     match addresses {
-        Addresses::File(name) if !is_regular(rt, name) => None,
-        addresses => addresses_of(rt, addresses).ok(),
+        Addresses::File(name) if !store.is_regular(name) => None,
+        addresses => addresses_of(alloc, store, addresses).ok(),
     }
 }
 
 /// The load file of the object files named `files`, without symbols and debug blocks, unless one of
 /// them cannot be read again.
-fn linked_again<R: Files + AllocGlobal>(rt: &R, files: &[&str]) -> Option<LoadFile>
-    ensures { IfSome result (DoLinkTo true (file_names files.now)) }
+fn linked_again<S: Store>(alloc: Global, store: &S, files: &[&str]) -> Option<LoadFile>
+    ensures { IfSome result (DoLinkTo true (S.content store.now) (file_names files.now)) }
 {
-    if files.iter().all(|name| is_regular(rt, name)) {
-        linked(rt, true, files).ok()
+    if files.iter().all(|name| store.is_regular(name)) {
+        linked(alloc, store, true, files).ok()
     } else {
         None
     }
 }
 
 /// The units of the object files named `files`, unless one of them cannot be read again.
-fn units_again<R: Files + AllocGlobal>(rt: &R, files: &[&str]) -> Option<ObjectFiles>
-    ensures { IfSome result (λ units. HaveUnits (file_names files.now) units) }
+fn units_again<S: Store>(alloc: Global, store: &S, files: &[&str]) -> Option<ObjectFiles>
+    ensures { IfSome result (λ units. HaveUnits (S.content store.now) (file_names files.now) units) }
 {
-    if !files.iter().all(|name| is_regular(rt, name)) {
+    if !files.iter().all(|name| store.is_regular(name)) {
         return None;
     }
-    let Ok(mut inputs) = open_inputs(rt, rt.alloc(), files) else {
+    let Ok(mut inputs) = open_inputs(alloc, store, files) else {
         return None;
     };
-    match read_object_files(rt.alloc(), inputs.as_mut_slice()) {
+    match read_object_files(alloc, inputs.as_mut_slice()) {
         Ok(units) => Some(units),
         Err(_) => None,
     }
 }
 
 /// Opens the file named `name` once more, unless it cannot be read again.
-fn open_again<R: Files>(rt: &R, name: &str) -> Option<Watched<R::File>> {
-    if !is_regular(rt, name) {
+fn open_again<S: Store>(store: &S, name: &str) -> Option<S::File>
+    ensures { IfSome result (λ file. IsContent (S.content store.now name.now) (S.File.left file)) }
+{
+    if !store.is_regular(name) {
         return None;
     }
-    Some(Watched::new(open(rt, name).ok()?))
-}
-
-/// Whether the file named `name` is a regular file. Others may be readable only once, and opening a
-/// pipe waits for whoever writes to it.
-fn is_regular<R: Files>(rt: &R, name: &str) -> bool {
-    fs::metadata(rt, name).is_ok_and(|metadata| metadata.is_file())
+    open(store, name).ok()
 }

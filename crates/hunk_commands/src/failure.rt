@@ -7,8 +7,7 @@ ghost use Rattle.hunk_commands.specs.Failure.{about_line, bad_number_line, failu
 ghost use Rattle.hunk_commands.specs.Failure.{status_of, status_of_comparison, TellsLine};
 
 use crate::addresses::Addresses;
-use crate::open_fault::OpenFault;
-use hunk_tool::{ToolFault, status_of, write_fault};
+use hunk_tool::{OpenFault, ToolFault, status_of, write_fault};
 use hunk_words::{Sink, Text};
 
 /// The exit status of a request that was done, or of help that was asked for.

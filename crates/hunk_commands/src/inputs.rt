@@ -1,54 +1,66 @@
 //! The files that a request reads, all of which are opened before the first is read.
-ghost use Rattle.std.specs.Prelude.{◌≡◌, IfOk, IfErr, length, map, vec_len};
+ghost use Rattle.std.specs.Prelude.{◌≡◌, IfOk, IfErr, map};
 ghost use Rattle.std.specs.String.{string_bytes};
 ghost use Rattle.hunk_tool.specs.Inputs.{file_names};
-ghost use Rattle.hunk_commands.specs.Inputs.{IsOpenFailure};
+ghost use Rattle.hunk_commands.specs.Devices.{IsOpening};
+ghost use Rattle.hunk_commands.specs.Inputs.{AreInputs, IsInput, IsOpenFailure};
 
 use crate::devices::open;
 use crate::failure::Failure;
-use hunk_words::Watched;
+use crate::store::Store;
+use hunk_words::{DeviceFault, Source};
 use std::alloc::{AllocError, Global};
-use std::fs::OpenFile;
-use std::io::Read;
-use std::rt::Files;
-use std::{fs, io};
 
 /// How many regular files stay open until they are read. Those after them are closed at once, and
 /// opened again by their first read, since a process can open only so many files at a time.
 const MOST_OPEN: usize = 32;
 
-/// A file that a request reads. It is closed when it has been read to its end.
+/// A file that a request reads.
 #[derive(Drop)]
-pub struct Input<'r, 'a, R: Files> {
-    rt: &'r R,
+pub struct Input<'s, 'a, S, F> {
+    store: &'s S,
     name: &'a str,
-    state: State<R::File>,
+    /// The file, if it is open: otherwise the first read opens it.
+    file: Option<F>,
+    failed: bool,
 }
 
-/// Whether an input is open.
-#[derive(Drop)]
-enum State<F> {
-    /// The first read opens it.
-    Closed,
-    /// It is open.
-    Open(F),
-    /// It has been read to its end.
-    Ended,
-}
+impl<S: Store> Source for Input<'_, '_, S, S::File> {
+    ghost use Rattle.hunk_commands.specs.Inputs.{ended_in, failed_in, left_in};
 
-impl<R: Files> Read for Input<'_, '_, R> {
-    fn read(&mut self, buffer: &mut [u8]) -> io::Result<usize> {
-        if let State::Closed = self.state {
-            self.state = State::Open(fs::open(self.rt, self.name)?);
-        }
-        let State::Open(file) = &mut self.state else {
-            return Ok(0);
+    ghost left = { left_in S.content S.File.left };
+
+    ghost failed = { failed_in };
+
+    ghost ended = { ended_in S.File.ended };
+
+    fn read(&mut self, buffer: &mut [u8]) -> Result<usize, DeviceFault> {
+        let result = match &mut self.file {
+            Some(file) => file.read(buffer),
+            None => match self.store.open(self.name) {
+                Ok(mut file) => {
+                    let result = file.read(buffer);
+                    self.file = Some(file);
+                    result
+                }
+                Err(_) => Err(DeviceFault),
+            },
         };
-        let count = file.read(buffer)?;
-        if count == 0 && !buffer.is_empty() {
-            self.state = State::Ended;
+        if result.is_err() {
+            self.failed = true;
         }
-        Ok(count)
+        result
+    }
+
+    fn failed(&self) -> bool {
+        self.failed
+    }
+
+    fn ended(&self) -> bool {
+        match &self.file {
+            Some(file) => file.ended(),
+            None => false,
+        }
     }
 }
 
@@ -59,33 +71,45 @@ impl<R: Files> Read for Input<'_, '_, R> {
 ///
 /// - [`Failure::Opening`] for the first file that cannot be opened.
 /// - [`Failure::out_of_memory`] if an allocation failed.
-pub fn open_inputs<'r, 'a, R: Files>(
-    rt: &'r R,
+pub fn open_inputs<'s, 'a, S: Store>(
     alloc: Global,
+    store: &'s S,
     files: &[&'a str],
-) -> Result<Vec<Watched<Input<'r, 'a, R>>>, Failure<'a>>
-    ensures count { IfOk result (λ inputs. vec_len inputs ≡ length files.entry.now) }
-    ensures err { IfErr result (IsOpenFailure (file_names files.entry.now)) }
+) -> Result<Vec<Input<'s, 'a, S, S::File>>, Failure<'a>>
+    ensures are { IfOk result (λ inputs. AreInputs S.content S.File.left store.now (file_names files.entry.now) inputs.items) }
+    ensures err { IfErr result (IsOpenFailure (S.content store.now) (file_names files.entry.now)) }
 {
     let mut inputs = Vec::new(alloc);
-    for (index, name) in files.iter().enumerate() {
-        let file = open(rt, name)?;
-        let state = if index >= MOST_OPEN && is_regular(&file) {
-            State::Closed
-        } else {
-            State::Open(file)
-        };
-        let input = Watched::new(Input { rt, name, state });
-        if inputs.push(input).is_err() {
+    for (number, name) in files.iter().enumerate() {
+        let input = open_input(store, name, number)?;
+        let Ok(()) = inputs.push(input) else {
             return Err(Failure::out_of_memory());
-        }
+        };
     }
     Ok(inputs)
 }
 
-/// Whether `file` is a regular file, as far as the system tells.
-fn is_regular<F: OpenFile>(file: &F) -> bool {
-    file.metadata().is_ok_and(|metadata| metadata.is_file())
+/// Opens the file named `name`, which is that with this number, and returns the input that reads it.
+fn open_input<'s, 'a, S: Store>(
+    store: &'s S,
+    name: &'a str,
+    number: usize,
+) -> Result<Input<'s, 'a, S, S::File>, Failure<'a>>
+    ensures is { IfOk result (λ input. IsInput S.content S.File.left store.now name.entry.now input) }
+    ensures err { IfErr result (IsOpening (S.content store.now) name.entry) }
+{
+    let file = open(store, name)?;
+    let file = if number >= MOST_OPEN && store.can_be_opened_again(&file) {
+        None
+    } else {
+        Some(file)
+    };
+    Ok(Input {
+        store,
+        name,
+        file,
+        failed: false,
+    })
 }
 
 /// Copies of the names of files.

@@ -1,16 +1,12 @@
-//! What the program `amihunk` does for each of its commands: with the files of any file system, and any standard
-//! output.
+//! What the program `amihunk` does for each of its commands: with the files of any store, and any output.
 //!
 //! - `request`: what a command line asks for, and doing it.
 //! - `failure`: why a command failed, the line that reports it, and the exit status.
+//! - `store`: the files that are read and replaced; `output`: what is printed to.
 //! - `addresses`: where the addresses of the hunks come from.
 //! - `explain`: what is told of a failure after its line.
-//! - `devices`: the file that a command reads, and the output that it prints to.
-//! - `open_fault`: why a file cannot be opened or created.
+//! - `devices`: the file that a command reads, the one that it replaces, and what it prints.
 //! - `inputs`: the files that a command reads, if there are several.
-//! - `replacement`: what replaces a file in one step; `new_file`: a new file beside it.
-//! - `same_file`: whether two names are of one file.
-//! - `lines`: lines that reach standard error whole.
 //! - `load`: the command `load`.
 //! - `link`: the command `link`.
 //! - `image`: the command `image`.
@@ -19,9 +15,24 @@
 //! - `survey`: the command `survey`.
 //! - `text`: the commands that print a text about a file.
 //! - `version`: the version of the program.
+//! - `laws`: laws about the files of a store.
+//!
+//! And over the operating system:
+//!
+//! - `system`: its files, as a store; `system_file`: one that is read.
+//! - `replacement`: what replaces a file in one step; `new_file`: a new file beside it; `buffers`: writers behind
+//!   a buffer.
+//! - `same_file`: whether two names are of one file.
+//! - `open_fault`: why a file cannot be opened or created.
+//! - `printer`: the standard output behind a buffer; `lines`: lines that reach standard error whole.
+//!
+//! And over no system:
+//!
+//! - `memory_store`: files in memory, as a store.
 #![tactic(auto)]
 
 pub mod addresses;
+mod buffers;
 pub mod compare;
 pub mod copy;
 mod devices;
@@ -29,15 +40,22 @@ pub mod explain;
 mod failure;
 pub mod image;
 mod inputs;
+pub mod laws;
 mod lines;
 pub mod link;
 pub mod load;
+mod memory_store;
 mod new_file;
 mod open_fault;
+mod output;
+mod printer;
 mod replacement;
 mod request;
 mod same_file;
+mod store;
 pub mod survey;
+mod system;
+mod system_file;
 mod text;
 mod version;
 
@@ -46,7 +64,11 @@ pub use failure::{COMMAND_LINE, DEVICE, DIFFERENT, DONE, Failure, report_failure
 pub use inputs::{Input, open_inputs};
 pub use lines::Lines;
 pub use load::LoadText;
-pub use open_fault::OpenFault;
+pub use memory_store::{MemoryFile, MemoryStore, NewBytes};
+pub use output::Output;
+pub use printer::Printer;
 pub use request::{Request, answer};
+pub use store::Store;
+pub use system::System;
 pub use text::{Text, print_text, print_text_to};
-pub use version::{VERSION, print_version, write_version};
+pub use version::{VERSION, print_version};

@@ -1,24 +1,24 @@
 //! The request `link`: the load file of object files, and the map of it.
-ghost use Rattle.std.specs.Prelude.{◌≡◌, Err, IfOk, IfErr, OnOk, length, map};
+ghost use Rattle.std.specs.Prelude.{◌≡◌, true, Contains, Err, IfOk, IfErr, OnErr, OnOk, length, map};
 ghost use Rattle.std.specs.String.{string_bytes};
 ghost use Rattle.hunk_base.specs.Streams.{WroteText};
 ghost use Rattle.hunk_loadfile.specs.WrittenForm.{IsShortEnough};
 ghost use Rattle.hunk_tool.specs.Inputs.{file_names};
 ghost use Rattle.hunk_tool.specs.Map.{map_text};
 ghost use Rattle.hunk_tool.specs.Origins.{origins};
-ghost use Rattle.hunk_commands.specs.Replacement.{run_of};
 ghost use Rattle.hunk_commands.specs.Link.{AreUnlinked, DoLinkFiles, DoLinkTo, HasMap, IsLinkFailure, IsMade, IsMapFailure, IsMapped, IsUnmapped, IsUnwritten, IsWrittenOut, map_failure};
+ghost use Rattle.hunk_commands.specs.Store.{AreUnchanged, IsKnown, run_of};
 
+use crate::devices::begin;
 use crate::failure::Failure;
 use crate::inputs::open_inputs;
-use crate::replacement::Replacement;
-use crate::same_file::is_one_file;
+use crate::store::Store;
 use hunk_loadfile::{LoadFile, write_load_with};
 use hunk_tool::{
     LinkOptions, ObjectFiles, ToolFault, link_files, link_inputs, link_run, write_map,
 };
 use hunk_words::{Sink, Text, WriteFault};
-use std::rt::Files;
+use std::alloc::Global;
 
 /// Links the object files named `files`, and puts their load file in the place of the file named `out`,
 /// as `options` say: [`link_run`], over what replaces `out`.
@@ -33,19 +33,22 @@ use std::rt::Files;
 ///   cannot be created or replaced.
 /// - [`Failure::Tool`] with what [`link_run`] returns, or out of memory.
 /// - [`Failure::Printing`] if `out` did not take everything that was written to it.
-pub fn link<'a, R: Files + AllocGlobal>(
-    rt: &R,
+pub fn link<'a, S: Store>(
+    alloc: Global,
+    store: &mut S,
     out: &'a str,
     options: LinkOptions,
     files: &[&'a str],
 ) -> Result<(), Failure<'a>>
-    ensures ok { OnOk result (IsMade options (file_names files.entry.now)) }
-    ensures err { IfErr result (IsLinkFailure options (file_names files.entry.now) out.entry.now) }
+    ensures ok { OnOk result (IsMade options (S.content store.old) (file_names files.entry.now) out.entry.now (S.content store.new)) }
+    ensures err { IfErr result (IsLinkFailure options (S.content store.old) (file_names files.entry.now) out.entry.now) }
+    ensures unchanged { OnErr result (AreUnchanged (S.content store.old) (S.content store.new)) }
 {
-    let mut inputs = open_inputs(rt, rt.alloc(), files)?;
-    let mut output = Replacement::new(rt, out);
-    let ran = link_run(rt.alloc(), inputs.as_mut_slice(), options, &mut output);
-    output.finish(out, ran)
+    let mut inputs = open_inputs(alloc, store, files)?;
+    let mut new = begin(store, out)?;
+    let ran = link_run(alloc, inputs.as_mut_slice(), options, &mut new);
+    drop(inputs);
+    store.finish(out, new, ran)
 }
 
 /// Links as [`link`] does, and then puts the map of the load file in the place of the file named
@@ -62,93 +65,105 @@ pub fn link<'a, R: Files + AllocGlobal>(
 /// - [`Failure::Opening`] with `map_file` if it cannot be created or replaced.
 /// - [`Failure::Writing`] with `map_file` if it did not take everything that was written to it.
 /// - [`Failure::Tool`] with out of memory, also if the map is not begun for it.
-pub fn link_with_map<'a, R: Files + AllocGlobal>(
-    rt: &R,
+pub fn link_with_map<'a, S: Store>(
+    alloc: Global,
+    store: &mut S,
     out: &'a str,
     map_file: &'a str,
     options: LinkOptions,
     files: &[&'a str],
     names: &[String],
 ) -> Result<(), Failure<'a>>
-    ensures ok { OnOk result (IsMapped options (map string_bytes names.now) (file_names files.entry.now)) }
+    ensures ok { OnOk result (IsMapped options (map string_bytes names.now) (S.content store.old) (file_names files.entry.now) out.entry.now map_file.entry.now (S.content store.new)) }
     ensures one { out.entry.now ≡ map_file.entry.now → result ≡ Err (Failure.SameFile map_file.entry) }
-    ensures err { IfErr result (IsMapFailure options (file_names files.entry.now) out.entry.now map_file.entry.now) }
+    ensures err { IfErr result (IsMapFailure options (S.content store.old) (file_names files.entry.now) out.entry.now map_file.entry.now (S.content store.new)) }
 {
-    if is_one_file(rt, out, map_file) {
+    if store.is_one_file(out, map_file) {
         return Err(Failure::SameFile(map_file));
     }
-    if files.iter().any(|file| is_one_file(rt, file, map_file)) {
+    if is_among(store, map_file, files) {
         return Err(Failure::MapOverFile(map_file));
     }
-    let (units, linked) = linked_files(rt, options.strip, files)?;
-    let file = write_out(rt, out, options, linked)?;
-    write_map_file(rt, map_file, &units, names, &file)?;
-    Ok(())
+    let (units, linked) = linked_files(alloc, store, options.strip, files)?;
+    let file = write_out(alloc, store, out, options, linked)?;
+    write_map_file(store, map_file, &units, names, &file)
+}
+
+/// Whether the file with this name is one of `files`.
+fn is_among<S: Store>(store: &S, name: &str, files: &[&str]) -> bool
+    ensures { result ≡ true → IsKnown (S.content store.now name.now) → Contains (file_names files.now) name.now }
+{
+    files.iter().any(|file| store.is_one_file(name, file))
 }
 
 /// The load file of the object files named `files`. With `strip`, symbols and debug blocks are left
 /// out.
-pub(crate) fn linked<'a, R: Files + AllocGlobal>(
-    rt: &R,
+pub(crate) fn linked<'a, S: Store>(
+    alloc: Global,
+    store: &S,
     strip: bool,
     files: &[&'a str],
 ) -> Result<LoadFile, Failure<'a>>
-    ensures ok { IfOk result (λ file. DoLinkTo strip (file_names files.entry.now) file) }
+    ensures ok { IfOk result (λ file. DoLinkTo strip (S.content store.now) (file_names files.entry.now) file) }
     ensures short { IfOk result (λ file. IsShortEnough file) }
-    ensures err { IfErr result (AreUnlinked strip (file_names files.entry.now)) }
+    ensures err { IfErr result (AreUnlinked strip (S.content store.now) (file_names files.entry.now)) }
 {
-    let mut inputs = open_inputs(rt, rt.alloc(), files)?;
-    Ok(link_inputs(rt.alloc(), inputs.as_mut_slice(), strip)?)
+    let mut inputs = open_inputs(alloc, store, files)?;
+    Ok(link_inputs(alloc, inputs.as_mut_slice(), strip)?)
 }
 
 /// The same load file, with the units of the object files.
-fn linked_files<'a, R: Files + AllocGlobal>(
-    rt: &R,
+fn linked_files<'a, S: Store>(
+    alloc: Global,
+    store: &S,
     strip: bool,
     files: &[&'a str],
 ) -> Result<(ObjectFiles, LoadFile), Failure<'a>>
-    ensures ok { IfOk result (λ linked. DoLinkFiles strip (file_names files.entry.now) linked.0 linked.1) }
+    ensures ok { IfOk result (λ linked. DoLinkFiles strip (S.content store.now) (file_names files.entry.now) linked.0 linked.1) }
     ensures short { IfOk result (λ linked. IsShortEnough linked.1) }
     ensures matched { IfOk result (λ linked. length (origins linked.0) ≡ length linked.1) }
-    ensures err { IfErr result (AreUnlinked strip (file_names files.entry.now)) }
+    ensures err { IfErr result (AreUnlinked strip (S.content store.now) (file_names files.entry.now)) }
 {
-    let mut inputs = open_inputs(rt, rt.alloc(), files)?;
-    Ok(link_files(rt.alloc(), inputs.as_mut_slice(), strip)?)
+    let mut inputs = open_inputs(alloc, store, files)?;
+    Ok(link_files(alloc, inputs.as_mut_slice(), strip)?)
 }
 
 /// Puts a load file in the place of the file named `out`, as `options` say, and returns it as it was
 /// written.
-fn write_out<'a, R: Files + AllocGlobal>(
-    rt: &R,
+fn write_out<'a, S: Store>(
+    alloc: Global,
+    store: &mut S,
     out: &'a str,
     options: LinkOptions,
     linked: LoadFile,
 ) -> Result<LoadFile, Failure<'a>>
-    ensures ok { IfOk result (IsWrittenOut options linked) }
-    ensures err { IfErr result (IsUnwritten out.entry.now) }
+    ensures ok { IfOk result (IsWrittenOut options linked out.entry.now (S.content store.old) (S.content store.new)) }
+    ensures err { IfErr result (IsUnwritten (S.content store.old out.entry.now) out.entry.now) }
+    ensures unchanged { OnErr result (AreUnchanged (S.content store.old) (S.content store.new)) }
 {
     let file = options.trimmed(linked);
-    let mut output = Replacement::new(rt, out);
-    let written = write_load_with(rt.alloc(), &file, options.form(), &mut output);
-    output.finish(out, as_run(written))?;
+    let mut new = begin(store, out)?;
+    let written = write_load_with(alloc, &file, options.form(), &mut new);
+    store.finish(out, new, as_run(written))?;
     Ok(file)
 }
 
 /// Puts the map of a load file in the place of the file named `map_file`.
-fn write_map_file<'a, R: Files + AllocGlobal>(
-    rt: &R,
+fn write_map_file<'a, S: Store>(
+    store: &mut S,
     map_file: &'a str,
     units: &ObjectFiles,
     names: &[String],
     file: &LoadFile,
 ) -> Result<(), Failure<'a>>
     requires { length (origins units.now) ≡ length file.now }
-    ensures ok { OnOk result (HasMap (map string_bytes names.now) file.now units.now) }
-    ensures err { IfErr result (IsUnmapped map_file.entry.now) }
+    ensures ok { OnOk result (HasMap (map string_bytes names.now) file.now units.now map_file.entry.now (S.content store.old) (S.content store.new)) }
+    ensures err { IfErr result (IsUnmapped (S.content store.old map_file.entry.now) map_file.entry.now) }
+    ensures unchanged { OnErr result (AreUnchanged (S.content store.old) (S.content store.new)) }
 {
-    let mut output = Replacement::new(rt, map_file);
-    let written = write_map_to(units, names, file, &mut output);
-    match output.finish(map_file, as_run(written)) {
+    let mut new = begin(store, map_file)?;
+    let written = write_map_to(units, names, file, &mut new);
+    match store.finish(map_file, new, as_run(written)) {
         Ok(()) => Ok(()),
         Err(failure) => Err(map_failure(map_file, failure)),
     }

@@ -3,18 +3,17 @@ ghost use Rattle.std.specs.Prelude.{IfOk, IfErr, IsTrue, OnOk};
 ghost use Rattle.hunk_base.specs.Streams.{HasRead};
 ghost use Rattle.hunk_tool.specs.Load.{IsFaultAt, IsWrittenAt, ends_of};
 ghost use Rattle.hunk_commands.specs.Addresses.{origin_of};
-ghost use Rattle.hunk_commands.specs.Devices.{IsPrintFailure, Prints};
 ghost use Rattle.hunk_commands.specs.Load.{IsLoadFailure, IsLoaded, text_of};
+ghost use Rattle.hunk_commands.specs.Output.{printed_of};
 
 use crate::addresses::{Addresses, addresses_of};
-use crate::devices::{buffered, flushed, open};
+use crate::devices::{flush, open};
 use crate::failure::Failure;
+use crate::output::Output;
+use crate::store::Store;
 use hunk_tool::{ImageForm, ToolFault, load_run_with, symbols_run};
-use hunk_words::{Sink, Source, Watched};
+use hunk_words::{Sink, Source};
 use std::alloc::Global;
-use std::io;
-use std::io::{Read, Write};
-use std::rt::Files;
 
 /// What is printed of a load file at given addresses.
 #[derive(Clone, Copy)]
@@ -32,40 +31,23 @@ pub enum LoadText {
 ///
 /// - Those of [`addresses_of`].
 /// - [`Failure::Opening`] if the file cannot be opened.
-/// - [`Failure::Tool`] with what [`load_to`] returns, or out of memory.
-/// - [`Failure::Printing`] if the output did not take the end of the text.
-pub fn load<'a, R: Files + Print + AllocGlobal>(
-    rt: &R,
+/// - [`Failure::Tool`] with what [`load_to`] returns.
+/// - [`Failure::Printing`] if the output did not pass on all of the text.
+pub fn load<'a, S: Store, O: Output>(
+    alloc: Global,
+    store: &S,
+    output: &mut O,
     addresses: Addresses<'a>,
     text: LoadText,
     file: &'a str,
 ) -> Result<(), Failure<'a>>
-    ensures ok { OnOk result (IsLoaded text (origin_of addresses.entry)) }
-    ensures err { IfErr result (IsLoadFailure text (origin_of addresses.entry) file.entry.now) }
+    ensures ok { OnOk result (IsLoaded text (S.content store.now) (origin_of addresses.entry) file.entry.now (printed_of O.taken O.failed O.waiting output.old output.new)) }
+    ensures err { IfErr result (IsLoadFailure text (S.content store.now) (origin_of addresses.entry) file.entry.now (printed_of O.taken O.failed O.waiting output.old output.new)) }
 {
-    let bases = addresses_of(rt, addresses)?;
-    let input = open(rt, file)?;
-    print_to(rt.alloc(), input, bases.as_slice(), text, io::writer(rt))?;
-    Ok(())
-}
-
-/// Prints this text of the load file that is read from `input`, through a buffer, and returns
-/// `output`, flushed.
-fn print_to<'a, I: Read + Drop, O: Write + Drop>(
-    alloc: Global,
-    input: I,
-    bases: &[u32],
-    text: LoadText,
-    output: O,
-) -> Result<O, Failure<'a>>
-    ensures ok { IfOk result (λ after.
-        Prints (IsWrittenAt (text_of text) bases.now) (I.remaining input) (O.contents output) (O.contents after)) }
-    ensures err { IfErr result (IsPrintFailure (IsFaultAt (text_of text) bases.now) (I.remaining input) (O.contents output)) }
-{
-    let mut reader = Watched::new(input);
-    let mut writer = buffered(alloc, output)?;
-    load_to(alloc, &mut reader, bases, text, &mut writer)?;
-    flushed(writer)
+    let bases = addresses_of(alloc, store, addresses)?;
+    let mut reader = open(store, file)?;
+    load_to(alloc, &mut reader, bases.as_slice(), text, output)?;
+    flush(output)
 }
 
 /// Writes this text of the load file that is read from `reader`, to its end, at these addresses.

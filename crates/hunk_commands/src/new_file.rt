@@ -1,11 +1,13 @@
 //! A new file beside another, whose place it takes once it is whole.
 ghost use Rattle.std.specs.Prelude.{◌≡◌, false, IfErr, IfOk};
 ghost use Rattle.hunk_base.specs.Watched.{saw_failure};
-ghost use Rattle.hunk_commands.specs.Replacement.{IsUnplaced};
+ghost use Rattle.hunk_tool.specs.FileSystem.FileContent.{unknown};
+ghost use Rattle.hunk_commands.specs.Store.{IsUnplaced};
 
-use crate::devices::{buffered, flushed};
+use crate::buffers::{buffered, flushed};
 use crate::failure::Failure;
-use crate::open_fault::{OpenFault, reason_of};
+use crate::open_fault::reason_of;
+use hunk_tool::OpenFault;
 use hunk_words::Watched;
 use std::alloc::{AllocError, Global};
 use std::fs;
@@ -69,7 +71,7 @@ impl<F: Write + Drop + OpenFile> NewFile<F> {
         rt: &R,
         name: &'a str,
     ) -> Result<(), Failure<'a>>
-        ensures { IfErr result (IsUnplaced name.entry.now) }
+        ensures { IfErr result (IsUnplaced unknown name.entry.now) }
     {
         let NewFile {
             writer,
@@ -132,7 +134,7 @@ fn place<'a, R: Files>(
     target: &str,
     name: &'a str,
 ) -> Result<(), Failure<'a>>
-    ensures { IfErr result (IsUnplaced name.entry.now) }
+    ensures { IfErr result (IsUnplaced unknown name.entry.now) }
 {
     let file = flushed(writer)?;
     if file.sync_all().is_err() {

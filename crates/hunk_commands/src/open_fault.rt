@@ -4,32 +4,10 @@ ghost use Rattle.std_io.specs.IoError.{error_kind};
 ghost use Rattle.hunk_base.specs.Text.{Puts};
 ghost use Rattle.hunk_commands.specs.OpenFault.{IsReasonFor, reason_line, reason_text};
 
+use hunk_tool::OpenFault;
 use hunk_words::{Sink, Text};
 use std::io;
 use std::io::ErrorKind;
-
-/// Why a file cannot be opened, or cannot be created, as the system tells it.
-#[derive(Clone, Copy, Debug, PartialEq, Eq)]
-pub enum OpenFault {
-    /// There is no such file, or a directory of its path is not there.
-    NotFound,
-    /// The user may not open it.
-    NotAllowed,
-    /// It is a directory.
-    Directory,
-    /// A part of its path, before the last, is not a directory.
-    NoDirectory,
-    /// Its path has more symbolic links than the system follows.
-    TooManyLinks,
-    /// Its file system can only be read.
-    ReadOnly,
-    /// As many files are open as may be.
-    TooManyFiles,
-    /// Another error, with this number of the system.
-    Other(u32),
-    /// An error without a number.
-    Unknown,
-}
 
 /// The numbers of the system for too many open files: those of the process, and those of all.
 const TOO_MANY_OF_PROCESS: u32 = 24;

@@ -2,15 +2,16 @@
 ghost use Rattle.std.specs.Prelude.{◌≡◌, ◌≤◌, ◌||◌, ◌++◌, false, length, take, is_err, Err, IfErr, IfOk, OnErr, OnOk};
 ghost use Rattle.std.specs.Io.KnownBytes.{Appends, Keeps};
 ghost use Rattle.hunk_base.specs.Streams.{refuses};
+ghost use Rattle.hunk_tool.specs.FileSystem.FileContent.{unknown};
 ghost use Rattle.hunk_commands.specs.Replacement.{IsFresh, failed_at};
 
-use crate::devices::{create, flush};
+use crate::buffers::{create, flush};
 use crate::failure::Failure;
 use crate::new_file::{NewFile, NoNewFile};
-use crate::open_fault::{OpenFault, reason_of};
-use hunk_tool::ToolFault;
+use crate::open_fault::reason_of;
+use hunk_tool::{OpenFault, ToolFault};
 use hunk_words::{DeviceFault, Sink};
-use std::alloc::Global;
+use std::alloc::{AllocError, Global};
 use std::fs;
 use std::fs::{OpenFile, OpenOptions};
 use std::io::{ErrorKind, Write};
@@ -22,9 +23,10 @@ use std::rt::Files;
 /// Nothing is begun before the first write. The bytes go to a new file beside the one that they
 /// replace, which is renamed at last. They are kept in memory, and written at last, if the name is that
 /// of a device or a pipe, or no file can be made beside it.
-pub struct Replacement<'r, 'a, R: Files + AllocGlobal> {
+#[derive(Drop)]
+pub struct Replacement<'r, R: Files + AllocGlobal> {
     rt: &'r R,
-    name: &'a str,
+    name: String,
     /// Where the bytes go, from the first write on.
     place: Option<Place<R::File>>,
 }
@@ -52,18 +54,24 @@ struct Held<F> {
     device: Option<F>,
 }
 
-impl<'r, 'a, R: Files + AllocGlobal> Replacement<'r, 'a, R> {
-    ghost use Rattle.hunk_commands.specs.Replacement.{HasRun, IsCauseOf, failed_in};
+impl<'r, R: Files + AllocGlobal> Replacement<'r, R> {
+    ghost use Rattle.hunk_commands.specs.Replacement.{failed_in};
+    ghost use Rattle.hunk_commands.specs.Store.{HasRun, IsCauseOf};
 
     /// What replaces the file named `name`.
-    pub fn new(rt: &'r R, name: &'a str) -> Replacement<'r, 'a, R>
-        ensures { failed_in result.place ≡ false }
+    ///
+    /// # Errors
+    ///
+    /// [`AllocError`] if an allocation failed.
+    pub fn new(rt: &'r R, name: &str) -> Result<Replacement<'r, R>, AllocError>
+        ensures { IfOk result (λ replacement. failed_in replacement.place ≡ false) }
     {
-        Replacement {
+        let name = String::from_str(rt.alloc(), name)?;
+        Ok(Replacement {
             rt,
             name,
             place: None,
-        }
+        })
     }
 
     /// Ends it, after a run that wrote to it and returned `ran`: puts what was written in the place of
@@ -76,9 +84,9 @@ impl<'r, 'a, R: Files + AllocGlobal> Replacement<'r, 'a, R> {
     /// - [`Failure::Opening`] if the file cannot be opened, or no file can be created or renamed for it.
     /// - [`Failure::Printing`] if it did not take everything.
     /// - [`Failure::out_of_memory`] if an allocation failed.
-    pub fn finish(self, name: &'a str, ran: Result<(), ToolFault>) -> Result<(), Failure<'a>>
+    pub fn finish<'a>(self, name: &'a str, ran: Result<(), ToolFault>) -> Result<(), Failure<'a>>
         ensures ok { OnOk result (HasRun ran) }
-        ensures err { IfErr result (IsCauseOf ran name.entry.now) }
+        ensures err { IfErr result (IsCauseOf ran unknown name.entry.now) }
     {
         let Replacement { rt, name: _, place } = self;
         match (ran, place) {
@@ -90,7 +98,7 @@ impl<'r, 'a, R: Files + AllocGlobal> Replacement<'r, 'a, R> {
     }
 }
 
-impl<R: Files + AllocGlobal> Sink for Replacement<'_, '_, R> {
+impl<R: Files + AllocGlobal> Sink for Replacement<'_, R> {
     ghost use Rattle.hunk_commands.specs.Replacement.{failed_in, taken_in};
 
     ghost taken = { λ replacement. taken_in R.File.Write.contents replacement.place };
@@ -101,7 +109,7 @@ impl<R: Files + AllocGlobal> Sink for Replacement<'_, '_, R> {
         match &mut self.place {
             Some(place) => place.write(buffer),
             None => {
-                let (place, result) = begin_with(self.rt, self.name, buffer);
+                let (place, result) = begin_with(self.rt, self.name.as_str(), buffer);
                 self.place = Some(place);
                 result
             }
@@ -117,7 +125,8 @@ impl<R: Files + AllocGlobal> Sink for Replacement<'_, '_, R> {
 }
 
 impl<F: Write + Drop + OpenFile> Place<F> {
-    ghost use Rattle.hunk_commands.specs.Replacement.{IsCauseOf, IsFresh, IsUnplaced, failed_at, taken_at};
+    ghost use Rattle.hunk_commands.specs.Replacement.{IsFresh, failed_at, taken_at};
+    ghost use Rattle.hunk_commands.specs.Store.{IsCauseOf, IsUnplaced};
 
     /// Takes the first bytes of `buffer`, as a [`Sink`] does.
     fn write(&mut self, buffer: &[u8]) -> Result<usize, DeviceFault>
@@ -151,7 +160,7 @@ impl<F: Write + Drop + OpenFile> Place<F> {
         rt: &R,
         name: &'a str,
     ) -> Result<(), Failure<'a>>
-        ensures { IfErr result (IsUnplaced name.entry.now) }
+        ensures { IfErr result (IsUnplaced unknown name.entry.now) }
     {
         match self {
             Place::Beside(file) => file.put_in_place(rt, name),
@@ -164,7 +173,7 @@ impl<F: Write + Drop + OpenFile> Place<F> {
     /// Leaves the file as it was, and returns why: what made a write fail, if one failed, and otherwise
     /// the fault of the run.
     fn abandon<'a, R: Files<File = F>>(self, rt: &R, name: &'a str, fault: ToolFault) -> Failure<'a>
-        ensures { IsCauseOf (Err fault) name.entry.now result }
+        ensures { IsCauseOf (Err fault) unknown name.entry.now result }
     {
         match (self, fault) {
             (Place::Beside(file), fault) => {
@@ -181,7 +190,7 @@ impl<F: Write + Drop + OpenFile> Place<F> {
 }
 
 impl<F: Write + Drop> Held<F> {
-    ghost use Rattle.hunk_commands.specs.Replacement.{IsUnplaced};
+    ghost use Rattle.hunk_commands.specs.Store.{IsUnplaced};
 
     /// Takes all of `buffer`.
     fn write(&mut self, buffer: &[u8]) -> Result<usize, DeviceFault>
@@ -201,7 +210,7 @@ impl<F: Write + Drop> Held<F> {
 
     /// Writes the bytes to their device, or to the file with this name.
     fn write_out<'a, R: Files<File = F>>(self, rt: &R, name: &'a str) -> Result<(), Failure<'a>>
-        ensures { IfErr result (IsUnplaced name.entry.now) }
+        ensures { IfErr result (IsUnplaced unknown name.entry.now) }
     {
         let Held { bytes, device, .. } = self;
         let mut output = match device {

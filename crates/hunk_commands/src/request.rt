@@ -4,23 +4,27 @@ ghost use Rattle.hunk_tool.specs.Inputs.{file_names};
 ghost use Rattle.hunk_commands.specs.Addresses.{origin_of};
 ghost use Rattle.hunk_commands.specs.Explain.{AreLinesOf, IfAsked};
 ghost use Rattle.hunk_commands.specs.Link.{IsDone, IsUndone};
-ghost use Rattle.hunk_commands.specs.Request.{Ends, EndsCompare, EndsCopy, EndsImage, EndsLink, EndsLoad, EndsSurvey, EndsText, EndsVersion, IsFailed, given_text, shown};
+ghost use Rattle.hunk_commands.specs.Output.{IsPrinted, printed_of};
+ghost use Rattle.hunk_commands.specs.Request.{Ends, EndsCompare, EndsCopy, EndsHelp, EndsImage, EndsLink, EndsLoad, EndsSurvey, EndsText, EndsVersion, IsFailed, given_text, run_between, shown};
 
 use crate::addresses::Addresses;
 use crate::compare::compare;
 use crate::copy::copy;
+use crate::devices::print;
 use crate::explain::{Command, explain_failure};
 use crate::failure::{DIFFERENT, DONE, Failure, report_failure, report_refusal};
 use crate::image::image;
 use crate::inputs::names_of;
 use crate::link::{link, link_with_map};
 use crate::load::{LoadText, load};
+use crate::output::Output;
+use crate::store::Store;
 use crate::survey::survey;
 use crate::text::{Text, print_text};
 use crate::version::print_version;
 use hunk_tool::{CopyForm, ImageForm, LinkOptions};
 use hunk_words::Sink;
-use std::rt::Files;
+use std::alloc::Global;
 
 /// What the arguments of a command line ask for.
 #[derive(Drop)]
@@ -117,15 +121,17 @@ pub enum Request<'a> {
     OutOfMemory,
 }
 
-/// Does what was asked for, and returns the exit status: 0 where it was done, and else that of the failure, whose line
-/// is appended to `errors`, or a write to it failed. If `explain` is set, further lines may follow, which
-/// [`explain_failure`] tells.
-pub fn answer<R: Files + Print + AllocGlobal, W: Sink>(
-    rt: &R,
+/// Does what was asked for with the files of `store`, prints to `output`, and returns the exit status: 0 where
+/// it was done, and else that of the failure, whose line is appended to `errors`, or a write to it failed. If
+/// `explain` is set, further lines may follow, which [`explain_failure`] tells.
+pub fn answer<S: Store, O: Output, W: Sink>(
+    alloc: Global,
+    store: &mut S,
+    output: &mut O,
     errors: &mut W,
     request: Request<'_>,
 ) -> u8
-    ensures { Ends W.taken W.failed errors.old errors.new request.entry result }
+    ensures { Ends (run_between S.content O.taken O.failed O.waiting store.old store.new output.old output.new) W.taken W.failed errors.old errors.new request.entry result }
 {
     match request {
         Request::Link {
@@ -134,42 +140,51 @@ pub fn answer<R: Files + Print + AllocGlobal, W: Sink>(
             options,
             explain,
             files,
-        } => answer_link(rt, errors, out, map, options, explain, files.as_slice()),
+        } => {
+            let files = files.as_slice();
+            answer_link(alloc, store, errors, out, map, options, explain, files)
+        }
         Request::Load {
             addresses,
             text,
             explain,
             file,
-        } => answer_load(rt, errors, addresses, text, explain, file),
+        } => answer_load(alloc, store, output, errors, addresses, text, explain, file),
         Request::Image {
             addresses,
             form,
             explain,
             files,
-        } => answer_image(rt, errors, addresses, form, explain, files.as_slice()),
-        Request::Check { explain, file } => answer_text(rt, errors, Text::Line, explain, file),
+        } => {
+            let files = files.as_slice();
+            answer_image(
+                alloc, store, output, errors, addresses, form, explain, files,
+            )
+        }
+        Request::Check { explain, file } => {
+            answer_text(alloc, store, output, errors, Text::Line, explain, file)
+        }
         Request::Show {
             json,
             explain,
             file,
-        } => answer_text(rt, errors, shown(json), explain, file),
-        Request::Survey { files } => answer_survey(rt, errors, files.as_slice()),
+        } => answer_text(alloc, store, output, errors, shown(json), explain, file),
+        Request::Survey { files } => {
+            answer_survey(alloc, store, output, errors, files.as_slice())
+        }
         Request::Copy {
             out,
             form,
             explain,
             file,
-        } => answer_copy(rt, errors, out, form, explain, file),
+        } => answer_copy(alloc, store, errors, out, form, explain, file),
         Request::Compare {
             with_symbols,
             first,
             second,
-        } => answer_compare(rt, errors, with_symbols, first, second),
-        Request::Version => answer_version(rt, errors),
-        Request::Help(text) => match rt.print(text) {
-            Ok(()) => DONE,
-            Err(_) => report_failure(errors, &[], &Failure::Printing),
-        },
+        } => answer_compare(alloc, store, output, errors, with_symbols, first, second),
+        Request::Version => answer_version(output, errors),
+        Request::Help(text) => answer_help(output, errors, text.as_str()),
         Request::Refused(text) => report_refusal(errors, &text),
         Request::OutOfMemory => report_failure(errors, &[], &Failure::out_of_memory()),
     }
@@ -177,8 +192,9 @@ pub fn answer<R: Files + Print + AllocGlobal, W: Sink>(
 
 /// Reports a failure of this command for the files named `files`, explains it if `explain` is set, and
 /// returns the exit status. `names` are the same names.
-fn fail<R: Files + AllocGlobal, W: Sink>(
-    rt: &R,
+fn fail<S: Store, W: Sink>(
+    alloc: Global,
+    store: &S,
     errors: &mut W,
     command: Command<'_>,
     explain: bool,
@@ -187,41 +203,53 @@ fn fail<R: Files + AllocGlobal, W: Sink>(
     failure: &Failure<'_>,
 ) -> u8
     requires { map string_bytes names.now ≡ file_names files.now }
-    ensures { IsFailed W.taken W.failed errors.old errors.new (λ told. told ≡ failure.now) (IfAsked explain (AreLinesOf command.entry (file_names files.now))) (file_names files.now) result }
+    ensures { IsFailed W.taken W.failed errors.old errors.new (λ told. told ≡ failure.now) (IfAsked explain (AreLinesOf (S.content store.now) command.entry (file_names files.now))) (file_names files.now) result }
 {
     let status = report_failure(errors, names, failure);
     if explain {
-        explain_failure(rt, errors, command, files, failure);
+        explain_failure(alloc, store, errors, command, files, failure);
     }
     status
 }
 
 /// Does `load`, and returns the exit status.
-fn answer_load<R: Files + Print + AllocGlobal, W: Sink>(
-    rt: &R,
+fn answer_load<S: Store, O: Output, W: Sink>(
+    alloc: Global,
+    store: &S,
+    output: &mut O,
     errors: &mut W,
     addresses: Addresses<'_>,
     text: LoadText,
     explain: bool,
     file: &str,
 ) -> u8
-    ensures { EndsLoad W.taken W.failed errors.old errors.new (origin_of addresses.entry) text explain file.now result }
+    ensures { EndsLoad (S.content store.now) (printed_of O.taken O.failed O.waiting output.old output.new) W.taken W.failed errors.old errors.new (origin_of addresses.entry) text explain file.now result }
 {
-    let Ok(name) = String::from_str(rt.alloc(), file) else {
+    let Ok(name) = String::from_str(alloc, file) else {
         return report_failure(errors, &[], &Failure::out_of_memory());
     };
-    match load(rt, addresses, text, file) {
+    match load(alloc, store, output, addresses, text, file) {
         Ok(()) => DONE,
         Err(failure) => {
             let command = Command::Load(addresses);
-            fail(rt, errors, command, explain, &[file], &[name], &failure)
+            fail(
+                alloc,
+                store,
+                errors,
+                command,
+                explain,
+                &[file],
+                &[name],
+                &failure,
+            )
         }
     }
 }
 
 /// Does `link`, and returns the exit status.
-fn answer_link<R: Files + AllocGlobal, W: Sink>(
-    rt: &R,
+fn answer_link<S: Store, W: Sink>(
+    alloc: Global,
+    store: &mut S,
     errors: &mut W,
     out: &str,
     map_file: Option<&str>,
@@ -229,24 +257,35 @@ fn answer_link<R: Files + AllocGlobal, W: Sink>(
     explain: bool,
     files: &[&str],
 ) -> u8
-    ensures { EndsLink W.taken W.failed errors.old errors.new out.now (given_text map_file.entry) options explain (file_names files.now) result }
+    ensures { EndsLink (S.content store.old) (S.content store.new) W.taken W.failed errors.old errors.new out.now (given_text map_file.entry) options explain (file_names files.now) result }
 {
-    let Ok(names) = names_of(rt.alloc(), files) else {
+    let Ok(names) = names_of(alloc, files) else {
         return report_failure(errors, &[], &Failure::out_of_memory());
     };
-    match link_as_asked(rt, out, map_file, options, files, names.as_slice()) {
+    match link_as_asked(
+        alloc,
+        store,
+        out,
+        map_file,
+        options,
+        files,
+        names.as_slice(),
+    ) {
         Ok(()) => DONE,
         Err(failure) => {
             let command = Command::Link;
             let names = names.as_slice();
-            fail(rt, errors, command, explain, files, names, &failure)
+            fail(
+                alloc, store, errors, command, explain, files, names, &failure,
+            )
         }
     }
 }
 
 /// Links, and writes the map if one is asked for.
-fn link_as_asked<'a, R: Files + AllocGlobal>(
-    rt: &R,
+fn link_as_asked<'a, S: Store>(
+    alloc: Global,
+    store: &mut S,
     out: &'a str,
     map_file: Option<&'a str>,
     options: LinkOptions,
@@ -254,90 +293,108 @@ fn link_as_asked<'a, R: Files + AllocGlobal>(
     names: &[String],
 ) -> Result<(), Failure<'a>>
     requires { map string_bytes names.now ≡ file_names files.now }
-    ensures ok { OnOk result (IsDone options (file_names files.entry.now) out.entry.now (given_text map_file.entry)) }
-    ensures err { IfErr result (IsUndone options (file_names files.entry.now) out.entry.now (given_text map_file.entry)) }
+    ensures ok { OnOk result (IsDone options (S.content store.old) (file_names files.entry.now) out.entry.now (given_text map_file.entry) (S.content store.new)) }
+    ensures err { IfErr result (IsUndone options (S.content store.old) (file_names files.entry.now) out.entry.now (given_text map_file.entry) (S.content store.new)) }
 {
     match map_file {
-        None => link(rt, out, options, files),
-        Some(map_file) => link_with_map(rt, out, map_file, options, files, names),
+        None => link(alloc, store, out, options, files),
+        Some(map_file) => link_with_map(alloc, store, out, map_file, options, files, names),
     }
 }
 
 /// Does `image`, and returns the exit status.
-fn answer_image<R: Files + Print + AllocGlobal, W: Sink>(
-    rt: &R,
+fn answer_image<S: Store, O: Output, W: Sink>(
+    alloc: Global,
+    store: &S,
+    output: &mut O,
     errors: &mut W,
     addresses: Addresses<'_>,
     form: ImageForm,
     explain: bool,
     files: &[&str],
 ) -> u8
-    ensures { EndsImage W.taken W.failed errors.old errors.new (origin_of addresses.entry) form explain (file_names files.now) result }
+    ensures { EndsImage (S.content store.now) (printed_of O.taken O.failed O.waiting output.old output.new) W.taken W.failed errors.old errors.new (origin_of addresses.entry) form explain (file_names files.now) result }
 {
-    let Ok(names) = names_of(rt.alloc(), files) else {
+    let Ok(names) = names_of(alloc, files) else {
         return report_failure(errors, &[], &Failure::out_of_memory());
     };
-    match image(rt, addresses, form, files) {
+    match image(alloc, store, output, addresses, form, files) {
         Ok(()) => DONE,
         Err(failure) => {
             let command = Command::Image(addresses);
             let names = names.as_slice();
-            fail(rt, errors, command, explain, files, names, &failure)
+            fail(
+                alloc, store, errors, command, explain, files, names, &failure,
+            )
         }
     }
 }
 
 /// Does `survey FILE...`, and returns the exit status.
-fn answer_survey<R: Files + Print + AllocGlobal, W: Sink>(
-    rt: &R,
+fn answer_survey<S: Store, O: Output, W: Sink>(
+    alloc: Global,
+    store: &S,
+    output: &mut O,
     errors: &mut W,
     files: &[&str],
 ) -> u8
-    ensures { EndsSurvey W.taken W.failed errors.old errors.new (file_names files.now) result }
+    ensures { EndsSurvey (S.content store.now) (printed_of O.taken O.failed O.waiting output.old output.new) W.taken W.failed errors.old errors.new (file_names files.now) result }
 {
-    match survey(rt, files) {
+    match survey(alloc, store, output, files) {
         Ok(status) => status,
         Err(failure) => report_failure(errors, &[], &failure),
     }
 }
 
 /// Does `copy`, and returns the exit status.
-fn answer_copy<R: Files + AllocGlobal, W: Sink>(
-    rt: &R,
+fn answer_copy<S: Store, W: Sink>(
+    alloc: Global,
+    store: &mut S,
     errors: &mut W,
     out: &str,
     form: CopyForm,
     explain: bool,
     file: &str,
 ) -> u8
-    ensures { EndsCopy W.taken W.failed errors.old errors.new out.now form explain file.now result }
+    ensures { EndsCopy (S.content store.old) (S.content store.new) W.taken W.failed errors.old errors.new out.now form explain file.now result }
 {
-    let Ok(name) = String::from_str(rt.alloc(), file) else {
+    let Ok(name) = String::from_str(alloc, file) else {
         return report_failure(errors, &[], &Failure::out_of_memory());
     };
-    match copy(rt, out, form, file) {
+    match copy(alloc, store, out, form, file) {
         Ok(()) => DONE,
         Err(failure) => {
             let command = Command::LoadFile;
-            fail(rt, errors, command, explain, &[file], &[name], &failure)
+            fail(
+                alloc,
+                store,
+                errors,
+                command,
+                explain,
+                &[file],
+                &[name],
+                &failure,
+            )
         }
     }
 }
 
 /// Does `compare`, and returns the exit status: [`DIFFERENT`] if the files differ.
-fn answer_compare<R: Files + Print + AllocGlobal, W: Sink>(
-    rt: &R,
+fn answer_compare<S: Store, O: Output, W: Sink>(
+    alloc: Global,
+    store: &S,
+    output: &mut O,
     errors: &mut W,
     with_symbols: bool,
     first: &str,
     second: &str,
 ) -> u8
-    ensures { EndsCompare W.taken W.failed errors.old errors.new with_symbols first.now second.now result }
+    ensures { EndsCompare (S.content store.now) (printed_of O.taken O.failed O.waiting output.old output.new) W.taken W.failed errors.old errors.new with_symbols first.now second.now result }
 {
-    let Ok(names) = names_of(rt.alloc(), &[first, second]) else {
+    let Ok(names) = names_of(alloc, &[first, second]) else {
         return report_failure(errors, &[], &Failure::out_of_memory());
     };
-    match compare(rt, with_symbols, first, second) {
+    match compare(alloc, store, output, with_symbols, first, second) {
         Ok(true) => DONE,
         Ok(false) => DIFFERENT,
         Err(failure) => {
@@ -348,10 +405,20 @@ fn answer_compare<R: Files + Print + AllocGlobal, W: Sink>(
 }
 
 /// Does `--version`, and returns the exit status.
-fn answer_version<R: Print, W: Sink>(rt: &R, errors: &mut W) -> u8
-    ensures { EndsVersion W.taken W.failed errors.old errors.new result }
+fn answer_version<O: Output, W: Sink>(output: &mut O, errors: &mut W) -> u8
+    ensures { EndsVersion (printed_of O.taken O.failed O.waiting output.old output.new) W.taken W.failed errors.old errors.new result }
 {
-    match print_version(rt) {
+    match print_version(output) {
+        Ok(()) => DONE,
+        Err(failure) => report_failure(errors, &[], &failure),
+    }
+}
+
+/// Prints a help text, and returns the exit status.
+fn answer_help<O: Output, W: Sink>(output: &mut O, errors: &mut W, text: &str) -> u8
+    ensures { EndsHelp text.now (printed_of O.taken O.failed O.waiting output.old output.new) W.taken W.failed errors.old errors.new result }
+{
+    match print(output, text.as_bytes()) {
         Ok(()) => DONE,
         Err(failure) => report_failure(errors, &[], &failure),
     }
@@ -365,23 +432,34 @@ fn shown(json: bool) -> Text
 }
 
 /// Does a request for a text about FILE, and returns the exit status.
-fn answer_text<R: Files + Print + AllocGlobal, W: Sink>(
-    rt: &R,
+fn answer_text<S: Store, O: Output, W: Sink>(
+    alloc: Global,
+    store: &S,
+    output: &mut O,
     errors: &mut W,
     text: Text,
     explain: bool,
     file: &str,
 ) -> u8
-    ensures { EndsText W.taken W.failed errors.old errors.new text explain file.now result }
+    ensures { EndsText (S.content store.now) (printed_of O.taken O.failed O.waiting output.old output.new) W.taken W.failed errors.old errors.new text explain file.now result }
 {
-    let Ok(name) = String::from_str(rt.alloc(), file) else {
+    let Ok(name) = String::from_str(alloc, file) else {
         return report_failure(errors, &[], &Failure::out_of_memory());
     };
-    match print_text(rt, text, file) {
+    match print_text(alloc, store, output, text, file) {
         Ok(()) => DONE,
         Err(failure) => {
             let command = Command::Text;
-            fail(rt, errors, command, explain, &[file], &[name], &failure)
+            fail(
+                alloc,
+                store,
+                errors,
+                command,
+                explain,
+                &[file],
+                &[name],
+                &failure,
+            )
         }
     }
 }

@@ -1,19 +1,18 @@
 //! The request `survey`: what each of some files is.
-ghost use Rattle.std.specs.Prelude.{IfOk, IfErr};
+ghost use Rattle.std.specs.Prelude.{IfOk, IfErr, IsTrue, OnErr};
 ghost use Rattle.hunk_base.specs.Streams.{WroteText};
 ghost use Rattle.hunk_tool.specs.Inputs.{file_names};
-ghost use Rattle.hunk_tool.specs.Survey.{totals_line};
-ghost use Rattle.hunk_commands.specs.Devices.{IsCutShort};
-ghost use Rattle.hunk_commands.specs.Survey.{IsSurveyed, IsSurveyedSomewhere};
+ghost use Rattle.hunk_tool.specs.Survey.{IsSurveyFault, totals_line};
+ghost use Rattle.hunk_commands.specs.Output.{printed_of};
+ghost use Rattle.hunk_commands.specs.Survey.{IsCutShort, IsFailureOf, IsSurveyed};
 
-use crate::devices::{buffered, flushed};
+use crate::devices::flush;
 use crate::failure::Failure;
-use hunk_tool::{FileSystem, Finding, SurveyFault, survey_files, survey_status, write_totals};
-use hunk_words::{Sink, Text, Watched, WriteFault};
+use crate::output::Output;
+use crate::store::Store;
+use hunk_tool::{Finding, SurveyFault, survey_files, survey_status, write_totals};
+use hunk_words::{Sink, Text, WriteFault};
 use std::alloc::Global;
-use std::io::Write;
-use std::rt::Files;
-use std::{fs, io};
 
 /// Prints a line about each of the files named `files`, and then one with their numbers, and returns
 /// the exit status: 0 if all are hunk files, 3 if one could not be read, and otherwise 1.
@@ -22,47 +21,30 @@ use std::{fs, io};
 ///
 /// # Errors
 ///
-/// Those of [`survey_to`].
-pub fn survey<'a, R: Files + Print + AllocGlobal>(
-    rt: &R,
+/// [`Failure::Printing`] if the output did not take or pass on all lines, and [`Failure::Tool`] if memory
+/// ran out; the lines about the files before are printed then, as far as the output takes them.
+pub fn survey<'a, S: Store, O: Output>(
+    alloc: Global,
+    store: &S,
+    output: &mut O,
     files: &[&'a str],
 ) -> Result<u8, Failure<'a>>
-    ensures ok { IfOk result (IsSurveyedSomewhere (file_names files.entry.now)) }
-    ensures err { IfErr result IsCutShort }
+    ensures ok { IfOk result (IsSurveyed (S.content store.now) (file_names files.entry.now) (printed_of O.taken O.failed O.waiting output.old output.new)) }
+    ensures err { IfErr result (IsCutShort (printed_of O.taken O.failed O.waiting output.old output.new)) }
 {
-    let (_, status) = survey_to(rt, rt.alloc(), files, io::writer(rt))?;
-    Ok(status)
-}
-
-/// Writes these lines through a buffer, and returns `output`, flushed, with the exit status.
-///
-/// # Errors
-///
-/// [`Failure::Printing`] if `output` did not take all lines, and [`Failure::Tool`] if memory ran out;
-/// the lines about the files before are written then, as far as `output` takes them.
-pub fn survey_to<'a, R: Files, O: Write + Drop>(
-    rt: &R,
-    alloc: Global,
-    files: &[&'a str],
-    output: O,
-) -> Result<(O, u8), Failure<'a>>
-    ensures ok { IfOk result (λ done. IsSurveyed (file_names files.entry.now) (O.contents output) (O.contents done.0) done.1) }
-    ensures err { IfErr result IsCutShort }
-{
-    let mut writer = buffered(alloc, output)?;
-    let findings = match survey_files(alloc, &System { rt }, files, &mut writer) {
+    let findings = match survey_files(alloc, store, files, output) {
         Ok(findings) => findings,
         Err(fault) => {
             // The lines about the files before are printed all the same.
-            let _ = flushed(writer);
+            let _ = output.flush();
             return Err(failure_of(fault));
         }
     };
-    let Ok(()) = write_last_line(&findings, &mut writer) else {
+    let Ok(()) = write_last_line(&findings, output) else {
         return Err(Failure::Printing);
     };
-    let output = flushed(writer)?;
-    Ok((output, survey_status(&findings)))
+    flush(output)?;
+    Ok(survey_status(&findings))
 }
 
 /// Writes the line with the numbers of files.
@@ -76,25 +58,10 @@ fn write_last_line<W: Sink>(findings: &[Finding], writer: &mut W) -> Result<(), 
 
 /// Why a survey was not printed.
 fn failure_of<'a>(fault: SurveyFault) -> Failure<'a>
-    ensures { IsCutShort result }
+    ensures { IsFailureOf fault result }
 {
     match fault {
         SurveyFault::Output => Failure::Printing,
         SurveyFault::OutOfMemory => Failure::out_of_memory(),
-    }
-}
-
-/// The files of the operating system, or of what stands for it.
-#[derive(Drop)]
-struct System<'r, R: Files> {
-    rt: &'r R,
-}
-
-impl<R: Files> FileSystem for System<'_, R> {
-    type File = Watched<R::File>;
-
-    fn open(&self, name: &str) -> Option<Watched<R::File>> {
-        let file = fs::open(self.rt, name).ok()?;
-        Some(Watched::new(file))
     }
 }

@@ -1,20 +1,19 @@
 //! The requests that print a text about a file.
-ghost use Rattle.std.specs.Prelude.{IfOk, IfErr, IsTrue, OnOk};
+ghost use Rattle.std.specs.Prelude.{IfErr, IsTrue, OnOk};
 ghost use Rattle.hunk_base.specs.Streams.{HasRead};
 ghost use Rattle.hunk_tool.specs.FileText.{IsTextFault, IsWritten};
 ghost use Rattle.hunk_tool.specs.Load.{ends_of};
-ghost use Rattle.hunk_commands.specs.Devices.{IsPrintFailure, Prints};
+ghost use Rattle.hunk_commands.specs.Output.{printed_of};
 ghost use Rattle.hunk_commands.specs.Text.{IsTextFailure, IsTold, text_of};
 
-use crate::devices::{buffered, flushed, open};
+use crate::devices::{flush, open};
 use crate::failure::Failure;
+use crate::output::Output;
+use crate::store::Store;
 use hunk_json::json_run;
 use hunk_tool::{ToolFault, check_run, show_run};
-use hunk_words::{Sink, Source, Watched};
+use hunk_words::{Sink, Source};
 use std::alloc::Global;
-use std::io;
-use std::io::{Read, Write};
-use std::rt::Files;
 
 /// A text about a file.
 #[derive(Clone, Copy)]
@@ -32,37 +31,21 @@ pub enum Text {
 /// # Errors
 ///
 /// - [`Failure::Opening`] if the file cannot be opened.
-/// - [`Failure::Tool`] with what [`print_text_to`] returns, or out of memory.
-/// - [`Failure::Printing`] if the output did not take the end of the text.
-pub fn print_text<'a, R: Files + Print + AllocGlobal>(
-    rt: &R,
+/// - [`Failure::Tool`] with what [`print_text_to`] returns.
+/// - [`Failure::Printing`] if the output did not pass on all of the text.
+pub fn print_text<'a, S: Store, O: Output>(
+    alloc: Global,
+    store: &S,
+    output: &mut O,
     text: Text,
     file: &'a str,
 ) -> Result<(), Failure<'a>>
-    ensures ok { OnOk result (IsTold text) }
-    ensures err { IfErr result (IsTextFailure text file.entry.now) }
+    ensures ok { OnOk result (IsTold text (S.content store.now) file.entry.now (printed_of O.taken O.failed O.waiting output.old output.new)) }
+    ensures err { IfErr result (IsTextFailure text (S.content store.now) file.entry.now (printed_of O.taken O.failed O.waiting output.old output.new)) }
 {
-    let input = open(rt, file)?;
-    print_to(rt.alloc(), text, input, io::writer(rt))?;
-    Ok(())
-}
-
-/// Prints the text about the file that is read from `input`, through a buffer, and returns
-/// `output`, flushed.
-fn print_to<'a, I: Read + Drop, O: Write + Drop>(
-    alloc: Global,
-    text: Text,
-    input: I,
-    output: O,
-) -> Result<O, Failure<'a>>
-    ensures ok { IfOk result (λ after.
-        Prints (IsWritten (text_of text)) (I.remaining input) (O.contents output) (O.contents after)) }
-    ensures err { IfErr result (IsPrintFailure (IsTextFault (text_of text)) (I.remaining input) (O.contents output)) }
-{
-    let mut reader = Watched::new(input);
-    let mut writer = buffered(alloc, output)?;
-    print_text_to(alloc, text, &mut reader, &mut writer)?;
-    flushed(writer)
+    let mut reader = open(store, file)?;
+    print_text_to(alloc, text, &mut reader, output)?;
+    flush(output)
 }
 
 /// Writes the text about the file that is read from `reader`, to its end.

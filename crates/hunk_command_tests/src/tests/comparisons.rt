@@ -1,10 +1,10 @@
 //! Whether two load files mean the same.
 
-use super::asserts::{equals, holds};
-use super::outcomes::prints;
+use super::asserts::equals;
+use super::outcomes::{prints, was_printed};
+use super::systems::compare;
+use crate::fake_files::FakeFiles;
 use crate::fake_log::Log;
-use crate::samples::{Broken, ONE_HUNK, ONE_SYMBOL, PROGRAM, TRAILING, TRIMMED, ZERO_TAIL};
-use hunk_commands::compare::compare_to;
 use hunk_commands::{Failure, Request};
 use hunk_tool::ToolFault;
 use hunk_words::{Fault, Reason};
@@ -12,58 +12,91 @@ use std::alloc::Global;
 use std::process::Abort;
 use std::test::Fail;
 
+// Comparing two files ends so, once this line is printed.
+fn is_compared<'a>(
+    rt: &impl Abort,
+    alloc: Global,
+    log: &Log,
+    names: (&'a str, &'a str),
+    with_symbols: bool,
+    (wanted, line): (Result<bool, Failure<'a>>, &[u8]),
+) -> Result<(), Fail> {
+    let files = FakeFiles { openings: 2, log };
+    let got = compare(&(files, alloc), with_symbols, names)?;
+    equals(rt, got, wanted);
+    was_printed(rt, log, line)
+}
+
 // What is printed of two files, and whether nothing differs.
 fn is_told(
     rt: &impl Abort,
     alloc: Global,
-    (first, second): (&[u8], &[u8]),
+    names: (&str, &str),
     with_symbols: bool,
     line: &str,
-) {
-    match compare_to(alloc, with_symbols, first, second, Vec::new(alloc)) {
-        Ok((same, printed)) => {
-            equals(rt, printed.as_slice(), line.as_bytes());
-            equals(rt, same, line.is_empty());
-        }
-        Err(failure) => holds(rt, &failure, false),
-    }
+) -> Result<(), Fail> {
+    let log = Log::new(alloc);
+    log.faults.printable.set(usize::MAX);
+    let told = (Ok(line.is_empty()), line.as_bytes());
+    is_compared(rt, alloc, &log, names, with_symbols, told)
 }
 
 #[test]
-fn tells_where_files_differ(rt: HostRuntime) {
+fn tells_where_files_differ(rt: HostRuntime) -> Result<(), Fail> {
     let alloc = rt.alloc();
-    is_told(&rt, alloc, (&ONE_HUNK, &ONE_HUNK), true, "");
-    is_told(&rt, alloc, (&ONE_HUNK, &ONE_SYMBOL), false, "");
-    is_told(&rt, alloc, (&ZERO_TAIL, &TRIMMED), true, "");
+    is_told(&rt, alloc, ("one-hunk", "one-hunk"), true, "")?;
+    is_told(&rt, alloc, ("one-hunk", "one-symbol"), false, "")?;
+    is_told(&rt, alloc, ("zero-tail", "trimmed"), true, "")?;
     let symbol = "hunk 0 symbol 0: \"loop\" none and 00000002\n";
-    is_told(&rt, alloc, (&ONE_HUNK, &ONE_SYMBOL), true, symbol);
+    is_told(&rt, alloc, ("one-hunk", "one-symbol"), true, symbol)?;
     let symbol = "hunk 0 symbol 0: \"loop\" 00000002 and none\n";
-    is_told(&rt, alloc, (&ONE_SYMBOL, &ONE_HUNK), true, symbol);
+    is_told(&rt, alloc, ("one-symbol", "one-hunk"), true, symbol)?;
     let count = "hunks: 2 and 1\n";
-    is_told(&rt, alloc, (&PROGRAM, &ONE_HUNK), true, count);
+    is_told(&rt, alloc, ("program", "one-hunk"), true, count)?;
     let size = "hunk 0 size: 4 and 8\n";
-    is_told(&rt, alloc, (&ONE_SYMBOL, &TRIMMED), false, size);
+    is_told(&rt, alloc, ("one-symbol", "trimmed"), false, size)
+}
+
+// Comparing two files without symbols fails so, over files that are read so often and an output that takes so
+// many bytes.
+fn is_refused(
+    rt: &impl Abort,
+    alloc: Global,
+    names: (&str, &str),
+    (good_reads, printable): (usize, usize),
+    (failure, line): (Failure<'_>, &[u8]),
+) -> Result<(), Fail> {
+    let log = Log::new(alloc);
+    log.faults.good_reads.set(good_reads);
+    log.faults.printable.set(printable);
+    is_compared(rt, alloc, &log, names, false, (Err(failure), line))
 }
 
 #[test]
-fn tells_why_files_are_not_compared(rt: HostRuntime) {
+fn tells_why_files_are_not_compared(rt: HostRuntime) -> Result<(), Fail> {
     let alloc = rt.alloc();
     let fault = Fault {
         place: 10,
         reason: Reason::TrailingData,
     };
-    let pairs: [(usize, &[u8], &[u8]); 2] = [(0, &TRAILING, &ONE_HUNK), (1, &ONE_HUNK, &TRAILING)];
-    for (file, first, second) in pairs {
-        let got = compare_to(alloc, false, first, second, Vec::new(alloc));
+    let all = (usize::MAX, usize::MAX);
+    for (file, first, second) in [(0, "trailing", "one-hunk"), (1, "one-hunk", "trailing")] {
         let refused = Failure::Tool(ToolFault::Input { file, fault });
-        equals(&rt, got.err(), Some(refused));
+        is_refused(&rt, alloc, (first, second), all, (refused, b""))?;
     }
-    let got = compare_to(alloc, false, Broken, Broken, Vec::new(alloc));
-    let unread = Failure::Tool(ToolFault::InputDevice { file: 0 });
-    equals(&rt, got.err(), Some(unread));
-    let (first, second) = (PROGRAM.as_slice(), ONE_HUNK.as_slice());
-    let got = compare_to(alloc, false, first, second, Broken);
-    equals(&rt, got.err(), Some(Failure::Printing));
+    // Each file is read twice: its bytes, and its end.
+    for (good_reads, file) in [(0, 0), (1, 0), (2, 1), (3, 1)] {
+        let unread = Failure::Tool(ToolFault::InputDevice { file });
+        let names = ("program", "one-hunk");
+        is_refused(&rt, alloc, names, (good_reads, usize::MAX), (unread, b""))?;
+    }
+    let line = b"hunks: 2 and 1\n";
+    for printable in 0..line.len() {
+        let unwritten = (Failure::Printing, &line[..printable]);
+        let names = ("program", "one-hunk");
+        is_refused(&rt, alloc, names, (usize::MAX, printable), unwritten)?;
+    }
+    Ok(())
 }
 
 // `compare [--symbols] A B` ends with this status and this line on standard error, once it has printed this. No

@@ -2,12 +2,12 @@
 
 use super::asserts::equals;
 use super::outcomes::{is_answered, is_new_out, is_under, was_done};
+use super::systems::copy;
 use crate::fake_files::FakeFiles;
 use crate::fake_log::Log;
 use crate::samples::{ONE_HUNK, ONE_SYMBOL, PLAIN, TRIMMED, ZERO_TAIL};
-use hunk_commands::copy::copy;
-use hunk_commands::{Failure, OpenFault, Request};
-use hunk_tool::{CopyForm, LinkOptions, ToolFault};
+use hunk_commands::{Failure, Request};
+use hunk_tool::{CopyForm, LinkOptions, OpenFault, ToolFault};
 use hunk_words::{Fault, Reason};
 use std::alloc::Global;
 use std::process::Abort;
@@ -101,7 +101,14 @@ fn replaces_the_file_that_is_copied(rt: HostRuntime) -> Result<(), Fail> {
 }
 
 // `copy --out OUT FILE` ends with this status and this line.
-fn copy_ends(rt: &impl Abort, alloc: Global, out: &str, file: &str, status: u8, line: &str) {
+fn copy_ends(
+    rt: &impl Abort,
+    alloc: Global,
+    out: &str,
+    file: &str,
+    status: u8,
+    line: &str,
+) -> Result<(), Fail> {
     let log = Log::new(alloc);
     let system = FakeFiles {
         openings: 40,
@@ -113,21 +120,21 @@ fn copy_ends(rt: &impl Abort, alloc: Global, out: &str, file: &str, status: u8, 
         explain: false,
         file,
     };
-    is_answered(rt, &(system, alloc), request, (status, line));
+    is_answered(rt, &(system, alloc), request, (status, line))
 }
 
 #[test]
-fn tells_how_a_copy_ended(rt: HostRuntime) {
+fn tells_how_a_copy_ended(rt: HostRuntime) -> Result<(), Fail> {
     let alloc = rt.alloc();
-    copy_ends(&rt, alloc, "out", "one-hunk", 0, "");
+    copy_ends(&rt, alloc, "out", "one-hunk", 0, "")?;
     let object = "amihunk: caller: longword 0: wrong first longword\n";
-    copy_ends(&rt, alloc, "out", "caller", 1, object);
+    copy_ends(&rt, alloc, "out", "caller", 1, object)?;
     let missing = "amihunk: x: cannot be opened\n";
-    copy_ends(&rt, alloc, "out", "x", 3, missing);
+    copy_ends(&rt, alloc, "out", "x", 3, missing)?;
     let unread = "amihunk: directory: read failed\n";
-    copy_ends(&rt, alloc, "out", "directory", 3, unread);
+    copy_ends(&rt, alloc, "out", "directory", 3, unread)?;
     let uncreated = "amihunk: directory: cannot be opened\n";
-    copy_ends(&rt, alloc, "directory", "one-hunk", 3, uncreated);
+    copy_ends(&rt, alloc, "directory", "one-hunk", 3, uncreated)?;
     let unwritten = "amihunk: output: write failed\n";
-    copy_ends(&rt, alloc, "full", "one-hunk", 3, unwritten);
+    copy_ends(&rt, alloc, "full", "one-hunk", 3, unwritten)
 }

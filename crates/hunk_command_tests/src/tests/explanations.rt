@@ -1,11 +1,12 @@
 //! What is told of a failure after its line.
 
 use super::asserts::{equals, equals_at, holds};
+use super::systems::answer;
 use crate::fake_files::FakeFiles;
 use crate::fake_log::Log;
 use crate::samples::{Broken, CALLEE, MISTYPED, PLAIN, TRAILING, UNENDED};
 use hunk_commands::explain::{Command, explanation_of};
-use hunk_commands::{Addresses, LoadText, Request, answer};
+use hunk_commands::{Addresses, LoadText, Request};
 use hunk_tool::ImageForm;
 use hunk_words::{Fault, ReadFault, Reason, Room, Sink, Watched};
 use std::alloc::{AllocError, Global};
@@ -228,7 +229,7 @@ fn status_of<W: Sink>(
     explain: bool,
     openings: usize,
     good_reads: usize,
-) -> Result<u8, AllocError> {
+) -> Result<u8, Fail> {
     let log = Log::new(alloc);
     log.faults.good_reads.set(good_reads);
     let system = FakeFiles {
@@ -236,7 +237,7 @@ fn status_of<W: Sink>(
         log: &log,
     };
     let request = request_of(alloc, asked, explain)?;
-    Ok(answer(&(system, alloc), errors, request))
+    answer(&(system, alloc), errors, request)
 }
 
 /// The request ends with this status, and exactly this is told.

@@ -1,8 +1,8 @@
 //! The line of each failure, and its status.
 
 use super::asserts::equals;
-use hunk_commands::{Addresses, Failure, OpenFault, report_failure};
-use hunk_tool::ToolFault;
+use hunk_commands::{Addresses, Failure, report_failure};
+use hunk_tool::{OpenFault, ToolFault};
 use hunk_words::{Room, Watched};
 use std::alloc::Global;
 use std::process::Abort;

@@ -1,68 +1,105 @@
 //! The memory of object files.
 
-use super::asserts::equals;
-use crate::samples::{Broken, CALLEE, CALLER};
-use hunk_commands::Failure;
-use hunk_commands::image::image_to;
+use super::asserts::{equals, holds};
+use super::outcomes::was_printed;
+use super::systems::image;
+use crate::fake_files::FakeFiles;
+use crate::fake_log::Log;
+use hunk_commands::{Addresses, Failure};
 use hunk_tool::{ImageForm, PlaceFault, ToolFault};
-use hunk_words::Watched;
 use std::alloc::Global;
 use std::process::Abort;
+use std::test::Fail;
 
-#[test]
-fn reports_the_memory_of_object_files(rt: HostRuntime) {
-    let lines = "hunk 0 at 00010000 size 8\n00010000 4eb9000200044e75\n\
-         hunk 1 at 00020000 size 8\n00020000 4e714e714e754e71\n";
-    prints_the_memory_of_two_files(&rt, rt.alloc(), ImageForm::Report, lines);
+// The end of printing the memory of these files at these addresses.
+fn printed<'a>(
+    alloc: Global,
+    log: &Log,
+    addresses: Addresses<'a>,
+    form: ImageForm,
+    files: &[&'a str],
+) -> Result<Result<(), Failure<'a>>, Fail> {
+    let system = (FakeFiles { openings: 40, log }, alloc);
+    image(&system, addresses, form, files)
 }
 
 #[test]
-fn writes_the_records_of_object_files(rt: HostRuntime) {
+fn reports_the_memory_of_object_files(rt: HostRuntime) -> Result<(), Fail> {
+    let lines = "hunk 0 at 00010000 size 8\n00010000 4eb9000200044e75\n\
+         hunk 1 at 00020000 size 8\n00020000 4e714e714e754e71\n";
+    prints_the_memory_of_two_files(&rt, rt.alloc(), ImageForm::Report, lines)
+}
+
+#[test]
+fn writes_the_records_of_object_files(rt: HostRuntime) -> Result<(), Fail> {
     let records = "S00A0000616D6968756E6B08\n\
          S30D000100004EB9000200044E7521\n\
          S30D000200004E714E714E754E71F0\n\
          S70500000000FA\n";
-    prints_the_memory_of_two_files(&rt, rt.alloc(), ImageForm::SRecords, records);
+    prints_the_memory_of_two_files(&rt, rt.alloc(), ImageForm::SRecords, records)
 }
 
-/// The memory of a hunk that calls the other, at 10000 and 20000, is printed as this text.
-fn prints_the_memory_of_two_files(rt: &impl Abort, alloc: Global, form: ImageForm, wanted: &str) {
-    let mut inputs = [
-        Watched::new(CALLER.as_slice()),
-        Watched::new(CALLEE.as_slice()),
-    ];
-    let bases = [0x1_0000, 0x2_0000];
-    let text = image_to(alloc, &mut inputs, &bases, form, Vec::new(alloc));
-    assert!(rt; text.is_ok_and(|bytes| bytes.as_slice() == wanted.as_bytes()));
+// The memory of a hunk that calls the other, at 10000 and 20000, is printed as this text, or the first bytes of
+// it where the output takes no more.
+fn prints_the_memory_of_two_files(
+    rt: &impl Abort,
+    alloc: Global,
+    form: ImageForm,
+    wanted: &str,
+) -> Result<(), Fail> {
+    let addresses = Addresses::List("10000,20000");
+    let files = ["caller", "callee"];
+    for room in 0..wanted.len() {
+        let log = Log::new(alloc);
+        log.faults.printable.set(room);
+        let unwritten = printed(alloc, &log, addresses, form, &files)?;
+        equals(rt, unwritten, Err(Failure::Printing));
+        was_printed(rt, &log, &wanted.as_bytes()[..room])?;
+    }
+    let log = Log::new(alloc);
+    log.faults.printable.set(wanted.len());
+    equals(rt, printed(alloc, &log, addresses, form, &files)?, Ok(()));
+    was_printed(rt, &log, wanted.as_bytes())
+}
+
+// There is no report of these files at these addresses, and nothing is printed.
+fn fails<'a>(
+    rt: &impl Abort,
+    alloc: Global,
+    log: &Log,
+    addresses: Addresses<'a>,
+    files: &[&'a str],
+    failure: Failure<'a>,
+) -> Result<(), Fail> {
+    log.faults.printable.set(usize::MAX);
+    let got = printed(alloc, log, addresses, ImageForm::Report, files)?;
+    equals(rt, got, Err(failure));
+    was_printed(rt, log, b"")
 }
 
 #[test]
-fn tells_why_there_is_no_report(rt: HostRuntime) {
+fn tells_why_there_is_no_report(rt: HostRuntime) -> Result<(), Fail> {
     let alloc = rt.alloc();
-    let form = ImageForm::Report;
-    let mut unlinked = [Watched::new(CALLER.as_slice())];
-    let text = image_to(alloc, &mut unlinked, &[0], form, Vec::new(alloc));
-    assert!(rt; matches!(text, Err(Failure::Tool(ToolFault::Link(_)))));
-    let mut unplaced = [Watched::new(CALLEE.as_slice())];
-    let text = image_to(alloc, &mut unplaced, &[], form, Vec::new(alloc));
-    equals(
+    let zero = Addresses::List("0");
+    let log = Log::new(alloc);
+    let unlinked = printed(alloc, &log, zero, ImageForm::Report, &["caller"])?;
+    let is_unlinked = matches!(unlinked, Err(Failure::Tool(ToolFault::Link(_))));
+    holds(&rt, &"a name that is not defined", is_unlinked);
+    // `full` has no bytes, and so no address.
+    let unplaced = Failure::Tool(ToolFault::Place(PlaceFault::WrongCount));
+    fails(
         &rt,
-        text.err(),
-        Some(Failure::Tool(ToolFault::Place(PlaceFault::WrongCount))),
-    );
-    let text = image_to(
         alloc,
-        &mut [Watched::new(Broken)],
-        &[0],
-        form,
-        Vec::new(alloc),
-    );
-    equals(
-        &rt,
-        text.err(),
-        Some(Failure::Tool(ToolFault::InputDevice { file: 0 })),
-    );
-    let mut unwritten = [Watched::new(CALLEE.as_slice())];
-    let text = image_to(alloc, &mut unwritten, &[0], form, Broken);
-    equals(&rt, text.err(), Some(Failure::Printing));
+        &Log::new(alloc),
+        Addresses::File("full"),
+        &["callee"],
+        unplaced,
+    )?;
+    for good_reads in 0..2 {
+        let log = Log::new(alloc);
+        log.faults.good_reads.set(good_reads);
+        let unread = Failure::Tool(ToolFault::InputDevice { file: 0 });
+        fails(&rt, alloc, &log, zero, &["callee"], unread)?;
+    }
+    Ok(())
 }

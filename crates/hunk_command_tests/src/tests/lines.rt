@@ -2,7 +2,8 @@
 ghost use Rattle.std.specs.Prelude.{◌<◌};
 
 use super::asserts::{equals, holds};
-use hunk_commands::{Failure, Lines, OpenFault, report_failure};
+use hunk_commands::{Failure, Lines, report_failure};
+use hunk_tool::OpenFault;
 use hunk_words::Watched;
 use std::alloc::Global;
 use std::cell::{Cell, RefCell};

@@ -2,12 +2,12 @@
 
 use super::asserts::equals;
 use super::outcomes::{NEW_OUT, is_new_out, is_under, was_done};
+use super::systems::link;
 use crate::fake_files::FakeFiles;
 use crate::fake_log::Log;
 use crate::samples::{CALLEE, PLAIN, PROGRAM};
-use hunk_commands::link::link;
-use hunk_commands::{Failure, OpenFault};
-use hunk_tool::{LinkOptions, ToolFault};
+use hunk_commands::Failure;
+use hunk_tool::{LinkOptions, OpenFault, ToolFault};
 use std::alloc::Global;
 use std::process::Abort;
 use std::test::Fail;

@@ -2,11 +2,12 @@
 
 use super::asserts::{equals, equals_at};
 use super::outcomes::{NEW_OUT, is_under, was_done};
+use super::systems::link_with_map;
 use crate::fake_files::FakeFiles;
 use crate::fake_log::Log;
 use crate::samples::{CALLEE, CALLER, PLAIN, PROGRAM};
-use hunk_commands::link::link_with_map;
-use hunk_commands::{Failure, OpenFault};
+use hunk_commands::Failure;
+use hunk_tool::OpenFault;
 use std::alloc::{AllocError, Global};
 use std::io::ErrorKind;
 use std::process::Abort;

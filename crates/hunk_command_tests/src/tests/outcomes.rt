@@ -1,9 +1,10 @@
 //! Assertions about how a request ends, and about what was done with files.
 
 use super::asserts::{equals, equals_at};
+use super::systems::answer;
 use crate::fake_files::FakeFiles;
 use crate::fake_log::Log;
-use hunk_commands::{Request, answer};
+use hunk_commands::Request;
 use hunk_words::Watched;
 use std::alloc::Global;
 use std::process::Abort;
@@ -61,10 +62,17 @@ pub(crate) fn is_answered(
     system: &(impl Files + Print + AllocGlobal),
     request: Request<'_>,
     (status, line): (u8, &str),
-) {
+) -> Result<(), Fail> {
     let mut errors = Watched::new(Vec::new(system.alloc()));
-    equals(rt, answer(system, &mut errors, request), status);
+    equals(rt, answer(system, &mut errors, request)?, status);
     equals(rt, errors.into_inner().as_slice(), line.as_bytes());
+    Ok(())
+}
+
+/// Exactly this was printed.
+pub(crate) fn was_printed(rt: &impl Abort, log: &Log, text: &[u8]) -> Result<(), Fail> {
+    equals(rt, log.printed.try_borrow()?.as_slice(), text);
+    Ok(())
 }
 
 /// The request ends with this status and this line on standard error, once it has printed this.
@@ -75,9 +83,8 @@ pub(crate) fn prints(
     request: Request<'_>,
     (status, printed, line): (u8, &str, &str),
 ) -> Result<(), Fail> {
-    log.prints.set(true);
+    log.faults.printable.set(usize::MAX);
     let files = FakeFiles { openings: 40, log };
-    is_answered(rt, &(files, alloc), request, (status, line));
-    equals(rt, log.printed.try_borrow()?.as_slice(), printed.as_bytes());
-    Ok(())
+    is_answered(rt, &(files, alloc), request, (status, line))?;
+    was_printed(rt, log, printed.as_bytes())
 }

@@ -1,13 +1,13 @@
 //! Each way in which a load file takes the place of another file, and each fault on the way.
 
 use super::asserts::{equals, equals_at, holds};
-use super::outcomes::{NEW_OUT, NO_NEW_OUT, OVER_CALLEE, is_under, was_done};
+use super::outcomes::{NEW_OUT, NO_NEW_OUT, OVER_CALLEE, is_answered, is_under, was_done};
+use super::systems::link;
 use crate::fake_files::FakeFiles;
 use crate::fake_log::Log;
 use crate::samples::{CALLEE, PLAIN, PROGRAM};
-use hunk_commands::link::link;
-use hunk_commands::{Failure, OpenFault, Request, answer};
-use hunk_words::Watched;
+use hunk_commands::{Failure, Request};
+use hunk_tool::OpenFault;
 use std::alloc::Global;
 use std::io::ErrorKind;
 use std::process::Abort;
@@ -292,10 +292,7 @@ fn long_ends(
         explain: false,
         files: ["loop"; 300].to_vec(alloc)?,
     };
-    let mut errors = Watched::new(Vec::new(alloc));
-    let got = answer(&(files, alloc), &mut errors, request);
-    equals_at(rt, &room, got, status);
-    equals(rt, errors.into_inner().as_slice(), line.as_bytes());
+    is_answered(rt, &(files, alloc), request, (status, line))?;
     was_done(rt, &log, events)?;
     let bytes = files.bytes_under(alloc, "out")?;
     equals_at(rt, &room, bytes.map(|bytes| bytes.len()), length);

@@ -31,8 +31,7 @@ fn link_ends<'a>(
         explain: false,
         files: files.to_vec(alloc)?,
     };
-    is_answered(rt, &(system, alloc), request, (status, line));
-    Ok(())
+    is_answered(rt, &(system, alloc), request, (status, line))
 }
 
 #[test]
@@ -92,13 +91,13 @@ fn tells_why_there_is_no_image(rt: HostRuntime) -> Result<(), Fail> {
             explain: false,
             files: ["no-such-file"].to_vec(rt.alloc())?,
         };
-        is_answered(&rt, &rt, request, (status, line));
+        is_answered(&rt, &rt, request, (status, line))?;
     }
     Ok(())
 }
 
 #[test]
-fn tells_that_memory_ran_out(rt: HostRuntime) {
+fn tells_that_memory_ran_out(rt: HostRuntime) -> Result<(), Fail> {
     let line = "amihunk: out of memory\n";
-    is_answered(&rt, &rt, Request::OutOfMemory, (4, line));
+    is_answered(&rt, &rt, Request::OutOfMemory, (4, line))
 }

@@ -1,15 +1,24 @@
 //! What a survey tells of files.
 
 use super::asserts::{equals, holds};
-use super::outcomes::is_answered;
+use super::outcomes::{is_answered, was_printed};
+use super::systems::survey;
 use crate::fake_files::FakeFiles;
 use crate::fake_log::Log;
-use crate::samples::Broken;
-use hunk_commands::survey::survey_to;
 use hunk_commands::{Failure, Request};
 use std::alloc::Global;
 use std::process::Abort;
 use std::test::Fail;
+
+// The end of a survey of these files.
+fn surveyed<'a>(
+    alloc: Global,
+    log: &Log,
+    files: &[&'a str],
+) -> Result<Result<u8, Failure<'a>>, Fail> {
+    let system = (FakeFiles { openings: 100, log }, alloc);
+    survey(&system, files)
+}
 
 // A survey of the files prints these lines, ends with this status, and has at most one of them open.
 fn is_told<'a>(
@@ -20,17 +29,9 @@ fn is_told<'a>(
     status: u8,
 ) -> Result<(), Fail> {
     let log = Log::new(alloc);
-    let system = FakeFiles {
-        openings: 100,
-        log: &log,
-    };
-    match survey_to(&system, alloc, files, Vec::new(alloc)) {
-        Ok((printed, got)) => {
-            equals(rt, printed.as_slice(), lines.as_bytes());
-            equals(rt, got, status);
-        }
-        Err(failure) => holds(rt, &failure, false),
-    }
+    log.faults.printable.set(usize::MAX);
+    equals(rt, surveyed(alloc, &log, files)?, Ok(status));
+    was_printed(rt, &log, lines.as_bytes())?;
     holds(rt, &files, log.most_open.get() <= 1);
     equals(rt, log.open.get(), 0);
     Ok(())
@@ -77,17 +78,20 @@ fn goes_on_after_each_file_that_is_none(rt: HostRuntime) -> Result<(), Fail> {
 }
 
 #[test]
-fn tells_that_a_survey_was_not_printed(rt: HostRuntime) {
-    let log = Log::new(rt.alloc());
-    let system = FakeFiles {
-        openings: 100,
-        log: &log,
-    };
-    let unwritten = survey_to(&system, rt.alloc(), &["callee"], Broken);
-    equals(&rt, unwritten.err(), Some(Failure::Printing));
+fn tells_that_a_survey_was_not_printed(rt: HostRuntime) -> Result<(), Fail> {
+    let lines = b"callee: object file: 1 units, 1 hunks\n\
+                  1 files: 1 object files, 0 load files, 0 refused, 0 unreadable\n";
+    for room in 0..lines.len() {
+        let log = Log::new(rt.alloc());
+        log.faults.printable.set(room);
+        let unwritten = surveyed(rt.alloc(), &log, &["callee"])?;
+        equals(&rt, unwritten, Err(Failure::Printing));
+        was_printed(&rt, &log, &lines[..room])?;
+    }
+    Ok(())
 }
 
-// The file system of the test has no standard output that takes a byte.
+// The standard output takes no byte.
 #[test]
 fn ends_with_the_status_of_a_failed_write(rt: HostRuntime) -> Result<(), Fail> {
     let log = Log::new(rt.alloc());
@@ -99,6 +103,5 @@ fn ends_with_the_status_of_a_failed_write(rt: HostRuntime) -> Result<(), Fail> {
         files: ["callee"].to_vec(rt.alloc())?,
     };
     let line = "amihunk: output: write failed\n";
-    is_answered(&rt, &(system, rt.alloc()), request, (3, line));
-    Ok(())
+    is_answered(&rt, &(system, rt.alloc()), request, (3, line))
 }

@@ -1,5 +1,6 @@
 use Rattle.std.proofs.Common.{false}
 use Rattle.hunk_tool.specs.declared.copy.CopyForm.TheVariants.{Normal, Written}
+use Rattle.hunk_commands.specs.Request.{run_between}
 use Rattle.amihunk.specs.CommandLine.Meaning.{calls, version}
 use Rattle.amihunk.specs.CommandLine.Call.{to_check, to_compare, to_copy, to_image, to_link, to_load, to_show, to_survey}
 use Rattle.amihunk.proofs.ProgramLemmas.{ends_asked}
@@ -7,9 +8,9 @@ use Rattle.amihunk.proofs.program.run.Goals as goal
 
 pub returns : goal.returns
 returns g c =
-    let ends = ends_asked g.W.Sink.taken g.W.Sink.failed c.args.errors.now c.answer.new.errors in
-    let asked = c.read_words.ensures in
-    let request = c.read_words.result in
+    let ends = ends_asked (run_between g.S.FileSystem.content g.O.Sink.taken g.O.Sink.failed g.O.Output.waiting c.args.store.now c.answer.new.store c.args.output.now c.answer.new.output) g.W.Sink.taken g.W.Sink.failed c.args.errors.now c.answer.new.errors in
+    let asked = c.read_words-request.ensures in
+    let request = c.read_words-request.result in
     let status = c.answer.result in
     record {
       line = record { request = request; asked = asked.answer; ends = c.answer.ensures };

@@ -17,6 +17,6 @@ returns g c =
     let names_are : map string_bytes c.as_slice.result.now ≡ files = ap (map string_bytes) c.as_slice.ensures.value ∙ c.in-Ok.ensures in
     let put = Puts-as (ap₂ (λ (names : List (List ℕ)) (told : Told). told_text names told) names_are c.in-Ok-explain_link.ensures) c.write_link_explanation.ensures in
     let wrote = c.finish.ensures.wrote c.args.errors.now _ (put.adds _ [] c.new-text.ensures.empty) in
-    let told = tells_lines g.W.Sink.taken g.W.Sink.failed c.args.errors.now _ (AreRefusalLines files refusal) (told_text files (told_of units refusal)) (record { units = units; are = c.in-Some.ensures; lines_are = refl })
+    let told = tells_lines g.W.Sink.taken g.W.Sink.failed c.args.errors.now _ (AreRefusalLines (g.S.FileSystem.content c.args.store.now) files refusal) (told_text files (told_of units refusal)) (record { units = units; are = c.in-Some.ensures; lines_are = refl })
     (tells_text g.W.Sink.taken g.W.Sink.failed c.args.errors.now _ _ c.finish.result wrote) in
     search (rules, told)

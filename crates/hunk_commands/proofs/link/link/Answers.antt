@@ -1,24 +1,33 @@
 -- What the run over OUT returned, and whether OUT was replaced.
-use Rattle.std.proofs.Common.{◌≡◌, ◌∙◌, inl, length}
-use Rattle.std.proofs.lemmas.Result.{IfErr-weaker, err_from_is_err_and}
+use Rattle.std.proofs.lemmas.Result.{IfErr-weaker}
 use Rattle.hunk_tool.specs.Inputs.{file_names}
+use Rattle.hunk_tool.specs.Link.{IsLinkFault, IsLinked, Taken}
+use Rattle.hunk_commands.specs.Inputs.{AreInputs, OfFiles, OfWholeFiles}
 use Rattle.hunk_commands.specs.Link.{IsLinkFailure}
-use Rattle.hunk_commands.specs.Replacement.{IsCauseOf}
+use Rattle.hunk_commands.specs.Store.{IsCauseOf}
+use Rattle.hunk_commands.proofs.InputsLemmas.{OfFiles-inputs}
 use Rattle.hunk_commands.proofs.LinkLemmas.{IsLinkFailure-run, IsMade-run}
+use Rattle.hunk_commands.proofs.PrintingLemmas.{on_flushed}
 use Rattle.hunk_commands.proofs.link.link.Goals as goal
-
-pub returns-in_err-inputs-clause-err : goal.returns-in_err-inputs-clause-err
-returns-in_err-inputs-clause-err g c =
-    let p = err_from_is_err_and c.from_residual.result c.from_residual.ensures.1 in
-    rw (p.1, p.2) (inl c.in_err-inputs.ensures.err)
 
 pub returns-clause-ok : goal.returns-clause-ok
 returns-clause-ok g c =
-    let count : length c.as_mut_slice.result.now ≡ length c.args.files.now = c.as_mut_slice.ensures.len ∙ c.in_ok-inputs.ensures.count in
-    IsMade-run c.args.options c.args.files.now _ _ _ _ _ _ _ c.finish.result c.link_run-ran.result count c.link_run-ran.auto.inputs c.link_run-ran.ensures.ok c.finish.ensures.ok
+    let contents = g.S.FileSystem.content c.args.store.now in
+    let names = file_names c.args.files.now in
+    let taken : Taken = (record { old = g.S.New.Sink.taken c.in_ok-new.new; new = g.S.New.Sink.taken c.link_run-ran.new.writer; failed = g.S.New.Sink.failed c.link_run-ran.new.writer }) in
+    let are : AreInputs g.S.FileSystem.content g.S.File.Source.left c.args.store.now (file_names c.args.files.now) c.as_mut_slice.result.now = rw c.as_mut_slice.ensures.value c.in_ok-inputs.ensures.are in
+    IsMade-run c.args.options contents names c.args.out.now taken _ c.finish.result c.link_run-ran.result c.in_ok-new.ensures.begun
+    (on_flushed c.link_run-ran.result _ (OfWholeFiles contents names (IsLinked c.args.options taken.old taken.new)) (λ read. OfFiles-inputs g.S.FileSystem.content g.S.File.Source.left c.args.store.now g.S.File.Source.failed g.S.File.Source.ended g.met.S.FileSystem.at_end (file_names c.args.files.now) _ _ _ c.link_run-ran.auto.inputs are read) c.link_run-ran.ensures.ok)
+    c.finish.ensures.ran c.finish.ensures.replaced
 
 pub returns-clause-err : goal.returns-clause-err
 returns-clause-err g c =
-    let count : length c.as_mut_slice.result.now ≡ length c.args.files.now = c.as_mut_slice.ensures.len ∙ c.in_ok-inputs.ensures.count in
-    IfErr-weaker c.finish.result (IsCauseOf c.link_run-ran.result c.args.out.now) (IsLinkFailure c.args.options (file_names c.args.files.now) c.args.out.now)
-    (λ failure is. IsLinkFailure-run c.args.options c.args.files.now c.args.out.now _ _ _ _ _ _ failure c.link_run-ran.result count c.link_run-ran.auto.inputs c.link_run-ran.ensures.ok c.link_run-ran.ensures.err is) c.finish.ensures.err
+    let contents = g.S.FileSystem.content c.args.store.now in
+    let names = file_names c.args.files.now in
+    let taken : Taken = (record { old = g.S.New.Sink.taken c.in_ok-new.new; new = g.S.New.Sink.taken c.link_run-ran.new.writer; failed = g.S.New.Sink.failed c.link_run-ran.new.writer }) in
+    let are : AreInputs g.S.FileSystem.content g.S.File.Source.left c.args.store.now (file_names c.args.files.now) c.as_mut_slice.result.now = rw c.as_mut_slice.ensures.value c.in_ok-inputs.ensures.are in
+    IfErr-weaker c.finish.result (IsCauseOf c.link_run-ran.result (contents c.args.out.now) c.args.out.now) (IsLinkFailure c.args.options contents names c.args.out.now)
+    (λ failure is. IsLinkFailure-run c.args.options contents names c.args.out.now taken failure c.link_run-ran.result
+    (on_flushed c.link_run-ran.result _ (OfWholeFiles contents names (IsLinked c.args.options taken.old taken.new)) (λ read. OfFiles-inputs g.S.FileSystem.content g.S.File.Source.left c.args.store.now g.S.File.Source.failed g.S.File.Source.ended g.met.S.FileSystem.at_end (file_names c.args.files.now) _ _ _ c.link_run-ran.auto.inputs are read) c.link_run-ran.ensures.ok)
+    (IfErr-weaker c.link_run-ran.result _ (λ fault. OfFiles contents names (λ inputs. IsLinkFault c.args.options inputs taken fault)) (λ fault why. OfFiles-inputs g.S.FileSystem.content g.S.File.Source.left c.args.store.now g.S.File.Source.failed g.S.File.Source.ended g.met.S.FileSystem.at_end (file_names c.args.files.now) _ _ (λ inputs. IsLinkFault c.args.options inputs taken fault) c.link_run-ran.auto.inputs are why) c.link_run-ran.ensures.err)
+    is) c.finish.ensures.cause

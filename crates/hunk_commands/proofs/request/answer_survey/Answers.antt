@@ -1,10 +1,11 @@
 -- The survey failed.
 use Rattle.std.proofs.Common.{[], inr}
-use Rattle.hunk_commands.specs.Devices.{IsCutShort}
+use Rattle.hunk_commands.specs.Output.{printed_of}
 use Rattle.hunk_commands.specs.Request.{NoMore}
+use Rattle.hunk_commands.specs.Survey.{IsCutShort}
 use Rattle.hunk_commands.proofs.RequestLemmas.{fails_with_line}
 use Rattle.hunk_commands.proofs.request.answer_survey.Goals as goal
 
 pub returns-in-Err : goal.returns-in-Err
 returns-in-Err g c =
-    inr (fails_with_line g.W.Sink.taken g.W.Sink.failed IsCutShort NoMore [] c.report_failure.result c.args.errors.now c.report_failure.new.errors c.in-Err.failure c.in-Err.ensures.err c.report_failure.ensures.status c.report_failure.ensures.line)
+    inr (fails_with_line g.W.Sink.taken g.W.Sink.failed (IsCutShort (printed_of g.O.Sink.taken g.O.Sink.failed g.O.Output.waiting c.args.output.now c.survey.new.output)) NoMore [] c.report_failure.result c.args.errors.now c.report_failure.new.errors c.in-Err.failure c.in-Err.ensures.err c.report_failure.ensures.status c.report_failure.ensures.line)

@@ -1,10 +1,11 @@
--- The version was not printed.
+-- The text was not printed.
 use Rattle.std.proofs.Common.{[], inr}
-use Rattle.hunk_commands.specs.Request.{NoMore}
-use Rattle.hunk_commands.specs.Version.{IsVersionFailure}
+use Rattle.hunk_commands.specs.Output.{IsUnprinted, printed_of}
+use Rattle.hunk_commands.specs.Request.{NoMore, OrExhausted}
 use Rattle.hunk_commands.proofs.RequestLemmas.{fails_with_line}
 use Rattle.hunk_commands.proofs.request.answer_version.Goals as goal
 
 pub returns-in-Err : goal.returns-in-Err
 returns-in-Err g c =
-    inr (fails_with_line g.W.Sink.taken g.W.Sink.failed IsVersionFailure NoMore [] c.report_failure.result c.args.errors.now c.report_failure.new.errors c.in-Err.failure c.in-Err.ensures c.report_failure.ensures.status c.report_failure.ensures.line)
+    let printed = printed_of g.O.Sink.taken g.O.Sink.failed g.O.Output.waiting c.args.output.now c.print_version.new.output in
+    inr (fails_with_line g.W.Sink.taken g.W.Sink.failed (OrExhausted printed (IsUnprinted printed)) NoMore [] c.report_failure.result c.args.errors.now c.report_failure.new.errors c.in-Err.failure (inr c.in-Err.ensures.err) c.report_failure.ensures.status c.report_failure.ensures.line)

@@ -1,0 +1,102 @@
+//! Requests and commands over the files of a system, and its standard output behind a buffer.
+//!
+//! Each returns once what is printed has left the buffer, as far as the standard output takes it.
+
+use hunk_commands::{
+    Addresses, Failure, Printer, Request, System, compare, copy, image, link, survey,
+};
+use hunk_tool::{CopyForm, ImageForm, LinkOptions};
+use hunk_words::Sink;
+use std::io;
+use std::rt::Files;
+use std::test::Fail;
+
+/// Does what a request asks for.
+pub(super) fn answer<R: Files + Print + AllocGlobal, W: Sink>(
+    system: &R,
+    errors: &mut W,
+    request: Request<'_>,
+) -> Result<u8, Fail> {
+    let alloc = system.alloc();
+    let mut store = System::new(system);
+    let mut output = Printer::new(alloc, io::writer(system))?;
+    Ok(hunk_commands::answer(alloc, &mut store, &mut output, errors, request))
+}
+
+/// Links files to OUT.
+pub(super) fn link<'a, R: Files + AllocGlobal>(
+    system: &R,
+    out: &'a str,
+    options: LinkOptions,
+    files: &[&'a str],
+) -> Result<(), Failure<'a>> {
+    let mut store = System::new(system);
+    link::link(system.alloc(), &mut store, out, options, files)
+}
+
+/// Links files to OUT, and writes the map to MAP.
+pub(super) fn link_with_map<'a, R: Files + AllocGlobal>(
+    system: &R,
+    out: &'a str,
+    map_file: &'a str,
+    options: LinkOptions,
+    files: &[&'a str],
+    names: &[String],
+) -> Result<(), Failure<'a>> {
+    let mut store = System::new(system);
+    link::link_with_map(
+        system.alloc(),
+        &mut store,
+        out,
+        map_file,
+        options,
+        files,
+        names,
+    )
+}
+
+/// Copies a file to OUT.
+pub(super) fn copy<'a, R: Files + AllocGlobal>(
+    system: &R,
+    out: &'a str,
+    form: CopyForm,
+    file: &'a str,
+) -> Result<(), Failure<'a>> {
+    copy::copy(system.alloc(), &mut System::new(system), out, form, file)
+}
+
+/// Compares two files.
+pub(super) fn compare<'a, R: Files + Print + AllocGlobal>(
+    system: &R,
+    with_symbols: bool,
+    (first, second): (&'a str, &'a str),
+) -> Result<Result<bool, Failure<'a>>, Fail> {
+    let alloc = system.alloc();
+    let store = System::new(system);
+    let mut output = Printer::new(alloc, io::writer(system))?;
+    Ok(compare::compare(alloc, &store, &mut output, with_symbols, first, second))
+}
+
+/// Prints the memory of files at these addresses.
+pub(super) fn image<'a, R: Files + Print + AllocGlobal>(
+    system: &R,
+    addresses: Addresses<'a>,
+    form: ImageForm,
+    files: &[&'a str],
+) -> Result<Result<(), Failure<'a>>, Fail> {
+    let alloc = system.alloc();
+    let store = System::new(system);
+    let mut output = Printer::new(alloc, io::writer(system))?;
+    Ok(image::image(alloc, &store, &mut output, addresses, form, files))
+}
+
+/// Surveys files.
+pub(super) fn survey<'a, R: Files + Print + AllocGlobal>(
+    system: &R,
+    files: &[&'a str],
+) -> Result<Result<u8, Failure<'a>>, Fail> {
+    let alloc = system.alloc();
+    let store = System::new(system);
+    let mut output = Printer::new(alloc, io::writer(system))?;
+    Ok(survey::survey(alloc, &store, &mut output, files))
+}

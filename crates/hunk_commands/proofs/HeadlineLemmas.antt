@@ -1,0 +1,107 @@
+-- What was read of files that are known, and what is printed of the file that was linked of them.
+use Rattle.std.proofs.Common.{◌≡◌, ◌∙◌, ℕ, List, [], ◌∷◌, ◌++◌, Option, Some, None, map, refl, sym, ap, subst, append-nil}
+use Rattle.std.specs.Io.KnownBytes.{Appends, Consumes, IsAtEnd}
+use Rattle.hunk_tool.specs.FileSystem.{FileContent, IsContent, IsReaderOf, OfWholeFile}
+use Rattle.hunk_tool.specs.FileSystem.FileContent.{known}
+use Rattle.hunk_tool.specs.Image.{IsImaged}
+use Rattle.hunk_tool.specs.Inputs.{Input, WasRead, WereRead}
+use Rattle.hunk_tool.specs.Link.{IsLinked, linked_bytes}
+use Rattle.hunk_tool.specs.Load.{IsReported}
+use Rattle.hunk_tool.specs.declared.link_options.LinkOptions.{LinkOptions}
+use Rattle.hunk_tool.proofs.HeadlineLemmas.{reports-agree}
+use Rattle.hunk_commands.specs.Headline.{IsMadeOf, LoadPrintsTheImage}
+use Rattle.hunk_commands.specs.Inputs.{AreReadersOf, OfWholeFiles}
+use Rattle.hunk_commands.specs.Store.{Contents, content_of}
+
+-- ---- files that are known
+
+-- what was consumed up to the end is all that was left
+consumed_whole : (left_then : Option (List ℕ)) (bytes text : List ℕ) → Consumes (Some text) left_then bytes → IsAtEnd left_then → bytes ≡ text
+consumed_whole None bytes text consumed at_end = absurd consumed
+consumed_whole (Some rest) bytes text consumed at_end = sym (append-nil bytes) ∙ ap (λ r. bytes ++ r) (sym at_end) ∙ sym consumed
+
+-- what was read of a file that is known, up to its end, is its bytes
+was_whole : (content : FileContent) (input : Input) (bytes text : List ℕ) → content ≡ known text → IsReaderOf content input → WasRead input bytes → bytes ≡ text
+was_whole content input bytes text is reader read =
+    let start : input.left ≡ Some text = subst (λ c. IsContent c input.left) is reader.from_start in
+    consumed_whole input.left_then bytes text (subst (λ left. Consumes left input.left_then bytes) start read.consumed) (reader.to_end read.ended)
+
+were_whole : (contents : Contents) (names : List (List ℕ)) (inputs : List Input) (files texts : List (List ℕ)) → map contents names ≡ map known texts → AreReadersOf contents names inputs → WereRead inputs files → files ≡ texts
+were_whole contents [] [] [] [] are readers read = refl
+were_whole contents [] [] [] (text ∷ texts) are readers read = cc
+were_whole contents [] [] (file ∷ files) texts are readers read = absurd read
+were_whole contents [] (input ∷ inputs) files texts are readers read = absurd readers
+were_whole contents (name ∷ names) [] files texts are readers read = absurd readers
+were_whole contents (name ∷ names) (input ∷ inputs) [] texts are readers read = absurd read
+were_whole contents (name ∷ names) (input ∷ inputs) (file ∷ files) [] are readers read = cc
+were_whole contents (name ∷ names) (input ∷ inputs) (file ∷ files) (text ∷ texts) are readers read =
+    let here : contents name ≡ known text = cc in
+    let there : map contents names ≡ map known texts = cc in
+    let first : file ≡ text = was_whole (contents name) input file text here readers.0 read.0 in
+    let others : files ≡ texts = were_whole contents names inputs files texts there readers.1 read.1 in
+    subst (λ it. it ∷ files ≡ text ∷ texts) (sym first) (ap (λ rest. text ∷ rest) others)
+
+-- this holds of the bytes of files that are known
+of_known_files : (contents : Contents) (names texts : List (List ℕ)) (Holds : List (List ℕ) → Type 0) → map contents names ≡ map known texts → OfWholeFiles contents names Holds → Holds texts
+of_known_files contents names texts Holds are of =
+    subst Holds (were_whole contents names of.inputs of.holds.files texts are of.are_readers of.holds.were_read) of.holds.holds
+
+-- and of one
+of_known_file : (content : FileContent) (text : List ℕ) (Holds : List ℕ → Type 0) → content ≡ known text → OfWholeFile content Holds → Holds text
+of_known_file content text Holds is of =
+    let read = of.holds.0 in
+    subst Holds (was_whole content of.input read.bytes text is of.is_reader (record { consumed = read.consumed; ended = of.holds.1 })) read.holds
+
+-- ---- what was linked of them
+
+appended : (taken : Option (List ℕ)) (bytes : List ℕ) → Appends (Some []) taken bytes → taken ≡ Some bytes
+appended None bytes wrote = absurd wrote
+appended (Some held) bytes wrote = ap Some wrote
+
+module _ (options : LinkOptions) (contents contents_then : Contents) (files texts : List (List ℕ)) (out : List ℕ) (of : IsMadeOf options contents files texts out contents_then) where
+  linked : IsLinked options (Some []) of.made.taken texts
+  linked = subst (λ start. IsLinked options start of.made.taken texts) (of.made.begun of.out_known)
+      (of_known_files contents files texts (IsLinked options of.made.start of.made.taken) of.texts_are of.made.linked)
+
+  bytes : List ℕ
+  bytes = linked_bytes linked.units options
+
+  taken_is : of.made.taken ≡ Some bytes
+  unfolding bytes
+  taken_is = appended of.made.taken bytes linked.written
+
+  linked_as : IsLinked options (Some []) (Some bytes) texts
+  linked_as = subst (λ taken. IsLinked options (Some []) taken texts) taken_is linked
+
+  -- OUT has these bytes now
+  out_is : contents_then out ≡ known bytes
+  out_is = of.made.replaced.placed of.out_known ∙ ap content_of taken_is
+
+-- ---- the headline
+
+map_some_injective : (one other : List ℕ) → map Some one ≡ map Some other → one ≡ other
+map_some_injective [] [] same = refl
+map_some_injective [] (y ∷ other) same = cc
+map_some_injective (x ∷ one) [] same = cc
+map_some_injective (x ∷ one) (y ∷ other) same =
+    let first : x ≡ y = cc in
+    let tails : map Some one ≡ map Some other = cc in
+    let rest : one ≡ other = map_some_injective one other tails in
+    subst (λ it. it ∷ one ≡ y ∷ other) (sym first) (ap (λ xs. y ∷ xs) rest)
+
+pub load_prints_the_image : LoadPrintsTheImage
+unfolding linked bytes taken_is linked_as out_is
+load_prints_the_image options form list contents contents_then files texts out loaded imaged told other of is_loaded loads is_imaged images =
+    let bases = is_loaded.0.bases in
+    let same : is_imaged.0.bases ≡ bases = map_some_injective is_imaged.0.bases bases (sym is_imaged.0.numbers_are ∙ is_loaded.0.numbers_are) in
+    let file = bytes options contents contents_then files texts out of in
+    let reported : IsReported form bases loaded.old loaded.new file = of_known_file (contents_then out) file (IsReported form bases loaded.old loaded.new) (out_is options contents contents_then files texts out of) is_loaded.0.holds in
+    let imaged_as : IsImaged form is_imaged.0.bases imaged.old imaged.new texts = of_known_files contents files texts (IsImaged form is_imaged.0.bases imaged.old imaged.new) of.texts_are is_imaged.0.holds in
+    let imaged_there : IsImaged form bases (Some images.before) (Some (images.before ++ other)) texts =
+    subst (λ b. IsImaged form b (Some images.before) (Some (images.before ++ other)) texts) same
+    (subst (λ new. IsImaged form is_imaged.0.bases (Some images.before) new texts) images.new_is
+    (subst (λ old. IsImaged form is_imaged.0.bases old imaged.new texts) images.old_is imaged_as)) in
+    let reported_there : IsReported form bases (Some loads.before) (Some (loads.before ++ told)) file =
+    subst (λ new. IsReported form bases (Some loads.before) new file) loads.new_is
+    (subst (λ old. IsReported form bases old loaded.new file) loads.old_is reported) in
+    reports-agree options form texts bases [] file loads.before told images.before other (linked_as options contents contents_then files texts out of) reported_there imaged_there

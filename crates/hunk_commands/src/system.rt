@@ -1,0 +1,77 @@
+//! The files of the operating system, or of what stands for it.
+
+use crate::failure::Failure;
+use crate::open_fault::reason_of;
+use crate::replacement::Replacement;
+use crate::same_file::is_one_file;
+use crate::store::Store;
+use crate::system_file::SystemFile;
+use hunk_tool::{FileSystem, OpenFault, ToolFault};
+use std::alloc::AllocError;
+use std::fs;
+use std::fs::OpenFile;
+use std::rt::Files;
+
+/// The files of the operating system. Nothing is known of what is in them.
+#[derive(Drop)]
+pub struct System<'r, R: Files + AllocGlobal> {
+    rt: &'r R,
+}
+
+impl<'r, R: Files + AllocGlobal> System<'r, R> {
+    /// The files that `rt` opens.
+    pub fn new(rt: &'r R) -> System<'r, R> {
+        System { rt }
+    }
+}
+
+impl<'r, R: Files + AllocGlobal> FileSystem for System<'r, R> {
+    ghost use Rattle.hunk_tool.specs.FileSystem.FileContent.{unknown};
+    ghost use Rattle.hunk_commands.specs.SystemFile.{at_end};
+
+    ghost content = { λ system name. unknown };
+
+    type File = SystemFile<R::File>;
+
+    fn open(&self, name: &str) -> Result<SystemFile<R::File>, OpenFault> {
+        match fs::open(self.rt, name) {
+            Ok(file) => Ok(SystemFile::new(file)),
+            Err(error) => Err(reason_of(&error)),
+        }
+    }
+
+    ghost at_end = { at_end R.File.Read.remaining };
+}
+
+impl<'r, R: Files + AllocGlobal> Store for System<'r, R> {
+    type New = Replacement<'r, R>;
+
+    fn is_regular(&self, name: &str) -> bool {
+        fs::metadata(self.rt, name).is_ok_and(|metadata| metadata.is_file())
+    }
+
+    fn is_directory(&self, name: &str) -> bool {
+        fs::metadata(self.rt, name).is_ok_and(|metadata| metadata.is_dir())
+    }
+
+    fn can_be_opened_again(&self, file: &SystemFile<R::File>) -> bool {
+        file.is_regular()
+    }
+
+    fn is_one_file(&self, first: &str, second: &str) -> bool {
+        is_one_file(self.rt, first, second)
+    }
+
+    fn begin(&self, name: &str) -> Result<Replacement<'r, R>, AllocError> {
+        Replacement::new(self.rt, name)
+    }
+
+    fn finish<'a>(
+        &mut self,
+        name: &'a str,
+        new: Replacement<'r, R>,
+        ran: Result<(), ToolFault>,
+    ) -> Result<(), Failure<'a>> {
+        new.finish(name, ran)
+    }
+}
