@@ -96,12 +96,12 @@ class Sources:
         self.tests = {}
 
     def clauses_of(self, name):
-        """The clauses of a call or a law; of a call that is named without its module, if there is only one of that name."""
+        """The clauses of a call or a law; of a call that is named by the end of its path, if there is only one."""
         for kind in ("calls", "laws"):
             for crate in self.crates.values():
                 if name in (known := getattr(crate, kind)):
                     return known[name] if kind == "laws" else known[name].clauses
-        ends = [call for it in self.crates.values() for path, call in it.every.items() if path.split("::")[-1] == name]
+        ends = [call for it in self.crates.values() for path, call in it.every.items() if f"::{path}".endswith(f"::{name}")]
         return ends[0].clauses if len(ends) == 1 else None
 
     def test_stands(self, crate, module, name):
@@ -274,7 +274,7 @@ def check_links(file, text):
 def pages():
     """The pages whose links are followed."""
     docs = sorted(os.listdir(os.path.join(sources.TOP, "docs")))
-    return [README, "CHANGELOG.md", "CONTRIBUTING.md", "bench/README.md"] + [f"docs/{it}" for it in docs if it.endswith(".md")]
+    return [README, "CHANGELOG.md", "CONTRIBUTING.md", "bench/README.md", "page/README.md"] + [f"docs/{it}" for it in docs if it.endswith(".md")]
 
 
 # ---- the README
