@@ -1,6 +1,6 @@
 #!/usr/bin/env bash
-# Measures `amihunk check` and `amihunk show`: their time compared with `cat` and `xxd`, the memory of `check`,
-# and the decoder of object files compared with that of load files. It makes its own inputs, and prints for
+# Measures `amihunk check` and `amihunk show`: their time compared with `cat` and `xxd`, the memory of `check` and of
+# `show --json`, and the decoder of object files compared with that of load files. It makes its own inputs, and prints for
 # each figure what is allowed and what was reached. Times are the best of five runs. It ends with status 1 where
 # a figure is missed. It needs the toolchain, python3 and xxd on the PATH, and 2 GB for temporary files.
 set -eu
@@ -23,6 +23,8 @@ for kind in load object; do
     figure "check of a file of kind $kind ($check us) by cat" 4 "$(ratio "$check" "$cat_time")" times
     figure "the same by half the work ($half us)" 2.2 "$(ratio "$check" "$half")" times
     figure "memory of the same" 32 "$(ratio "$(peak "$amihunk" check "$kind")" 1024)" MiB
+    beside="$(($(peak "$amihunk" show --json "$kind") - 4 * longwords / 1024))"
+    figure "memory of show --json beside its content" 64 "$(ratio "$beside" 1024)" MiB
 done
 
 load="$(best /dev/null "$bench" decode-file load)"
