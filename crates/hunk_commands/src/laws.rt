@@ -2,9 +2,10 @@
 
 ghost use Rattle.hunk_commands.specs.Headline.{LoadPrintsTheImage};
 
-/// The headline, over a store whose files are known: once [`link`](crate::link::link) has ended well, what
-/// [`load`](crate::load::load) prints of its OUT, at any addresses, is what [`image`](crate::image::image)
-/// prints of the files at the same addresses, for every choice of options, as a report and as S-records.
+/// The headline, over a store whose files are known: once [`link`](crate::link::link) without a map has ended
+/// well, what [`load`](crate::load::load) prints of its OUT at the addresses in any list is what
+/// [`image`](crate::image::image) prints of the files at the same addresses, for every choice of options, as a
+/// report and as S-records.
 pub fn load_prints_the_image()
     ensures { LoadPrintsTheImage }
 {}
