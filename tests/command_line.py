@@ -1,4 +1,5 @@
 """What the words of a command line mean, and what is told of those that mean nothing."""
+import base64
 import os
 import re
 
@@ -9,7 +10,7 @@ from model import CODE, END, HEADER, RELOC32, RELOC32SHORT, SYMBOL, Hunk, words
 HERE = os.path.dirname(os.path.abspath(__file__))
 # Files, some of which are named as an option or as a command, and the first longword of each one's hunk.
 FILES = {"x": 1, "y": 2, "z": 3, "link": 4, "strip": 5, "--strip": 6, "--short": 7, "--trim": 8, "--at": 9, "--srec": 10,
-         "--at-file": 11, "--map": 12, "--json": 13}
+         "--at-file": 11, "--map": 12, "--json": 13, "--content": 14, "--html": 15}
 
 
 def write_files(program):
@@ -143,8 +144,16 @@ def the_words_of_a_show_come_in_any_order(program):
         '{"kind":"object file","units":[{"hunks":[{"debugs":[],"definitions":[],"kind":"code","memory":"any","name":"",'
         '"sites":[{"hunk":0,"offset":0}],"size":2,"symbols":[{"name":"s","value":0}]}],"name":""}]}\n'
     )
-    for line in ("--json x", "x --json", "--json -- x", "--json -- --json"):
+    for line in ("--json x", "x --json", "--json -- x", "--json -- --json", "--json -- --content"):
         program.prints(document, "show", *line.split())
+    for line, number in (("--json --content x", 1), ("--content x --json", 1), ("y --json --content", 2), ("--content --json -- --html", 15)):
+        content = base64.b64encode(words(number, 0)).decode()
+        program.prints(document.replace('"size":2', f'"size":2,"content":"{content}"'), "show", *line.split())
+    page = program.run("show", "--html", "x")
+    assert page[1].startswith("<!doctype html>") and document[:-1] not in page[1], page
+    for line in ("x --html", "--html -- x"):
+        equals(program.run("show", *line.split()), page, line)
+    assert program.run("show", "--html", "--", "--html")[1] not in ("", page[1])
 
 
 def lines_of(name):

@@ -1,5 +1,7 @@
-"""What `show --json` prints, against Python's own writer of JSON, and against texts written by hand."""
+"""What `show` prints with `--json` and `--html`, against Python's own writer of JSON, and against texts written by hand."""
+import base64
 import json
+import os
 import random
 import re
 
@@ -17,19 +19,21 @@ def name_value(name):
         return list(name)
 
 
-def hunk_value(hunk, strip=False):
-    """What hunks of either kind of file have, but for their sites."""
+def hunk_value(hunk, stored, strip=False):
+    """What hunks of either kind of file have, but for their sites; these bytes are stored."""
     symbols = [{"name": name_value(name), "value": value} for name, value in hunk.symbols]
     debugs = [len(debug) for debug in hunk.debugs]
     kept = {"debugs": [], "symbols": []} if strip else {"debugs": debugs, "symbols": symbols}
-    return kept | {"kind": KINDS[hunk.kind], "memory": hunk.memory, "size": len(hunk.words)}
+    content = base64.b64encode(stored).decode()
+    return kept | {"content": content, "kind": KINDS[hunk.kind], "memory": hunk.memory, "size": len(hunk.words)}
 
 
 def unit_hunk_value(hunk):
     sites = [({"hunk": target} if isinstance(target, int) else {"name": name_value(target)}) | {"offset": offset}
              for offset, target in sorted(hunk.sites, key=lambda site: site[0])]
     definitions = [{"absolute": kind == ABS, "name": name_value(name), "value": value} for kind, name, value in hunk.definitions]
-    return hunk_value(hunk) | {"definitions": definitions, "name": name_value(hunk.name), "sites": sites}
+    stored = b"" if hunk.kind == BSS else words(*hunk.words)
+    return hunk_value(hunk, stored) | {"definitions": definitions, "name": name_value(hunk.name), "sites": sites}
 
 
 def object_value(units):
@@ -62,7 +66,7 @@ def load_value(units, options=()):
             ends = [len(content.rstrip(b"\0")), *(offset + 4 for offset, _ in sites)]
             stored = (max(ends) + 3) // 4
         told = [{"hunk": number, "offset": offset} for offset, number in sites]
-        values.append(hunk_value(hunk, "--strip" in options) | {"sites": told, "stored": stored})
+        values.append(hunk_value(hunk, content[: 4 * stored], "--strip" in options) | {"sites": told, "stored": stored})
     return {"hunks": values, "kind": "load file"}
 
 
@@ -75,14 +79,49 @@ def without_obeyed(text):
     return OBEYED.sub(lambda found: f"\\u{ord(found[0]):04x}", text)
 
 
-def prints_document(program, value, name, limit=None):
-    """`show --json` prints the value, and as Python writes it but for what a terminal obeys."""
-    status, out, errors = program.run("show", "--json", name, limit=limit)
-    equals((status, errors), (DONE, ""), name)
-    bytes_ = out.encode("latin-1")
-    equals(json.loads(bytes_), value, name)
-    text = json.dumps(value, separators=(",", ":"), ensure_ascii=False, sort_keys=True)
-    equals(bytes_, without_obeyed(text).encode() + b"\n", name)
+def in_order(value, with_content):
+    """The value with the members of its objects in the order of their keys, but contents before symbols, or left out."""
+    if isinstance(value, list):
+        return [in_order(part, with_content) for part in value]
+    if not isinstance(value, dict):
+        return value
+    keys = sorted(value, key=lambda key: (key == "symbols", key == "content", key))
+    return {key: in_order(value[key], with_content) for key in keys if with_content or key != "content"}
+
+
+def document(value):
+    """The value as Python writes it, but for what a terminal obeys."""
+    return without_obeyed(json.dumps(value, separators=(",", ":"), ensure_ascii=False)).encode()
+
+
+def text_about(program, options, name, limit):
+    status, out, errors = program.run("show", *options, name, limit=limit)
+    equals((status, errors), (DONE, ""), (name, options))
+    return out.encode("latin-1")
+
+
+PAGE = os.path.join(os.path.dirname(os.path.abspath(__file__)), "../page")
+
+
+def prints_page(program, value, name, limit=None):
+    """`show --html` prints what begins a page, the document without a less-than sign, and what ends a page."""
+    page = text_about(program, ["--html"], name, limit)
+    with open(f"{PAGE}/head.html", "rb") as head, open(f"{PAGE}/tail.html", "rb") as tail:
+        before, behind = head.read(), tail.read()
+    told = page.removeprefix(before).removesuffix(behind)
+    equals(before + told + behind, page, name)
+    assert b"<" not in told, name
+    equals(json.loads(told), value, name)
+    equals(told, document(value).replace(b"<", b"\\u003c"), name)
+
+
+def prints_documents(program, value, name, limit=None):
+    """`show` prints the value: without contents, with them, and in a page."""
+    for options, with_content in ((["--json"], False), (["--json", "--content"], True)):
+        told, bytes_ = in_order(value, with_content), text_about(program, options, name, limit)
+        equals(json.loads(bytes_), told, name)
+        equals(bytes_, document(told) + b"\n", name)
+    prints_page(program, in_order(value, True), name, limit)
 
 
 @test
@@ -92,9 +131,9 @@ def documents_tell_what_is_in_random_files(program):
         parts = model.dealt_out(dice, units)
         files, options = write_parts(program, seed, parts), model.random_options(dice)
         for file, part in zip(files, parts):
-            prints_document(program, object_value(part), file)
+            prints_documents(program, object_value(part), file)
         program.prints("", "link", "--out", "out", *options, *files)
-        prints_document(program, load_value(units, options), "out")
+        prints_documents(program, load_value(units, options), "out")
 
 
 @test
@@ -121,6 +160,11 @@ def documents_are_these_texts(program):
     program.prints(
         '{"hunks":[{"debugs":[],"kind":"code","memory":"any","sites":[],"size":2,"stored":1,"symbols":[]}],"kind":"load file"}\n',
         "show", "--json", "x",
+    )
+    program.prints(
+        '{"hunks":[{"debugs":[],"kind":"code","memory":"any","sites":[],"size":2,"stored":1,"content":"TnVOcQ==","symbols":[]}],'
+        '"kind":"load file"}\n',
+        "show", "--json", "--content", "x",
     )
     program.write("none.o", model.object_file([[]]))
     program.prints('{"kind":"object file","units":[{"hunks":[],"name":""}]}\n', "show", "--json", "none.o")
@@ -170,12 +214,13 @@ def names_are_texts_or_bytes(program):
 def a_document_is_as_long_as_it_must_be(program):
     hunks = 65535
     program.write("most", words(HEADER, 0, hunks, 0, hunks - 1, *[0] * hunks) + words(DATA, 0, END) * hunks)
-    prints_document(program, load_value([[Hunk(DATA, [])] * hunks]), "most")
+    prints_documents(program, load_value([[Hunk(DATA, [])] * hunks]), "most")
     with open("/dev/full", "wb") as full:
-        program.fails(DEVICE, "output: write failed", "show", "--json", "most", stdout=full)
+        for options in (["--json"], ["--json", "--content"], ["--html"]):
+            program.fails(DEVICE, "output: write failed", "show", *options, "most", stdout=full)
     # It is printed piece by piece, so it may be longer than there is memory.
     name = b"n" * 16384
     hunk = Hunk(CODE, [0] * 4096)
     hunk.sites = [(4 * number, name) for number in range(4096)]
     program.write("long.o", model.object_file([[hunk]]))
-    prints_document(program, object_value([[hunk]]), "long.o", limit=LITTLE_MEMORY)
+    prints_documents(program, object_value([[hunk]]), "long.o", limit=LITTLE_MEMORY)

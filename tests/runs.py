@@ -129,7 +129,7 @@ def files_that_are_refused_are_named_with_the_place(program):
     name = "a file\xe9"
     for bytes_, place, reason in rows:
         program.write(name, bytes_)
-        for command in (["load", "--at", "0"], ["load", "--srec", "--at", "0"], ["check"], ["show"], ["show", "--json"]):
+        for command in (["load", "--at", "0"], ["load", "--srec", "--at", "0"], ["check"], ["show"], ["show", "--json"], ["show", "--html"]):
             program.fails(REFUSED, f"{name.encode().decode('latin-1')}: longword {place}: {reason}", *command, name)
 
 
@@ -210,7 +210,7 @@ def out_may_be_one_of_the_files_and_is_shortened(program):
 def what_cannot_be_opened_or_created_is_named(program):
     program.write("x.o", OBJECT_FILE)
     program.write("bad.o", b"abc")
-    for command in (["check"], ["show"], ["show", "--json"], ["load", "--at", "0"]):
+    for command in (["check"], ["show"], ["show", "--json"], ["show", "--html"], ["load", "--at", "0"]):
         program.fails(DEVICE, "missing: cannot be opened", *command, "missing")
     # All files are opened, in order, before the first is read.
     many = ["bad.o"] * 40
@@ -223,7 +223,8 @@ def what_cannot_be_opened_or_created_is_named(program):
 @test
 def a_failed_read_is_named(program):
     os.mkdir(program.at("folder"))
-    for command in (["check"], ["show"], ["show", "--json"], ["load", "--at", "0"], ["image", "--at", "0"], ["link", "--out", "out"]):
+    for command in (["check"], ["show"], ["show", "--json"], ["show", "--html"], ["load", "--at", "0"], ["image", "--at", "0"],
+                    ["link", "--out", "out"]):
         program.fails(DEVICE, "folder: read failed", *command, "folder")
     assert not os.path.exists(program.at("out"))
 
@@ -236,11 +237,14 @@ def a_failed_write_is_told(program):
     program.fails(DEVICE, "output: write failed", "link", "--out", "/dev/full", "x.o")
     program.fails(DEVICE, "output: write failed", "link", "-s", "-o", "/dev/full", "x.o")
     with open("/dev/full", "wb") as full:
-        for command in (["check", "x"], ["show", "x"], ["show", "--json", "x"], ["show", "--json", "x.o"], ["load", "--at", "0", "x"],
-                        ["load", "--srec", "--at", "0", "x"], ["load", "--at-file", "list", "x"], ["image", "--at", "0", "x.o"],
-                        ["image", "--srec", "--at", "0", "x.o"], ["image", "--at-file", "list", "x.o"], ["survey", "x", "x.o"],
-                        ["--version"], ["-V"], ["--help"]):
+        for command in (["check", "x"], ["show", "x"], ["show", "--json", "x"], ["show", "--json", "x.o"], ["show", "--json", "--content", "x"],
+                        ["show", "--html", "x.o"], ["load", "--at", "0", "x"], ["load", "--srec", "--at", "0", "x"],
+                        ["load", "--at-file", "list", "x"], ["image", "--at", "0", "x.o"], ["image", "--srec", "--at", "0", "x.o"],
+                        ["image", "--at-file", "list", "x.o"], ["survey", "x", "x.o"], ["--version"], ["-V"], ["--help"]):
             program.fails(DEVICE, "output: write failed", *command, stdout=full)
+    # Where standard output is closed, FILE may get its number.
+    for command in (["check", "x"], ["show", "x"], ["show", "--json", "--content", "x"], ["show", "--html", "x"], ["load", "--at", "0", "x"]):
+        program.fails(DEVICE, "output: write failed", *command, before=lambda: os.close(1))
 
 
 @test
@@ -272,6 +276,7 @@ def nothing_is_printed_of_a_file_with_a_bad_end(program):
     program.write("x.o", program.read("x.o") + b"\0")
     for command, name, place in (
         (["load", "--at", "0"], "x", 5008), (["show"], "x", 5008), (["show", "--json"], "x", 5008), (["show", "--json"], "x.o", 5005),
+        (["show", "--json", "--content"], "x", 5008), (["show", "--html"], "x", 5008), (["show", "--html"], "x.o", 5005),
         (["image", "--at", "0"], "x.o", 5005),
     ):
         program.fails(REFUSED, f"{name}: longword {place}: file ends inside a longword", *command, name)

@@ -12,13 +12,15 @@ use Rattle.hunk_commands.specs.Addresses.{Origin}
 use Rattle.hunk_commands.specs.Addresses.Origin.{in_file, in_list}
 use Rattle.hunk_commands.specs.declared.load.LoadText.{LoadText}
 use Rattle.hunk_commands.specs.declared.load.LoadText.TheVariants.{Image, Symbols}
+use Rattle.hunk_commands.specs.declared.text.ShowText.{ShowText}
+use Rattle.hunk_commands.specs.declared.text.ShowText.TheVariants.{Json, JsonWithContent, Listing, Page}
 use Rattle.amihunk.proofs.CommandLineLemmas.{built_below}
 use Rattle.amihunk.proofs.CommandLineFilesLemmas.{TakesFile, TakesFiles, TakesTwo, calls-file, calls-files, calls-two}
 use Rattle.amihunk.proofs.CommandLineSubcommandLemmas.{IsSubcommand}
 use Rattle.amihunk.proofs.CommandLineWalkLemmas.{IsOption, Passes, passes-nil, passes-option, value_held, walk_on}
 use Rattle.amihunk.specs.Syntax.{check_shape, compare_shape, copy_shape, image_shape, letter_o, link_shape, load_shape, show_shape, survey_shape}
-use Rattle.amihunk.specs.CommandLine.{Call, Calls, IsNoFlag, IsNoFlagIn, brief_link_line, brief_words, compare_line, copy_line, file_line, form_words, image_line, json_words, link_line, load_line, map_words}
-use Rattle.amihunk.specs.CommandLine.{normal_line, option_name, option_word, option_words, show_line, survey_line, text_in, text_words, word_if}
+use Rattle.amihunk.specs.CommandLine.{Call, Calls, IsNoFlag, IsNoFlagIn, brief_link_line, brief_words, compare_line, copy_line, file_line, form_words, image_line, link_line, load_line, map_words}
+use Rattle.amihunk.specs.CommandLine.{normal_line, option_name, option_word, option_words, show_line, show_words, survey_line, text_in, text_words, word_if}
 use Rattle.amihunk.specs.CommandLine.Call.{to_check, to_compare, to_copy, to_image, to_link, to_load, to_show, to_survey}
 
 -- ---- `link`
@@ -211,21 +213,25 @@ unfolding clap_on_literals
 is_show = record { met = refl; quiet = refl; found = refl }
 
 -- what is held before FILE
-abbrev show_held : Bool → Held
-show_held json = (walk_on (built_below show_shape) (walk_from nothing_held) (json_words json)).held
+abbrev show_held : ShowText → Held
+show_held text = (walk_on (built_below show_shape) (walk_from nothing_held) (show_words text)).held
 
-passes-json : (json : Bool) → Passes (built_below show_shape) (walk_from nothing_held) (json_words json) (walk_from (show_held json))
+-- the words for the text pass, and FILE may come after them
+abbrev IsPlainShow : ShowText → Type 0
+IsPlainShow text = Passes (built_below show_shape) (walk_from nothing_held) (show_words text) (walk_from (show_held text))
+    × TakesFile (built_below show_shape) (show_held text) (to_show text false)
+
+plain-show : (text : ShowText) → IsPlainShow text
 unfolding clap_on_literals
-passes-json true = (refl, refl)
-passes-json false = (refl, refl)
+plain-show Listing = ((refl, refl), (record { by_index = refl; other = refl; quiet = refl; late = λ file. refl }, λ file. refl))
+plain-show Json = ((refl, refl), (record { by_index = refl; other = refl; quiet = refl; late = λ file. refl }, λ file. refl))
+plain-show JsonWithContent = ((refl, refl), (record { by_index = refl; other = refl; quiet = refl; late = λ file. refl }, λ file. refl))
+plain-show Page = ((refl, refl), (record { by_index = refl; other = refl; quiet = refl; late = λ file. refl }, λ file. refl))
 
-takes-show : (json : Bool) → TakesFile (built_below show_shape) (show_held json) (to_show json false)
-unfolding clap_on_literals
-takes-show true = (record { by_index = refl; other = refl; quiet = refl; late = λ file. refl }, λ file. refl)
-takes-show false = (record { by_index = refl; other = refl; quiet = refl; late = λ file. refl }, λ file. refl)
-
-pub calls-show : (program : Text) (json : Bool) (file : Text) → IsNoFlag file → Calls (show_line program json file) (to_show json false file)
-calls-show program json = calls-file program (built_below show_shape) (json_words json) (show_held json) (to_show json false) is_show (passes-json json) (takes-show json)
+pub calls-show : (program : Text) (text : ShowText) (file : Text) → IsNoFlag file → Calls (show_line program text file) (to_show text false file)
+calls-show program text =
+    let plain = plain-show text in
+    calls-file program (built_below show_shape) (show_words text) (show_held text) (to_show text false) is_show plain.0 plain.1
 
 is_survey : IsSubcommand (built_below survey_shape)
 unfolding clap_on_literals

@@ -1,7 +1,7 @@
 -- The status after the plain forms, and where memory ran out.
 use Rattle.std.proofs.Common.{◌∷◌, [], Bool, inl, inr, List, Option, refl, subst, ℕ}
 use Rattle.std.specs.Prelude.{⊤}
-use Rattle.hunk_commands.specs.Request.{Ends, EndsCompare, EndsCopy, EndsImage, EndsLink, EndsLoad, EndsSurvey, EndsText, EndsVersion, NoMore, OrExhausted, OrUntouched, Reads, Replaces, Run, shown}
+use Rattle.hunk_commands.specs.Request.{Ends, EndsCompare, EndsCopy, EndsImage, EndsLink, EndsLoad, EndsSurvey, EndsText, EndsVersion, NoMore, OrExhausted, OrUntouched, Reads, Replaces, Run}
 use Rattle.hunk_commands.specs.Compare.{IsCompareFailure}
 use Rattle.hunk_commands.specs.Copy.{IsCopyFailure}
 use Rattle.hunk_commands.specs.Explain.{AreImageLines, AreLinkLines, AreLoadFileLines, AreLoadLines, AreTextLines, IfAsked}
@@ -16,7 +16,7 @@ use Rattle.hunk_commands.specs.Survey.{IsCutShort}
 use Rattle.hunk_tool.specs.declared.tool_fault.ToolFault.TheVariants as tool_fault
 use Rattle.hunk_commands.specs.declared.failure.Failure.TheVariants.{Tool}
 use Rattle.hunk_commands.specs.declared.text.Text.{Text}
-use Rattle.hunk_commands.specs.declared.text.Text.TheVariants.{Line}
+use Rattle.hunk_commands.specs.declared.text.Text.TheVariants.{Line, Shown}
 use Rattle.hunk_commands.specs.declared.request.Request.{Request}
 use Rattle.hunk_commands.specs.declared.request.Request.TheVariants.{Load, Link, Image, Check, Show, Survey, Copy, Compare, Version, Help, Refused, OutOfMemory}
 use Rattle.hunk_commands.proofs.RequestLemmas.{fails_with, not_begun}
@@ -31,7 +31,7 @@ module _ {W : Type 0} (run : Run) (taken : W → Option (List ℕ)) (failed : W 
   EndsCall (to_load origin text explain file) status = Reads run (λ contents printed. EndsLoad contents printed taken failed old new origin text explain file status)
   EndsCall (to_image origin form explain files) status = Reads run (λ contents printed. EndsImage contents printed taken failed old new origin form explain files status)
   EndsCall (to_check explain file) status = Reads run (λ contents printed. EndsText contents printed taken failed old new Line explain file status)
-  EndsCall (to_show json explain file) status = Reads run (λ contents printed. EndsText contents printed taken failed old new (shown json) explain file status)
+  EndsCall (to_show text explain file) status = Reads run (λ contents printed. EndsText contents printed taken failed old new (Shown text) explain file status)
   EndsCall (to_survey files) status = Reads run (λ contents printed. EndsSurvey contents printed taken failed old new files status)
   EndsCall (to_copy out form explain file) status = Replaces run (λ contents contents_then. EndsCopy contents contents_then taken failed old new out form explain file status)
   EndsCall (to_compare with_symbols first second) status = Reads run (λ contents printed. EndsCompare contents printed taken failed old new with_symbols first second status)
@@ -54,7 +54,7 @@ module _ {W : Type 0} (run : Run) (taken : W → Option (List ℕ)) (failed : W 
   ends_memory (to_image origin form explain files) status ends =
       (inr (not_begun taken failed (OrExhausted run.printed (IsImageFailure form run.contents origin files run.printed)) (IfAsked explain (AreImageLines run.contents origin files)) files status old new (inl (refl, ends.2)) ends.0), ends.1)
   ends_memory (to_check explain file) status ends = ends_text Line explain file status ends
-  ends_memory (to_show json explain file) status ends = ends_text (shown json) explain file status ends
+  ends_memory (to_show text explain file) status ends = ends_text (Shown text) explain file status ends
   ends_memory (to_survey files) status ends = (inr (not_begun taken failed (IsCutShort run.printed) NoMore [] status old new refl ends.0), ends.1)
   ends_memory (to_copy out form explain file) status ends = (
     inr (not_begun taken failed (OrUntouched run.contents run.contents_then (λ failure. IsCopyFailure form run.contents file out failure × AreUnchanged run.contents run.contents_then))
@@ -86,7 +86,7 @@ module _ {W : Type 0} (run : Run) (taken : W → Option (List ℕ)) (failed : W 
   ends_asked m (Load addresses text explain file) status asks ends = subst (λ x. EndsAsked x status) asks ends
   ends_asked m (Image addresses form explain files) status asks ends = subst (λ x. EndsAsked x status) asks ends
   ends_asked m (Check explain file) status asks ends = subst (λ x. EndsAsked x status) asks ends
-  ends_asked m (Show json explain file) status asks ends = subst (λ x. EndsAsked x status) asks ends
+  ends_asked m (Show text explain file) status asks ends = subst (λ x. EndsAsked x status) asks ends
   ends_asked m (Survey files) status asks ends = subst (λ x. EndsAsked x status) asks ends
   ends_asked m (Copy out form explain file) status asks ends = subst (λ x. EndsAsked x status) asks ends
   ends_asked m (Compare with_symbols first second) status asks ends = subst (λ x. EndsAsked x status) asks ends

@@ -20,11 +20,13 @@ use Rattle.hunk_commands.specs.Addresses.Origin.{in_file, in_list}
 use Rattle.hunk_commands.specs.Request.{given_text}
 use Rattle.hunk_commands.specs.declared.load.LoadText.{LoadText}
 use Rattle.hunk_commands.specs.declared.load.LoadText.TheVariants as load_text
+use Rattle.hunk_commands.specs.declared.text.ShowText.{ShowText}
+use Rattle.hunk_commands.specs.declared.text.ShowText.TheVariants as show_text
 use Rattle.hunk_commands.specs.declared.request.Request.{Request}
 use Rattle.hunk_commands.specs.declared.request.Request.TheVariants.{Link, Load, Image, Check, Show, Survey, Copy, Compare, Version, Help, Refused, OutOfMemory}
 use Rattle.amihunk.specs.Syntax.{command_line}
-use Rattle.amihunk.specs.declared.command_line.Conflict.{Conflict}
-use Rattle.amihunk.specs.declared.command_line.Conflict.TheVariants.{Texts, TwoAddresses, NoAddresses, NormalAndExplain, NormalAndShort, NormalAndStrip, NormalAndTrim}
+use Rattle.amihunk.specs.declared.conflict.Conflict.{Conflict}
+use Rattle.amihunk.specs.declared.conflict.Conflict.TheVariants.{Texts, TwoAddresses, NoAddresses, NormalAndExplain, NormalAndShort, NormalAndStrip, NormalAndTrim, JsonAndHtml, ContentAlone, ContentAndHtml}
 
 -- ---- what was found for the arguments of a subcommand
 
@@ -66,13 +68,13 @@ IsWhole (Some (name, rows)) = AreWholeFor (find (λ s. bytes_eq s.name name) (bu
 -- ---- what a subcommand asks for
 
 -- a call of a subcommand, with what its arguments say; a conflict is one where arguments exclude each
--- other, or where there are no addresses
+-- other, where there are no addresses, or contents without a document
 pub data Call : Type 0 where
   to_link : (out : Text) (map : Option Text) (options : LinkOptions) (explain : Bool) (files : List Text) → Call
   to_load : (origin : Origin) (text : LoadText) (explain : Bool) (file : Text) → Call
   to_image : (origin : Origin) (form : ImageForm) (explain : Bool) (files : List Text) → Call
   to_check : (explain : Bool) (file : Text) → Call
-  to_show : (json explain : Bool) (file : Text) → Call
+  to_show : (text : ShowText) (explain : Bool) (file : Text) → Call
   to_survey : (files : List Text) → Call
   to_copy : (out : Text) (form : CopyForm) (explain : Bool) (file : Text) → Call
   to_compare : (with_symbols : Bool) (first second : Text) → Call
@@ -149,8 +151,21 @@ load_in rows = load_call (origin_in rows) (text_by (is_given (codes "srec") rows
 abbrev pub image_in : List Row → Call
 image_in rows = image_call (origin_in rows) (form_by (is_given (codes "srec") rows)) (is_given (codes "explain") rows) (files_in rows)
 
+-- the text that is asked for, by `--json`, `--content`, which goes with it, and `--html`, which goes with neither
+abbrev pub show_text_by : (json content html : Bool) → Option ShowText
+show_text_by false false false = Some show_text.Listing
+show_text_by true false false = Some show_text.Json
+show_text_by true true false = Some show_text.JsonWithContent
+show_text_by false false true = Some show_text.Page
+show_text_by _ _ _ = None
+
+abbrev pub show_call : Option ShowText → Bool → Text → Call
+show_call (Some text) explain file = to_show text explain file
+show_call None explain file = conflict
+
 abbrev pub show_in : List Row → Call
-show_in rows = to_show (is_given (codes "json") rows) (is_given (codes "explain") rows) (value_in (codes "file") rows)
+show_in rows = show_call (show_text_by (is_given (codes "json") rows) (is_given (codes "content") rows) (is_given (codes "html") rows))
+    (is_given (codes "explain") rows) (value_in (codes "file") rows)
 
 -- the names of the subcommands, and what each asks for by what was found for its arguments
 abbrev pub subcommands : List (Text × (List Row → Call))
@@ -177,7 +192,7 @@ meaning (Link out map options explain files) = calls (to_link out.now (given_tex
 meaning (Load addresses text explain file) = calls (to_load (origin_of addresses) text explain file.now)
 meaning (Image addresses form explain files) = calls (to_image (origin_of addresses) form explain (texts files.items))
 meaning (Check explain file) = calls (to_check explain file.now)
-meaning (Show json explain file) = calls (to_show json explain file.now)
+meaning (Show text explain file) = calls (to_show text explain file.now)
 meaning (Survey files) = calls (to_survey (texts files.items))
 meaning (Copy out form explain file) = calls (to_copy out.now form explain file.now)
 meaning (Compare with_symbols first second) = calls (to_compare with_symbols first.now second.now)
@@ -194,7 +209,10 @@ conflict_kind NormalAndStrip = error.ArgumentConflict
 conflict_kind NormalAndShort = error.ArgumentConflict
 conflict_kind NormalAndTrim = error.ArgumentConflict
 conflict_kind NormalAndExplain = error.ArgumentConflict
+conflict_kind JsonAndHtml = error.ArgumentConflict
+conflict_kind ContentAndHtml = error.ArgumentConflict
 conflict_kind NoAddresses = error.MissingRequiredArgument
+conflict_kind ContentAlone = error.MissingRequiredArgument
 
 -- the request is the call that was found, or rejects a conflict; nothing is said if memory runs out
 abbrev pub IsFound : Met → Meaning → Type 0
@@ -326,13 +344,16 @@ image_line program origin form files = program ∷ codes "image" ∷ option_word
 abbrev pub file_line : Text → Text → Text → List Text
 file_line program name file = program ∷ name ∷ file ∷ []
 
--- the word `--json`, if it is given
-abbrev pub json_words : Bool → List Text
-json_words json = word_if json (codes "--json")
+-- the words that ask for this text, if there are any
+abbrev pub show_words : ShowText → List Text
+show_words show_text.Listing = []
+show_words show_text.Json = codes "--json" ∷ []
+show_words show_text.JsonWithContent = codes "--json" ∷ codes "--content" ∷ []
+show_words show_text.Page = codes "--html" ∷ []
 
--- the arguments `PROGRAM show [--json] FILE`
-abbrev pub show_line : Text → Bool → Text → List Text
-show_line program json file = program ∷ codes "show" ∷ (json_words json ++ file ∷ [])
+-- the arguments `PROGRAM show [--json [--content] | --html] FILE`
+abbrev pub show_line : Text → ShowText → Text → List Text
+show_line program text file = program ∷ codes "show" ∷ (show_words text ++ file ∷ [])
 
 -- the arguments `PROGRAM survey FILE...`
 abbrev pub survey_line : Text → List Text → List Text

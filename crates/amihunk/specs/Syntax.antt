@@ -81,9 +81,13 @@ image_shape = (with_rule (with_rule (with_rule
 abbrev pub check_shape : Shape
 check_shape = (with_rule (with_rule (new_app (codes "check")) explain_rule) file_rule).top
 
--- `show [--json] [--explain] FILE`
+-- `[--json] [--content] [--html]`
+abbrev pub given_shown : App → App
+given_shown app = with_rule (with_rule (with_rule app (flag_rule (codes "json"))) (flag_rule (codes "content"))) (flag_rule (codes "html"))
+
+-- `show [--json] [--content] [--html] [--explain] FILE`
 abbrev pub show_shape : Shape
-show_shape = (with_rule (with_rule (with_rule (new_app (codes "show")) (flag_rule (codes "json"))) explain_rule) file_rule).top
+show_shape = (with_rule (with_rule (given_shown (new_app (codes "show"))) explain_rule) file_rule).top
 
 -- the program, which has a version, requires a subcommand, and has none called `help`
 abbrev pub bare_app : App
@@ -106,8 +110,8 @@ abbrev pub compare_shape : Shape
 compare_shape = (with_rule (with_rule (with_rule
     (new_app (codes "compare")) (flag_rule (codes "symbols"))) (value_rule (codes "first"))) (value_rule (codes "second"))).top
 
--- the command line that the program accepts; of `--at` and `--at-file` it wants one, and `--normal` stands
--- alone, which no rule of `clap` says
+-- the command line that the program accepts; of `--at` and `--at-file` it wants one, `--normal` and `--html`
+-- stand alone, and `--content` goes with `--json`, which no rule of `clap` says
 abbrev pub command_line : App
 command_line = with_subcommand (with_subcommand (with_subcommand (with_subcommand (with_subcommand (with_subcommand (with_subcommand (with_subcommand
     bare_app link_shape) load_shape) image_shape) check_shape) show_shape) survey_shape) copy_shape) compare_shape

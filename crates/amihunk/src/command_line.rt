@@ -5,21 +5,25 @@ ghost use Rattle.clap.specs.Walk.{texts};
 ghost use Rattle.clap.specs.Words.{FailsBy, fault_of, first_of, found_of, kind_of, rows_of, subcommand_of, subcommand_rows_of};
 ghost use Rattle.amihunk.specs.Syntax.{command_line};
 ghost use Rattle.amihunk.specs.CommandLine.{Answers, Asks, HasValue, IsAskedBy, IsFlag, IsNoFlag, IsNoFlagIn, IsVersionWord, IsWhole, Means};
-ghost use Rattle.amihunk.specs.CommandLine.{Says, brief_link_line, compare_line, conflict_kind, copy_form_by, copy_line, file_line, files_in, form_by, image_line, link_line, load_line, normal_line, options_in};
-ghost use Rattle.amihunk.specs.CommandLine.{origin_in, show_line, survey_line, text_by, text_in, value_in, version_line};
+ghost use Rattle.amihunk.specs.CommandLine.{Says, brief_link_line, compare_line, conflict_kind, copy_line, file_line, files_in, image_line, link_line, load_line, normal_line, options_in};
+ghost use Rattle.amihunk.specs.CommandLine.{origin_in, show_line, survey_line, text_in, value_in, version_line};
 ghost use Rattle.amihunk.specs.CommandLine.Meaning.{rejection, version};
 ghost use Rattle.amihunk.specs.CommandLine.Call.{to_check, to_compare, to_copy, to_image, to_link, to_load, to_show, to_survey};
 ghost use Rattle.hunk_commands.specs.Addresses.{Origin, origin_of};
 ghost use Rattle.hunk_commands.specs.Request.{given_text};
 ghost use Rattle.hunk_commands.specs.declared.load.LoadText.{LoadText};
+ghost use Rattle.hunk_commands.specs.declared.text.ShowText.{ShowText};
 ghost use Rattle.hunk_memory.specs.declared.image_form.ImageForm.{ImageForm};
+ghost use Rattle.hunk_tool.specs.declared.copy.CopyForm.{CopyForm};
 ghost use Rattle.hunk_tool.specs.declared.link_options.LinkOptions.{LinkOptions};
 
-use crate::syntax::{command, copy_command, image_command, load_command};
+use crate::choices::{copy_form, form_of, show_text_of, text_of};
+use crate::conflict::Conflict;
+use crate::syntax::{command, copy_command, image_command, load_command, show_command};
 use clap::error::ErrorKind;
 use clap::{ArgMatches, Command, Error};
-use hunk_commands::{Addresses, LoadText, Request};
-use hunk_tool::{CopyForm, ImageForm, LinkOptions};
+use hunk_commands::{Addresses, Request};
+use hunk_tool::LinkOptions;
 use std::alloc::{AllocError, Global};
 use std::convert::AsStr;
 
@@ -41,9 +45,9 @@ pub fn read_words<'a, S: AsStr>(alloc: Global, words: &'a [S]) -> Request<'a>
     ensures check { (program file : List ℕ)
         → map S.text words.entry.now ≡ file_line program (codes "check") file
         → IsNoFlag file → Asks (to_check false file) result }
-    ensures show { (program : List ℕ) (json : Bool) (file : List ℕ)
-        → map S.text words.entry.now ≡ show_line program json file
-        → IsNoFlag file → Asks (to_show json false file) result }
+    ensures show { (program : List ℕ) (text : ShowText) (file : List ℕ)
+        → map S.text words.entry.now ≡ show_line program text file
+        → IsNoFlag file → Asks (to_show text false file) result }
     ensures survey { (program : List ℕ) (files : List (List ℕ))
         → map S.text words.entry.now ≡ survey_line program files
         → 0 < length files → All IsNoFlag files → Asks (to_survey files) result }
@@ -110,7 +114,7 @@ fn request_of<'a>(alloc: Global, matches: &ArgMatches<'a>) -> Result<Request<'a>
         Some(("load", values)) => load_request(alloc, values),
         Some(("image", values)) => image_request(alloc, values),
         Some(("check", values)) => Ok(check_request(values)),
-        Some(("show", values)) => Ok(show_request(values)),
+        Some(("show", values)) => show_request(alloc, values),
         Some(("survey", values)) => survey_request(alloc, values),
         Some(("copy", values)) => copy_request(alloc, values),
         Some(("compare", values)) => Ok(compare_request(values)),
@@ -191,14 +195,24 @@ fn check_request<'a>(values: &ArgMatches<'a>) -> Request<'a>
 }
 
 /// The request of a parse that found the subcommand `show`.
-fn show_request<'a>(values: &ArgMatches<'a>) -> Request<'a>
+fn show_request<'a>(alloc: Global, values: &ArgMatches<'a>) -> Result<Request<'a>, AllocError>
     requires { IsWhole (Some (codes "show", rows_of (found_of values.now))) }
-    ensures { Says (Some (codes "show", rows_of (found_of values.now))) result }
+    ensures { IfOk result (Says (Some (codes "show", rows_of (found_of values.now)))) }
 {
-    Request::Show {
-        json: is_set(values, "json"),
-        explain: is_set(values, "explain"),
-        file: value_of(values, "file"),
+    match show_text_of(
+        is_set(values, "json"),
+        is_set(values, "content"),
+        is_set(values, "html"),
+    ) {
+        Ok(text) => Ok(Request::Show {
+            text,
+            explain: is_set(values, "explain"),
+            file: value_of(values, "file"),
+        }),
+        Err(conflict) => {
+            let show = show_command(alloc)?.bin_name("amihunk show")?;
+            refuse(alloc, show, conflict)
+        }
     }
 }
 
@@ -235,22 +249,6 @@ fn copy_request<'a>(alloc: Global, values: &ArgMatches<'a>) -> Result<Request<'a
     }
 }
 
-/// What is asked of a copy: its normal form goes with no other flag.
-fn copy_form(normal: bool, options: LinkOptions, explain: bool) -> Result<CopyForm, Conflict>
-    ensures { MatchResult result
-        (λ form. copy_form_by normal options explain ≡ Some form)
-        (λ conflict. (copy_form_by normal options explain ≡ None) × (conflict_kind conflict ≡ ErrorKind.ArgumentConflict)) }
-{
-    match (normal, options, explain) {
-        (false, options, _) => Ok(CopyForm::Written(options)),
-        (true, LinkOptions { strip: true, .. }, _) => Err(Conflict::NormalAndStrip),
-        (true, LinkOptions { short: true, .. }, _) => Err(Conflict::NormalAndShort),
-        (true, LinkOptions { trim: true, .. }, _) => Err(Conflict::NormalAndTrim),
-        (true, _, true) => Err(Conflict::NormalAndExplain),
-        (true, _, false) => Ok(CopyForm::Normal),
-    }
-}
-
 /// The request of a parse that found the subcommand `compare`.
 fn compare_request<'a>(values: &ArgMatches<'a>) -> Request<'a>
     requires { IsWhole (Some (codes "compare", rows_of (found_of values.now))) }
@@ -274,61 +272,6 @@ fn options_of(values: &ArgMatches<'_>) -> LinkOptions
         strip: is_set(values, "strip"),
         short: is_set(values, "short"),
         trim: is_set(values, "trim"),
-    }
-}
-
-/// Arguments that exclude each other, or of which one is missing.
-#[derive(Clone, Copy)]
-enum Conflict {
-    /// `--srec` and `--symbols`.
-    Texts,
-    /// `--at` and `--at-file`.
-    TwoAddresses,
-    /// Neither `--at` nor `--at-file`.
-    NoAddresses,
-    /// `--normal` and `--strip`.
-    NormalAndStrip,
-    /// `--normal` and `--short`.
-    NormalAndShort,
-    /// `--normal` and `--trim`.
-    NormalAndTrim,
-    /// `--normal` and `--explain`.
-    NormalAndExplain,
-}
-
-impl Conflict {
-    /// The kind of error with which `clap` rejects such arguments.
-    fn kind(self) -> ErrorKind
-        ensures { result ≡ conflict_kind self }
-    {
-        match self {
-            Conflict::NoAddresses => ErrorKind::MissingRequiredArgument,
-            Conflict::Texts
-            | Conflict::TwoAddresses
-            | Conflict::NormalAndStrip
-            | Conflict::NormalAndShort
-            | Conflict::NormalAndTrim
-            | Conflict::NormalAndExplain => ErrorKind::ArgumentConflict,
-        }
-    }
-
-    /// The words in which `clap` rejects such arguments.
-    fn text(self) -> &'static str {
-        match self {
-            Conflict::Texts => "the argument '--srec' cannot be used with '--symbols'",
-            Conflict::TwoAddresses => {
-                "the argument '--at <LIST>' cannot be used with '--at-file <FILE>'"
-            }
-            Conflict::NormalAndStrip => { "the argument '--normal' cannot be used with '--strip'" }
-            Conflict::NormalAndShort => { "the argument '--normal' cannot be used with '--short'" }
-            Conflict::NormalAndTrim => "the argument '--normal' cannot be used with '--trim'",
-            Conflict::NormalAndExplain => {
-                "the argument '--normal' cannot be used with '--explain'"
-            }
-            Conflict::NoAddresses => {
-                "the following required arguments were not provided:\n  <--at <LIST>|--at-file <FILE>>"
-            }
-        }
     }
 }
 
@@ -358,28 +301,6 @@ fn addresses_in<'a>(values: &ArgMatches<'a>) -> Result<Addresses<'a>, Conflict>
         (None, Some(name)) => Ok(Addresses::File(name)),
         (Some(_), Some(_)) => Err(Conflict::TwoAddresses),
         (None, None) => Err(Conflict::NoAddresses),
-    }
-}
-
-/// What is printed of a load file, unless both flags are given.
-fn text_of(srec: bool, symbols: bool) -> Option<LoadText>
-    ensures { result ≡ text_by srec symbols }
-{
-    match (srec, symbols) {
-        (true, true) => None,
-        (false, true) => Some(LoadText::Symbols),
-        (srec, false) => Some(LoadText::Image(form_of(srec))),
-    }
-}
-
-/// The form in which an image is printed.
-fn form_of(srec: bool) -> ImageForm
-    ensures { result ≡ form_by srec }
-{
-    if srec {
-        ImageForm::SRecords
-    } else {
-        ImageForm::Report
     }
 }
 

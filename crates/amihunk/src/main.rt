@@ -1,12 +1,16 @@
 //! `amihunk`: an Amiga hunk linker and loader.
 //!
 //! - `program`: the arguments, what they ask for, and the exit status.
+//! - `choices`: what the flags of a subcommand choose together.
 //! - `command_line`: the arguments of the command line, as `clap` reads them.
+//! - `conflict`: arguments that a command line may not have together, or not without others.
 //! - `stack`: the stack that the program needs.
 //! - `syntax`: the command line that the program accepts, as `clap` is told of it.
 #![tactic(auto)]
 
+mod choices;
 mod command_line;
+mod conflict;
 mod program;
 mod stack;
 mod syntax;

@@ -6,7 +6,8 @@ ghost use Rattle.hunk_tool.specs.declared.copy.CopyForm.{CopyForm};
 ghost use Rattle.hunk_tool.specs.declared.link_options.LinkOptions.{LinkOptions};
 ghost use Rattle.hunk_commands.specs.Addresses.{Origin};
 ghost use Rattle.hunk_commands.specs.declared.load.LoadText.{LoadText};
-ghost use Rattle.hunk_commands.specs.Request.{EndsCompare, EndsCopy, EndsImage, EndsLink, EndsLoad, EndsSurvey, EndsText, EndsVersion, Reads, Replaces, Run, run_between, shown};
+ghost use Rattle.hunk_commands.specs.declared.text.ShowText.{ShowText};
+ghost use Rattle.hunk_commands.specs.Request.{EndsCompare, EndsCopy, EndsImage, EndsLink, EndsLoad, EndsSurvey, EndsText, EndsVersion, Reads, Replaces, Run, run_between};
 ghost use Rattle.amihunk.specs.Program.{EndsLine, EndsStart, IsNotBegun};
 ghost use Rattle.amihunk.specs.CommandLine.{IsNoFlag, IsNoFlagIn, IsVersionWord, brief_link_line, compare_line, copy_line, file_line, image_line, link_line, load_line};
 ghost use Rattle.amihunk.specs.CommandLine.{normal_line, show_line, survey_line, text_in, version_line};
@@ -88,9 +89,9 @@ pub fn run<S: Store, O: Output, W: Sink, T: AsStr>(
     ensures check { (program file : List ℕ)
         → map T.text words.now ≡ file_line program (codes "check") file
         → IsNoFlag file → Reads (run_between S.content O.taken O.failed O.waiting store.old store.new output.old output.new) (λ contents printed. EndsText contents printed W.taken W.failed errors.old errors.new Text.Line false file result) }
-    ensures show { (program : List ℕ) (json : Bool) (file : List ℕ)
-        → map T.text words.now ≡ show_line program json file
-        → IsNoFlag file → Reads (run_between S.content O.taken O.failed O.waiting store.old store.new output.old output.new) (λ contents printed. EndsText contents printed W.taken W.failed errors.old errors.new (shown json) false file result) }
+    ensures show { (program : List ℕ) (text : ShowText) (file : List ℕ)
+        → map T.text words.now ≡ show_line program text file
+        → IsNoFlag file → Reads (run_between S.content O.taken O.failed O.waiting store.old store.new output.old output.new) (λ contents printed. EndsText contents printed W.taken W.failed errors.old errors.new (Text.Shown text) false file result) }
     ensures survey { (program : List ℕ) (files : List (List ℕ))
         → map T.text words.now ≡ survey_line program files
         → 0 < length files → All IsNoFlag files → Reads (run_between S.content O.taken O.failed O.waiting store.old store.new output.old output.new) (λ contents printed. EndsSurvey contents printed W.taken W.failed errors.old errors.new files result) }

@@ -2,7 +2,7 @@
 ghost use Rattle.std.specs.Prelude.{◌≡◌, IfOk, codes, false};
 ghost use Rattle.clap.specs.Words.{Shape, app_of, rule_of, shape_of, with_rule, with_subcommand};
 ghost use Rattle.clap.specs.declared.builder.command.Command.TheViews.{out-Command};
-ghost use Rattle.amihunk.specs.Syntax.{bare_app, check_shape, command_line, compare_shape, copy_shape, explain_rule, file_rule, files_rule, flag_rule, given_addresses, given_flags, given_forms, given_outputs, given_texts, image_shape, letter_s};
+ghost use Rattle.amihunk.specs.Syntax.{bare_app, check_shape, command_line, compare_shape, copy_shape, explain_rule, file_rule, files_rule, flag_rule, given_addresses, given_flags, given_forms, given_outputs, given_shown, given_texts, image_shape, letter_s};
 ghost use Rattle.amihunk.specs.Syntax.{link_shape, load_shape, option_rule, out_rule, show_shape, survey_shape, value_rule, with_letter};
 
 use clap::{Arg, ArgAction, Command};
@@ -212,26 +212,41 @@ fn check_command<'a>(alloc: Global) -> Result<Command<'a>, AllocError>
         .arg(file_argument(alloc, "An object file or a load file"))
 }
 
-/// The subcommand `show [--json] [--explain] FILE`.
-fn show_command<'a>(alloc: Global) -> Result<Command<'a>, AllocError>
+/// The subcommand `show [--json] [--content] [--html] [--explain] FILE`. No rule of `clap` keeps `--html`
+/// apart from the other two, or `--content` with `--json`: the command line is judged after the parse.
+pub fn show_command<'a>(alloc: Global) -> Result<Command<'a>, AllocError>
     ensures shape { IfOk result (λ c. shape_of c ≡ show_shape) }
     ensures local { IfOk result (λ c. (out-Command c).has_globals ≡ false) }
 {
-    Command::new(alloc, "show")
+    let show = Command::new(alloc, "show")
         .about("Prints a listing of the units and hunks of a file, and of what is in them")
-        .after_help(help::SHOW)
-        .arg(json_flag(alloc))?
+        .after_help(help::SHOW);
+    with_shown(alloc, show)?
         .arg(explain_flag(alloc))?
         .arg(file_argument(alloc, "An object file or a load file"))
 }
 
-/// The flag `--json`.
-fn json_flag<'a>(alloc: Global) -> Arg<'a>
-    ensures rule { rule_of result ≡ flag_rule (codes "json") }
-    ensures local { result.global ≡ false }
+/// A subcommand that is told what to print in place of the listing.
+fn with_shown<'a>(alloc: Global, command: Command<'a>) -> Result<Command<'a>, AllocError>
+    ensures shape { IfOk result (λ c. app_of c ≡ given_shown (app_of command.entry)) }
+    ensures local { (out-Command command.entry).has_globals ≡ false → IfOk result (λ c. (out-Command c).has_globals ≡ false) }
 {
-    let help = "Prints the listing as one JSON document";
-    flag(alloc, "json", help)
+    command
+        .arg(flag(
+            alloc,
+            "json",
+            "Prints the listing as one JSON document",
+        ))?
+        .arg(flag(
+            alloc,
+            "content",
+            "With `--json`, tells the stored bytes of each hunk too",
+        ))?
+        .arg(flag(
+            alloc,
+            "html",
+            "Prints a page for a browser, which shows the file",
+        ))
 }
 
 /// The subcommand `survey FILE...`.

@@ -20,6 +20,7 @@
 //! - `reasons`: why a file cannot be opened or read, after the line of its failure.
 //! - `replacements`: each way in which a load file takes the place of another file.
 //! - `requests`: the status of each request, and the line of its failure.
+//! - `shown`: what `show` prints of a file in memory.
 //! - `stores`: commands over files in memory.
 //! - `surveys`: what a survey tells of files.
 //! - `systems`: requests and commands over the files of a system.
@@ -47,6 +48,7 @@ mod outcomes;
 mod reasons;
 mod replacements;
 mod requests;
+mod shown;
 mod stores;
 mod surveys;
 mod systems;

@@ -23,7 +23,7 @@ use Rattle.hunk_commands.specs.declared.failure.Failure.{Failure}
 use Rattle.hunk_commands.specs.declared.failure.Failure.TheVariants.{Tool}
 use Rattle.hunk_commands.specs.declared.load.LoadText.{LoadText}
 use Rattle.hunk_commands.specs.declared.text.Text.{Text}
-use Rattle.hunk_commands.specs.declared.text.Text.TheVariants.{Json, Line, Listing}
+use Rattle.hunk_commands.specs.declared.text.Text.TheVariants.{Line, Shown}
 use Rattle.hunk_commands.specs.declared.request.Request.{Request}
 use Rattle.hunk_commands.specs.declared.request.Request.TheVariants.{Load, Link, Image, Check, Show, Survey, Copy, Compare, Version, Help, Refused, OutOfMemory}
 
@@ -69,10 +69,6 @@ EndsImage contents printed taken failed old new origin form explain files status
     ((status ≡ 0) × AreImaged form contents origin files printed)
     ⊎ IsFailed taken failed old new (OrExhausted printed (IsImageFailure form contents origin files printed))
     (IfAsked explain (AreImageLines contents origin files)) files status
-
--- what `show` prints of a file, with `--json` or without
-abbrev pub shown : (json : Bool) → Text
-shown json = if json then Json else Listing
 
 -- the status after a text about FILE
 abbrev pub EndsText : {W : Type 0} → Contents → Printed → (taken : W → Option (List ℕ)) (failed : W → Bool) (old new : W) (text : Text) (explain : Bool) (file : List ℕ) → ℕ → Type 0
@@ -158,8 +154,8 @@ Ends run taken failed old new (Image addresses form explain files) status =
     Reads run (λ contents printed. EndsImage contents printed taken failed old new (origin_of addresses) form explain (file_names files.items) status)
 Ends run taken failed old new (Check explain file) status =
     Reads run (λ contents printed. EndsText contents printed taken failed old new Line explain file.now status)
-Ends run taken failed old new (Show json explain file) status =
-    Reads run (λ contents printed. EndsText contents printed taken failed old new (shown json) explain file.now status)
+Ends run taken failed old new (Show text explain file) status =
+    Reads run (λ contents printed. EndsText contents printed taken failed old new (Shown text) explain file.now status)
 Ends run taken failed old new (Survey files) status =
     Reads run (λ contents printed. EndsSurvey contents printed taken failed old new (file_names files.items) status)
 Ends run taken failed old new (Compare with_symbols first second) status =

@@ -1,6 +1,8 @@
 -- What is known of a file and the output after a text about the file was printed, or why it was not.
 use Rattle.std.specs.Prelude.{◌≡◌, ℕ, List, IsTrue}
-use Rattle.hunk_json.specs.Run.{json_text}
+use Rattle.hunk_json.specs.Page.{page_text}
+use Rattle.hunk_json.specs.Run.{json_text, json_text_in}
+use Rattle.hunk_json.specs.declared.form.JsonForm.TheVariants.{WithContent}
 use Rattle.hunk_tool.specs.Check.{check_text}
 use Rattle.hunk_tool.specs.FileSystem.{MayBeMissing, OfFile, OfWholeFile}
 use Rattle.hunk_tool.specs.FileText.{IsTextFault, IsWritten}
@@ -8,16 +10,19 @@ use Rattle.hunk_files.specs.FileValue.{FileValue}
 use Rattle.hunk_tool.specs.Show.{show_text}
 use Rattle.hunk_commands.specs.declared.failure.Failure.{Failure}
 use Rattle.hunk_commands.specs.declared.failure.Failure.TheVariants.{Opening, Printing, Tool}
+use Rattle.hunk_commands.specs.declared.text.ShowText.TheVariants.{Json, JsonWithContent, Listing, Page}
 use Rattle.hunk_commands.specs.declared.text.Text.{Text}
-use Rattle.hunk_commands.specs.declared.text.Text.TheVariants.{Json, Line, Listing}
+use Rattle.hunk_commands.specs.declared.text.Text.TheVariants.{Line, Shown}
 use Rattle.hunk_commands.specs.Output.{IsFlushed, IsNothing, Printed, ends_between}
 use Rattle.hunk_commands.specs.Store.{Contents}
 
 -- the text about a file of this value
 abbrev pub text_of : Text → FileValue → List ℕ
 text_of Line = check_text
-text_of Listing = show_text
-text_of Json = json_text
+text_of (Shown Listing) = show_text
+text_of (Shown Json) = json_text
+text_of (Shown JsonWithContent) = json_text_in WithContent
+text_of (Shown Page) = page_text
 
 -- the text about the file, of the kind that its first four bytes tell, is what the output has taken
 abbrev pub IsWrittenOf : Text → Contents → (file : List ℕ) → Printed → Type 0

@@ -70,5 +70,5 @@ pub use printer::Printer;
 pub use request::{Request, answer};
 pub use store::Store;
 pub use system::System;
-pub use text::{Text, print_text, print_text_to};
+pub use text::{ShowText, Text, print_text, print_text_to};
 pub use version::{VERSION, print_version};

@@ -5,7 +5,7 @@ ghost use Rattle.hunk_commands.specs.Addresses.{origin_of};
 ghost use Rattle.hunk_commands.specs.Explain.{AreLinesOf, IfAsked};
 ghost use Rattle.hunk_commands.specs.Link.{IsDone, IsUndone};
 ghost use Rattle.hunk_commands.specs.Output.{IsPrinted, printed_of};
-ghost use Rattle.hunk_commands.specs.Request.{Ends, EndsCompare, EndsCopy, EndsHelp, EndsImage, EndsLink, EndsLoad, EndsSurvey, EndsText, EndsVersion, IsFailed, given_text, run_between, shown};
+ghost use Rattle.hunk_commands.specs.Request.{Ends, EndsCompare, EndsCopy, EndsHelp, EndsImage, EndsLink, EndsLoad, EndsSurvey, EndsText, EndsVersion, IsFailed, given_text, run_between};
 
 use crate::addresses::Addresses;
 use crate::compare::compare;
@@ -20,7 +20,7 @@ use crate::load::{LoadText, load};
 use crate::output::Output;
 use crate::store::Store;
 use crate::survey::survey;
-use crate::text::{Text, print_text};
+use crate::text::{ShowText, Text, print_text};
 use crate::version::print_version;
 use hunk_tool::{CopyForm, ImageForm, LinkOptions};
 use hunk_words::Sink;
@@ -75,10 +75,11 @@ pub enum Request<'a> {
         /// The argument FILE.
         file: &'a str,
     },
-    /// `show [--json] [--explain] FILE`: a listing of FILE, or a JSON document.
+    /// `show [--json [--content] | --html] [--explain] FILE`: a listing of FILE, a JSON document or a page.
     Show {
-        /// Whether `--json` is given.
-        json: bool,
+        /// A document if `--json` is given, with the stored bytes if `--content` is given too, a page if
+        /// `--html` is given, and otherwise the listing.
+        text: ShowText,
         /// Whether `--explain` is given.
         explain: bool,
         /// The argument FILE.
@@ -165,10 +166,13 @@ pub fn answer<S: Store, O: Output, W: Sink>(
             answer_text(alloc, store, output, errors, Text::Line, explain, file)
         }
         Request::Show {
-            json,
+            text,
             explain,
             file,
-        } => answer_text(alloc, store, output, errors, shown(json), explain, file),
+        } => {
+            let text = Text::Shown(text);
+            answer_text(alloc, store, output, errors, text, explain, file)
+        }
         Request::Survey { files } => {
             answer_survey(alloc, store, output, errors, files.as_slice())
         }
@@ -422,13 +426,6 @@ fn answer_help<O: Output, W: Sink>(output: &mut O, errors: &mut W, text: &str) -
         Ok(()) => DONE,
         Err(failure) => report_failure(errors, &[], &failure),
     }
-}
-
-/// What `show` prints of a file.
-fn shown(json: bool) -> Text
-    ensures { result ≡ shown json }
-{
-    if json { Text::Json } else { Text::Listing }
 }
 
 /// Does a request for a text about FILE, and returns the exit status.

@@ -10,7 +10,7 @@ use crate::devices::{flush, open};
 use crate::failure::Failure;
 use crate::output::Output;
 use crate::store::Store;
-use hunk_json::json_run;
+use hunk_json::{JsonForm, json_run, json_run_with, page_run};
 use hunk_tool::{ToolFault, check_run, show_run};
 use hunk_words::{Sink, Source};
 use std::alloc::Global;
@@ -20,10 +20,21 @@ use std::alloc::Global;
 pub enum Text {
     /// One line: the kind of the file, and how many units and hunks it has.
     Line,
+    /// What is in it.
+    Shown(ShowText),
+}
+
+/// A text about what is in a file.
+#[derive(Clone, Copy)]
+pub enum ShowText {
     /// A listing of its units and hunks, and of what is in them.
     Listing,
     /// What the listing tells, as one JSON document.
     Json,
+    /// Likewise, with the stored bytes of each hunk.
+    JsonWithContent,
+    /// A page of HTML that shows all of this.
+    Page,
 }
 
 /// Reads the file named `file`, and prints the text about it.
@@ -52,8 +63,8 @@ pub fn print_text<'a, S: Store, O: Output>(
 ///
 /// # Errors
 ///
-/// Those of [`check_run`] for a line, of [`show_run`] for a listing, and of [`json_run`] for a
-/// document.
+/// Those of [`check_run`] for a line, of [`show_run`] for a listing, of [`json_run`] and
+/// [`json_run_with`] for a document, and of [`page_run`] for a page.
 pub fn print_text_to<R: Source, W: Sink>(
     alloc: Global,
     text: Text,
@@ -68,7 +79,11 @@ pub fn print_text_to<R: Source, W: Sink>(
 {
     match text {
         Text::Line => check_run(alloc, reader, writer),
-        Text::Listing => show_run(alloc, reader, writer),
-        Text::Json => json_run(alloc, reader, writer),
+        Text::Shown(ShowText::Listing) => show_run(alloc, reader, writer),
+        Text::Shown(ShowText::Json) => json_run(alloc, reader, writer),
+        Text::Shown(ShowText::JsonWithContent) => {
+            json_run_with(alloc, reader, JsonForm::WithContent, writer)
+        }
+        Text::Shown(ShowText::Page) => page_run(alloc, reader, writer),
     }
 }

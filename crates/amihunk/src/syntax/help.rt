@@ -102,10 +102,16 @@ and values are hexadecimal, and offsets and addresses count bytes.
 With `--json` it prints what the listing tells as one JSON document, on one line, in which all numbers
 are decimal. For example, `amihunk show --json FILE` prints for that load file
   {\"hunks\":[{\"debugs\":[],\"kind\":\"code\",\"memory\":\"any\",\"sites\":[],\"size\":2,\"stored\":1,\"symbols\":[]}],\"kind\":\"load file\"}
+With `--content` as well, each hunk has one more member: the bytes that the file stores of it, in base64.
+Here it is `\"content\":\"TnVOcQ==\"`, behind `\"stored\":1`.
 
-The exit status is 0 if the listing was printed, 1 if FILE is neither an object file nor a load file,
-2 if the command line is not understood, 3 if FILE cannot be read or the listing cannot be printed,
-and 4 if memory runs out.";
+With `--html` it prints a page for a browser, which needs nothing from outside, and shows the hunks, their
+bytes, their sites, and all names. For example, this makes a page of a program:
+  amihunk show --html program > program.html
+
+The exit status is 0 if the text was printed, 1 if FILE is neither an object file nor a load file, 2 if
+the command line is not understood, 3 if FILE cannot be read or the text cannot be printed, and 4 if
+memory runs out.";
 
 /// The end of the help of `survey`.
 pub const SURVEY: &str = "\

@@ -6,7 +6,7 @@ use crate::fake_files::FakeFiles;
 use crate::fake_log::Log;
 use crate::samples::{Broken, CALLEE, MISTYPED, PLAIN, TRAILING, UNENDED};
 use hunk_commands::explain::{Command, explanation_of};
-use hunk_commands::{Addresses, LoadText, Request};
+use hunk_commands::{Addresses, LoadText, Request, ShowText};
 use hunk_tool::ImageForm;
 use hunk_words::{Fault, ReadFault, Reason, Room, Sink, Watched};
 use std::alloc::{AllocError, Global};
@@ -214,7 +214,7 @@ fn request_of(alloc: Global, asked: Asked, explain: bool) -> Result<Request<'sta
         },
         Asked::Check(file) => Request::Check { explain, file },
         Asked::Show(file) => Request::Show {
-            json: false,
+            text: ShowText::Listing,
             explain,
             file,
         },

@@ -21,8 +21,8 @@ const STRIPPED: CopyForm = CopyForm::Written(LinkOptions {
 
 /// An output that keeps nothing back.
 #[derive(Drop)]
-struct Unbuffered<W> {
-    sink: W,
+pub(super) struct Unbuffered<W> {
+    pub(super) sink: W,
 }
 
 impl<W: Sink> Sink for Unbuffered<W> {
@@ -67,7 +67,7 @@ fn all_files() -> [(&'static str, &'static [u8]); 4] {
 }
 
 // A store of these files.
-fn store_in(alloc: Global, arena: &Bump) -> Result<MemoryStore<'_>, AllocError> {
+pub(super) fn store_in(alloc: Global, arena: &Bump) -> Result<MemoryStore<'_>, AllocError> {
     let mut store = MemoryStore::new(alloc, arena);
     for (name, bytes) in all_files() {
         store.insert(name, bytes)?;
@@ -76,7 +76,7 @@ fn store_in(alloc: Global, arena: &Bump) -> Result<MemoryStore<'_>, AllocError> 
 }
 
 // The files are what they were, but for the one with this name.
-fn are_unchanged_but(rt: &impl Abort, store: &MemoryStore<'_>, changed: &str) {
+pub(super) fn are_unchanged_but(rt: &impl Abort, store: &MemoryStore<'_>, changed: &str) {
     for (name, bytes) in all_files() {
         if name != changed {
             equals_at(rt, &name, store.bytes(name), Some(bytes));

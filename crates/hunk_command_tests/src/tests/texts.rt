@@ -2,12 +2,22 @@
 
 use super::asserts::{equals, holds};
 use crate::samples::{Broken, ONE_HUNK, ONE_UNIT};
-use hunk_commands::{Text, print_text_to};
+use hunk_commands::{ShowText, Text, print_text_to};
+use hunk_json::page_run;
 use hunk_tool::ToolFault;
 use hunk_words::{Fault, Reason, Watched};
 use std::alloc::Global;
 use std::io::Read;
 use std::process::Abort;
+
+// All texts about a file.
+const TEXTS: [Text; 5] = [
+    Text::Line,
+    Text::Shown(ShowText::Listing),
+    Text::Shown(ShowText::Json),
+    Text::Shown(ShowText::JsonWithContent),
+    Text::Shown(ShowText::Page),
+];
 
 // What is written about a file, and what the call returns.
 fn text_about<I: Read + Drop>(
@@ -56,7 +66,7 @@ fn lists_what_is_in_a_file(rt: HostRuntime) {
         ),
     ];
     for (file, lines) in &files {
-        has_text(&rt, alloc, file, Text::Listing, lines);
+        has_text(&rt, alloc, file, Text::Shown(ShowText::Listing), lines);
     }
 }
 
@@ -67,7 +77,7 @@ fn tells_why_there_is_no_text(rt: HostRuntime) {
         place: 31,
         reason: Reason::PartialLongword,
     };
-    for text in [Text::Line, Text::Listing, Text::Json] {
+    for text in TEXTS {
         let (bytes, got) = text_about(alloc, text, &ONE_UNIT[..126]);
         equals(&rt, got, Err(ToolFault::Input { file: 0, fault }));
         equals(&rt, bytes.as_slice(), b"");
@@ -102,6 +112,51 @@ fn tells_what_is_in_a_file_as_json(rt: HostRuntime) {
         ),
     ];
     for (file, line) in &files {
-        has_text(&rt, alloc, file, Text::Json, line);
+        has_text(&rt, alloc, file, Text::Shown(ShowText::Json), line);
+    }
+}
+
+#[test]
+fn tells_contents_as_json(rt: HostRuntime) {
+    let alloc = rt.alloc();
+    let files: [(&[u8], &str); 2] = [
+        (
+            &ONE_UNIT,
+            "{\"kind\":\"object file\",\"units\":[{\"hunks\":[\
+             {\"debugs\":[1],\"definitions\":[{\"absolute\":false,\"name\":\"main\",\"value\":0}],\
+             \"kind\":\"code\",\"memory\":\"any\",\"name\":\"CODE\",\
+             \"sites\":[{\"hunk\":1,\"offset\":2}],\
+             \"size\":2,\"content\":\"TrkAAAAATnU=\",\"symbols\":[{\"name\":\"loop\",\"value\":6}]},\
+             {\"debugs\":[],\"definitions\":[],\"kind\":\"bss\",\"memory\":\"chip\",\"name\":\"\",\
+             \"sites\":[],\"size\":2,\"content\":\"\",\"symbols\":[]}],\"name\":\"test\"}]}\n",
+        ),
+        (
+            &ONE_HUNK,
+            "{\"hunks\":[{\"debugs\":[],\"kind\":\"code\",\"memory\":\"any\",\"sites\":[],\
+             \"size\":1,\"stored\":1,\"content\":\"TnVOcQ==\",\"symbols\":[]}],\"kind\":\"load file\"}\n",
+        ),
+    ];
+    for (file, line) in &files {
+        has_text(
+            &rt,
+            alloc,
+            file,
+            Text::Shown(ShowText::JsonWithContent),
+            line,
+        );
+    }
+}
+
+#[test]
+fn shows_what_is_in_a_file_in_a_page(rt: HostRuntime) {
+    let alloc = rt.alloc();
+    let files: [&[u8]; 2] = [&ONE_UNIT, &ONE_HUNK];
+    for file in files {
+        let mut writer = Watched::new(Vec::new(alloc));
+        let got = page_run(alloc, &mut Watched::new(file), &mut writer);
+        equals(&rt, got, Ok(()));
+        let (page, got) = text_about(alloc, Text::Shown(ShowText::Page), file);
+        equals(&rt, got, Ok(()));
+        equals(&rt, page.as_slice(), writer.into_inner().as_slice());
     }
 }

@@ -22,7 +22,7 @@ returns g c =
       image = λ program origin form files is_line plain_value some plain.
           asks words _ _ request fits answer is_line (calls-image program origin form files plain_value some plain) (λ e. cc);
       check = λ program file is_line plain. asks words _ _ request fits answer is_line (λ _. calls-check program file plain) (λ e. cc);
-      show = λ program json file is_line plain. asks words _ _ request fits answer is_line (λ _. calls-show program json file plain) (λ e. cc);
+      show = λ program text file is_line plain. asks words _ _ request fits answer is_line (λ _. calls-show program text file plain) (λ e. cc);
       survey = λ program files is_line some plain. asks words _ _ request fits answer is_line (calls-survey program files some plain) (λ e. cc);
       copy = λ program options out file is_line plain_out plain.
           asks words _ _ request fits answer is_line (λ _. calls-copy program options out file plain_out plain) (λ e. cc);

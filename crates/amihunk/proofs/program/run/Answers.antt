@@ -23,7 +23,7 @@ returns g c =
       image = λ program origin form files is_line plain_value some plain.
           ends (calls (to_image origin form false files)) request status (asked.image program origin form files is_line plain_value some plain) c.answer.ensures;
       check = λ program file is_line plain. ends (calls (to_check false file)) request status (asked.check program file is_line plain) c.answer.ensures;
-      show = λ program json file is_line plain. ends (calls (to_show json false file)) request status (asked.show program json file is_line plain) c.answer.ensures;
+      show = λ program text file is_line plain. ends (calls (to_show text false file)) request status (asked.show program text file is_line plain) c.answer.ensures;
       survey = λ program files is_line some plain. ends (calls (to_survey files)) request status (asked.survey program files is_line some plain) c.answer.ensures;
       copy = λ program options out file is_line plain_out plain.
           ends (calls (to_copy out (Written options) false file)) request status (asked.copy program options out file is_line plain_out plain) c.answer.ensures;

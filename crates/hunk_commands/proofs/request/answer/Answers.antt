@@ -18,7 +18,7 @@ returns-in-Image g c =
 pub returns-in-Show : goal.returns-in-Show
 returns-in-Show g c =
     subst (λ request. Ends (run_between g.S.FileSystem.content g.O.Sink.taken g.O.Sink.failed g.O.Output.waiting c.args.store.now c.args.store.now c.args.output.now c.answer_text-in-Show.new.output) g.W.Sink.taken g.W.Sink.failed c.args.errors.now c.answer_text-in-Show.new.errors request c.answer_text-in-Show.result) (sym c.in-Show.is)
-    (rw c.shown.ensures at c.answer_text-in-Show.ensures, λ name. refl)
+    (c.answer_text-in-Show.ensures, λ name. refl)
 
 pub returns-in-Copy : goal.returns-in-Copy
 returns-in-Copy g c =

@@ -1,0 +1,63 @@
+//! What the flags of a subcommand choose together.
+ghost use Rattle.std.specs.Prelude.{◌≡◌, MatchResult, None, Some};
+ghost use Rattle.clap.specs.declared.error.ErrorKind.TheVariants.{ArgumentConflict};
+ghost use Rattle.amihunk.specs.CommandLine.{conflict_kind, copy_form_by, form_by, show_text_by, text_by};
+
+use crate::conflict::Conflict;
+use hunk_commands::{LoadText, ShowText};
+use hunk_tool::{CopyForm, ImageForm, LinkOptions};
+
+/// What is printed of a load file, unless both flags are given.
+pub fn text_of(srec: bool, symbols: bool) -> Option<LoadText>
+    ensures { result ≡ text_by srec symbols }
+{
+    match (srec, symbols) {
+        (true, true) => None,
+        (false, true) => Some(LoadText::Symbols),
+        (srec, false) => Some(LoadText::Image(form_of(srec))),
+    }
+}
+
+/// The form in which an image is printed.
+pub fn form_of(srec: bool) -> ImageForm
+    ensures { result ≡ form_by srec }
+{
+    if srec {
+        ImageForm::SRecords
+    } else {
+        ImageForm::Report
+    }
+}
+
+/// What is shown of a file: the contents go with the document alone, and the page with neither.
+pub fn show_text_of(json: bool, content: bool, html: bool) -> Result<ShowText, Conflict>
+    ensures { MatchResult result
+        (λ text. show_text_by json content html ≡ Some text)
+        (λ _. show_text_by json content html ≡ None) }
+{
+    match (json, content, html) {
+        (false, false, false) => Ok(ShowText::Listing),
+        (true, false, false) => Ok(ShowText::Json),
+        (true, true, false) => Ok(ShowText::JsonWithContent),
+        (false, false, true) => Ok(ShowText::Page),
+        (true, _, true) => Err(Conflict::JsonAndHtml),
+        (false, true, true) => Err(Conflict::ContentAndHtml),
+        (false, true, false) => Err(Conflict::ContentAlone),
+    }
+}
+
+/// What is asked of a copy: its normal form goes with no other flag.
+pub fn copy_form(normal: bool, options: LinkOptions, explain: bool) -> Result<CopyForm, Conflict>
+    ensures { MatchResult result
+        (λ form. copy_form_by normal options explain ≡ Some form)
+        (λ conflict. (copy_form_by normal options explain ≡ None) × (conflict_kind conflict ≡ ArgumentConflict)) }
+{
+    match (normal, options, explain) {
+        (false, options, _) => Ok(CopyForm::Written(options)),
+        (true, LinkOptions { strip: true, .. }, _) => Err(Conflict::NormalAndStrip),
+        (true, LinkOptions { short: true, .. }, _) => Err(Conflict::NormalAndShort),
+        (true, LinkOptions { trim: true, .. }, _) => Err(Conflict::NormalAndTrim),
+        (true, _, true) => Err(Conflict::NormalAndExplain),
+        (true, _, false) => Ok(CopyForm::Normal),
+    }
+}
