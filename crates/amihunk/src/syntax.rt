@@ -232,11 +232,7 @@ fn with_shown<'a>(alloc: Global, command: Command<'a>) -> Result<Command<'a>, Al
     ensures local { (out-Command command.entry).has_globals ≡ false → IfOk result (λ c. (out-Command c).has_globals ≡ false) }
 {
     command
-        .arg(flag(
-            alloc,
-            "json",
-            "Prints the listing as one JSON document",
-        ))?
+        .arg(flag(alloc, "json", "Prints the listing as one JSON document"))?
         .arg(flag(
             alloc,
             "content",
