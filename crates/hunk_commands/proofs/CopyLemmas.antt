@@ -2,14 +2,18 @@
 use Rattle.std.proofs.Common.{ℕ, List, Option, Ok, Err, OnOk, IfErr, Result, inl, inr, sym, subst}
 use Rattle.std.specs.declared.alloc.Global.{Global}
 use Rattle.hunk_base.specs.Streams.{HasRead}
-use Rattle.hunk_tool.specs.Copy.{IsCopied, IsCopyFault}
+use Rattle.hunk_base.proofs.StreamsLemmas.{HasRead-weaker}
+use Rattle.hunk_loadfile.specs.LoadFile.{IsLoadOf}
+use Rattle.hunk_loadfile.specs.LoadHunk.{FileHunk}
+use Rattle.hunk_tool.specs.Copy.{CopyFits, IsCopied, IsCopyCutShort, IsCopyFault}
 use Rattle.hunk_tool.specs.FileSystem.{IsReaderOf}
 use Rattle.hunk_tool.specs.Inputs.{Input}
 use Rattle.hunk_tool.specs.declared.copy.CopyForm.{CopyForm}
 use Rattle.hunk_tool.specs.declared.tool_fault.ToolFault.{ToolFault}
-use Rattle.hunk_commands.specs.Copy.{IsCopiedOut, IsCopyFailure}
+use Rattle.hunk_tool.specs.declared.tool_fault.ToolFault.TheVariants as tool_fault
+use Rattle.hunk_commands.specs.Copy.{HasCopy, IsCopiedOut, IsCopyFailure}
 use Rattle.hunk_commands.specs.Output.{Printed, ends_between}
-use Rattle.hunk_commands.specs.Store.{Contents, HasRun, IsBegun, IsCauseOf, IsReplaced}
+use Rattle.hunk_commands.specs.Store.{Contents, HasRun, IsBegun, IsCauseOf, IsReplaced, IsWriteFault}
 use Rattle.hunk_commands.specs.declared.failure.Failure.{Failure}
 use Rattle.hunk_commands.specs.declared.failure.Failure.TheVariants.{Tool}
 use Rattle.std.specs.Prelude.{IsTrue}
@@ -32,9 +36,26 @@ module _ (form : CopyForm) (contents : Contents) (file out : List ℕ) (input : 
   uncopied : (printed : Printed) (fault : ToolFault Global) → IsCopyFault form (ends_between input printed) fault → IsCopyFailure form contents file out (Tool fault)
   uncopied printed fault why = inl (inr (record { input = input; is_reader = is_reader; holds = (printed, why) }))
 
-  pub IsCopyFailure-run : (printed : Printed) (failure : Failure) (ran : Result (Unit {0}) (ToolFault Global)) → IfErr ran (IsCopyFault form (ends_between input printed))
+  -- a copy of the file can be written, since this much of it was
+  has_copy : (Holds : List ℕ → Type 0) → ((bytes : List ℕ) → Holds bytes → (hunks : List FileHunk) × IsLoadOf hunks bytes × CopyFits form hunks)
+      → HasRead input.left input.left_then Holds → IsTrue input.ended → HasCopy form contents file
+  has_copy Holds gives read ended =
+      record { input = input; is_reader = is_reader; holds = (HasRead-weaker input.left input.left_then Holds (λ bytes. (hunks : List FileHunk) × IsLoadOf hunks bytes × CopyFits form hunks) gives read, ended) }
+
+  -- a write of the run failed, so the file has a copy
+  has_copy_where_written : (printed : Printed) (fault : ToolFault Global) → IsWriteFault fault → IsCopyFault form (ends_between input printed) fault → HasCopy form contents file
+  unfolding has_copy
+  has_copy_where_written printed (tool_fault.Output written) is why = has_copy (IsCopyCutShort form printed.old printed.new written) (λ bytes cut. (cut.hunks, cut.is_file, cut.fits)) why.1 why.0
+  has_copy_where_written printed (tool_fault.Input number fault) is why = absurd is
+  has_copy_where_written printed (tool_fault.InputDevice number) is why = absurd is
+  has_copy_where_written printed (tool_fault.Link refusal) is why = absurd is
+  has_copy_where_written printed (tool_fault.Place fault) is why = absurd is
+  has_copy_where_written printed (tool_fault.OutOfMemory written) is why = absurd is
+
+  pub IsCopyFailure-run : (printed : Printed) (failure : Failure) (ran : Result (Unit {0}) (ToolFault Global))
+      → OnOk ran (HasRead input.left input.left_then (IsCopied form printed.old printed.new)) → OnOk ran (IsTrue input.ended) → IfErr ran (IsCopyFault form (ends_between input printed))
       → IsCauseOf ran (contents out) out failure → IsCopyFailure form contents file out failure
-  unfolding uncopied
-  IsCopyFailure-run printed failure (Ok done) why is = inr is
-  IsCopyFailure-run printed failure (Err fault) why (inl same) = subst (IsCopyFailure form contents file out) (sym same) (uncopied printed fault why)
-  IsCopyFailure-run printed failure (Err fault) why (inr unplaced) = inr unplaced.1
+  unfolding uncopied has_copy_where_written
+  IsCopyFailure-run printed failure (Ok done) copied ended why is = inr (has_copy (IsCopied form printed.old printed.new) (λ bytes made. (made.hunks, made.is_file, made.fits)) copied ended, is)
+  IsCopyFailure-run printed failure (Err fault) copied ended why (inl same) = subst (IsCopyFailure form contents file out) (sym same) (uncopied printed fault why)
+  IsCopyFailure-run printed failure (Err fault) copied ended why (inr cause) = inr (has_copy_where_written printed fault cause.0 why, cause.1)

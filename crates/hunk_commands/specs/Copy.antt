@@ -1,6 +1,8 @@
 -- What is known of a load file and of OUT after `copy`, or why it failed.
 use Rattle.std.specs.Prelude.{◌≡◌, ◌⊎◌, ℕ, List, Option}
-use Rattle.hunk_tool.specs.Copy.{IsCopied, IsCopyFault}
+use Rattle.hunk_loadfile.specs.LoadFile.{IsLoadOf}
+use Rattle.hunk_loadfile.specs.LoadHunk.{FileHunk}
+use Rattle.hunk_tool.specs.Copy.{CopyFits, IsCopied, IsCopyFault}
 use Rattle.hunk_tool.specs.FileSystem.{MayBeMissing, OfFile, OfWholeFile}
 use Rattle.hunk_tool.specs.declared.copy.CopyForm.{CopyForm}
 use Rattle.hunk_tool.specs.declared.tool_fault.ToolFault.TheVariants.{OutOfMemory}
@@ -24,6 +26,12 @@ IsUncopied form contents file (Tool fault) =
     (fault ≡ OutOfMemory 0) ⊎ OfFile (contents file) (λ input. (printed : Printed) × IsCopyFault form (ends_between input printed) fault)
 IsUncopied form contents file _ = ⊥
 
--- why `copy` failed: the copy was not made, or it was not put in the place of OUT
+-- the file is a load file of which a copy in this form can be written
+abbrev pub HasCopy : CopyForm → Contents → (file : List ℕ) → Type 0
+HasCopy form contents file = OfWholeFile (contents file) (λ bytes. (hunks : List FileHunk) × IsLoadOf hunks bytes × CopyFits form hunks)
+
+-- why `copy` failed: the copy was not made, or it was not put in the place of OUT, which is not touched before
+-- the whole file has been read as a load file
 abbrev pub IsCopyFailure : CopyForm → Contents → (file out : List ℕ) → Failure → Type 0
-IsCopyFailure form contents file out failure = IsUncopied form contents file failure ⊎ IsUnplaced (contents out) out failure
+IsCopyFailure form contents file out failure =
+    IsUncopied form contents file failure ⊎ (HasCopy form contents file × IsUnplaced (contents out) out failure)

@@ -17,4 +17,4 @@ returns-clause-err g c =
     let contents = g.S.FileSystem.content c.args.store.now in
     IfErr-weaker c.finish.result (IsCauseOf c.copy_run-ran.result (contents c.args.out.now) c.args.out.now) (IsCopyFailure c.args.form contents c.args.file.now c.args.out.now)
     (λ failure is. IsCopyFailure-run c.args.form contents c.args.file.now c.args.out.now (input_of g.S.File.Source.left g.S.File.Source.failed g.S.File.Source.ended c.in_ok-reader.reader c.copy_run-ran.new.reader) (record { from_start = c.in_ok-reader.ensures.there; to_end = g.met.S.FileSystem.at_end _ })
-    (record { old = g.S.New.Sink.taken c.in_ok-new.new; new = g.S.New.Sink.taken c.copy_run-ran.new.writer; failed = g.S.New.Sink.failed c.copy_run-ran.new.writer; waiting = [] }) failure c.copy_run-ran.result c.copy_run-ran.ensures.err is) c.finish.ensures.cause
+    (record { old = g.S.New.Sink.taken c.in_ok-new.new; new = g.S.New.Sink.taken c.copy_run-ran.new.writer; failed = g.S.New.Sink.failed c.copy_run-ran.new.writer; waiting = [] }) failure c.copy_run-ran.result c.copy_run-ran.ensures.ok c.copy_run-ran.ensures.ended c.copy_run-ran.ensures.err is) c.finish.ensures.cause
