@@ -1,5 +1,7 @@
 -- The status after the plain forms, and where memory ran out.
-use Rattle.std.proofs.Common.{◌∷◌, [], Bool, inl, inr, List, Option, refl, subst, ℕ}
+use Rattle.std.proofs.Common.{◌∷◌, [], Bool, inl, inr, List, Option, refl, subst, ℕ, arith}
+use Rattle.std.proofs.KnownBytes.{Appends-kept, Appends-nil}
+use Rattle.hunk_tool.specs.Survey.{AreOfFiles}
 use Rattle.std.specs.Prelude.{⊤}
 use Rattle.hunk_commands.specs.Request.{Ends, EndsCompare, EndsCopy, EndsImage, EndsLink, EndsLoad, EndsSurvey, EndsText, EndsVersion, NoMore, OrExhausted, OrUntouched, Reads, Replaces, Run}
 use Rattle.hunk_commands.specs.Compare.{IsCompareFailure}
@@ -11,7 +13,7 @@ use Rattle.hunk_commands.specs.Link.{IsUndone}
 use Rattle.hunk_commands.specs.Load.{IsLoadFailure}
 use Rattle.hunk_commands.specs.Text.{IsTextFailure}
 use Rattle.hunk_commands.specs.Output.{IsUnprinted}
-use Rattle.hunk_commands.specs.Store.{AreUnchanged}
+use Rattle.hunk_commands.specs.Store.{AreUnchanged, Contents}
 use Rattle.hunk_commands.specs.Survey.{IsCutShort}
 use Rattle.hunk_tool.specs.declared.tool_fault.ToolFault.TheVariants as tool_fault
 use Rattle.hunk_commands.specs.declared.failure.Failure.TheVariants.{Tool}
@@ -19,10 +21,16 @@ use Rattle.hunk_commands.specs.declared.text.Text.{Text}
 use Rattle.hunk_commands.specs.declared.text.Text.TheVariants.{Line, Shown}
 use Rattle.hunk_commands.specs.declared.request.Request.{Request}
 use Rattle.hunk_commands.specs.declared.request.Request.TheVariants.{Load, Link, Image, Check, Show, Survey, Copy, Compare, Version, Help, Refused, OutOfMemory}
+use Rattle.hunk_commands.proofs.ExplainLemmas.{none_asked}
 use Rattle.hunk_commands.proofs.RequestLemmas.{fails_with, not_begun}
 use Rattle.amihunk.specs.CommandLine.{Call, Meaning, Means}
 use Rattle.amihunk.specs.CommandLine.Meaning.{calls, help, nothing, rejection, version}
 use Rattle.amihunk.specs.CommandLine.Call.{conflict, to_check, to_compare, to_copy, to_image, to_link, to_load, to_show, to_survey}
+
+-- of no files nothing is found
+none_found : (contents : Contents) (names : List (List ℕ)) → AreOfFiles contents names []
+none_found contents [] = tt
+none_found contents (name ∷ names) = tt
 
 module _ {W : Type 0} (run : Run) (taken : W → Option (List ℕ)) (failed : W → Bool) (old new : W) where
   -- the status after a call; a conflict has none
@@ -41,29 +49,36 @@ module _ {W : Type 0} (run : Run) (taken : W → Option (List ℕ)) (failed : W 
   ends_text : (text : Text) (explain : Bool) (file : List ℕ) (status : ℕ) → Ends run taken failed old new OutOfMemory status
       → Reads run (λ contents printed. EndsText contents printed taken failed old new text explain file status)
   ends_text text explain file status ends =
-      (inr (not_begun taken failed (OrExhausted run.printed (IsTextFailure text run.contents file run.printed)) (IfAsked explain (AreTextLines run.contents (file ∷ []))) (file ∷ []) status old new (inl (refl, ends.2)) ends.0), ends.1)
+      (inr (not_begun taken failed (OrExhausted run.printed (IsTextFailure text run.contents file run.printed)) (IfAsked explain (AreTextLines run.contents (file ∷ []))) (file ∷ []) status old new (inl (refl, ends.2)) (none_asked explain (AreTextLines run.contents (file ∷ [])) (Tool (tool_fault.OutOfMemory 0)) refl) ends.0), ends.1)
 
   ends_memory : (call : Call) (status : ℕ) → Ends run taken failed old new OutOfMemory status → EndsCall call status
   ends_memory (to_link out map options explain files) status ends = (
     inr (not_begun taken failed (OrUntouched run.contents run.contents_then (IsUndone options run.contents files out map run.contents_then)) (IfAsked explain (AreLinkLines run.contents_then files)) files status old new
-        (inl (refl, ends.1)) ends.0),
+        (inl (refl, ends.1)) (none_asked explain (AreLinkLines run.contents_then files) (Tool (tool_fault.OutOfMemory 0)) refl) ends.0),
     ends.2,
   )
   ends_memory (to_load origin text explain file) status ends =
-      (inr (not_begun taken failed (OrExhausted run.printed (IsLoadFailure text run.contents origin file run.printed)) (IfAsked explain (AreLoadLines run.contents origin file)) (file ∷ []) status old new (inl (refl, ends.2)) ends.0), ends.1)
+      (inr (not_begun taken failed (OrExhausted run.printed (IsLoadFailure text run.contents origin file run.printed)) (IfAsked explain (AreLoadLines run.contents origin file)) (file ∷ []) status old new (inl (refl, ends.2))
+      (none_asked explain (AreLoadLines run.contents origin file) (Tool (tool_fault.OutOfMemory 0)) refl) ends.0), ends.1)
   ends_memory (to_image origin form explain files) status ends =
-      (inr (not_begun taken failed (OrExhausted run.printed (IsImageFailure form run.contents origin files run.printed)) (IfAsked explain (AreImageLines run.contents origin files)) files status old new (inl (refl, ends.2)) ends.0), ends.1)
+      (inr (not_begun taken failed (OrExhausted run.printed (IsImageFailure form run.contents origin files run.printed)) (IfAsked explain (AreImageLines run.contents origin files)) files status old new (inl (refl, ends.2))
+      (none_asked explain (AreImageLines run.contents origin files) (Tool (tool_fault.OutOfMemory 0)) refl) ends.0), ends.1)
   ends_memory (to_check explain file) status ends = ends_text Line explain file status ends
   ends_memory (to_show text explain file) status ends = ends_text (Shown text) explain file status ends
-  ends_memory (to_survey files) status ends = (inr (not_begun taken failed (IsCutShort run.printed) NoMore [] status old new refl ends.0), ends.1)
+  ends_memory (to_survey files) status ends = (
+    inr (not_begun taken failed (IsCutShort run.contents files run.printed) NoMore [] status old new
+        (record { findings = []; few = omega arith; of_files = none_found run.contents files; written = Appends-kept run.printed.old run.printed.old run.printed.new [] (Appends-nil run.printed.old) ends.2 }, refl) refl ends.0),
+    ends.1,
+  )
   ends_memory (to_copy out form explain file) status ends = (
     inr (not_begun taken failed (OrUntouched run.contents run.contents_then (λ failure. IsCopyFailure form run.contents file out failure × AreUnchanged run.contents run.contents_then))
-        (IfAsked explain (AreLoadFileLines run.contents_then (file ∷ []))) (file ∷ []) status old new (inl (refl, ends.1)) ends.0),
+        (IfAsked explain (AreLoadFileLines run.contents_then (file ∷ []))) (file ∷ []) status old new (inl (refl, ends.1))
+        (none_asked explain (AreLoadFileLines run.contents_then (file ∷ [])) (Tool (tool_fault.OutOfMemory 0)) refl) ends.0),
     ends.2,
   )
   ends_memory (to_compare with_symbols first second) status ends = (
     inr (fails_with status_of_comparison taken failed (OrExhausted run.printed (IsCompareFailure with_symbols run.contents first second run.printed)) NoMore (first ∷ second ∷ []) status old new (Tool (tool_fault.OutOfMemory 0))
-        (inl (refl, ends.2)) ends.0.0 ends.0.1),
+        (inl (refl, ends.2)) refl ends.0.0 ends.0.1),
     ends.1,
   )
   ends_memory conflict status ends = ends
@@ -76,7 +91,7 @@ module _ {W : Type 0} (run : Run) (taken : W → Option (List ℕ)) (failed : W 
 
   ends_nothing : (m : Meaning) (status : ℕ) → Ends run taken failed old new OutOfMemory status → EndsAsked m status
   ends_nothing (calls call) status ends = ends_memory call status ends
-  ends_nothing version status ends = (inr (not_begun taken failed (OrExhausted run.printed (IsUnprinted run.printed)) NoMore [] status old new (inl (refl, ends.2)) ends.0), ends.1)
+  ends_nothing version status ends = (inr (not_begun taken failed (OrExhausted run.printed (IsUnprinted run.printed)) NoMore [] status old new (inl (refl, ends.2)) refl ends.0), ends.1)
   ends_nothing help status ends = tt
   ends_nothing rejection status ends = tt
   ends_nothing nothing status ends = tt

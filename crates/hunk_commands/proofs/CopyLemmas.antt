@@ -1,5 +1,5 @@
 -- What the run over OUT returned, and whether OUT was replaced.
-use Rattle.std.proofs.Common.{ℕ, List, Option, Ok, Err, OnOk, IfErr, Result, inl, inr, sym, subst}
+use Rattle.std.proofs.Common.{◌≡◌, ℕ, List, Option, Ok, Err, OnOk, IfErr, Result, inl, inr, sym, subst}
 use Rattle.std.specs.declared.alloc.Global.{Global}
 use Rattle.hunk_base.specs.Streams.{HasRead}
 use Rattle.hunk_base.proofs.StreamsLemmas.{HasRead-weaker}
@@ -7,6 +7,7 @@ use Rattle.hunk_loadfile.specs.LoadFile.{IsLoadOf}
 use Rattle.hunk_loadfile.specs.LoadHunk.{FileHunk}
 use Rattle.hunk_tool.specs.Copy.{CopyFits, IsCopied, IsCopyCutShort, IsCopyFault}
 use Rattle.hunk_tool.specs.FileSystem.{IsReaderOf}
+use Rattle.hunk_tool.specs.FileSystem.FileContent.{unknown}
 use Rattle.hunk_tool.specs.Inputs.{Input}
 use Rattle.hunk_tool.specs.declared.copy.CopyForm.{CopyForm}
 use Rattle.hunk_tool.specs.declared.tool_fault.ToolFault.{ToolFault}
@@ -33,8 +34,8 @@ module _ (form : CopyForm) (contents : Contents) (file out : List ℕ) (input : 
     replaced = replaced;
   }
 
-  uncopied : (printed : Printed) (fault : ToolFault Global) → IsCopyFault form (ends_between input printed) fault → IsCopyFailure form contents file out (Tool fault)
-  uncopied printed fault why = inl (inr (record { input = input; is_reader = is_reader; holds = (printed, why) }))
+  uncopied : (printed : Printed) (fault : ToolFault Global) → IsCopyFault form (ends_between input printed) fault → (IsWriteFault fault → contents out ≡ unknown) → IsCopyFailure form contents file out (Tool fault)
+  uncopied printed fault why device = inl (inr (record { input = input; is_reader = is_reader; holds = (printed, why) }, device))
 
   -- a copy of the file can be written, since this much of it was
   has_copy : (Holds : List ℕ → Type 0) → ((bytes : List ℕ) → Holds bytes → (hunks : List FileHunk) × IsLoadOf hunks bytes × CopyFits form hunks)
@@ -57,5 +58,5 @@ module _ (form : CopyForm) (contents : Contents) (file out : List ℕ) (input : 
       → IsCauseOf ran (contents out) out failure → IsCopyFailure form contents file out failure
   unfolding uncopied has_copy_where_written
   IsCopyFailure-run printed failure (Ok done) copied ended why is = inr (has_copy (IsCopied form printed.old printed.new) (λ bytes made. (made.hunks, made.is_file, made.fits)) copied ended, is)
-  IsCopyFailure-run printed failure (Err fault) copied ended why (inl same) = subst (IsCopyFailure form contents file out) (sym same) (uncopied printed fault why)
+  IsCopyFailure-run printed failure (Err fault) copied ended why (inl cause) = subst (IsCopyFailure form contents file out) (sym cause.0) (uncopied printed fault why cause.1)
   IsCopyFailure-run printed failure (Err fault) copied ended why (inr cause) = inr (has_copy_where_written printed fault cause.0 why, cause.1)

@@ -1,6 +1,9 @@
 -- What is told of a failure after its line.
-use Rattle.std.proofs.Common.{◌≡◌, ◌∙◌, ◌+◌, ℕ, List, [], ◌++◌, length, length-append, append-nil, arith, inl, inr, refl, sym, subst, Bool, true, Option, Some, None, IsTrue}
+use Rattle.std.proofs.Common.{◌≡◌, ◌∙◌, ◌+◌, ℕ, List, [], ◌++◌, length, length-append, append-nil, arith, inl, inr, refl, sym, subst, Bool, true, false, Option, Some, None, IsTrue}
 use Rattle.std.proofs.Math.Seq.{take-append-add}
+use Rattle.std.proofs.lemmas.List.{take-append-le}
+use Rattle.hunk_base.specs.Streams.{WriteStopped}
+use Rattle.hunk_base.specs.declared.fault.WriteFault.TheVariants.{Device}
 use Rattle.std.proofs.KnownBytes.{Appends-nil, Appends-trans}
 use Rattle.std.specs.Option.{IfSome}
 use Rattle.std.specs.Io.KnownBytes.{Appends}
@@ -14,10 +17,14 @@ use Rattle.hunk_files.specs.Explanation.{EndsWith, IsEnd, IsExplained}
 use Rattle.hunk_memory.specs.PlacesText.{places_text}
 use Rattle.hunk_files.specs.declared.explanation.Explanation.{Explanation}
 use Rattle.hunk_commands.specs.Addresses.{HaveNumbers, Origin}
-use Rattle.hunk_commands.specs.Explain.{ArePlaceLines, IfAsked, IsMore, IsOffence, TellsMore, sizes_of}
+use Rattle.hunk_commands.specs.Explain.{AreLines, AreLinesOf, AreNoLines, ArePlaceLines, ArePlaceLinesOf, IfAsked, IsOffence, OrNone, TellsMore, kind_read, sizes_of}
 use Rattle.hunk_commands.specs.Failure.{TellsLine}
 use Rattle.hunk_commands.specs.Store.{Contents}
+use Rattle.hunk_commands.specs.declared.explain.Command.{Command}
 use Rattle.hunk_commands.specs.declared.failure.Failure.{Failure}
+use Rattle.hunk_commands.specs.declared.failure.Failure.TheVariants.{BadNumber, MapOverFile, Opening, Printing, Reading, SameFile, Tool, Writing}
+use Rattle.hunk_commands.specs.OpenFault.{reason_line}
+use Rattle.hunk_tool.specs.declared.tool_fault.ToolFault.TheVariants as tool_fault
 use Rattle.hunk_commands.proofs.FaultLemmas.{one_fault}
 
 -- ---- what is given of a fault
@@ -51,16 +58,35 @@ place_lines contents origin AreHunks loaded hunks bases same are numbers_are = r
 -- ---- what is told
 
 module _ {W : Type 0} (taken : W → Option (List ℕ)) (failed : W → Bool) where
+  -- nothing was written, and there are no further lines
+  pub tells_none : (w : W) → TellsMore taken failed w w AreNoLines
+  tells_none w = record { more = []; is_more = refl; told = inl (Appends-nil (taken w), refl) }
+
   -- nothing was written
-  pub tells_nothing : (w : W) (Holds : List ℕ → Type 0) → TellsMore taken failed w w Holds
+  pub tells_nothing : (w : W) (Holds : List ℕ → Type 0) → TellsMore taken failed w w (OrNone Holds)
   tells_nothing w Holds = record { more = []; is_more = inl refl; told = inl (Appends-nil (taken w), refl) }
 
-  pub tells_lines : (old new : W) (Holds : List ℕ → Type 0) (lines : List ℕ) → Holds lines → TellsLine taken failed old new lines → TellsMore taken failed old new Holds
+  -- nothing was written, since a write had failed before
+  pub tells_stopped : (w : W) (Holds : List ℕ → Type 0) (lines : List ℕ) → Holds lines → IsTrue (failed w) → TellsMore taken failed w w Holds
+  tells_stopped w Holds lines holds failing = record {
+    more = lines;
+    is_more = holds;
+    told = inr (0, (record { within = omega arith; taken = Appends-nil (taken w) }, failing));
+  }
+
+  pub tells_exactly : (old new : W) (Holds : List ℕ → Type 0) (lines : List ℕ) → Holds lines → TellsLine taken failed old new lines → TellsMore taken failed old new Holds
+  tells_exactly old new Holds lines holds told = record { more = lines; is_more = holds; told = told }
+
+  pub tells_lines : (old new : W) (Holds : List ℕ → Type 0) (lines : List ℕ) → Holds lines → TellsLine taken failed old new lines → TellsMore taken failed old new (OrNone Holds)
   tells_lines old new Holds lines holds told = record { more = lines; is_more = inr holds; told = told }
+
+  -- lines that may be missing, since they were told
+  pub tells_or_none : (old new : W) (Holds : List ℕ → Type 0) → TellsMore taken failed old new Holds → TellsMore taken failed old new (OrNone Holds)
+  tells_or_none old new Holds tells = record { more = tells.more; is_more = inr tells.is_more; told = tells.told }
 
   -- the lines about hunks beside their addresses
   pub tells_places : (old new : W) (contents : Contents) (origin : Origin) (AreHunks : List FileHunk → Type 0) (loaded hunks : List FileHunk) (bases : List ℕ)
-      → hunks ≡ loaded → AreHunks loaded → HaveNumbers contents origin bases → TellsLine taken failed old new (places_text (sizes_of hunks) bases) → TellsMore taken failed old new (ArePlaceLines contents origin AreHunks)
+      → hunks ≡ loaded → AreHunks loaded → HaveNumbers contents origin bases → TellsLine taken failed old new (places_text (sizes_of hunks) bases) → TellsMore taken failed old new (OrNone (ArePlaceLines contents origin AreHunks))
   tells_places old new contents origin AreHunks loaded hunks bases same are numbers_are told =
       tells_lines old new (ArePlaceLines contents origin AreHunks) (places_text (sizes_of hunks) bases) (place_lines contents origin AreHunks loaded hunks bases same are numbers_are) told
 
@@ -89,19 +115,61 @@ module _ {W : Type 0} (taken : W → Option (List ℕ)) (failed : W → Bool) wh
   abbrev pub IsAfter : (between new : W) (Holds : List ℕ → Type 0) → Type 0
   IsAfter between new Holds = TellsMore taken failed between new Holds × (IsTrue (failed between) → new ≡ between)
 
+  -- writing stopped in a line, and so before what comes after it
+  tells_front : (old new : W) (line more : List ℕ) → (written : ℕ) × WriteStopped taken failed old new line (Device written) → TellsLine taken failed old new (line ++ more)
+  tells_front old new line more (written, (front, failing)) = inr (
+    written,
+    (
+      record {
+        within = omega (arith, front.within, length-append line more);
+        taken = subst (Appends (taken old) (taken new)) (sym (take-append-le written line more front.within)) front.taken;
+      },
+      failing,
+    ),
+  )
+
   -- the line, and what was told after it
   pub tells_after : (old between new : W) (line : List ℕ) (Holds : List ℕ → Type 0) → TellsLine taken failed old between line
-      → IsAfter between new Holds → (more : List ℕ) × IsMore Holds more × TellsLine taken failed old new (line ++ more)
-  unfolding tells_both tells_line_alone
+      → IsAfter between new Holds → (more : List ℕ) × Holds more × TellsLine taken failed old new (line ++ more)
+  unfolding tells_both tells_front
   tells_after old between new line Holds (inl whole) after = (after.0.more, after.0.is_more, tells_both old between new line after.0.more whole after.0.told)
   tells_after old between new line Holds (inr stopped) after =
-      ([], inl refl, subst (λ w. TellsLine taken failed old w (line ++ [])) (sym (after.1 stopped.1.1)) (tells_line_alone old between line (inr stopped)))
+      (after.0.more, after.0.is_more, subst (λ w. TellsLine taken failed old w (line ++ after.0.more)) (sym (after.1 stopped.1.1)) (tells_front old between line after.0.more stopped))
 
   -- what was told if it was asked for
   pub after_asked : (explain : Bool) (Holds : Failure → List ℕ → Type 0) (failure : Failure) (between new : W) → explain ≡ true → IsAfter between new (Holds failure) → IsAfter between new (IfAsked explain Holds failure)
   after_asked explain Holds failure between new asked after = subst (λ b. IsAfter between new (IfAsked b Holds failure)) (sym asked) after
 
-  -- nothing was told
-  pub after_nothing : (between : W) (Holds : List ℕ → Type 0) → IsAfter between between Holds
-  unfolding tells_nothing
-  after_nothing between Holds = (tells_nothing between Holds, λ failing. refl)
+  -- nothing was told, since it was not asked for
+  pub after_nothing : (explain : Bool) (Holds : Failure → List ℕ → Type 0) (failure : Failure) (between : W) → explain ≡ false → IsAfter between between (IfAsked explain Holds failure)
+  unfolding tells_none
+  after_nothing explain Holds failure between unasked = subst (λ b. IsAfter between between (IfAsked b Holds failure)) (sym unasked) (tells_none between, λ failing. refl)
+
+-- there are no further lines, asked for or not
+pub none_asked : (explain : Bool) (Holds : Failure → List ℕ → Type 0) (failure : Failure) → Holds failure [] → IfAsked explain Holds failure []
+none_asked true Holds failure none = none
+none_asked false Holds failure none = refl
+
+-- there are lines for each failure
+some_lines : (contents : Contents) (kind_of : List ℕ → FileKind) (ArePlaces : List ℕ → Type 0) (files : List (List ℕ)) (failure : Failure) → (more : List ℕ) × AreLines contents kind_of ArePlaces files failure more
+some_lines contents kind_of ArePlaces files (BadNumber addresses index) = ([], refl)
+some_lines contents kind_of ArePlaces files (Opening name reason) = (reason_line reason, refl)
+some_lines contents kind_of ArePlaces files (Reading name) = ([], inl refl)
+some_lines contents kind_of ArePlaces files (Writing name) = ([], refl)
+some_lines contents kind_of ArePlaces files (SameFile name) = ([], refl)
+some_lines contents kind_of ArePlaces files (MapOverFile name) = ([], refl)
+some_lines contents kind_of ArePlaces files Printing = ([], refl)
+some_lines contents kind_of ArePlaces files (Tool (tool_fault.Input file fault)) = ([], inl refl)
+some_lines contents kind_of ArePlaces files (Tool (tool_fault.InputDevice file)) = ([], inl refl)
+some_lines contents kind_of ArePlaces files (Tool (tool_fault.Link refusal)) = ([], inl refl)
+some_lines contents kind_of ArePlaces files (Tool (tool_fault.Place fault)) = ([], inl refl)
+some_lines contents kind_of ArePlaces files (Tool (tool_fault.Output written)) = ([], refl)
+some_lines contents kind_of ArePlaces files (Tool (tool_fault.OutOfMemory written)) = ([], refl)
+
+-- nothing is told of any failure once a write has failed
+pub tells_no_failure : {W : Type 0} (taken : W → Option (List ℕ)) (failed : W → Bool) (w : W) (contents : Contents) (command : Command) (files : List (List ℕ)) (failure : Failure) → IsTrue (failed w)
+    → TellsMore taken failed w w (AreLinesOf contents command files failure)
+unfolding some_lines
+tells_no_failure taken failed w contents command files failure failing =
+    let lines = some_lines contents (kind_read command) (ArePlaceLinesOf contents command files) files failure in
+    tells_stopped taken failed w (AreLinesOf contents command files failure) lines.0 lines.1 failing

@@ -1,7 +1,7 @@
 -- What was read of files that are known, and what is printed of the file that was linked of them.
 use Rattle.std.proofs.Common.{◌≡◌, ◌∙◌, ℕ, List, [], ◌∷◌, ◌++◌, Option, Some, None, map, refl, sym, ap, subst, append-nil}
 use Rattle.std.specs.Io.KnownBytes.{Appends, Consumes, IsAtEnd}
-use Rattle.hunk_tool.specs.FileSystem.{FileContent, IsContent, IsReaderOf, OfWholeFile}
+use Rattle.hunk_tool.specs.FileSystem.{FileContent, IsContent, IsReaderOf, OfFile, OfWholeFile}
 use Rattle.hunk_tool.specs.FileSystem.FileContent.{known}
 use Rattle.hunk_tool.specs.Image.{IsImaged}
 use Rattle.hunk_tool.specs.Inputs.{Input, WasRead, WereRead}
@@ -9,9 +9,14 @@ use Rattle.hunk_tool.specs.Link.{IsLinked, linked_bytes}
 use Rattle.hunk_tool.specs.Load.{IsReported}
 use Rattle.hunk_tool.specs.declared.link_options.LinkOptions.{LinkOptions}
 use Rattle.hunk_tool.proofs.HeadlineLemmas.{reports-agree}
-use Rattle.hunk_commands.specs.Headline.{IsMadeOf, LoadPrintsTheImage}
+use Rattle.hunk_memory.specs.BasesFile.{file_numbers}
+use Rattle.hunk_commands.specs.Addresses.{HasNumbers, HaveNumbers, Origin}
+use Rattle.hunk_commands.specs.Addresses.Origin.{in_file, in_list}
+use Rattle.hunk_commands.specs.Headline.{AreKept, LoadPrintsTheImage}
 use Rattle.hunk_commands.specs.Inputs.{AreReadersOf, OfWholeFiles}
-use Rattle.hunk_commands.specs.Store.{Contents, content_of}
+use Rattle.hunk_commands.specs.Link.{IsDone, IsLinkedWithMap}
+use Rattle.hunk_commands.specs.Store.{Contents, IsKnown, content_of}
+use Rattle.hunk_commands.proofs.InputsLemmas.{OfWholeFiles-weaker}
 
 -- ---- files that are known
 
@@ -58,24 +63,44 @@ appended : (taken : Option (List ℕ)) (bytes : List ℕ) → Appends (Some []) 
 appended None bytes wrote = absurd wrote
 appended (Some held) bytes wrote = ap Some wrote
 
-module _ (options : LinkOptions) (contents contents_then : Contents) (files texts : List (List ℕ)) (out : List ℕ) (of : IsMadeOf options contents files texts out contents_then) where
-  linked : IsLinked options (Some []) of.made.taken texts
-  linked = subst (λ start. IsLinked options start of.made.taken texts) (of.made.begun of.out_known)
-      (of_known_files contents files texts (IsLinked options of.made.start of.made.taken) of.texts_are of.made.linked)
+-- what was put in the place of OUT, with a map or without
+record IsPut (options : LinkOptions) (contents : Contents) (files : List (List ℕ)) (out : List ℕ) (contents_then : Contents) : Type 0 where
+  start : Option (List ℕ)
+  taken : Option (List ℕ)
+  begun : start ≡ Some []
+  links : OfWholeFiles contents files (IsLinked options start taken)
+  placed : contents_then out ≡ content_of taken
+
+put : (options : LinkOptions) (contents contents_then : Contents) (files : List (List ℕ)) (out : List ℕ) (map_file : Option (List ℕ)) → IsKnown (contents out) → IsDone options contents files out map_file contents_then
+    → IsPut options contents files out contents_then
+put options contents contents_then files out None is_known made =
+    record { start = made.start; taken = made.taken; begun = made.begun is_known; links = made.linked; placed = made.replaced.placed is_known }
+put options contents contents_then files out (Some map_file) is_known (mapped, apart) = record {
+  start = mapped.start;
+  taken = mapped.taken;
+  begun = mapped.begun is_known;
+  links = OfWholeFiles-weaker contents files (IsLinkedWithMap options files mapped.start mapped.taken map_file mapped.between contents_then) (IsLinked options mapped.start mapped.taken) (λ read with_map. with_map.linked) mapped.linked;
+  placed = mapped.linked.holds.holds.has_map.replaced.others out apart ∙ mapped.replaced.placed is_known;
+}
+
+module _ (options : LinkOptions) (contents contents_then : Contents) (files texts : List (List ℕ)) (out : List ℕ) (texts_are : map contents files ≡ map known texts) (is_put : IsPut options contents files out contents_then) where
+  linked : IsLinked options (Some []) is_put.taken texts
+  linked = subst (λ start. IsLinked options start is_put.taken texts) is_put.begun
+      (of_known_files contents files texts (IsLinked options is_put.start is_put.taken) texts_are is_put.links)
 
   bytes : List ℕ
   bytes = linked_bytes linked.units options
 
-  taken_is : of.made.taken ≡ Some bytes
+  taken_is : is_put.taken ≡ Some bytes
   unfolding bytes
-  taken_is = appended of.made.taken bytes linked.written
+  taken_is = appended is_put.taken bytes linked.written
 
   linked_as : IsLinked options (Some []) (Some bytes) texts
   linked_as = subst (λ taken. IsLinked options (Some []) taken texts) taken_is linked
 
   -- OUT has these bytes now
   out_is : contents_then out ≡ known bytes
-  out_is = of.made.replaced.placed of.out_known ∙ ap content_of taken_is
+  out_is = is_put.placed ∙ ap content_of taken_is
 
 -- ---- the headline
 
@@ -89,13 +114,25 @@ map_some_injective (x ∷ one) (y ∷ other) same =
     let rest : one ≡ other = map_some_injective one other tails in
     subst (λ it. it ∷ one ≡ y ∷ other) (sym first) (ap (λ xs. y ∷ xs) rest)
 
+-- the numbers in a file that is known are those of its bytes
+file_numbers_are : (content : FileContent) (bases text : List ℕ) → content ≡ known text → OfFile content (λ input. HasNumbers input bases) → file_numbers text ≡ map Some bases
+file_numbers_are content bases text is of =
+    subst (λ bytes. file_numbers bytes ≡ map Some bases) (was_whole content of.input of.holds.0 text is of.is_reader of.holds.1) of.holds.2
+
+-- both read the same numbers
+same_numbers : (contents contents_then : Contents) (origin : Origin) (bases other : List ℕ) → AreKept contents contents_then origin → HaveNumbers contents origin bases → HaveNumbers contents_then origin other → bases ≡ other
+same_numbers contents contents_then (in_list list) bases other kept numbers there = map_some_injective bases other (sym numbers ∙ there)
+same_numbers contents contents_then (in_file name) bases other (text, before, after) numbers there =
+    map_some_injective bases other (sym (file_numbers_are (contents name) bases text before numbers) ∙ file_numbers_are (contents_then name) other text after there)
+
 pub load_prints_the_image : LoadPrintsTheImage
 unfolding linked bytes taken_is linked_as out_is
-load_prints_the_image options form list contents contents_then files texts out loaded imaged told other of is_loaded loads is_imaged images =
+load_prints_the_image options form origin contents contents_then files texts out map_file loaded imaged told other of kept is_loaded loads is_imaged images =
     let bases = is_loaded.0.bases in
-    let same : is_imaged.0.bases ≡ bases = map_some_injective is_imaged.0.bases bases (sym is_imaged.0.numbers_are ∙ is_loaded.0.numbers_are) in
-    let file = bytes options contents contents_then files texts out of in
-    let reported : IsReported form bases loaded.old loaded.new file = of_known_file (contents_then out) file (IsReported form bases loaded.old loaded.new) (out_is options contents contents_then files texts out of) is_loaded.0.holds in
+    let same : is_imaged.0.bases ≡ bases = same_numbers contents contents_then origin is_imaged.0.bases bases kept is_imaged.0.numbers_are is_loaded.0.numbers_are in
+    let is_put : IsPut options contents files out contents_then = put options contents contents_then files out map_file of.out_known of.done in
+    let file = bytes options contents contents_then files texts out of.texts_are is_put in
+    let reported : IsReported form bases loaded.old loaded.new file = of_known_file (contents_then out) file (IsReported form bases loaded.old loaded.new) (out_is options contents contents_then files texts out of.texts_are is_put) is_loaded.0.holds in
     let imaged_as : IsImaged form is_imaged.0.bases imaged.old imaged.new texts = of_known_files contents files texts (IsImaged form is_imaged.0.bases imaged.old imaged.new) of.texts_are is_imaged.0.holds in
     let imaged_there : IsImaged form bases (Some images.before) (Some (images.before ++ other)) texts =
     subst (λ b. IsImaged form b (Some images.before) (Some (images.before ++ other)) texts) same
@@ -104,4 +141,4 @@ load_prints_the_image options form list contents contents_then files texts out l
     let reported_there : IsReported form bases (Some loads.before) (Some (loads.before ++ told)) file =
     subst (λ new. IsReported form bases (Some loads.before) new file) loads.new_is
     (subst (λ old. IsReported form bases old loaded.new file) loads.old_is reported) in
-    reports-agree options form texts bases [] file loads.before told images.before other (linked_as options contents contents_then files texts out of) reported_there imaged_there
+    reports-agree options form texts bases [] file loads.before told images.before other (linked_as options contents contents_then files texts out of.texts_are is_put) reported_there imaged_there

@@ -3,7 +3,10 @@ use Rattle.std.proofs.Common.{◌≡◌, ℕ, zero, suc, ◌+◌, ◌<◌, Bool,
 use Rattle.std.specs.Io.KnownBytes.{IsAtEnd}
 use Rattle.std.specs.List.{Contains}
 use Rattle.std.proofs.lemmas.List.{get_or-map, length-map}
+use Rattle.hunk_base.specs.declared.streams.Source.{Ghosts as FileGhosts}
+use Rattle.hunk_tool.specs.declared.file_system.FileSystem.{Ghosts}
 use Rattle.hunk_tool.specs.FileSystem.{FileContent}
+use Rattle.hunk_tool.specs.FileSystem.FileContent.{unknown}
 use Rattle.hunk_tool.specs.Inputs.{HaveRead, Input, inputs_of, file_names}
 use Rattle.hunk_tool.proofs.InputsLemmas.{HaveRead-weaker}
 use Rattle.hunk_commands.specs.Devices.{IsOpening}
@@ -11,7 +14,7 @@ use Rattle.hunk_commands.specs.Inputs.{AreInputs, AreReadersOf, IsInput, IsOpenF
 use Rattle.hunk_commands.specs.Store.{Contents}
 use Rattle.hunk_commands.specs.declared.failure.Failure.{Failure}
 use Rattle.hunk_commands.specs.declared.failure.Failure.TheVariants.{BadNumber, MapOverFile, Opening, Printing, Reading, SameFile, Tool, Writing}
-use Rattle.hunk_commands.specs.declared.inputs.Input.{Input as FileInput}
+use Rattle.hunk_commands.specs.declared.input.Input.{Input as FileInput}
 
 -- the name of the file with this number is among the names
 pub Contains-name : (files : List (Bor (List ℕ))) (index : ℕ) (none : Bor (List ℕ)) → index < length files → Contains (file_names files) (get_or files index none).now
@@ -30,16 +33,16 @@ IsOpenFailure-opening contents names file (MapOverFile name) among is = absurd i
 IsOpenFailure-opening contents names file Printing among is = absurd is
 IsOpenFailure-opening contents names file (Tool fault) among is = absurd is
 
-module _ {S F : Type 0} (content : S → Contents) (left : F → Option (List ℕ)) (store : S) where
+module _ {S F : Type 0} {g : Ghosts S F} {h : FileGhosts F} (content : S → Contents) (left : F → Option (List ℕ)) (store : S) where
   -- there is one input for each file
-  pub length-inputs : (names : List (List ℕ)) (inputs : List (FileInput S F)) → AreInputs content left store names inputs → length inputs ≡ length names
+  pub length-inputs : (names : List (List ℕ)) (inputs : List (FileInput S F g h)) → AreInputs content left store names inputs → length inputs ≡ length names
   length-inputs [] [] are = refl
   length-inputs [] (input ∷ inputs) are = absurd are
   length-inputs (name ∷ names) [] are = absurd are
   length-inputs (name ∷ names) (input ∷ inputs) are = ap suc (length-inputs names inputs are.1)
 
   -- the inputs so far, and the next one
-  inputs_more : (names : List (List ℕ)) (inputs : List (FileInput S F)) (input : FileInput S F) (index : ℕ) → index < length names
+  inputs_more : (names : List (List ℕ)) (inputs : List (FileInput S F g h)) (input : FileInput S F g h) (index : ℕ) → index < length names
       → AreInputs content left store (take index names) inputs → IsInput content left store (get_or names index []) input → AreInputs content left store (take (suc index) names) (inputs ++ input ∷ [])
   inputs_more [] inputs input index within are is = absurd (omega (arith, within))
   inputs_more (name ∷ names) [] input zero within are is = (is, tt)
@@ -47,7 +50,7 @@ module _ {S F : Type 0} (content : S → Contents) (left : F → Option (List �
   inputs_more (name ∷ names) (first ∷ rest) input zero within are is = absurd are
   inputs_more (name ∷ names) (first ∷ rest) input (suc index) within are is = (are.0, inputs_more names rest input index (omega (arith, within)) are.1 is)
 
-  pub AreInputs-more : (files : List (Bor (List ℕ))) (none : Bor (List ℕ)) (inputs : List (FileInput S F)) (input : FileInput S F) (index : ℕ) → index < length files
+  pub AreInputs-more : (files : List (Bor (List ℕ))) (none : Bor (List ℕ)) (inputs : List (FileInput S F g h)) (input : FileInput S F g h) (index : ℕ) → index < length files
       → AreInputs content left store (take index (file_names files)) inputs → IsInput content left store (get_or files index none).now input
       → AreInputs content left store (take (index + 1) (file_names files)) (inputs ++ input ∷ [])
   AreInputs-more files none inputs input index within are is =
@@ -59,25 +62,25 @@ module _ {S F : Type 0} (content : S → Contents) (left : F → Option (List �
 
   -- ---- what was read of them
 
-  module _ (failed ended : F → Bool) (at_end : (file : F) → IsTrue (ended file) → IsAtEnd (left file)) where
+  module _ (failed ended : F → Bool) (at_end : (file : F) → IsTrue (ended file) → IsAtEnd (left file)) (may_fail : (input : FileInput S F g h) → IsTrue input.failed → (system : S) (name : List ℕ) → content system name ≡ unknown) where
     where_at_end : (content_is : FileContent) (file : Option F) → IsTrue (ended_where ended file) → IsAtEnd (left_where left content_is file)
     where_at_end content_is (Some file) is = at_end file is
     where_at_end content_is None is = cc
 
     -- each of these is what is known of a reader of its file
-    pub AreReadersOf-inputs : (names : List (List ℕ)) (olds news : List (FileInput S F)) → length news ≡ length olds → AreInputs content left store names olds
+    pub AreReadersOf-inputs : (names : List (List ℕ)) (olds news : List (FileInput S F g h)) → length news ≡ length olds → AreInputs content left store names olds
         → AreReadersOf (content store) names (inputs_of (left_in content left) failed_in (ended_in ended) olds news)
     AreReadersOf-inputs [] [] news same are = tt
     AreReadersOf-inputs [] (old ∷ olds) news same are = absurd are
     AreReadersOf-inputs (name ∷ names) [] news same are = absurd are
     AreReadersOf-inputs (name ∷ names) (old ∷ olds) [] same are = absurd (omega (arith, same))
     AreReadersOf-inputs (name ∷ names) (old ∷ olds) (new ∷ news) same are = (
-      record { from_start = are.0.from_start; to_end = where_at_end (content new.store.now new.name.now) new.file },
+      record { from_start = are.0.from_start; to_end = where_at_end (content new.store.now new.name.now) new.file; may_fail = λ failing. may_fail new failing store name },
       AreReadersOf-inputs names olds news (omega (arith, same)) are.1,
     )
 
     -- this holds of readers of the files, since it holds of what was read of their inputs
-    pub OfFiles-inputs : (names : List (List ℕ)) (olds news : List (FileInput S F)) (Holds : List Input → Type 0) → length news ≡ length olds → AreInputs content left store names olds
+    pub OfFiles-inputs : (names : List (List ℕ)) (olds news : List (FileInput S F g h)) (Holds : List Input → Type 0) → length news ≡ length olds → AreInputs content left store names olds
         → Holds (inputs_of (left_in content left) failed_in (ended_in ended) olds news) → OfFiles (content store) names Holds
     OfFiles-inputs names olds news Holds same are holds = record {
       inputs = inputs_of (left_in content left) failed_in (ended_in ended) olds news;

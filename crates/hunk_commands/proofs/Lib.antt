@@ -5,6 +5,7 @@ pub mod FailureLemmas
 pub mod FaultLemmas
 pub mod HeadlineLemmas
 pub mod InputsLemmas
+pub mod KnownFilesLemmas
 pub mod LinkLemmas
 mod MemoryStoreLemmas
 pub mod PrintingLemmas

@@ -1,5 +1,5 @@
 -- What was put in the places of OUT and MAP, and why it was not.
-use Rattle.std.proofs.Common.{◌∙◌, Bool, Bor, Err, IfErr, inl, inr, List, Ok, OnErr, OnOk, Option, refl, Result, subst, sym, ℕ}
+use Rattle.std.proofs.Common.{◌≡◌, ◌∙◌, Bool, Bor, Err, IfErr, inl, inr, List, Ok, OnErr, OnOk, Option, refl, Result, subst, sym, ℕ}
 use Rattle.std.specs.declared.alloc.Global.{Global}
 use Rattle.std.specs.Io.KnownBytes.{Appends}
 use Rattle.hunk_base.specs.Name.{bytes_of}
@@ -13,6 +13,7 @@ use Rattle.hunk_base.specs.declared.fault.WriteFault.TheVariants as write_fault
 use Rattle.hunk_base.specs.declared.fault.WriteFault.TheVariants.{Device}
 use Rattle.hunk_objects.specs.ProgramUnit.{ObjectUnit}
 use Rattle.hunk_tool.specs.FileSystem.{FileContent}
+use Rattle.hunk_tool.specs.FileSystem.FileContent.{unknown}
 use Rattle.hunk_tool.specs.Inputs.{HaveRead}
 use Rattle.hunk_tool.specs.Link.{DoLink, IsLinkCutShort, IsLinkFault, IsLinked, LinkTo, Taken}
 use Rattle.hunk_tool.specs.LinkOptions.{form_of, trimmed_if}
@@ -41,8 +42,8 @@ module _ (options : LinkOptions) (contents : Contents) (names : List (List ℕ))
   links_where_written (tool_fault.Place fault) is of = absurd is
   links_where_written (tool_fault.OutOfMemory written) is of = absurd is
 
-  has_run_fault : (fault : ToolFault Global) → OfFiles contents names (λ inputs. IsLinkFault options inputs taken fault) → HasRunFault options contents names (Tool fault)
-  has_run_fault fault of = OfFiles-weaker contents names (λ inputs. IsLinkFault options inputs taken fault) (λ inputs. (taken : Taken) × IsLinkFault options inputs taken fault) (λ inputs why. (taken, why)) of
+  has_run_fault : (fault : ToolFault Global) → OfFiles contents names (λ inputs. IsLinkFault options inputs taken fault) → (IsWriteFault fault → contents out ≡ unknown) → HasRunFault options contents names out (Tool fault)
+  has_run_fault fault of device = (OfFiles-weaker contents names (λ inputs. IsLinkFault options inputs taken fault) (λ inputs. (taken : Taken) × IsLinkFault options inputs taken fault) (λ inputs why. (taken, why)) of, device)
 
   -- why `link` failed, from what its run returned
   pub IsLinkFailure-run : (failure : Failure) (ran : Result (Unit {0}) (ToolFault Global)) → OnOk ran (OfWholeFiles contents names (IsLinked options taken.old taken.new))
@@ -50,7 +51,7 @@ module _ (options : LinkOptions) (contents : Contents) (names : List (List ℕ))
   unfolding links_where_written has_run_fault
   IsLinkFailure-run failure (Ok done) linked why unplaced =
       inr (inr (OfWholeFiles-weaker contents names (IsLinked options taken.old taken.new) (λ files. (units : List ObjectUnit) × DoLink options.strip files units) (λ files made. (made.units, made.link)) linked, unplaced))
-  IsLinkFailure-run failure (Err fault) linked why (inl same) = inr (inl (subst (HasRunFault options contents names) (sym same) (has_run_fault fault why)))
+  IsLinkFailure-run failure (Err fault) linked why (inl cause) = inr (inl (subst (HasRunFault options contents names out) (sym cause.0) (has_run_fault fault why cause.1)))
   IsLinkFailure-run failure (Err fault) linked why (inr cause) = inr (inr (links_where_written fault cause.0 why, cause.1))
 
   -- the load file that a run made was put in the place of OUT
@@ -91,8 +92,8 @@ IsUnwritten-unplaced content out (Tool fault) is = subst (λ f. IsUnwritten cont
 pub IsUnwritten-cause : (content : FileContent) (out : List ℕ) (failure : Failure) (written : Result (Unit {0}) WriteFault) → IsCauseOf (run_of written) content out failure → IsUnwritten content out failure
 unfolding IsUnwritten-unplaced
 IsUnwritten-cause content out failure (Ok done) unplaced = IsUnwritten-unplaced content out failure unplaced
-IsUnwritten-cause content out failure (Err (Device count)) (inl same) = subst (IsUnwritten content out) (sym same) tt
-IsUnwritten-cause content out failure (Err (write_fault.OutOfMemory count)) (inl same) = subst (IsUnwritten content out) (sym same) tt
+IsUnwritten-cause content out failure (Err (Device count)) (inl cause) = subst (IsUnwritten content out) (sym cause.0) (cause.1 tt)
+IsUnwritten-cause content out failure (Err (write_fault.OutOfMemory count)) (inl cause) = subst (IsUnwritten content out) (sym cause.0) tt
 IsUnwritten-cause content out failure (Err fault) (inr cause) = IsUnwritten-unplaced content out failure cause.1
 
 -- what is told of a map that cannot be put in its place
@@ -103,15 +104,15 @@ IsUnmapped-unplaced content map (Reading name) is = absurd is
 IsUnmapped-unplaced content map (Writing name) is = absurd is
 IsUnmapped-unplaced content map (SameFile name) is = absurd is
 IsUnmapped-unplaced content map (MapOverFile name) is = absurd is
-IsUnmapped-unplaced content map Printing is = refl
+IsUnmapped-unplaced content map Printing is = (refl, is)
 IsUnmapped-unplaced content map (Tool fault) is = subst (λ f. IsUnmapped content map.now (map_failure map (Tool f))) (sym is) tt
 
 -- and of one that was not written, from what the write returned
 pub IsUnmapped-cause : (content : FileContent) (map : Bor (List ℕ)) (failure : Failure) (written : Result (Unit {0}) WriteFault) → IsCauseOf (run_of written) content map.now failure → IsUnmapped content map.now (map_failure map failure)
 unfolding IsUnmapped-unplaced
 IsUnmapped-cause content map failure (Ok done) unplaced = IsUnmapped-unplaced content map failure unplaced
-IsUnmapped-cause content map failure (Err (Device count)) (inl same) = subst (λ f. IsUnmapped content map.now (map_failure map f)) (sym same) refl
-IsUnmapped-cause content map failure (Err (write_fault.OutOfMemory count)) (inl same) = subst (λ f. IsUnmapped content map.now (map_failure map f)) (sym same) tt
+IsUnmapped-cause content map failure (Err (Device count)) (inl cause) = subst (λ f. IsUnmapped content map.now (map_failure map f)) (sym cause.0) (refl, cause.1 tt)
+IsUnmapped-cause content map failure (Err (write_fault.OutOfMemory count)) (inl cause) = subst (λ f. IsUnmapped content map.now (map_failure map f)) (sym cause.0) tt
 IsUnmapped-cause content map failure (Err fault) (inr cause) = IsUnmapped-unplaced content map failure cause.1
 
 -- ---- OUT

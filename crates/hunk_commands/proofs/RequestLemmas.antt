@@ -1,5 +1,5 @@
 -- The status after a request that was not done, and where memory ran out.
-use Rattle.std.proofs.Common.{◌≡◌, ◌∙◌, [], ap, Bool, inl, List, Option, refl, subst, sym, ℕ}
+use Rattle.std.proofs.Common.{◌≡◌, ◌∙◌, [], ap, Bool, List, Option, refl, subst, sym, ℕ}
 use Rattle.hunk_tool.specs.declared.tool_fault.ToolFault.TheVariants as tool_fault
 use Rattle.hunk_commands.specs.Failure.{failure_line, status_of, TellsLine}
 use Rattle.hunk_commands.specs.Request.{IsFailed, IsFailedWith}
@@ -26,26 +26,26 @@ is_failed taken failed AreMore files names status old between new failure same s
 -- a request for some files was not done, and no more than the line of its failure was told; its status is this
 -- one of the failure
 pub fails_with : {W : Type 0} (status_for : Failure → ℕ) (taken : W → Option (List ℕ)) (failed : W → Bool) (Why : Failure → Type 0) (AreMore : Failure → List ℕ → Type 0) (files : List (List ℕ)) (status : ℕ) (old new : W) (failure : Failure)
-    → Why failure → status ≡ status_for failure → TellsLine taken failed old new (failure_line files failure) → IsFailedWith status_for taken failed old new Why AreMore files status
-fails_with status_for taken failed Why AreMore files status old new failure why status_is told = record {
+    → Why failure → AreMore failure [] → status ≡ status_for failure → TellsLine taken failed old new (failure_line files failure) → IsFailedWith status_for taken failed old new Why AreMore files status
+fails_with status_for taken failed Why AreMore files status old new failure why none status_is told = record {
   failure = failure;
   why = why;
   status_is = status_is;
   more = [];
-  is_more = inl refl;
+  is_more = none;
   line = tells_line_alone taken failed old new (failure_line files failure) told;
 }
 
 module _ {W : Type 0} (taken : W → Option (List ℕ)) (failed : W → Bool) (Why : Failure → Type 0) (AreMore : Failure → List ℕ → Type 0) (files : List (List ℕ)) (status : ℕ) where
   -- a request for some files was not done, and no more than the line of its failure was told
-  pub fails_with_line : (old new : W) (failure : Failure) → Why failure → status ≡ status_of failure → TellsLine taken failed old new (failure_line files failure)
+  pub fails_with_line : (old new : W) (failure : Failure) → Why failure → AreMore failure [] → status ≡ status_of failure → TellsLine taken failed old new (failure_line files failure)
       → IsFailed taken failed old new Why AreMore files status
-  fails_with_line old new failure why status_is told = fails_with status_of taken failed Why AreMore files status old new failure why status_is told
+  fails_with_line old new failure why none status_is told = fails_with status_of taken failed Why AreMore files status old new failure why none status_is told
 
   -- it was not begun, since memory ran out
-  pub not_begun : (old new : W) → Why (Tool (tool_fault.OutOfMemory 0)) → (status ≡ 4) × TellsLine taken failed old new (failure_line [] (Tool (tool_fault.OutOfMemory 0)))
+  pub not_begun : (old new : W) → Why (Tool (tool_fault.OutOfMemory 0)) → AreMore (Tool (tool_fault.OutOfMemory 0)) [] → (status ≡ 4) × TellsLine taken failed old new (failure_line [] (Tool (tool_fault.OutOfMemory 0)))
       → IsFailed taken failed old new Why AreMore files status
-  not_begun old new why told = fails_with_line old new (Tool (tool_fault.OutOfMemory 0)) why told.0 told.1
+  not_begun old new why none told = fails_with_line old new (Tool (tool_fault.OutOfMemory 0)) why none told.0 told.1
 
   -- what holds of the failure that was told
   pub IsFailed-why : (old new : W) (failure : Failure) → Why failure → IsFailed taken failed old new (λ told. told ≡ failure) AreMore files status → IsFailed taken failed old new Why AreMore files status

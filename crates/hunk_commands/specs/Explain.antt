@@ -110,18 +110,23 @@ IsReason reason more = more ≡ reason_line reason
 
 -- there are no further lines
 abbrev pub AreNoLines : (more : List ℕ) → Type 0
-AreNoLines more = ⊥
+AreNoLines more = more ≡ []
+
+-- the lines are these; or there are none, since memory ran out, or a file is not read again or is not what it was
+abbrev pub OrNone : (Holds : List ℕ → Type 0) → (more : List ℕ) → Type 0
+OrNone Holds more = (more ≡ []) ⊎ Holds more
 
 -- the lines about a failure for these files, if files are read so, and these are the lines about hunks
--- that cannot be placed
+-- that cannot be placed: a file that cannot be opened has the line with its reason, and what is told of no file
+-- has none
 abbrev pub AreLines : Contents → (kind_of : List ℕ → FileKind) (ArePlaces : List ℕ → Type 0) (files : List (List ℕ)) → Failure → (more : List ℕ) → Type 0
-AreLines contents kind_of ArePlaces files (Tool (Input file fault)) more = AreOffenceLines (content_at contents files file) kind_of fault more
-AreLines contents kind_of ArePlaces files (Tool (Link refusal)) more = AreRefusalLines contents files refusal more
-AreLines contents kind_of ArePlaces files (Tool (Place fault)) more = ArePlaces more
-AreLines contents kind_of ArePlaces files (Tool (InputDevice file)) more = IsReason Directory more
-AreLines contents kind_of ArePlaces files (Reading name) more = IsReason Directory more
+AreLines contents kind_of ArePlaces files (Tool (Input file fault)) more = OrNone (AreOffenceLines (content_at contents files file) kind_of fault) more
+AreLines contents kind_of ArePlaces files (Tool (Link refusal)) more = OrNone (AreRefusalLines contents files refusal) more
+AreLines contents kind_of ArePlaces files (Tool (Place fault)) more = OrNone ArePlaces more
+AreLines contents kind_of ArePlaces files (Tool (InputDevice file)) more = OrNone (IsReason Directory) more
+AreLines contents kind_of ArePlaces files (Reading name) more = OrNone (IsReason Directory) more
 AreLines contents kind_of ArePlaces files (Opening name reason) more = IsReason reason more
-AreLines contents kind_of ArePlaces files _ more = ⊥
+AreLines contents kind_of ArePlaces files _ more = AreNoLines more
 
 -- the lines about hunks that cannot be placed, for a command and its files
 abbrev pub ArePlaceLinesOf : Contents → Command → (files : List (List ℕ)) → (more : List ℕ) → Type 0
@@ -151,19 +156,15 @@ AreLoadFileLines contents files = AreLines contents reads_a_load_file AreNoLines
 abbrev pub AreTextLines : Contents → (files : List (List ℕ)) → Failure → (more : List ℕ) → Type 0
 AreTextLines contents files = AreLines contents kind_of_bytes AreNoLines files
 
--- the same, if they are asked for
+-- the same, if they are asked for; otherwise there are none
 abbrev pub IfAsked : (explain : Bool) (Holds : Failure → List ℕ → Type 0) → Failure → (more : List ℕ) → Type 0
 IfAsked true Holds failure more = Holds failure more
-IfAsked false Holds failure more = ⊥
+IfAsked false Holds failure more = AreNoLines more
 
 -- ---- what is told
 
--- nothing more, or lines of which this holds
-abbrev pub IsMore : (Holds : List ℕ → Type 0) → (more : List ℕ) → Type 0
-IsMore Holds more = (more ≡ []) ⊎ Holds more
-
--- it was appended, or a write failed
+-- lines of which this holds were appended, or a write failed
 pub record TellsMore {W : Type 0} (taken : W → Option (List ℕ)) (failed : W → Bool) (old new : W) (Holds : List ℕ → Type 0) : Type 0 where
   pub more : List ℕ
-  pub is_more : IsMore Holds more
+  pub is_more : Holds more
   pub told : TellsLine taken failed old new more

@@ -1,5 +1,7 @@
 -- The files that a request reads.
 use Rattle.std.specs.Prelude.{◌≡◌, ℕ, List, [], ◌∷◌, Bool, false, Option, Some, None, Contains, ⊤}
+use Rattle.hunk_base.specs.declared.streams.Source.{Ghosts as FileGhosts}
+use Rattle.hunk_tool.specs.declared.file_system.FileSystem.{Ghosts}
 use Rattle.hunk_tool.specs.FileSystem.{FileContent, IsContent, IsReaderOf, MayBeMissing}
 use Rattle.hunk_tool.specs.FileSystem.FileContent.{unknown, missing, known}
 use Rattle.hunk_tool.specs.Inputs.{HaveRead, Input}
@@ -7,7 +9,7 @@ use Rattle.hunk_tool.specs.declared.tool_fault.ToolFault.TheVariants.{OutOfMemor
 use Rattle.hunk_commands.specs.Store.{Contents}
 use Rattle.hunk_commands.specs.declared.failure.Failure.{Failure}
 use Rattle.hunk_commands.specs.declared.failure.Failure.TheVariants.{Opening, Tool}
-use Rattle.hunk_commands.specs.declared.inputs.Input.{Input as FileInput}
+use Rattle.hunk_commands.specs.declared.input.Input.{Input as FileInput}
 
 -- ---- an input
 
@@ -22,7 +24,7 @@ abbrev pub left_where : {F : Type 0} → (F → Option (List ℕ)) → FileConte
 left_where left content (Some file) = left file
 left_where left content None = bytes_known content
 
-abbrev pub left_in : {S F : Type 0} → (S → Contents) → (F → Option (List ℕ)) → FileInput S F → Option (List ℕ)
+abbrev pub left_in : {S F : Type 0} {g : Ghosts S F} {h : FileGhosts F} → (S → Contents) → (F → Option (List ℕ)) → FileInput S F g h → Option (List ℕ)
 left_in contents left input = left_where left (contents input.store.now input.name.now) input.file
 
 -- whether the file was read to its end
@@ -30,22 +32,22 @@ abbrev pub ended_where : {F : Type 0} → (F → Bool) → Option F → Bool
 ended_where ended (Some file) = ended file
 ended_where ended None = false
 
-abbrev pub ended_in : {S F : Type 0} → (F → Bool) → FileInput S F → Bool
+abbrev pub ended_in : {S F : Type 0} {g : Ghosts S F} {h : FileGhosts F} → (F → Bool) → FileInput S F g h → Bool
 ended_in ended input = ended_where ended input.file
 
 -- a read of it failed
-abbrev pub failed_in : {S F : Type 0} → FileInput S F → Bool
+abbrev pub failed_in : {S F : Type 0} {g : Ghosts S F} {h : FileGhosts F} → FileInput S F g h → Bool
 failed_in input = input.failed
 
 -- ---- inputs of files
 
 -- this is an input of the file with this name, of which nothing was read yet
-pub record IsInput {S F : Type 0} (contents : S → Contents) (left : F → Option (List ℕ)) (store : S) (name : List ℕ) (input : FileInput S F) : Type 0 where
+pub record IsInput {S F : Type 0} {g : Ghosts S F} {h : FileGhosts F} (contents : S → Contents) (left : F → Option (List ℕ)) (store : S) (name : List ℕ) (input : FileInput S F g h) : Type 0 where
   pub of_store : input.store.now ≡ store
   pub of_name : input.name.now ≡ name
   pub from_start : IsContent (contents store name) (left_in contents left input)
 
-abbrev pub AreInputs : {S F : Type 0} (contents : S → Contents) (left : F → Option (List ℕ)) (store : S) → (names : List (List ℕ)) → List (FileInput S F) → Type 0
+abbrev pub AreInputs : {S F : Type 0} {g : Ghosts S F} {h : FileGhosts F} (contents : S → Contents) (left : F → Option (List ℕ)) (store : S) → (names : List (List ℕ)) → List (FileInput S F g h) → Type 0
 AreInputs contents left store [] [] = ⊤
 AreInputs contents left store (name ∷ names) (input ∷ inputs) = IsInput contents left store name input × AreInputs contents left store names inputs
 AreInputs contents left store names inputs = ⊥

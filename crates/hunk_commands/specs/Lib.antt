@@ -21,3 +21,4 @@ pub mod OpenFault
 pub mod Replacement
 pub mod Lines
 pub mod Headline
+pub mod KnownFiles

@@ -18,7 +18,7 @@ use Rattle.hunk_tool.specs.declared.tool_fault.ToolFault.TheVariants.{Output, Ou
 use Rattle.hunk_commands.specs.declared.failure.Failure.{Failure}
 use Rattle.hunk_commands.specs.declared.failure.Failure.TheVariants.{MapOverFile, Opening, Printing, SameFile, Tool, Writing}
 use Rattle.hunk_commands.specs.Inputs.{IsOpenFailure, IsUnopened, OfFiles, OfWholeFiles}
-use Rattle.hunk_commands.specs.Store.{AreUnchanged, Contents, IsBegun, IsKnown, IsReplaced, IsUnplaced}
+use Rattle.hunk_commands.specs.Store.{AreUnchanged, Contents, IsBegun, IsKnown, IsReplaced, IsUnplaced, IsWriteFault}
 
 -- the files are object files that link, and this is their load file
 abbrev pub DoLinkTo : (strip : Bool) → Contents → (files : List (List ℕ)) (file : List FileHunk) → Type 0
@@ -42,17 +42,19 @@ AreUnlinked strip contents files _ = ⊥
 abbrev pub DoLinkAll : (strip : Bool) → Contents → (files : List (List ℕ)) → Type 0
 DoLinkAll strip contents files = OfWholeFiles contents files (λ bytes. (units : List ObjectUnit) × DoLink strip bytes units)
 
--- `link_run` returned this fault for readers of the files, and for a writer
-abbrev pub HasRunFault : LinkOptions → Contents → (files : List (List ℕ)) → Failure → Type 0
-HasRunFault options contents files (Tool fault) = OfFiles contents files (λ inputs. (taken : Taken) × IsLinkFault options inputs taken fault)
-HasRunFault options contents files _ = ⊥
+-- `link_run` returned this fault for readers of the files, and for a writer, of which a write failed only if OUT is
+-- not known
+abbrev pub HasRunFault : LinkOptions → Contents → (files : List (List ℕ)) (out : List ℕ) → Failure → Type 0
+HasRunFault options contents files out (Tool fault) =
+    OfFiles contents files (λ inputs. (taken : Taken) × IsLinkFault options inputs taken fault) × (IsWriteFault fault → contents out ≡ unknown)
+HasRunFault options contents files out _ = ⊥
 
 -- why `link` failed: the files cannot be opened, the run over them failed, or what it wrote was not put
 -- in the place of OUT, which is not touched before the files have been linked
 abbrev pub IsLinkFailure : LinkOptions → Contents → (files : List (List ℕ)) (out : List ℕ) → Failure → Type 0
 IsLinkFailure options contents files out failure =
     IsOpenFailure contents files failure
-    ⊎ (HasRunFault options contents files failure ⊎ (DoLinkAll options.strip contents files × IsUnplaced (contents out) out failure))
+    ⊎ (HasRunFault options contents files out failure ⊎ (DoLinkAll options.strip contents files × IsUnplaced (contents out) out failure))
 
 -- ---- with a map
 
@@ -102,7 +104,7 @@ pub record IsMapped (options : LinkOptions) (names : List (List ℕ)) (contents 
 abbrev pub IsUnwritten : FileContent → (out : List ℕ) → Failure → Type 0
 IsUnwritten content out (Opening name reason) = (name.now ≡ out) × (content ≡ unknown)
 IsUnwritten content out Printing = content ≡ unknown
-IsUnwritten content out (Tool (Output written)) = ⊤
+IsUnwritten content out (Tool (Output written)) = content ≡ unknown
 IsUnwritten content out (Tool (OutOfMemory written)) = ⊤
 IsUnwritten content out _ = ⊥
 
@@ -110,7 +112,7 @@ IsUnwritten content out _ = ⊥
 -- memory
 abbrev pub IsUnmapped : FileContent → (map : List ℕ) → Failure → Type 0
 IsUnmapped content map (Opening name reason) = (name.now ≡ map) × (content ≡ unknown)
-IsUnmapped content map (Writing name) = name.now ≡ map
+IsUnmapped content map (Writing name) = (name.now ≡ map) × (content ≡ unknown)
 IsUnmapped content map (Tool (OutOfMemory written)) = ⊤
 IsUnmapped content map _ = ⊥
 

@@ -7,7 +7,7 @@ use Rattle.hunk_tool.specs.declared.copy.CopyForm.{CopyForm}
 use Rattle.hunk_tool.specs.declared.link_options.LinkOptions.{LinkOptions}
 use Rattle.hunk_tool.specs.declared.tool_fault.ToolFault.TheVariants as tool_fault
 use Rattle.hunk_commands.specs.Addresses.{Origin, origin_of}
-use Rattle.hunk_commands.specs.Explain.{AreImageLines, AreLinkLines, AreLoadFileLines, AreLoadLines, AreNoLines, AreTextLines, IfAsked, IsMore}
+use Rattle.hunk_commands.specs.Explain.{AreImageLines, AreLinkLines, AreLoadFileLines, AreLoadLines, AreNoLines, AreTextLines, IfAsked}
 use Rattle.hunk_commands.specs.Failure.{failure_line, status_of, status_of_comparison, TellsLine}
 use Rattle.hunk_commands.specs.Compare.{AreCompared, IsCompareFailure}
 use Rattle.hunk_commands.specs.Copy.{IsCopiedOut, IsCopyFailure}
@@ -28,14 +28,14 @@ use Rattle.hunk_commands.specs.declared.request.Request.{Request}
 use Rattle.hunk_commands.specs.declared.request.Request.TheVariants.{Load, Link, Image, Check, Show, Survey, Copy, Compare, Version, Help, Refused, OutOfMemory}
 
 -- a request for some files was not done, for a reason of which this holds; the status is that of the
--- failure, and its line went to the writer, and then nothing or further lines of which this holds; or a
--- write to it failed
+-- failure, and its line went to the writer, and then further lines of which this holds; or a write to it
+-- failed
 pub record IsFailedWith {W : Type 0} (status_for : Failure → ℕ) (taken : W → Option (List ℕ)) (failed : W → Bool) (old new : W) (Why : Failure → Type 0) (AreMore : Failure → List ℕ → Type 0) (files : List (List ℕ)) (status : ℕ) : Type 0 where
   pub failure : Failure
   pub why : Why failure
   pub status_is : status ≡ status_for failure
   pub more : List ℕ
-  pub is_more : IsMore (AreMore failure) more
+  pub is_more : AreMore failure more
   pub line : TellsLine taken failed old new (failure_line files failure ++ more)
 
 abbrev pub IsFailed : {W : Type 0} (taken : W → Option (List ℕ)) (failed : W → Bool) (old new : W) (Why : Failure → Type 0) (AreMore : Failure → List ℕ → Type 0) (files : List (List ℕ)) (status : ℕ) → Type 0
@@ -80,7 +80,7 @@ EndsText contents printed taken failed old new text explain file status =
 -- the status after `survey`: no file stops it
 abbrev pub EndsSurvey : {W : Type 0} → Contents → Printed → (taken : W → Option (List ℕ)) (failed : W → Bool) (old new : W) (files : List (List ℕ)) → ℕ → Type 0
 EndsSurvey contents printed taken failed old new files status =
-    IsSurveyed contents files printed status ⊎ IsFailed taken failed old new (IsCutShort printed) NoMore [] status
+    IsSurveyed contents files printed status ⊎ IsFailed taken failed old new (IsCutShort contents files printed) NoMore [] status
 
 -- the status of a comparison that was made
 abbrev pub compared_status : (same : Bool) → ℕ

@@ -64,7 +64,8 @@ IsWriteFault (Output written) = ⊤
 IsWriteFault fault = ⊥
 
 -- why a file was not replaced by what a run wrote: the fault of the run; or, if the run wrote everything
--- or a write of it failed, why what it wrote was not put there
+-- or a write of it failed, why what it wrote was not put there. That a write failed is told of a file alone that
+-- is not known.
 abbrev pub IsCauseOf : Result (Unit {0}) (ToolFault Global) → FileContent → (name : List ℕ) → Failure → Type 0
 IsCauseOf (Ok done) content name failure = IsUnplaced content name failure
-IsCauseOf (Err fault) content name failure = (failure ≡ Tool fault) ⊎ (IsWriteFault fault × IsUnplaced content name failure)
+IsCauseOf (Err fault) content name failure = ((failure ≡ Tool fault) × (IsWriteFault fault → content ≡ unknown)) ⊎ (IsWriteFault fault × IsUnplaced content name failure)

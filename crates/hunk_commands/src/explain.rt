@@ -7,7 +7,7 @@ ghost use Rattle.hunk_memory.specs.PlacesText.{places_text};
 ghost use Rattle.hunk_tool.specs.FileSystem.{IsContent};
 ghost use Rattle.hunk_tool.specs.Inputs.{file_names};
 ghost use Rattle.hunk_commands.specs.Addresses.{HaveNumbers, origin_of};
-ghost use Rattle.hunk_commands.specs.Explain.{AreLinesOf, AreOffenceLines, ArePlaceLines, ArePlaceLinesOf, AreRefusalLines, HaveUnits, IsGiven, IsLoadFile, IsReason, TellsMore, kind_read, sizes_of};
+ghost use Rattle.hunk_commands.specs.Explain.{AreLinesOf, AreOffenceLines, ArePlaceLines, ArePlaceLinesOf, AreRefusalLines, HaveUnits, IsGiven, IsLoadFile, IsReason, OrNone, TellsMore, kind_read, sizes_of};
 ghost use Rattle.hunk_commands.specs.Failure.{TellsLine};
 ghost use Rattle.hunk_commands.specs.Link.{DoLinkTo};
 
@@ -47,10 +47,10 @@ pub enum Command<'a> {
 /// hunks that cannot be placed, those of [`write_places`]; and of a file that cannot be opened, or is a
 /// directory and so cannot be read, a line with the reason. Of any other failure it tells nothing.
 ///
-/// Files that are refused, do not link or cannot be placed are read once more for it, so nothing is told
-/// unless each of them is a regular file: a pipe cannot be read again. Nothing is told either if a file that was refused has another first
-/// offence by now, if a file cannot be read, if memory runs out, or if a write to `errors` has failed
-/// before.
+/// Files that are refused, do not link or cannot be placed are read once more for it, so nothing is told of
+/// them unless each of them is a regular file: a pipe cannot be read again. Nothing is told either if a file
+/// that was refused has another first offence by now, if a file cannot be read, if memory runs out, or if a
+/// write to `errors` has failed before. The line with the reason is told in any case but the last.
 pub fn explain_failure<S: Store, W: Sink>(
     alloc: Global,
     store: &S,
@@ -66,31 +66,49 @@ pub fn explain_failure<S: Store, W: Sink>(
         return;
     }
     match failure {
-        Failure::Tool(ToolFault::Input { file, fault }) => {
+        Failure::Tool(fault) => explain_fault(alloc, store, errors, command, files, fault),
+        Failure::Reading(name) => explain_unread(store, errors, name),
+        Failure::Opening(_, reason) => tell_reason(errors, *reason),
+        Failure::BadNumber { .. } => {}
+        Failure::Writing(_) => {}
+        Failure::SameFile(_) => {}
+        Failure::MapOverFile(_) => {}
+        Failure::Printing => {}
+    }
+}
+
+/// Tells more of what `hunk_tool` returned to this command for the files named `files`.
+fn explain_fault<S: Store, W: Sink>(
+    alloc: Global,
+    store: &S,
+    errors: &mut W,
+    command: Command<'_>,
+    files: &[&str],
+    fault: &ToolFault,
+)
+    ensures { TellsMore W.taken W.failed errors.old errors.new (AreLinesOf (S.content store.now) command.entry (file_names files.now) (Failure.Tool fault.now)) }
+{
+    match fault {
+        ToolFault::Input { file, fault } => {
             if let Some(name) = files.get(*file) {
                 explain_offence(alloc, store, errors, command, name, *fault);
             }
         }
-        Failure::Tool(ToolFault::Link(refusal)) => {
-            explain_refusal(alloc, store, errors, files, refusal)
-        },
-        Failure::Tool(ToolFault::Place(_)) => {
-            explain_places(alloc, store, errors, command, files)
-        },
-        Failure::Tool(ToolFault::InputDevice { file }) => {
+        ToolFault::Link(refusal) => explain_refusal(alloc, store, errors, files, refusal),
+        ToolFault::Place(_) => explain_places(alloc, store, errors, command, files),
+        ToolFault::InputDevice { file } => {
             if let Some(name) = files.get(*file) {
                 explain_unread(store, errors, name);
             }
         }
-        Failure::Reading(name) => explain_unread(store, errors, name),
-        Failure::Opening(_, reason) => tell_reason(errors, *reason),
-        _ => {}
+        ToolFault::Output { .. } => {}
+        ToolFault::OutOfMemory { .. } => {}
     }
 }
 
 /// Tells that the file named `name`, of which a read failed, is a directory, if it is one.
 fn explain_unread<S: Store, W: Sink>(store: &S, errors: &mut W, name: &str)
-    ensures { TellsMore W.taken W.failed errors.old errors.new (IsReason OpenFault.Directory) }
+    ensures { TellsMore W.taken W.failed errors.old errors.new (OrNone (IsReason OpenFault.Directory)) }
 {
     if store.is_directory(name) {
         tell_reason(errors, OpenFault::Directory);
@@ -115,7 +133,7 @@ fn explain_offence<S: Store, W: Sink>(
     name: &str,
     fault: Fault,
 )
-    ensures { TellsMore W.taken W.failed errors.old errors.new (AreOffenceLines (S.content store.now name.now) (kind_read command.entry) fault) }
+    ensures { TellsMore W.taken W.failed errors.old errors.new (OrNone (AreOffenceLines (S.content store.now name.now) (kind_read command.entry) fault)) }
 {
     let Some(mut reader) = open_again(store, name) else {
         return;
@@ -181,7 +199,7 @@ fn explain_refusal<S: Store, W: Sink>(
     files: &[&str],
     refusal: &LinkRefusal,
 )
-    ensures { TellsMore W.taken W.failed errors.old errors.new (AreRefusalLines (S.content store.now) (file_names files.now) refusal.now) }
+    ensures { TellsMore W.taken W.failed errors.old errors.new (OrNone (AreRefusalLines (S.content store.now) (file_names files.now) refusal.now)) }
 {
     let Some(units) = units_again(alloc, store, files) else {
         return;
@@ -205,7 +223,7 @@ fn explain_places<S: Store, W: Sink>(
     command: Command<'_>,
     files: &[&str],
 )
-    ensures { TellsMore W.taken W.failed errors.old errors.new (ArePlaceLinesOf (S.content store.now) command.entry (file_names files.now)) }
+    ensures { TellsMore W.taken W.failed errors.old errors.new (OrNone (ArePlaceLinesOf (S.content store.now) command.entry (file_names files.now))) }
 {
     match command {
         Command::Load(addresses) => {
@@ -226,7 +244,7 @@ fn explain_loaded_places<S: Store, W: Sink>(
     addresses: Addresses<'_>,
     name: &str,
 )
-    ensures { TellsMore W.taken W.failed errors.old errors.new (ArePlaceLines (S.content store.now) (origin_of addresses.entry) (IsLoadFile (S.content store.now name.now))) }
+    ensures { TellsMore W.taken W.failed errors.old errors.new (OrNone (ArePlaceLines (S.content store.now) (origin_of addresses.entry) (IsLoadFile (S.content store.now name.now)))) }
 {
     let Some(bases) = addresses_again(alloc, store, addresses) else {
         return;
@@ -248,7 +266,7 @@ fn explain_linked_places<S: Store, W: Sink>(
     addresses: Addresses<'_>,
     files: &[&str],
 )
-    ensures { TellsMore W.taken W.failed errors.old errors.new (ArePlaceLines (S.content store.now) (origin_of addresses.entry) (DoLinkTo true (S.content store.now) (file_names files.now))) }
+    ensures { TellsMore W.taken W.failed errors.old errors.new (OrNone (ArePlaceLines (S.content store.now) (origin_of addresses.entry) (DoLinkTo true (S.content store.now) (file_names files.now)))) }
 {
     let Some(bases) = addresses_again(alloc, store, addresses) else {
         return;

@@ -7,62 +7,13 @@ ghost use Rattle.hunk_commands.specs.Inputs.{AreInputs, IsInput, IsOpenFailure};
 
 use crate::devices::open;
 use crate::failure::Failure;
+use crate::input::Input;
 use crate::store::Store;
-use hunk_words::{DeviceFault, Source};
 use std::alloc::{AllocError, Global};
 
 /// How many regular files stay open until they are read. Those after them are closed at once, and
 /// opened again by their first read, since a process can open only so many files at a time.
 const MOST_OPEN: usize = 32;
-
-/// A file that a request reads.
-#[derive(Drop)]
-pub struct Input<'s, 'a, S, F> {
-    store: &'s S,
-    name: &'a str,
-    /// The file, if it is open: otherwise the first read opens it.
-    file: Option<F>,
-    failed: bool,
-}
-
-impl<S: Store> Source for Input<'_, '_, S, S::File> {
-    ghost use Rattle.hunk_commands.specs.Inputs.{ended_in, failed_in, left_in};
-
-    ghost left = { left_in S.content S.File.left };
-
-    ghost failed = { failed_in };
-
-    ghost ended = { ended_in S.File.ended };
-
-    fn read(&mut self, buffer: &mut [u8]) -> Result<usize, DeviceFault> {
-        let result = match &mut self.file {
-            Some(file) => file.read(buffer),
-            None => match self.store.open(self.name) {
-                Ok(mut file) => {
-                    let result = file.read(buffer);
-                    self.file = Some(file);
-                    result
-                }
-                Err(_) => Err(DeviceFault),
-            },
-        };
-        if result.is_err() {
-            self.failed = true;
-        }
-        result
-    }
-
-    fn failed(&self) -> bool {
-        self.failed
-    }
-
-    fn ended(&self) -> bool {
-        match &self.file {
-            Some(file) => file.ended(),
-            None => false,
-        }
-    }
-}
 
 /// Opens the files in order, and returns the inputs that read them. Of the regular files no more than
 /// [`MOST_OPEN`] stay open; pipes and devices all do, since they cannot be opened again.
@@ -75,7 +26,7 @@ pub fn open_inputs<'s, 'a, S: Store>(
     alloc: Global,
     store: &'s S,
     files: &[&'a str],
-) -> Result<Vec<Input<'s, 'a, S, S::File>>, Failure<'a>>
+) -> Result<Vec<Input<'s, 'a, S>>, Failure<'a>>
     ensures are { IfOk result (λ inputs. AreInputs S.content S.File.left store.now (file_names files.entry.now) inputs.items) }
     ensures err { IfErr result (IsOpenFailure (S.content store.now) (file_names files.entry.now)) }
 {
@@ -94,7 +45,7 @@ fn open_input<'s, 'a, S: Store>(
     store: &'s S,
     name: &'a str,
     number: usize,
-) -> Result<Input<'s, 'a, S, S::File>, Failure<'a>>
+) -> Result<Input<'s, 'a, S>, Failure<'a>>
     ensures is { IfOk result (λ input. IsInput S.content S.File.left store.now name.entry.now input) }
     ensures err { IfErr result (IsOpening (S.content store.now) name.entry) }
 {
@@ -104,12 +55,7 @@ fn open_input<'s, 'a, S: Store>(
     } else {
         Some(file)
     };
-    Ok(Input {
-        store,
-        name,
-        file,
-        failed: false,
-    })
+    Ok(Input::new(store, name, file))
 }
 
 /// Copies of the names of files.

@@ -6,7 +6,7 @@
 //! - `addresses`: where the addresses of the hunks come from.
 //! - `explain`: what is told of a failure after its line.
 //! - `devices`: the file that a command reads, the one that it replaces, and what it prints.
-//! - `inputs`: the files that a command reads, if there are several.
+//! - `inputs`: the files that a command reads, if there are several; `input`: one of them.
 //! - `load`: the command `load`.
 //! - `link`: the command `link`.
 //! - `image`: the command `image`.
@@ -39,6 +39,7 @@ mod devices;
 pub mod explain;
 mod failure;
 pub mod image;
+mod input;
 mod inputs;
 pub mod laws;
 mod lines;
@@ -61,7 +62,8 @@ mod version;
 
 pub use addresses::{Addresses, addresses_of};
 pub use failure::{COMMAND_LINE, DEVICE, DIFFERENT, DONE, Failure, report_failure};
-pub use inputs::{Input, open_inputs};
+pub use input::Input;
+pub use inputs::open_inputs;
 pub use lines::Lines;
 pub use load::LoadText;
 pub use memory_store::{MemoryFile, MemoryStore, NewBytes};

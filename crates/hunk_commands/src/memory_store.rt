@@ -125,7 +125,7 @@ impl Sink for NewBytes {
 }
 
 impl<'m> FileSystem for MemoryStore<'m> {
-    ghost use Rattle.hunk_commands.specs.MemoryStore.{content_in};
+    ghost use Rattle.hunk_commands.specs.MemoryStore.{all_known, content_in, never_fails};
 
     ghost content = { content_in };
 
@@ -142,6 +142,10 @@ impl<'m> FileSystem for MemoryStore<'m> {
     }
 
     ghost at_end = { λ file. file.at_end };
+
+    ghost all_unknown = { all_known };
+
+    ghost may_fail = { λ store name file failing. never_fails store name failing };
 }
 
 impl<'m> Store for MemoryStore<'m> {

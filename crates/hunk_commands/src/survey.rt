@@ -22,7 +22,8 @@ use std::alloc::Global;
 /// # Errors
 ///
 /// [`Failure::Printing`] if the output did not take or pass on all lines, and [`Failure::Tool`] if memory
-/// ran out; the lines about the files before are printed then, as far as the output takes them.
+/// ran out. The output has then taken exactly the first bytes of the lines about the files so far; all of
+/// them, if memory ran out.
 pub fn survey<'a, S: Store, O: Output>(
     alloc: Global,
     store: &S,
@@ -30,7 +31,7 @@ pub fn survey<'a, S: Store, O: Output>(
     files: &[&'a str],
 ) -> Result<u8, Failure<'a>>
     ensures ok { IfOk result (IsSurveyed (S.content store.now) (file_names files.entry.now) (printed_of O.taken O.failed O.waiting output.old output.new)) }
-    ensures err { IfErr result (IsCutShort (printed_of O.taken O.failed O.waiting output.old output.new)) }
+    ensures err { IfErr result (IsCutShort (S.content store.now) (file_names files.entry.now) (printed_of O.taken O.failed O.waiting output.old output.new)) }
 {
     let findings = match survey_files(alloc, store, files, output) {
         Ok(findings) => findings,

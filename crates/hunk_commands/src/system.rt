@@ -27,6 +27,7 @@ impl<'r, R: Files + AllocGlobal> System<'r, R> {
 
 impl<'r, R: Files + AllocGlobal> FileSystem for System<'r, R> {
     ghost use Rattle.hunk_tool.specs.FileSystem.FileContent.{unknown};
+    ghost use Rattle.std.specs.Prelude.{refl};
     ghost use Rattle.hunk_commands.specs.SystemFile.{at_end};
 
     ghost content = { λ system name. unknown };
@@ -41,6 +42,10 @@ impl<'r, R: Files + AllocGlobal> FileSystem for System<'r, R> {
     }
 
     ghost at_end = { at_end R.File.Read.remaining };
+
+    ghost all_unknown = { λ system other name another is. is };
+
+    ghost may_fail = { λ system name file failing. refl };
 }
 
 impl<'r, R: Files + AllocGlobal> Store for System<'r, R> {

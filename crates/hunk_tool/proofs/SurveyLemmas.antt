@@ -1,12 +1,13 @@
 -- What a survey finds of a file that was counted, and its lines, put together from the pieces that are
 -- written.
-use Rattle.std.proofs.Common.{◌≡◌, ◌∙◌, ℕ, zero, suc, ◌+◌, ◌<◌, List, [], ◌∷◌, ◌++◌, Bor, Option, ap₂, ap, append_assoc, append-nil, length, take, get_or, refl, subst, sym, arith}
+use Rattle.std.proofs.Common.{◌≡◌, ◌∙◌, ℕ, zero, suc, ◌+◌, ◌<◌, ◌≤◌, List, [], ◌∷◌, ◌++◌, Bor, Option, ap₂, ap, append_assoc, append-nil, length, length-append, take, get_or, refl, subst, sym, arith}
 use Rattle.std.specs.Io.KnownBytes.{Appends}
+use Rattle.std.proofs.Math.Seq.{take-append-add}
 use Rattle.std.proofs.KnownBytes.{Appends-trans}
 use Rattle.std.proofs.lemmas.List.{get_or-map, length-map}
 use Rattle.std.proofs.lemmas.List.Elements.{All-cons, All-head, All-tail}
-use Rattle.std.specs.List.{zip}
-use Rattle.hunk_base.specs.Streams.{HasRead}
+use Rattle.std.specs.List.{All, flat_map, zip}
+use Rattle.hunk_base.specs.Streams.{HasRead, TookFront}
 use Rattle.hunk_words.specs.declared.event.FileKind.{FileKind}
 use Rattle.hunk_words.specs.declared.event.FileKind.TheVariants as kind_is
 use Rattle.hunk_base.proofs.StreamsLemmas.{HasRead-weaker}
@@ -16,7 +17,7 @@ use Rattle.hunk_files.specs.FileValue.{kind_of_bytes}
 use Rattle.hunk_files.specs.FileValue.FileValue.{load_file, object_file}
 use Rattle.hunk_tool.specs.FileSystem.{FileContent}
 use Rattle.hunk_tool.specs.Inputs.{file_names}
-use Rattle.hunk_tool.specs.Survey.{AreOfFiles, IsFoundIn, IsOfFile, finding_line, finding_lines}
+use Rattle.hunk_tool.specs.Survey.{AreFoundFirst, AreOfFiles, IsCutShort, IsFoundIn, IsOfFile, finding_line, finding_lines}
 use Rattle.hunk_files.specs.declared.counters.LoadCounter.{LoadCounter}
 use Rattle.hunk_files.specs.declared.counters.ObjectCounter.{ObjectCounter}
 use Rattle.hunk_files.specs.declared.file_decoder.File.TheVariants as file
@@ -109,3 +110,66 @@ AreOfFiles-more content files none findings finding index is within front next =
     subst (λ count. AreOfFiles content (take count (file_names files)) (findings ++ finding ∷ [])) one
     (findings-more content (file_names files) findings finding index is (omega (arith, within, length-map files name)) front
     (subst (λ it. IsOfFile (content it) finding) (sym here) next))
+
+-- ---- where it was cut short
+
+-- names past the findings have no line
+zip-first : (names : List (List ℕ)) (findings : List Finding) (count : ℕ) → length findings ≡ count → zip (take count names) findings ≡ zip names findings
+zip-first [] findings zero is = refl
+zip-first [] findings (suc count) is = refl
+zip-first (name ∷ names) [] zero is = refl
+zip-first (name ∷ names) [] (suc count) is = absurd (omega (arith, is))
+zip-first (name ∷ names) (finding ∷ findings) zero is = absurd (omega (arith, is))
+zip-first (name ∷ names) (finding ∷ findings) (suc count) is = ap (λ rest. (name, finding) ∷ rest) (zip-first names findings count (omega (arith, is)))
+
+-- what was found of the first files, by the names of all
+of_first : (content : List ℕ → FileContent) (names : List (List ℕ)) (findings : List Finding) (count : ℕ) → length findings ≡ count
+    → AreOfFiles content (take count names) findings → AreOfFiles content names findings
+of_first content names findings count is of = subst (All (λ about. IsOfFile (content about.0) about.1)) (zip-first names findings count is) of
+
+-- and the lines about them
+lines-first : (names : List (List ℕ)) (findings : List Finding) (count : ℕ) → length findings ≡ count → finding_lines (take count names) findings ≡ finding_lines names findings
+lines-first names findings count is = ap (flat_map (λ about. finding_line about.0 about.1)) (zip-first names findings count is)
+
+-- the lines about the first files were written
+pub found_first : (content : List ℕ → FileContent) (files : List (Bor (List ℕ))) (findings : List Finding) (count : ℕ) (before now : Option (List ℕ)) → length findings ≡ count → count ≤ length files
+    → AreOfFiles content (take count (file_names files)) findings → Appends before now (finding_lines (take count (file_names files)) findings) → AreFoundFirst content (file_names files) before now
+found_first content files findings count before now is within of written =
+    let name : Bor (List ℕ) → List ℕ = λ file. file.now in
+    record {
+      findings = findings;
+      few = omega (arith, is, within, length-map files name);
+      of_files = of_first content (file_names files) findings count is of;
+      written = subst (Appends before now) (lines-first (file_names files) findings count is) written;
+    }
+
+-- writing stopped in what came after a text
+front-after : (old between new : Option (List ℕ)) (text more : List ℕ) (written : ℕ) → Appends old between text → TookFront between new more written → TookFront old new (text ++ more) (length text + written)
+front-after old between new text more written whole front = record {
+  within = omega (arith, front.within, length-append text more);
+  taken = subst (Appends old new) (sym (take-append-add text more written)) (Appends-trans old between new text (take written more) whole front.taken);
+}
+
+-- writing stopped in the line about the next file
+pub cut_short : (content : List ℕ → FileContent) (files : List (Bor (List ℕ))) (none : Bor (List ℕ)) (findings : List Finding) (finding : Finding) (index : ℕ) (before between now : Option (List ℕ)) (written : ℕ)
+    → length findings ≡ index → index < length files
+    → AreOfFiles content (take index (file_names files)) findings → IsOfFile (content (get_or files index none).now) finding
+    → Appends before between (finding_lines (take index (file_names files)) findings) → TookFront between now (finding_line (get_or files index none).now finding) written
+    → (count : ℕ) × IsCutShort content (file_names files) before now count
+cut_short content files none findings finding index before between now written is within front next lines stopped =
+    let name : Bor (List ℕ) → List ℕ = λ file. file.now in
+    let names = file_names files in
+    let many : length (findings ++ finding ∷ []) ≡ index + 1 = omega (arith, is, length-append findings (finding ∷ [])) in
+    let one : suc index ≡ index + 1 = omega arith in
+    let here : get_or names index [] ≡ (get_or files index none).now = get_or-map name files index none [] within in
+    let more : finding_lines names (findings ++ finding ∷ []) ≡ finding_lines (take index names) findings ++ finding_line (get_or files index none).now finding =
+    sym (lines-first names (findings ++ finding ∷ []) (suc index) (many ∙ sym one))
+    ∙ (lines-more names findings finding index is (omega (arith, within, length-map files name)) ∙ ap (λ it. finding_lines (take index names) findings ++ finding_line it finding) here) in (
+      length (finding_lines (take index names) findings) + written,
+      record {
+        findings = findings ++ finding ∷ [];
+        few = omega (arith, many, within, length-map files name);
+        of_files = of_first content names (findings ++ finding ∷ []) (index + 1) many (AreOfFiles-more content files none findings finding index is within front next);
+        front = subst (λ text. TookFront before now text (length (finding_lines (take index names) findings) + written)) (sym more) (front-after before between now _ _ written lines stopped);
+      },
+    )

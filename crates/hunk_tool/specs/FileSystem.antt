@@ -26,6 +26,7 @@ MayBeMissing (known bytes) = ⊥
 pub record IsReaderOf (content : FileContent) (input : Input) : Type 0 where
   pub from_start : IsContent content input.left
   pub to_end : IsTrue input.ended → IsAtEnd input.left_then
+  pub may_fail : IsTrue input.failed → content ≡ unknown
 
 -- This holds of a reader of the file.
 pub record OfFile (content : FileContent) (Holds : Input → Type 0) : Type 0 where

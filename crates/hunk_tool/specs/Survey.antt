@@ -1,14 +1,15 @@
 -- What a survey finds of files, and what it tells of them.
-use Rattle.std.specs.Prelude.{◌≡◌, ◌⊎◌, ℕ, Bool, true, false, IsTrue, List, ◌++◌, codes, if◌then◌else◌, length, nat_lt, sum_by, Option}
+use Rattle.std.specs.Prelude.{◌≡◌, ◌⊎◌, ℕ, ◌≤◌, Bool, true, false, IsTrue, List, ◌++◌, codes, if◌then◌else◌, length, nat_lt, sum_by, Option}
 use Rattle.std.specs.Fmt.{decimal}
 use Rattle.std.specs.Io.KnownBytes.{Appends}
 use Rattle.std.specs.List.{All, filter, flat_map, zip}
-use Rattle.hunk_base.specs.Streams.{HasRead}
+use Rattle.hunk_base.specs.Streams.{HasRead, TookFront}
 use Rattle.hunk_objects.specs.ProgramUnit.{hunk_count}
 use Rattle.hunk_text.specs.Listing.{load_line, object_line}
 use Rattle.hunk_base.specs.Text.{line}
 use Rattle.hunk_tool.specs.FaultLine.{reason_text}
 use Rattle.hunk_tool.specs.FileSystem.{FileContent, MayBeMissing, OfFile}
+use Rattle.hunk_tool.specs.Link.{Taken}
 use Rattle.hunk_files.specs.FileDecoder.{IsRefused}
 use Rattle.hunk_files.specs.FileValue.{FileValue, IsOfItsKind}
 use Rattle.hunk_files.specs.FileValue.FileValue.{object_file, load_file}
@@ -74,11 +75,26 @@ pub record AreFound (content : List ℕ → FileContent) (names : List (List ℕ
   pub of_files : AreOfFiles content names findings
   pub written : Appends old new (finding_lines names findings)
 
--- why the lines were not all written, where this says whether a write of the writer failed before
--- and after: a write failed, or out of memory and no write failed
-abbrev pub IsSurveyFault : (failed failed_then : Bool) → SurveyFault → Type 0
-IsSurveyFault failed failed_then Output = IsTrue failed_then
-IsSurveyFault failed failed_then OutOfMemory = failed_then ≡ failed
+-- these are the findings of the first of the files with these names, one for each, and the writer took exactly
+-- the lines about them
+pub record AreFoundFirst (content : List ℕ → FileContent) (names : List (List ℕ)) (old new : Option (List ℕ)) : Type 0 where
+  pub findings : List Finding
+  pub few : length findings ≤ length names
+  pub of_files : AreOfFiles content names findings
+  pub written : Appends old new (finding_lines names findings)
+
+-- likewise, and it took exactly the first `written` bytes of the lines about them
+pub record IsCutShort (content : List ℕ → FileContent) (names : List (List ℕ)) (old new : Option (List ℕ)) (written : ℕ) : Type 0 where
+  pub findings : List Finding
+  pub few : length findings ≤ length names
+  pub of_files : AreOfFiles content names findings
+  pub front : TookFront old new (finding_lines names findings) written
+
+-- why the lines were not all written, where this says whether a write of the writer failed before: a write
+-- failed, or out of memory and no write failed
+abbrev pub IsSurveyFault : (content : List ℕ → FileContent) (names : List (List ℕ)) (failed : Bool) → Taken → SurveyFault → Type 0
+IsSurveyFault content names failed taken Output = ((written : ℕ) × IsCutShort content names taken.old taken.new written) × IsTrue taken.failed
+IsSurveyFault content names failed taken OutOfMemory = AreFoundFirst content names taken.old taken.new × (taken.failed ≡ failed)
 
 -- ---- the numbers of files
 

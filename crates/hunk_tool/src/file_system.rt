@@ -2,6 +2,7 @@
 
 ghost use Rattle.std.specs.Prelude.{◌≡◌, false, ℕ, List, IfErr, IfOk, IsTrue};
 ghost use Rattle.std.specs.Io.KnownBytes.{IsAtEnd};
+ghost use Rattle.hunk_tool.specs.FileSystem.FileContent.{unknown};
 ghost use Rattle.hunk_tool.specs.FileSystem.{FileContent, IsContent, MayBeMissing};
 
 use hunk_words::Source;
@@ -49,4 +50,10 @@ pub trait FileSystem {
 
     // A file that was read to its end has no byte left.
     ghost at_end: { (file : Self.File) → IsTrue (Self.File.ended file) → IsAtEnd (Self.File.left file) };
+
+    // Where nothing is known of one file, nothing is known of any.
+    ghost all_unknown: { (system other : Self) (name another : List ℕ) → content system name ≡ unknown → content other another ≡ unknown };
+
+    // A read fails only where nothing is known of the files.
+    ghost may_fail: { (system : Self) (name : List ℕ) (file : Self.File) → IsTrue (Self.File.failed file) → content system name ≡ unknown };
 }

@@ -3,6 +3,7 @@
 ghost use Rattle.std.specs.Prelude.{◌≡◌, ◌++◌, codes, IfOk, IfErr};
 ghost use Rattle.hunk_base.specs.Streams.{WroteText};
 ghost use Rattle.hunk_base.specs.Text.{Puts};
+ghost use Rattle.hunk_tool.specs.Compare.{taken_of};
 ghost use Rattle.hunk_tool.specs.Inputs.{file_names};
 ghost use Rattle.hunk_tool.specs.Survey.{finding_line, finding_text, is_load, is_object, is_refused, is_unreadable, number_of, survey_status, totals_line};
 ghost use Rattle.hunk_tool.specs.Survey.{AreFound, IsFound, IsOfFile, IsSurveyFault};
@@ -108,7 +109,7 @@ pub enum SurveyFault {
 /// - [`SurveyFault::Output`] if a write failed or took no byte.
 /// - [`SurveyFault::OutOfMemory`] if an allocation failed.
 ///
-/// The lines about the files before are written then.
+/// The writer has then taken exactly the first bytes of the lines about the files so far; all of them, if memory ran out.
 pub fn survey_files<A: Allocator + Copy, S: FileSystem, W: Sink>(
     alloc: A,
     system: &S,
@@ -116,7 +117,7 @@ pub fn survey_files<A: Allocator + Copy, S: FileSystem, W: Sink>(
     writer: &mut W,
 ) -> Result<Vec<Finding, A>, SurveyFault>
     ensures ok { IfOk result (λ findings. AreFound (S.content system.now) (file_names names.now) (W.taken writer.old) (W.taken writer.new) findings.items) }
-    ensures err { IfErr result (IsSurveyFault (W.failed writer.old) (W.failed writer.new)) }
+    ensures err { IfErr result (IsSurveyFault (S.content system.now) (file_names names.now) (W.failed writer.old) (taken_of W.taken W.failed writer.old writer.new)) }
 {
     let mut findings = Vec::new(alloc);
     for name in names {

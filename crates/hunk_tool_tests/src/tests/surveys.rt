@@ -228,6 +228,7 @@ struct Shelf {
 }
 
 impl FileSystem for Shelf {
+    ghost use Rattle.std.specs.Prelude.{refl};
     ghost use Rattle.hunk_tool.specs.FileSystem.FileContent.{unknown};
 
     ghost content = { λ shelf name. unknown };
@@ -251,6 +252,10 @@ impl FileSystem for Shelf {
     }
 
     ghost at_end = { λ file ended. tt };
+
+    ghost all_unknown = { λ shelf other name another is. is };
+
+    ghost may_fail = { λ shelf name file failing. refl };
 }
 
 // The files that are surveyed, and what is found of them.

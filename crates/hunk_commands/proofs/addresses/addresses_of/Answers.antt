@@ -12,4 +12,4 @@ pub returns-in_ok-reader-in-File-clause-err : goal.returns-in_ok-reader-in-File-
 returns-in_ok-reader-in-File-clause-err g c =
     let input = input_of g.S.File.Source.left g.S.File.Source.failed g.S.File.Source.ended c.in_ok-reader-in-File.reader c.read_addresses.new.reader in
     IsAddressesFailure-read (g.S.FileSystem.content c.args.store.now) (origin_of c.args.addresses) c.in-File.name.now input c.read_addresses.result (ap origin_of c.in-File.is)
-    (record { from_start = c.in_ok-reader-in-File.ensures.there; to_end = g.met.S.FileSystem.at_end _ }) c.read_addresses.ensures.err
+    (record { from_start = c.in_ok-reader-in-File.ensures.there; to_end = g.met.S.FileSystem.at_end _; may_fail = g.met.S.FileSystem.may_fail _ _ _ }) c.read_addresses.ensures.err

@@ -7,14 +7,14 @@ use Rattle.hunk_commands.proofs.compare.compare.Goals as goal
 pub returns-in_err-same-clause-err : goal.returns-in_err-same-clause-err
 returns-in_err-same-clause-err g c =
     let p = err_from_is_err_and c.from_residual-in_err-same.result c.from_residual-in_err-same.ensures.1 in
-    rw (p.1, p.2) (record { input = input_of g.S.File.Source.left g.S.File.Source.failed g.S.File.Source.ended c.in_ok-one.one c.compare_run.new.first; is_reader = record { from_start = c.in_ok-one.ensures.there; to_end = g.met.S.FileSystem.at_end _ }; holds = record { input = input_of g.S.File.Source.left g.S.File.Source.failed g.S.File.Source.ended c.in_ok-other.other c.compare_run.new.second; is_reader = record { from_start = c.in_ok-other.ensures.there; to_end = g.met.S.FileSystem.at_end _ }; holds = c.in_err-same.ensures.err } })
+    rw (p.1, p.2) (record { input = input_of g.S.File.Source.left g.S.File.Source.failed g.S.File.Source.ended c.in_ok-one.one c.compare_run.new.first; is_reader = record { from_start = c.in_ok-one.ensures.there; to_end = g.met.S.FileSystem.at_end _; may_fail = g.met.S.FileSystem.may_fail _ _ _ }; holds = record { input = input_of g.S.File.Source.left g.S.File.Source.failed g.S.File.Source.ended c.in_ok-other.other c.compare_run.new.second; is_reader = record { from_start = c.in_ok-other.ensures.there; to_end = g.met.S.FileSystem.at_end _; may_fail = g.met.S.FileSystem.may_fail _ _ _ }; holds = c.in_err-same.ensures.err } })
 
 pub returns-in_err-flush-clause-err : goal.returns-in_err-flush-clause-err
 returns-in_err-flush-clause-err g c =
     let p = err_from_is_err_and c.from_residual-in_err-flush.result c.from_residual-in_err-flush.ensures.1 in
     rw (p.1, p.2, c.in_err-flush.ensures.err)
-    ((c.in_ok-same.same, record { input = input_of g.S.File.Source.left g.S.File.Source.failed g.S.File.Source.ended c.in_ok-one.one c.compare_run.new.first; is_reader = record { from_start = c.in_ok-one.ensures.there; to_end = g.met.S.FileSystem.at_end _ }; holds = record { input = input_of g.S.File.Source.left g.S.File.Source.failed g.S.File.Source.ended c.in_ok-other.other c.compare_run.new.second; is_reader = record { from_start = c.in_ok-other.ensures.there; to_end = g.met.S.FileSystem.at_end _ }; holds = kept_comparison c.args.with_symbols c.in_ok-same.same _ _ _ _ _ c.in_err-flush.ensures.same c.in_ok-same.ensures.ok } }), c.in_err-flush.ensures.failed)
+    ((c.in_ok-same.same, record { input = input_of g.S.File.Source.left g.S.File.Source.failed g.S.File.Source.ended c.in_ok-one.one c.compare_run.new.first; is_reader = record { from_start = c.in_ok-one.ensures.there; to_end = g.met.S.FileSystem.at_end _; may_fail = g.met.S.FileSystem.may_fail _ _ _ }; holds = record { input = input_of g.S.File.Source.left g.S.File.Source.failed g.S.File.Source.ended c.in_ok-other.other c.compare_run.new.second; is_reader = record { from_start = c.in_ok-other.ensures.there; to_end = g.met.S.FileSystem.at_end _; may_fail = g.met.S.FileSystem.may_fail _ _ _ }; holds = kept_comparison c.args.with_symbols c.in_ok-same.same _ _ _ _ _ c.in_err-flush.ensures.same c.in_ok-same.ensures.ok } }), c.in_err-flush.ensures.failed)
 
 pub returns-clause-ok : goal.returns-clause-ok
 returns-clause-ok g c =
-    (record { input = input_of g.S.File.Source.left g.S.File.Source.failed g.S.File.Source.ended c.in_ok-one.one c.compare_run.new.first; is_reader = record { from_start = c.in_ok-one.ensures.there; to_end = g.met.S.FileSystem.at_end _ }; holds = record { input = input_of g.S.File.Source.left g.S.File.Source.failed g.S.File.Source.ended c.in_ok-other.other c.compare_run.new.second; is_reader = record { from_start = c.in_ok-other.ensures.there; to_end = g.met.S.FileSystem.at_end _ }; holds = kept_comparison c.args.with_symbols c.in_ok-same.same _ _ _ _ _ c.in_ok-flush.ensures.same c.in_ok-same.ensures.ok } }, c.in_ok-flush.ensures.flushed)
+    (record { input = input_of g.S.File.Source.left g.S.File.Source.failed g.S.File.Source.ended c.in_ok-one.one c.compare_run.new.first; is_reader = record { from_start = c.in_ok-one.ensures.there; to_end = g.met.S.FileSystem.at_end _; may_fail = g.met.S.FileSystem.may_fail _ _ _ }; holds = record { input = input_of g.S.File.Source.left g.S.File.Source.failed g.S.File.Source.ended c.in_ok-other.other c.compare_run.new.second; is_reader = record { from_start = c.in_ok-other.ensures.there; to_end = g.met.S.FileSystem.at_end _; may_fail = g.met.S.FileSystem.may_fail _ _ _ }; holds = kept_comparison c.args.with_symbols c.in_ok-same.same _ _ _ _ _ c.in_ok-flush.ensures.same c.in_ok-same.ensures.ok } }, c.in_ok-flush.ensures.flushed)

@@ -1,16 +1,25 @@
--- Nothing is told.
-use Rattle.std.proofs.Common.{refl}
-use Rattle.hunk_commands.proofs.ExplainLemmas.{tells_nothing}
+-- Nothing is told: of what has no explanation, or once a write has failed.
+use Rattle.std.proofs.Common.{IsTrue, rules}
+use Rattle.hunk_tool.specs.Inputs.{file_names}
+use Rattle.hunk_commands.proofs.ExplainLemmas.{tells_no_failure, tells_none}
 use Rattle.hunk_commands.proofs.explain.explain_failure.Goals as goal
 
-pub returns-in_default-get-clause-told : goal.returns-in_default-get-clause-told
-returns-in_default-get-clause-told g c = tells_nothing g.W.Sink.taken g.W.Sink.failed c.args.errors.now _
+pub returns-then-failed-clause-told : goal.returns-then-failed-clause-told
+returns-then-failed-clause-told g c =
+    let failing : IsTrue (g.W.Sink.failed c.args.errors.now) = search (rules, c.if-failed.true, c.failed.ensures) in
+    tells_no_failure g.W.Sink.taken g.W.Sink.failed c.args.errors.now (g.S.FileSystem.content c.args.store.now) c.args.command (file_names c.args.files.now) c.args.failure.now failing
 
-pub returns-else-failed : goal.returns-else-failed
-returns-else-failed g c = record { told = tells_nothing g.W.Sink.taken g.W.Sink.failed c.args.errors.now _; silent = λ failing. refl }
+pub returns-in-BadNumber-clause-told : goal.returns-in-BadNumber-clause-told
+returns-in-BadNumber-clause-told g c = rw c.in-BadNumber.is (tells_none g.W.Sink.taken g.W.Sink.failed c.args.errors.now)
 
-pub returns-else-failed-2 : goal.returns-else-failed-2
-returns-else-failed-2 g c = record { told = tells_nothing g.W.Sink.taken g.W.Sink.failed c.args.errors.now _; silent = λ failing. refl }
+pub returns-in-Writing-clause-told : goal.returns-in-Writing-clause-told
+returns-in-Writing-clause-told g c = rw c.in-Writing.is (tells_none g.W.Sink.taken g.W.Sink.failed c.args.errors.now)
 
-pub returns-in_default-get-2-clause-told : goal.returns-in_default-get-2-clause-told
-returns-in_default-get-2-clause-told g c = tells_nothing g.W.Sink.taken g.W.Sink.failed c.args.errors.now _
+pub returns-in-SameFile-clause-told : goal.returns-in-SameFile-clause-told
+returns-in-SameFile-clause-told g c = rw c.in-SameFile.is (tells_none g.W.Sink.taken g.W.Sink.failed c.args.errors.now)
+
+pub returns-in-MapOverFile-clause-told : goal.returns-in-MapOverFile-clause-told
+returns-in-MapOverFile-clause-told g c = rw c.in-MapOverFile.is (tells_none g.W.Sink.taken g.W.Sink.failed c.args.errors.now)
+
+pub returns-in-Printing-clause-told : goal.returns-in-Printing-clause-told
+returns-in-Printing-clause-told g c = rw c.in-Printing.is (tells_none g.W.Sink.taken g.W.Sink.failed c.args.errors.now)

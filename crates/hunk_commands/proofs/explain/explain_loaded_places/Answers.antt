@@ -13,6 +13,6 @@ returns g c =
     let origin = origin_of c.args.addresses in
     let bases = c.as_slice.result.now in
     let numbers_are : HaveNumbers contents origin bases = rw c.as_slice.ensures.value c.in-Some.ensures in
-    let is_file : IsLoadFile (contents c.args.name.now) c.in-Ok.loaded = record { input = input_of g.S.File.Source.left g.S.File.Source.failed g.S.File.Source.ended c.in-Some-open_again.reader c.read_load.new.reader; is_reader = record { from_start = c.in-Some-open_again.ensures; to_end = g.met.S.FileSystem.at_end _ }; holds = (c.in-Ok.ensures.file, c.in-Ok.ensures.ended) } in
+    let is_file : IsLoadFile (contents c.args.name.now) c.in-Ok.loaded = record { input = input_of g.S.File.Source.left g.S.File.Source.failed g.S.File.Source.ended c.in-Some-open_again.reader c.read_load.new.reader; is_reader = record { from_start = c.in-Some-open_again.ensures; to_end = g.met.S.FileSystem.at_end _; may_fail = g.met.S.FileSystem.may_fail _ _ _ }; holds = (c.in-Ok.ensures.file, c.in-Ok.ensures.ended) } in
     tells_places g.W.Sink.taken g.W.Sink.failed c.args.errors.now c.tell_places.new.errors contents origin (IsLoadFile (contents c.args.name.now)) c.in-Ok.loaded c.hunks.result.now bases
     c.hunks.ensures.value is_file numbers_are c.tell_places.ensures

@@ -16,7 +16,7 @@ returns g c =
     let content = g.S.FileSystem.content c.args.store.now c.args.name.now in
     let read = rw c.in-Ok-Some.field-0-is at c.in-Ok-Some.ensures.given in
     let lines : AreOffenceLines content (kind_read c.args.command) c.args.fault (explanation_text c.in-Ok-Some.explanation) =
-    record { input = input_of g.S.File.Source.left g.S.File.Source.failed g.S.File.Source.ended c.in-Some.reader c.explanation_of.new.reader; is_reader = record { from_start = c.in-Some.ensures; to_end = g.met.S.FileSystem.at_end _ }; holds = HasRead-weaker _ _ _ _ (λ bytes given. record { explanation = c.in-Ok-Some.explanation; given = given; lines_are = refl }) read } in
+    record { input = input_of g.S.File.Source.left g.S.File.Source.failed g.S.File.Source.ended c.in-Some.reader c.explanation_of.new.reader; is_reader = record { from_start = c.in-Some.ensures; to_end = g.met.S.FileSystem.at_end _; may_fail = g.met.S.FileSystem.may_fail _ _ _ }; holds = HasRead-weaker _ _ _ _ (λ bytes given. record { explanation = c.in-Ok-Some.explanation; given = given; lines_are = refl }) read } in
     let wrote = c.finish.ensures.wrote c.args.errors.now _ (c.write_explanation.ensures.adds _ [] c.new-text.ensures.empty) in
     let told = tells_lines g.W.Sink.taken g.W.Sink.failed c.args.errors.now _ (AreOffenceLines content (kind_read c.args.command) c.args.fault) (explanation_text c.in-Ok-Some.explanation) lines
     (tells_text g.W.Sink.taken g.W.Sink.failed c.args.errors.now _ _ c.finish.result wrote) in

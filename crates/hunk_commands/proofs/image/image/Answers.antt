@@ -17,7 +17,7 @@ returns-in_err-image_run_with-clause-err g c =
     let names = file_names c.args.files.now in
     let numbers_are : HaveNumbers contents (origin_of c.args.addresses) c.as_slice.result.now = rw c.as_slice.ensures.value c.in_ok-bases.ensures.ok in
     let are : AreInputs g.S.FileSystem.content g.S.File.Source.left c.args.store.now names c.as_mut_slice.result.now = rw c.as_mut_slice.ensures.value c.in_ok-inputs.ensures.are in
-    rw (p.1, p.2) (inr (inr (inl (record { bases = c.as_slice.result.now; numbers_are = numbers_are; holds = OfFiles-inputs g.S.FileSystem.content g.S.File.Source.left c.args.store.now g.S.File.Source.failed g.S.File.Source.ended g.met.S.FileSystem.at_end names _ _ _ c.image_run_with.auto.inputs are c.in_err-image_run_with.ensures.err }))))
+    rw (p.1, p.2) (inr (inr (inl (record { bases = c.as_slice.result.now; numbers_are = numbers_are; holds = OfFiles-inputs g.S.FileSystem.content g.S.File.Source.left c.args.store.now g.S.File.Source.failed g.S.File.Source.ended g.met.S.FileSystem.at_end (λ input. input.may_fail) names _ _ _ c.image_run_with.auto.inputs are c.in_err-image_run_with.ensures.err }))))
 
 pub returns-clause-ok : goal.returns-clause-ok
 returns-clause-ok g c =
@@ -28,7 +28,7 @@ returns-clause-ok g c =
     let numbers_are : HaveNumbers contents origin c.as_slice.result.now = rw c.as_slice.ensures.value c.in_ok-bases.ensures.ok in
     let are : AreInputs g.S.FileSystem.content g.S.File.Source.left c.args.store.now names c.as_mut_slice.result.now = rw c.as_mut_slice.ensures.value c.in_ok-inputs.ensures.are in
     let written : AreWrittenOf c.args.form contents origin names printed =
-    record { bases = c.as_slice.result.now; numbers_are = numbers_are; holds = OfFiles-inputs g.S.FileSystem.content g.S.File.Source.left c.args.store.now g.S.File.Source.failed g.S.File.Source.ended g.met.S.FileSystem.at_end names _ _ _ c.image_run_with.auto.inputs are (kept_image c.args.form c.as_slice.result.now _ _ _ _ c.flush.ensures.same c.in_ok-image_run_with.ensures.ok) } in
+    record { bases = c.as_slice.result.now; numbers_are = numbers_are; holds = OfFiles-inputs g.S.FileSystem.content g.S.File.Source.left c.args.store.now g.S.File.Source.failed g.S.File.Source.ended g.met.S.FileSystem.at_end (λ input. input.may_fail) names _ _ _ c.image_run_with.auto.inputs are (kept_image c.args.form c.as_slice.result.now _ _ _ _ c.flush.ensures.same c.in_ok-image_run_with.ensures.ok) } in
     on_flushed c.flush.result (g.O.Output.waiting c.flush.new.output ≡ []) (AreImaged c.args.form contents origin names printed) (λ flushed. (written, flushed)) c.flush.ensures.flushed
 
 pub returns-clause-err : goal.returns-clause-err
@@ -40,5 +40,5 @@ returns-clause-err g c =
     let numbers_are : HaveNumbers contents origin c.as_slice.result.now = rw c.as_slice.ensures.value c.in_ok-bases.ensures.ok in
     let are : AreInputs g.S.FileSystem.content g.S.File.Source.left c.args.store.now names c.as_mut_slice.result.now = rw c.as_mut_slice.ensures.value c.in_ok-inputs.ensures.are in
     let written : AreWrittenOf c.args.form contents origin names printed =
-    record { bases = c.as_slice.result.now; numbers_are = numbers_are; holds = OfFiles-inputs g.S.FileSystem.content g.S.File.Source.left c.args.store.now g.S.File.Source.failed g.S.File.Source.ended g.met.S.FileSystem.at_end names _ _ _ c.image_run_with.auto.inputs are (kept_image c.args.form c.as_slice.result.now _ _ _ _ c.flush.ensures.same c.in_ok-image_run_with.ensures.ok) } in
+    record { bases = c.as_slice.result.now; numbers_are = numbers_are; holds = OfFiles-inputs g.S.FileSystem.content g.S.File.Source.left c.args.store.now g.S.File.Source.failed g.S.File.Source.ended g.met.S.FileSystem.at_end (λ input. input.may_fail) names _ _ _ c.image_run_with.auto.inputs are (kept_image c.args.form c.as_slice.result.now _ _ _ _ c.flush.ensures.same c.in_ok-image_run_with.ensures.ok) } in
     not_flushed c.flush.result (IsTrue (g.O.Sink.failed c.flush.new.output)) (IsImageFailure c.args.form contents origin names printed) (λ failed. inr (inr (inr (refl, written, failed)))) c.flush.ensures.failed c.flush.ensures.err

@@ -9,10 +9,10 @@ use Rattle.hunk_commands.proofs.link.linked.Goals as goal
 pub returns-clause-ok : goal.returns-clause-ok
 returns-clause-ok g c =
     let are : AreInputs g.S.FileSystem.content g.S.File.Source.left c.args.store.now (file_names c.args.files.now) c.as_mut_slice.result.now = rw c.as_mut_slice.ensures.value c.in_ok-inputs.ensures.are in
-    OfFiles-inputs g.S.FileSystem.content g.S.File.Source.left c.args.store.now g.S.File.Source.failed g.S.File.Source.ended g.met.S.FileSystem.at_end (file_names c.args.files.now) _ _ _ c.link_inputs.auto.inputs are c.in_ok-link_inputs.ensures.linked
+    OfFiles-inputs g.S.FileSystem.content g.S.File.Source.left c.args.store.now g.S.File.Source.failed g.S.File.Source.ended g.met.S.FileSystem.at_end (λ input. input.may_fail) (file_names c.args.files.now) _ _ _ c.link_inputs.auto.inputs are c.in_ok-link_inputs.ensures.linked
 
 pub returns-in_err-link_inputs-clause-err : goal.returns-in_err-link_inputs-clause-err
 returns-in_err-link_inputs-clause-err g c =
     let p = err_from_is_err_and c.from_residual-in_err-link_inputs.result c.from_residual-in_err-link_inputs.ensures.1 in
     let are : AreInputs g.S.FileSystem.content g.S.File.Source.left c.args.store.now (file_names c.args.files.now) c.as_mut_slice.result.now = rw c.as_mut_slice.ensures.value c.in_ok-inputs.ensures.are in
-    rw (p.1, p.2) (inr (OfFiles-inputs g.S.FileSystem.content g.S.File.Source.left c.args.store.now g.S.File.Source.failed g.S.File.Source.ended g.met.S.FileSystem.at_end (file_names c.args.files.now) _ _ _ c.link_inputs.auto.inputs are c.in_err-link_inputs.ensures.unlinked))
+    rw (p.1, p.2) (inr (OfFiles-inputs g.S.FileSystem.content g.S.File.Source.left c.args.store.now g.S.File.Source.failed g.S.File.Source.ended g.met.S.FileSystem.at_end (λ input. input.may_fail) (file_names c.args.files.now) _ _ _ c.link_inputs.auto.inputs are c.in_err-link_inputs.ensures.unlinked))

@@ -16,7 +16,7 @@ returns-in_default g c =
     let printed = printed_of g.O.Sink.taken g.O.Sink.failed g.O.Output.waiting c.args.output.now c.args.output.now in
     let told = out_of_memory_told g.W.Sink.taken g.W.Sink.failed c.args.errors.now c.report_failure.new.errors [] c.out_of_memory.result c.report_failure.result c.out_of_memory.ensures c.report_failure.ensures.status c.report_failure.ensures.line in
     inr (fails_with status_of_comparison g.W.Sink.taken g.W.Sink.failed (OrExhausted printed (IsCompareFailure c.args.with_symbols (g.S.FileSystem.content c.args.store.now) c.args.first.now c.args.second.now printed)) NoMore (c.args.first.now ∷ c.args.second.now ∷ []) c.report_failure.result c.args.errors.now c.report_failure.new.errors
-    (Tool (tool_fault.OutOfMemory 0)) (inl (refl, Keeps-refl printed.old)) told.0 told.1)
+    (Tool (tool_fault.OutOfMemory 0)) (inl (refl, Keeps-refl printed.old)) refl told.0 told.1)
 
 pub returns : goal.returns
 returns g c =
@@ -24,4 +24,4 @@ returns g c =
     let names : map string_bytes c.as_slice.result.now ≡ c.args.first.now ∷ c.args.second.now ∷ [] = ap (map string_bytes) c.as_slice.ensures.value ∙ c.in-Ok.ensures in
     let line = subst (λ files. TellsLine g.W.Sink.taken g.W.Sink.failed c.args.errors.now c.report_failure-in-Err.new.errors (failure_line files c.in-Err.failure)) names c.report_failure-in-Err.ensures.line in
     inr (fails_with status_of_comparison g.W.Sink.taken g.W.Sink.failed (OrExhausted printed (IsCompareFailure c.args.with_symbols (g.S.FileSystem.content c.args.store.now) c.args.first.now c.args.second.now printed)) NoMore (c.args.first.now ∷ c.args.second.now ∷ []) c.status_of_comparison.result c.args.errors.now c.report_failure-in-Err.new.errors
-    c.in-Err.failure (inr c.in-Err.ensures.err) c.status_of_comparison.ensures line)
+    c.in-Err.failure (inr c.in-Err.ensures.err) refl c.status_of_comparison.ensures line)

@@ -5,13 +5,16 @@ use Rattle.hunk_commands.specs.Explain.{AreTextLines, IfAsked}
 use Rattle.hunk_commands.specs.Text.{IsTextFailure}
 use Rattle.hunk_commands.specs.Output.{printed_of}
 use Rattle.hunk_commands.specs.Request.{OrExhausted}
+use Rattle.hunk_tool.specs.declared.tool_fault.ToolFault.TheVariants as tool_fault
+use Rattle.hunk_commands.specs.declared.failure.Failure.TheVariants.{Tool}
+use Rattle.hunk_commands.proofs.ExplainLemmas.{none_asked}
 use Rattle.hunk_commands.proofs.RequestLemmas.{IsFailed-why, not_begun, out_of_memory_told}
 use Rattle.hunk_commands.proofs.request.answer_text.Goals as goal
 
 pub returns-in_default : goal.returns-in_default
 returns-in_default g c =
     let printed = printed_of g.O.Sink.taken g.O.Sink.failed g.O.Output.waiting c.args.output.now c.args.output.now in
-    inr (not_begun g.W.Sink.taken g.W.Sink.failed (OrExhausted printed (IsTextFailure c.args.text (g.S.FileSystem.content c.args.store.now) c.args.file.now printed)) (IfAsked c.args.explain (AreTextLines (g.S.FileSystem.content c.args.store.now) (c.args.file.now ∷ []))) (c.args.file.now ∷ []) c.report_failure.result c.args.errors.now c.report_failure.new.errors (inl (refl, Keeps-refl printed.old))
+    inr (not_begun g.W.Sink.taken g.W.Sink.failed (OrExhausted printed (IsTextFailure c.args.text (g.S.FileSystem.content c.args.store.now) c.args.file.now printed)) (IfAsked c.args.explain (AreTextLines (g.S.FileSystem.content c.args.store.now) (c.args.file.now ∷ []))) (c.args.file.now ∷ []) c.report_failure.result c.args.errors.now c.report_failure.new.errors (inl (refl, Keeps-refl printed.old)) (none_asked c.args.explain (AreTextLines (g.S.FileSystem.content c.args.store.now) (c.args.file.now ∷ [])) (Tool (tool_fault.OutOfMemory 0)) refl)
     (out_of_memory_told g.W.Sink.taken g.W.Sink.failed c.args.errors.now c.report_failure.new.errors [] c.out_of_memory.result c.report_failure.result c.out_of_memory.ensures c.report_failure.ensures.status c.report_failure.ensures.line))
 
 pub returns-in-Err : goal.returns-in-Err

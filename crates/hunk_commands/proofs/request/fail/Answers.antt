@@ -17,4 +17,4 @@ returns-else-explain g c =
     let lines = AreLinesOf (g.S.FileSystem.content c.args.store.now) c.args.command (file_names c.args.files.now) in
     let told = c.report_failure-status in
     is_failed g.W.Sink.taken g.W.Sink.failed (IfAsked c.args.explain lines) _ _ told.result c.args.errors.now told.new.errors told.new.errors c.args.failure.now c.requires told.ensures.status told.ensures.line
-    (after_nothing g.W.Sink.taken g.W.Sink.failed told.new.errors (IfAsked c.args.explain lines c.args.failure.now))
+    (after_nothing g.W.Sink.taken g.W.Sink.failed c.args.explain lines c.args.failure.now told.new.errors c.if-explain.false)
