@@ -1,5 +1,5 @@
 -- What the arguments of a command line ask for.
-use Rattle.std.proofs.Common.{◌≡◌, ◌≤◌, ◌∙◌, List, [], ◌∷◌, ◌⊎◌, ap, IfOk, inl, inr, length, Err, Ok, refl, Result, Some, subst, sym}
+use Rattle.std.proofs.Common.{◌≡◌, ◌≢◌, codes, ◌≤◌, ◌∙◌, List, [], ◌∷◌, ◌⊎◌, ap, IfOk, inl, inr, length, Err, Ok, refl, Result, Some, subst, sym}
 use Rattle.std.specs.Result.{result_unwrap_or}
 use Rattle.std.specs.declared.alloc.AllocError.{AllocError}
 use Rattle.clap.proofs.OnLiterals.{clap_on_literals}
@@ -8,9 +8,9 @@ use Rattle.clap.specs.Words.{IsAmong, Text, fault_of, subcommand_of}
 use Rattle.clap.specs.declared.error.ErrorKind.{ErrorKind}
 use Rattle.clap.specs.declared.error.ErrorKind.TheVariants as error
 use Rattle.hunk_commands.specs.declared.request.Request.{Request}
-use Rattle.hunk_commands.specs.declared.request.Request.TheVariants.{OutOfMemory}
+use Rattle.hunk_commands.specs.declared.request.Request.TheVariants.{Check, Compare, Copy, Help, Image, Link, Load, OutOfMemory, Refused, Show, Survey, Version}
 use Rattle.amihunk.specs.Syntax.{command_line}
-use Rattle.amihunk.specs.CommandLine.{Asks, Call, Calls, IsAnswer, IsAskedBy, IsFound, IsMeant, IsOrNothing, IsVersionWord, Meaning, Means, Met, Says, call_of, meaning, version_line}
+use Rattle.amihunk.specs.CommandLine.{AreRefused, Asks, Call, Calls, IsAnswer, IsAskedBy, IsFound, IsMeant, IsOrNothing, IsVersionWord, Meaning, Means, Met, Says, call_of, meaning, version_line}
 use Rattle.amihunk.specs.CommandLine.Call.{conflict}
 use Rattle.amihunk.specs.CommandLine.Meaning.{calls, help, nothing, rejection, version}
 use Rattle.amihunk.proofs.CommandLineLemmas.{whole_where_faultless}
@@ -84,3 +84,75 @@ version_fault program word (inr short) = rw short refl
 pub asks_version : (words : List Text) (request : Request) → IsAskedBy words request → (program word : Text) → words ≡ version_line program word → IsVersionWord word → Means version request
 asks_version words request asked program word is_line is_word =
     shows_version (version_line program word) (version_fault program word is_word) (meaning request) (subst (λ w. IsAskedBy w request) is_line asked)
+
+-- ---- words that are refused
+
+-- what arguments ask for with which something is wrong, and which ask for neither help nor the version
+refuses_fault : (words : List Text) (kind : ErrorKind) → fault_of command_line words ≡ kind ∷ [] → kind ≢ error.DisplayHelp → kind ≢ error.DisplayVersion → (m : Meaning) → IsMeant words m → IsOrNothing rejection m
+refuses_fault words kind only no_help no_version (calls call) asked = let none : [] ≡ kind ∷ [] = sym asked.quiet ∙ only in cc
+refuses_fault words kind only no_help no_version version asked = elim (subst (λ kinds. IsAmong error.DisplayVersion kinds) only asked) [
+  | inl is ↦ absurd (no_version (sym is))
+  | inr none ↦ absurd none
+]
+refuses_fault words kind only no_help no_version help asked = elim (subst (λ kinds. IsAmong error.DisplayHelp kinds) only asked) [
+  | inl is ↦ absurd (no_help (sym is))
+  | inr none ↦ absurd none
+]
+refuses_fault words kind only no_help no_version rejection asked = refl
+refuses_fault words kind only no_help no_version nothing asked = tt
+
+-- no request means a call that cannot be made
+means_no_conflict : (request : Request) (call : Call) → meaning request ≡ calls call → call ≡ conflict → ⊥
+means_no_conflict (Link out map options explain files) call is none = cc
+means_no_conflict (Load addresses text explain file) call is none = cc
+means_no_conflict (Image addresses form explain files) call is none = cc
+means_no_conflict (Check explain file) call is none = cc
+means_no_conflict (Show json explain file) call is none = cc
+means_no_conflict (Survey files) call is none = cc
+means_no_conflict (Copy out form explain file) call is none = cc
+means_no_conflict (Compare with_symbols first second) call is none = cc
+means_no_conflict Version call is none = cc
+means_no_conflict (Help text) call is none = cc
+means_no_conflict (Refused text) call is none = cc
+means_no_conflict OutOfMemory call is none = cc
+
+-- what arguments ask for that are such a call
+refuses_conflict : (words : List Text) → Calls words conflict → (m : Meaning) → ((call : Call) → m ≡ calls call → call ≡ conflict → ⊥) → IsMeant words m → IsOrNothing rejection m
+refuses_conflict words is (calls found) other asked =
+    let same : Some found ≡ Some conflict = sym asked.call_is ∙ is.call_is in
+    let here : found ≡ conflict = cc in
+    absurd (other found refl here)
+refuses_conflict words is version other asked = absurd (subst (λ kinds. IsAmong error.DisplayVersion kinds) is.quiet asked)
+refuses_conflict words is help other asked = absurd (subst (λ kinds. IsAmong error.DisplayHelp kinds) is.quiet asked)
+refuses_conflict words is rejection other asked = refl
+refuses_conflict words is nothing other asked = tt
+
+no_subcommand : (program : Text) → fault_of command_line (program ∷ []) ≡ error.MissingSubcommand ∷ []
+unfolding clap_on_literals
+no_subcommand program = refl
+
+link_without_out : (program : Text) → fault_of command_line (program ∷ codes "link" ∷ codes "main.o" ∷ []) ≡ error.MissingRequiredArgument ∷ []
+unfolding clap_on_literals
+link_without_out program = refl
+
+load_of_two : (program : Text) → fault_of command_line (program ∷ codes "load" ∷ codes "--at" ∷ codes "10000" ∷ codes "main" ∷ codes "other" ∷ []) ≡ error.UnknownArgument ∷ []
+unfolding clap_on_literals
+load_of_two program = refl
+
+load_without_addresses : (program : Text) → Calls (program ∷ codes "load" ∷ codes "main" ∷ []) conflict
+unfolding clap_on_literals
+load_without_addresses program = record { quiet = refl; whole = whole_where_faultless (program ∷ codes "load" ∷ codes "main" ∷ []) refl; call_is = refl }
+
+refuses : (program : Text) (others : List Text) (request : Request) → IsAskedBy (program ∷ others) request → AreRefused others → Means rejection request
+unfolding means_no_conflict
+refuses program others request asked (inl none) =
+    refuses_fault (program ∷ []) error.MissingSubcommand (no_subcommand program) (λ e. cc) (λ e. cc) (meaning request) (subst (λ w. IsAskedBy (program ∷ w) request) none asked)
+refuses program others request asked (inr (inl link)) =
+    refuses_fault (program ∷ codes "link" ∷ codes "main.o" ∷ []) error.MissingRequiredArgument (link_without_out program) (λ e. cc) (λ e. cc) (meaning request) (subst (λ w. IsAskedBy (program ∷ w) request) link asked)
+refuses program others request asked (inr (inr (inl load))) =
+    refuses_conflict (program ∷ codes "load" ∷ codes "main" ∷ []) (load_without_addresses program) (meaning request) (means_no_conflict request) (subst (λ w. IsAskedBy (program ∷ w) request) load asked)
+refuses program others request asked (inr (inr (inr two))) =
+    refuses_fault (program ∷ codes "load" ∷ codes "--at" ∷ codes "10000" ∷ codes "main" ∷ codes "other" ∷ []) error.UnknownArgument (load_of_two program) (λ e. cc) (λ e. cc) (meaning request) (subst (λ w. IsAskedBy (program ∷ w) request) two asked)
+
+pub asks_refused : (words : List Text) (request : Request) → IsAskedBy words request → (program : Text) (others : List Text) → words ≡ program ∷ others → AreRefused others → Means rejection request
+asks_refused words request asked program others is refused = refuses program others request (subst (λ w. IsAskedBy w request) is asked) refused

@@ -371,6 +371,19 @@ normal_line program out file = program ∷ codes "copy" ∷ codes "--out" ∷ ou
 abbrev pub compare_line : Text → Bool → Text → Text → List Text
 compare_line program with_symbols first second = program ∷ codes "compare" ∷ (word_if with_symbols (codes "--symbols") ++ first ∷ second ∷ [])
 
+-- ---- words that are refused
+
+-- the words after the name of the program are one of these: none; `link` without `--out`; `load` without addresses;
+-- `load` of two files
+abbrev pub AreRefused : List Text → Type 0
+AreRefused words =
+    (words ≡ [])
+    ⊎ ((words ≡ codes "link" ∷ codes "main.o" ∷ [])
+    ⊎ ((words ≡ codes "load" ∷ codes "main" ∷ [])
+    ⊎ (words ≡ codes "load" ∷ codes "--at" ∷ codes "10000" ∷ codes "main" ∷ codes "other" ∷ [])))
+
+-- ---- what a request means
+
 -- the request means this, or memory ran out
 abbrev pub IsOrNothing : Meaning → Meaning → Type 0
 IsOrNothing wanted nothing = ⊤

@@ -1,12 +1,12 @@
 //! The arguments of the command line, as `clap` reads them.
-ghost use Rattle.std.specs.Prelude.{◌≡◌, ◌<◌, ℕ, All, Bool, IfOk, List, MatchResult, None, Option, Some, codes, is_some, false, length, map, option_map, true};
+ghost use Rattle.std.specs.Prelude.{◌≡◌, ◌∷◌, ◌<◌, ℕ, All, Bool, IfOk, List, MatchResult, None, Option, Some, codes, is_some, false, length, map, option_map, true};
 ghost use Rattle.clap.specs.Takes.{is_given};
 ghost use Rattle.clap.specs.Walk.{texts};
 ghost use Rattle.clap.specs.Words.{FailsBy, fault_of, first_of, found_of, kind_of, rows_of, subcommand_of, subcommand_rows_of};
 ghost use Rattle.amihunk.specs.Syntax.{command_line};
-ghost use Rattle.amihunk.specs.CommandLine.{Answers, Asks, HasValue, IsAskedBy, IsFlag, IsNoFlag, IsNoFlagIn, IsVersionWord, IsWhole, Means};
-ghost use Rattle.amihunk.specs.CommandLine.{Says, brief_link_line, compare_line, conflict_kind, copy_line, file_line, files_in, image_line, link_line, load_line, normal_line, options_in};
-ghost use Rattle.amihunk.specs.CommandLine.{origin_in, show_line, survey_line, text_in, value_in, version_line};
+ghost use Rattle.amihunk.specs.CommandLine.{Answers, AreRefused, Asks, HasValue, IsAskedBy, IsFlag, IsNoFlag, IsNoFlagIn, IsVersionWord, IsWhole, Means};
+ghost use Rattle.amihunk.specs.CommandLine.{Says, brief_link_line, compare_line, conflict_kind, copy_form_by, copy_line, file_line, files_in, form_by, image_line, link_line, load_line, normal_line, options_in};
+ghost use Rattle.amihunk.specs.CommandLine.{origin_in, show_line, survey_line, text_by, text_in, value_in, version_line};
 ghost use Rattle.amihunk.specs.CommandLine.Meaning.{rejection, version};
 ghost use Rattle.amihunk.specs.CommandLine.Call.{to_check, to_compare, to_copy, to_image, to_link, to_load, to_show, to_survey};
 ghost use Rattle.hunk_commands.specs.Addresses.{Origin, origin_of};
@@ -62,6 +62,8 @@ pub fn read_words<'a, S: AsStr>(alloc: Global, words: &'a [S]) -> Request<'a>
         → IsNoFlag first → IsNoFlag second → Asks (to_compare with_symbols first second) result }
     ensures version { (program word : List ℕ)
         → map S.text words.entry.now ≡ version_line program word → IsVersionWord word → Means version result }
+    ensures refused { (program : List ℕ) (others : List (List ℕ))
+        → map S.text words.entry.now ≡ program ∷ others → AreRefused others → Means rejection result }
 {
     // A call of its own, so that the plain forms are proved once, for both arms of its `match`.
     request_for(alloc, words)

@@ -1,7 +1,7 @@
 use Rattle.std.proofs.Common.{◌≤◌, arith, length, map}
 use Rattle.std.proofs.lemmas.List.{length-map}
 use Rattle.clap.specs.Lexer.{usize_max}
-use Rattle.amihunk.proofs.CommandLineAnswerLemmas.{asks, asks_version}
+use Rattle.amihunk.proofs.CommandLineAnswerLemmas.{asks, asks_refused, asks_version}
 use Rattle.amihunk.proofs.CommandLinePlainLemmas.{calls-brief, calls-check, calls-compare, calls-copy, calls-image, calls-link, calls-load, calls-normal, calls-show, calls-survey}
 use Rattle.amihunk.proofs.command_line.read_words.Goals as goal
 
@@ -31,4 +31,5 @@ returns g c =
       compare = λ program with_symbols first second is_line plain_first plain_second.
           asks words _ _ request fits answer is_line (λ _. calls-compare program with_symbols first second plain_first plain_second) (λ e. cc);
       version = asks_version words request answer;
+      refused = asks_refused words request answer;
     }
