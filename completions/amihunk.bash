@@ -24,7 +24,7 @@ _amihunk() {
         link) options='--out --map --strip --short --trim --explain --help' ;;
         load) options='--at --at-file --srec --symbols --explain --help' ;;
         image) options='--at --at-file --srec --explain --help' ;;
-        show) options='--json --content --html --explain --help' ;;
+        show) options='--json --content --html --names --explain --help' ;;
         check) options='--explain --help' ;;
         survey) options='--help' ;;
         copy) options='--out --strip --short --trim --normal --explain --help' ;;

@@ -174,6 +174,22 @@ def undefined_names(files):
     return uses
 
 
+def names_of(units):
+    """What `show --names` prints of the object files of these units: a line for each symbol, each definition, and each name that
+    none of them defines, once for a hunk that refers to it."""
+    defined = {name for unit in units for hunk in unit for _, name, _ in hunk.definitions}
+    rows = []
+    for number, unit in enumerate(units):
+        for own, hunk in enumerate(unit):
+            letter, place = KINDS[hunk.kind][0].replace("c", "t"), f"unit {number} hunk {own}"
+            rows += [(name, f"{value:08x} {letter}", place) for name, value in hunk.symbols]
+            rows += [(name, f"{value:08x} {letter.upper() if kind == DEF else 'A'}", place) for kind, name, value in hunk.definitions]
+            names = dict.fromkeys(target for _, target in hunk.sites if isinstance(target, bytes))
+            rows += [(name, " " * 9 + "U", place) for name in names if name not in defined]
+    rows.sort(key=lambda row: row[0])
+    return "".join(f"{front} {quoted(name)} {place}\n" for name, front, place in rows)
+
+
 def addresses(bases):
     """Bases as `--at` takes them."""
     return ",".join(f"{base:x}" for base in bases)

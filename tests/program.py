@@ -20,6 +20,7 @@ import json_documents
 import limits
 import maps
 import memory
+import names
 import outputs
 import readme
 import runs

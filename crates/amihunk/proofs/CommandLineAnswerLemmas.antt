@@ -8,7 +8,7 @@ use Rattle.clap.specs.Words.{IsAmong, Text, fault_of, subcommand_of}
 use Rattle.clap.specs.declared.error.ErrorKind.{ErrorKind}
 use Rattle.clap.specs.declared.error.ErrorKind.TheVariants as error
 use Rattle.hunk_commands.specs.declared.request.Request.{Request}
-use Rattle.hunk_commands.specs.declared.request.Request.TheVariants.{Check, Compare, Copy, Help, Image, Link, Load, OutOfMemory, Refused, Show, Survey, Version}
+use Rattle.hunk_commands.specs.declared.request.Request.TheVariants.{Check, Compare, Copy, Help, Image, Link, Load, Names, OutOfMemory, Refused, Show, Survey, Version}
 use Rattle.amihunk.specs.Syntax.{command_line}
 use Rattle.amihunk.specs.CommandLine.{AreRefused, Asks, Call, Calls, IsAnswer, IsAskedBy, IsFound, IsMeant, IsOrNothing, IsVersionWord, Meaning, Means, Met, Says, call_of, meaning, version_line}
 use Rattle.amihunk.specs.CommandLine.Call.{conflict}
@@ -107,7 +107,8 @@ means_no_conflict (Link out map options explain files) call is none = cc
 means_no_conflict (Load addresses text explain file) call is none = cc
 means_no_conflict (Image addresses form explain files) call is none = cc
 means_no_conflict (Check explain file) call is none = cc
-means_no_conflict (Show json explain file) call is none = cc
+means_no_conflict (Show text explain file) call is none = cc
+means_no_conflict (Names files) call is none = cc
 means_no_conflict (Survey files) call is none = cc
 means_no_conflict (Copy out form explain file) call is none = cc
 means_no_conflict (Compare with_symbols first second) call is none = cc

@@ -104,7 +104,7 @@ image_regular : AllRegular false (built_below image_shape).rules
 image_regular = (option_regular (codes "at") refl, (option_regular (codes "at-file") refl, (flag_regular None (codes "srec") refl, files_regular)))
 
 show_regular : AllRegular false (built_below show_shape).rules
-show_regular = (flag_regular None (codes "json") refl, (flag_regular None (codes "content") refl, (flag_regular None (codes "html") refl, check_regular)))
+show_regular = (flag_regular None (codes "json") refl, (flag_regular None (codes "content") refl, (flag_regular None (codes "html") refl, (flag_regular None (codes "names") refl, files_regular))))
 
 survey_regular : AllRegular false (built_below survey_shape).rules
 survey_regular = (is_valued (inr refl) (omega arith) refl refl, (asks_help refl refl refl, tt))

@@ -1,5 +1,6 @@
 -- The plain forms of the subcommands, and what they ask for.
 use Rattle.std.proofs.Common.{◌≤◌, ◌<◌, All, arith, refl, Bool, true, false, List, [], ◌∷◌, ◌++◌, codes, length, None, Option, Some}
+use Rattle.std.proofs.lemmas.List.Elements.{All-cons, All-nil}
 use Rattle.clap.specs.Lexer.{usize_max}
 use Rattle.clap.specs.Words.{Shape, Text}
 use Rattle.clap.specs.Walk.{Held, nothing_held, walk_from}
@@ -20,8 +21,10 @@ use Rattle.amihunk.proofs.CommandLineSubcommandLemmas.{IsSubcommand}
 use Rattle.amihunk.proofs.CommandLineWalkLemmas.{IsOption, Passes, passes-nil, passes-option, value_held, walk_on}
 use Rattle.amihunk.specs.Syntax.{check_shape, compare_shape, copy_shape, image_shape, letter_o, link_shape, load_shape, show_shape, survey_shape}
 use Rattle.amihunk.specs.CommandLine.{Call, Calls, IsNoFlag, IsNoFlagIn, brief_link_line, brief_words, compare_line, copy_line, file_line, form_words, image_line, link_line, load_line, map_words}
-use Rattle.amihunk.specs.CommandLine.{normal_line, option_name, option_word, option_words, show_line, show_words, survey_line, text_in, text_words, word_if}
-use Rattle.amihunk.specs.CommandLine.Call.{to_check, to_compare, to_copy, to_image, to_link, to_load, to_show, to_survey}
+use Rattle.amihunk.specs.CommandLine.{names_line, normal_line, option_name, option_word, option_words, show_call, show_line, show_words, survey_line, text_in, text_words, word_if}
+use Rattle.amihunk.specs.declared.choices.Shown.{Shown}
+use Rattle.amihunk.specs.declared.choices.Shown.TheVariants as shown
+use Rattle.amihunk.specs.CommandLine.Call.{to_check, to_compare, to_copy, to_image, to_link, to_load, to_names, to_show, to_survey}
 
 -- ---- `link`
 
@@ -212,26 +215,36 @@ is_show : IsSubcommand (built_below show_shape)
 unfolding clap_on_literals
 is_show = record { met = refl; quiet = refl; found = refl }
 
--- what is held before FILE
-abbrev show_held : ShowText → Held
-show_held text = (walk_on (built_below show_shape) (walk_from nothing_held) (show_words text)).held
+-- what is held before the files, after these words
+abbrev shown_held : List Text → Held
+shown_held words = (walk_on (built_below show_shape) (walk_from nothing_held) words).held
 
--- the words for the text pass, and FILE may come after them
-abbrev IsPlainShow : ShowText → Type 0
-IsPlainShow text = Passes (built_below show_shape) (walk_from nothing_held) (show_words text) (walk_from (show_held text))
-    × TakesFile (built_below show_shape) (show_held text) (to_show text false)
+-- these words pass, and files may come after them, which are what this asks for
+abbrev IsPlainShown : List Text → Shown → Type 0
+IsPlainShown words asked = Passes (built_below show_shape) (walk_from nothing_held) words (walk_from (shown_held words))
+    × TakesFiles (built_below show_shape) (shown_held words) (show_call (Some asked) false)
 
-plain-show : (text : ShowText) → IsPlainShow text
+plain-show : (text : ShowText) → IsPlainShown (show_words text) (shown.Text text)
 unfolding clap_on_literals
-plain-show Listing = ((refl, refl), (record { by_index = refl; other = refl; quiet = refl; late = λ file. refl }, λ file. refl))
-plain-show Json = ((refl, refl), (record { by_index = refl; other = refl; quiet = refl; late = λ file. refl }, λ file. refl))
-plain-show JsonWithContent = ((refl, refl), (record { by_index = refl; other = refl; quiet = refl; late = λ file. refl }, λ file. refl))
-plain-show Page = ((refl, refl), (record { by_index = refl; other = refl; quiet = refl; late = λ file. refl }, λ file. refl))
+plain-show Listing = ((refl, refl), (record { other = refl; quiet = refl; late = λ file rest. refl }, λ file rest. refl))
+plain-show Json = ((refl, refl), (record { other = refl; quiet = refl; late = λ file rest. refl }, λ file rest. refl))
+plain-show JsonWithContent = ((refl, refl), (record { other = refl; quiet = refl; late = λ file rest. refl }, λ file rest. refl))
+plain-show Page = ((refl, refl), (record { other = refl; quiet = refl; late = λ file rest. refl }, λ file rest. refl))
 
-pub calls-show : (program : Text) (text : ShowText) (file : Text) → IsNoFlag file → Calls (show_line program text file) (to_show text false file)
-calls-show program text =
-    let plain = plain-show text in
-    calls-file program (built_below show_shape) (show_words text) (show_held text) (to_show text false) is_show plain.0 plain.1
+plain-names : IsPlainShown (codes "--names" ∷ []) shown.Names
+unfolding clap_on_literals
+plain-names = ((refl, refl), (record { other = refl; quiet = refl; late = λ file rest. refl }, λ file rest. refl))
+
+calls-shown : (program : Text) (words : List Text) (asked : Shown) → IsPlainShown words asked → (files : List Text) → 0 < length files → All IsNoFlag files
+    → length (words ++ files) ≤ usize_max → Calls (program ∷ codes "show" ∷ (words ++ files)) (show_call (Some asked) false files)
+calls-shown program words asked plain files some plain_files fits =
+    calls-files program (built_below show_shape) words (shown_held words) (show_call (Some asked) false) is_show (record { by_index = refl; by_id = refl }) plain.0 plain.1 files some plain_files fits
+
+pub calls-show : (program : Text) (text : ShowText) (file : Text) → IsNoFlag file → length (show_line program text file) ≤ usize_max → Calls (show_line program text file) (to_show text false file)
+calls-show program text file plain fits = calls-shown program (show_words text) (shown.Text text) (plain-show text) (file ∷ []) (omega arith) (All-cons IsNoFlag file [] plain (All-nil IsNoFlag)) (omega (arith, fits))
+
+pub calls-names : (program : Text) (files : List Text) → 0 < length files → All IsNoFlag files → length (names_line program files) ≤ usize_max → Calls (names_line program files) (to_names files)
+calls-names program files some plain fits = calls-shown program (codes "--names" ∷ []) shown.Names plain-names files some plain (omega (arith, fits))
 
 is_survey : IsSubcommand (built_below survey_shape)
 unfolding clap_on_literals

@@ -1,9 +1,10 @@
 -- The status after the plain forms, and where memory ran out.
 use Rattle.std.proofs.Common.{◌∷◌, [], Bool, inl, inr, List, Option, refl, subst, ℕ, arith}
 use Rattle.std.proofs.KnownBytes.{Appends-kept, Appends-nil}
-use Rattle.hunk_tool.specs.Survey.{AreOfFiles}
+use Rattle.std.proofs.lemmas.List.Elements.{All-nil}
+use Rattle.hunk_tool.specs.Survey.{AreFoundFirst, IsOfFile}
 use Rattle.std.specs.Prelude.{⊤}
-use Rattle.hunk_commands.specs.Request.{Ends, EndsCompare, EndsCopy, EndsImage, EndsLink, EndsLoad, EndsSurvey, EndsText, EndsVersion, NoMore, OrExhausted, OrUntouched, Reads, Replaces, Run}
+use Rattle.hunk_commands.specs.Request.{Ends, EndsCompare, EndsCopy, EndsImage, EndsLink, EndsLoad, EndsNames, EndsSurvey, EndsText, EndsVersion, NoMore, OrExhausted, OrUntouched, Reads, Replaces, Run}
 use Rattle.hunk_commands.specs.Compare.{IsCompareFailure}
 use Rattle.hunk_commands.specs.Copy.{IsCopyFailure}
 use Rattle.hunk_commands.specs.Explain.{AreImageLines, AreLinkLines, AreLoadFileLines, AreLoadLines, AreTextLines, IfAsked}
@@ -11,8 +12,9 @@ use Rattle.hunk_commands.specs.Failure.{status_of_comparison}
 use Rattle.hunk_commands.specs.Image.{IsImageFailure}
 use Rattle.hunk_commands.specs.Link.{IsUndone}
 use Rattle.hunk_commands.specs.Load.{IsLoadFailure}
+use Rattle.hunk_commands.specs.Names.{IsNamesFailure}
 use Rattle.hunk_commands.specs.Text.{IsTextFailure}
-use Rattle.hunk_commands.specs.Output.{IsUnprinted}
+use Rattle.hunk_commands.specs.Output.{IsNothing, IsUnprinted, Printed}
 use Rattle.hunk_commands.specs.Store.{AreUnchanged, Contents}
 use Rattle.hunk_commands.specs.Survey.{IsCutShort}
 use Rattle.hunk_tool.specs.declared.tool_fault.ToolFault.TheVariants as tool_fault
@@ -20,17 +22,27 @@ use Rattle.hunk_commands.specs.declared.failure.Failure.TheVariants.{Tool}
 use Rattle.hunk_commands.specs.declared.text.Text.{Text}
 use Rattle.hunk_commands.specs.declared.text.Text.TheVariants.{Line, Shown}
 use Rattle.hunk_commands.specs.declared.request.Request.{Request}
-use Rattle.hunk_commands.specs.declared.request.Request.TheVariants.{Load, Link, Image, Check, Show, Survey, Copy, Compare, Version, Help, Refused, OutOfMemory}
+use Rattle.hunk_commands.specs.declared.request.Request.TheVariants.{Load, Link, Image, Check, Show, Names, Survey, Copy, Compare, Version, Help, Refused, OutOfMemory}
 use Rattle.hunk_commands.proofs.ExplainLemmas.{none_asked}
 use Rattle.hunk_commands.proofs.RequestLemmas.{fails_with, not_begun}
 use Rattle.amihunk.specs.CommandLine.{Call, Meaning, Means}
 use Rattle.amihunk.specs.CommandLine.Meaning.{calls, help, nothing, rejection, version}
-use Rattle.amihunk.specs.CommandLine.Call.{conflict, to_check, to_compare, to_copy, to_image, to_link, to_load, to_show, to_survey}
+use Rattle.amihunk.specs.CommandLine.Call.{conflict, to_check, to_compare, to_copy, to_image, to_link, to_load, to_names, to_show, to_survey}
 
--- of no files nothing is found
-none_found : (contents : Contents) (names : List (List ℕ)) → AreOfFiles contents names []
-none_found contents [] = tt
-none_found contents (name ∷ names) = tt
+-- of no file anything was found, and nothing was printed
+none_found : (contents : Contents) (names : List (List ℕ)) (printed : Printed) → IsNothing printed → AreFoundFirst contents names printed.old printed.new
+none_found contents [] printed kept = record {
+  findings = [];
+  few = omega arith;
+  of_files = All-nil (λ about. IsOfFile (contents about.0) about.1);
+  written = Appends-kept printed.old printed.old printed.new [] (Appends-nil printed.old) kept;
+}
+none_found contents (name ∷ names) printed kept = record {
+  findings = [];
+  few = omega arith;
+  of_files = All-nil (λ about. IsOfFile (contents about.0) about.1);
+  written = Appends-kept printed.old printed.old printed.new [] (Appends-nil printed.old) kept;
+}
 
 module _ {W : Type 0} (run : Run) (taken : W → Option (List ℕ)) (failed : W → Bool) (old new : W) where
   -- the status after a call; a conflict has none
@@ -40,6 +52,7 @@ module _ {W : Type 0} (run : Run) (taken : W → Option (List ℕ)) (failed : W 
   EndsCall (to_image origin form explain files) status = Reads run (λ contents printed. EndsImage contents printed taken failed old new origin form explain files status)
   EndsCall (to_check explain file) status = Reads run (λ contents printed. EndsText contents printed taken failed old new Line explain file status)
   EndsCall (to_show text explain file) status = Reads run (λ contents printed. EndsText contents printed taken failed old new (Shown text) explain file status)
+  EndsCall (to_names files) status = Reads run (λ contents printed. EndsNames contents printed taken failed old new files status)
   EndsCall (to_survey files) status = Reads run (λ contents printed. EndsSurvey contents printed taken failed old new files status)
   EndsCall (to_copy out form explain file) status = Replaces run (λ contents contents_then. EndsCopy contents contents_then taken failed old new out form explain file status)
   EndsCall (to_compare with_symbols first second) status = Reads run (λ contents printed. EndsCompare contents printed taken failed old new with_symbols first second status)
@@ -57,19 +70,22 @@ module _ {W : Type 0} (run : Run) (taken : W → Option (List ℕ)) (failed : W 
         (inl (refl, ends.1)) (none_asked explain (AreLinkLines run.contents_then files) (Tool (tool_fault.OutOfMemory 0)) refl) ends.0),
     ends.2,
   )
-  ends_memory (to_load origin text explain file) status ends =
-      (inr (not_begun taken failed (OrExhausted run.printed (IsLoadFailure text run.contents origin file run.printed)) (IfAsked explain (AreLoadLines run.contents origin file)) (file ∷ []) status old new (inl (refl, ends.2))
-      (none_asked explain (AreLoadLines run.contents origin file) (Tool (tool_fault.OutOfMemory 0)) refl) ends.0), ends.1)
-  ends_memory (to_image origin form explain files) status ends =
-      (inr (not_begun taken failed (OrExhausted run.printed (IsImageFailure form run.contents origin files run.printed)) (IfAsked explain (AreImageLines run.contents origin files)) files status old new (inl (refl, ends.2))
-      (none_asked explain (AreImageLines run.contents origin files) (Tool (tool_fault.OutOfMemory 0)) refl) ends.0), ends.1)
-  ends_memory (to_check explain file) status ends = ends_text Line explain file status ends
-  ends_memory (to_show text explain file) status ends = ends_text (Shown text) explain file status ends
-  ends_memory (to_survey files) status ends = (
-    inr (not_begun taken failed (IsCutShort run.contents files run.printed) NoMore [] status old new
-        (record { findings = []; few = omega arith; of_files = none_found run.contents files; written = Appends-kept run.printed.old run.printed.old run.printed.new [] (Appends-nil run.printed.old) ends.2 }, refl) refl ends.0),
+  ends_memory (to_load origin text explain file) status ends = (
+    inr (not_begun taken failed (OrExhausted run.printed (IsLoadFailure text run.contents origin file run.printed)) (IfAsked explain (AreLoadLines run.contents origin file)) (file ∷ []) status old new (inl (refl, ends.2))
+        (none_asked explain (AreLoadLines run.contents origin file) (Tool (tool_fault.OutOfMemory 0)) refl) ends.0),
     ends.1,
   )
+  ends_memory (to_image origin form explain files) status ends = (
+    inr (not_begun taken failed (OrExhausted run.printed (IsImageFailure form run.contents origin files run.printed)) (IfAsked explain (AreImageLines run.contents origin files)) files status old new (inl (refl, ends.2))
+        (none_asked explain (AreImageLines run.contents origin files) (Tool (tool_fault.OutOfMemory 0)) refl) ends.0),
+    ends.1,
+  )
+  ends_memory (to_check explain file) status ends = ends_text Line explain file status ends
+  ends_memory (to_show text explain file) status ends = ends_text (Shown text) explain file status ends
+  ends_memory (to_names files) status ends =
+      (inr (not_begun taken failed (OrExhausted run.printed (IsNamesFailure run.contents files run.printed)) NoMore files status old new (inl (refl, ends.2)) refl ends.0), ends.1)
+  ends_memory (to_survey files) status ends =
+      (inr (not_begun taken failed (IsCutShort run.contents files run.printed) NoMore [] status old new (none_found run.contents files run.printed ends.2, refl) refl ends.0), ends.1)
   ends_memory (to_copy out form explain file) status ends = (
     inr (not_begun taken failed (OrUntouched run.contents run.contents_then (λ failure. IsCopyFailure form run.contents file out failure × AreUnchanged run.contents run.contents_then))
         (IfAsked explain (AreLoadFileLines run.contents_then (file ∷ []))) (file ∷ []) status old new (inl (refl, ends.1))
@@ -101,6 +117,7 @@ module _ {W : Type 0} (run : Run) (taken : W → Option (List ℕ)) (failed : W 
   ends_asked m (Load addresses text explain file) status asks ends = subst (λ x. EndsAsked x status) asks ends
   ends_asked m (Image addresses form explain files) status asks ends = subst (λ x. EndsAsked x status) asks ends
   ends_asked m (Check explain file) status asks ends = subst (λ x. EndsAsked x status) asks ends
+  ends_asked m (Names files) status asks ends = subst (λ x. EndsAsked x status) asks ends
   ends_asked m (Show text explain file) status asks ends = subst (λ x. EndsAsked x status) asks ends
   ends_asked m (Survey files) status asks ends = subst (λ x. EndsAsked x status) asks ends
   ends_asked m (Copy out form explain file) status asks ends = subst (λ x. EndsAsked x status) asks ends

@@ -23,10 +23,12 @@ use Rattle.hunk_commands.specs.declared.load.LoadText.TheVariants as load_text
 use Rattle.hunk_commands.specs.declared.text.ShowText.{ShowText}
 use Rattle.hunk_commands.specs.declared.text.ShowText.TheVariants as show_text
 use Rattle.hunk_commands.specs.declared.request.Request.{Request}
-use Rattle.hunk_commands.specs.declared.request.Request.TheVariants.{Link, Load, Image, Check, Show, Survey, Copy, Compare, Version, Help, Refused, OutOfMemory}
+use Rattle.hunk_commands.specs.declared.request.Request.TheVariants.{Link, Load, Image, Check, Show, Names, Survey, Copy, Compare, Version, Help, Refused, OutOfMemory}
 use Rattle.amihunk.specs.Syntax.{command_line}
+use Rattle.amihunk.specs.declared.choices.Shown.{Shown}
+use Rattle.amihunk.specs.declared.choices.Shown.TheVariants as shown
 use Rattle.amihunk.specs.declared.conflict.Conflict.{Conflict}
-use Rattle.amihunk.specs.declared.conflict.Conflict.TheVariants.{Texts, TwoAddresses, NoAddresses, NormalAndExplain, NormalAndShort, NormalAndStrip, NormalAndTrim, JsonAndHtml, ContentAlone, ContentAndHtml}
+use Rattle.amihunk.specs.declared.conflict.Conflict.TheVariants.{Texts, TwoAddresses, NoAddresses, NormalAndExplain, NormalAndShort, NormalAndStrip, NormalAndTrim, JsonAndHtml, ContentAlone, ContentAndHtml, NamesAndJson, NamesAndContent, NamesAndHtml, NamesAndExplain}
 
 -- ---- what was found for the arguments of a subcommand
 
@@ -75,6 +77,7 @@ pub data Call : Type 0 where
   to_image : (origin : Origin) (form : ImageForm) (explain : Bool) (files : List Text) → Call
   to_check : (explain : Bool) (file : Text) → Call
   to_show : (text : ShowText) (explain : Bool) (file : Text) → Call
+  to_names : (files : List Text) → Call
   to_survey : (files : List Text) → Call
   to_copy : (out : Text) (form : CopyForm) (explain : Bool) (file : Text) → Call
   to_compare : (with_symbols : Bool) (first second : Text) → Call
@@ -159,13 +162,21 @@ show_text_by true true false = Some show_text.JsonWithContent
 show_text_by false false true = Some show_text.Page
 show_text_by _ _ _ = None
 
-abbrev pub show_call : Option ShowText → Bool → Text → Call
-show_call (Some text) explain file = to_show text explain file
-show_call None explain file = conflict
+-- what is asked of `show`, by `--names` and the other flags: with the first goes no other
+abbrev pub shown_by : (names json content html explain : Bool) → Option Shown
+shown_by false json content html explain = option_map shown.Text (show_text_by json content html)
+shown_by true false false false false = Some shown.Names
+shown_by true _ _ _ _ = None
+
+-- names are listed of any number of files, and a text is printed of one
+abbrev pub show_call : Option Shown → Bool → List Text → Call
+show_call (Some (shown.Text text)) explain (file ∷ []) = to_show text explain file
+show_call (Some shown.Names) explain files = to_names files
+show_call _ explain files = conflict
 
 abbrev pub show_in : List Row → Call
-show_in rows = show_call (show_text_by (is_given (codes "json") rows) (is_given (codes "content") rows) (is_given (codes "html") rows))
-    (is_given (codes "explain") rows) (value_in (codes "file") rows)
+show_in rows = show_call (shown_by (is_given (codes "names") rows) (is_given (codes "json") rows) (is_given (codes "content") rows)
+    (is_given (codes "html") rows) (is_given (codes "explain") rows)) (is_given (codes "explain") rows) (files_in rows)
 
 -- the names of the subcommands, and what each asks for by what was found for its arguments
 abbrev pub subcommands : List (Text × (List Row → Call))
@@ -193,6 +204,7 @@ meaning (Load addresses text explain file) = calls (to_load (origin_of addresses
 meaning (Image addresses form explain files) = calls (to_image (origin_of addresses) form explain (texts files.items))
 meaning (Check explain file) = calls (to_check explain file.now)
 meaning (Show text explain file) = calls (to_show text explain file.now)
+meaning (Names files) = calls (to_names (texts files.items))
 meaning (Survey files) = calls (to_survey (texts files.items))
 meaning (Copy out form explain file) = calls (to_copy out.now form explain file.now)
 meaning (Compare with_symbols first second) = calls (to_compare with_symbols first.now second.now)
@@ -211,6 +223,10 @@ conflict_kind NormalAndTrim = error.ArgumentConflict
 conflict_kind NormalAndExplain = error.ArgumentConflict
 conflict_kind JsonAndHtml = error.ArgumentConflict
 conflict_kind ContentAndHtml = error.ArgumentConflict
+conflict_kind NamesAndJson = error.ArgumentConflict
+conflict_kind NamesAndContent = error.ArgumentConflict
+conflict_kind NamesAndHtml = error.ArgumentConflict
+conflict_kind NamesAndExplain = error.ArgumentConflict
 conflict_kind NoAddresses = error.MissingRequiredArgument
 conflict_kind ContentAlone = error.MissingRequiredArgument
 
@@ -354,6 +370,10 @@ show_words show_text.Page = codes "--html" ∷ []
 -- the arguments `PROGRAM show [--json [--content] | --html] FILE`
 abbrev pub show_line : Text → ShowText → Text → List Text
 show_line program text file = program ∷ codes "show" ∷ (show_words text ++ file ∷ [])
+
+-- the arguments `PROGRAM show --names FILE...`
+abbrev pub names_line : Text → List Text → List Text
+names_line program files = program ∷ codes "show" ∷ codes "--names" ∷ files
 
 -- the arguments `PROGRAM survey FILE...`
 abbrev pub survey_line : Text → List Text → List Text

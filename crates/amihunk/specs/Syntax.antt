@@ -81,13 +81,14 @@ image_shape = (with_rule (with_rule (with_rule
 abbrev pub check_shape : Shape
 check_shape = (with_rule (with_rule (new_app (codes "check")) explain_rule) file_rule).top
 
--- `[--json] [--content] [--html]`
+-- `[--json] [--content] [--html] [--names]`
 abbrev pub given_shown : App → App
-given_shown app = with_rule (with_rule (with_rule app (flag_rule (codes "json"))) (flag_rule (codes "content"))) (flag_rule (codes "html"))
+given_shown app = with_rule (with_rule (with_rule (with_rule app (flag_rule (codes "json"))) (flag_rule (codes "content")))
+    (flag_rule (codes "html"))) (flag_rule (codes "names"))
 
--- `show [--json] [--content] [--html] [--explain] FILE`
+-- `show [--json] [--content] [--html] [--names] [--explain] FILE...`
 abbrev pub show_shape : Shape
-show_shape = (with_rule (with_rule (given_shown (new_app (codes "show"))) explain_rule) file_rule).top
+show_shape = (with_rule (with_rule (given_shown (new_app (codes "show"))) explain_rule) files_rule).top
 
 -- the program, which has a version, requires a subcommand, and has none called `help`
 abbrev pub bare_app : App

@@ -1,7 +1,7 @@
 //! What the flags of a subcommand choose together.
 ghost use Rattle.std.specs.Prelude.{◌≡◌, MatchResult, None, Some};
 ghost use Rattle.clap.specs.declared.error.ErrorKind.TheVariants.{ArgumentConflict};
-ghost use Rattle.amihunk.specs.CommandLine.{conflict_kind, copy_form_by, form_by, show_text_by, text_by};
+ghost use Rattle.amihunk.specs.CommandLine.{conflict_kind, copy_form_by, form_by, show_text_by, shown_by, text_by};
 
 use crate::conflict::Conflict;
 use hunk_commands::{LoadText, ShowText};
@@ -26,6 +26,36 @@ pub fn form_of(srec: bool) -> ImageForm
         ImageForm::SRecords
     } else {
         ImageForm::Report
+    }
+}
+
+/// What is asked of `show`.
+pub enum Shown {
+    /// A text about one file.
+    Text(ShowText),
+    /// The names in files.
+    Names,
+}
+
+/// What is asked of `show`: the names go with no other flag.
+pub fn shown_of(
+    names: bool,
+    json: bool,
+    content: bool,
+    html: bool,
+    explain: bool,
+) -> Result<Shown, Conflict>
+    ensures { MatchResult result
+        (λ shown. shown_by names json content html explain ≡ Some shown)
+        (λ _. shown_by names json content html explain ≡ None) }
+{
+    match (names, json, content, html, explain) {
+        (false, ..) => Ok(Shown::Text(show_text_of(json, content, html)?)),
+        (true, true, ..) => Err(Conflict::NamesAndJson),
+        (true, _, true, ..) => Err(Conflict::NamesAndContent),
+        (true, _, _, true, _) => Err(Conflict::NamesAndHtml),
+        (true, .., true) => Err(Conflict::NamesAndExplain),
+        (true, false, false, false, false) => Ok(Shown::Names),
     }
 }
 

@@ -5,10 +5,10 @@ ghost use Rattle.clap.specs.Walk.{texts};
 ghost use Rattle.clap.specs.Words.{FailsBy, fault_of, first_of, found_of, kind_of, rows_of, subcommand_of, subcommand_rows_of};
 ghost use Rattle.amihunk.specs.Syntax.{command_line};
 ghost use Rattle.amihunk.specs.CommandLine.{Answers, AreRefused, Asks, HasValue, IsAskedBy, IsFlag, IsNoFlag, IsNoFlagIn, IsVersionWord, IsWhole, Means};
-ghost use Rattle.amihunk.specs.CommandLine.{Says, brief_link_line, compare_line, conflict_kind, copy_form_by, copy_line, file_line, files_in, form_by, image_line, link_line, load_line, normal_line, options_in};
-ghost use Rattle.amihunk.specs.CommandLine.{origin_in, show_line, survey_line, text_by, text_in, value_in, version_line};
+ghost use Rattle.amihunk.specs.CommandLine.{Says, brief_link_line, compare_line, conflict_kind, copy_line, file_line, files_in, image_line, link_line, load_line, normal_line, options_in};
+ghost use Rattle.amihunk.specs.CommandLine.{names_line, origin_in, show_line, survey_line, text_in, value_in, version_line};
 ghost use Rattle.amihunk.specs.CommandLine.Meaning.{rejection, version};
-ghost use Rattle.amihunk.specs.CommandLine.Call.{to_check, to_compare, to_copy, to_image, to_link, to_load, to_show, to_survey};
+ghost use Rattle.amihunk.specs.CommandLine.Call.{to_check, to_compare, to_copy, to_image, to_link, to_load, to_names, to_show, to_survey};
 ghost use Rattle.hunk_commands.specs.Addresses.{Origin, origin_of};
 ghost use Rattle.hunk_commands.specs.Request.{given_text};
 ghost use Rattle.hunk_commands.specs.declared.load.LoadText.{LoadText};
@@ -17,7 +17,7 @@ ghost use Rattle.hunk_memory.specs.declared.image_form.ImageForm.{ImageForm};
 ghost use Rattle.hunk_tool.specs.declared.copy.CopyForm.{CopyForm};
 ghost use Rattle.hunk_tool.specs.declared.link_options.LinkOptions.{LinkOptions};
 
-use crate::choices::{copy_form, form_of, show_text_of, text_of};
+use crate::choices::{Shown, copy_form, form_of, shown_of, text_of};
 use crate::conflict::Conflict;
 use crate::syntax::{command, copy_command, image_command, load_command, show_command};
 use clap::error::ErrorKind;
@@ -48,6 +48,9 @@ pub fn read_words<'a, S: AsStr>(alloc: Global, words: &'a [S]) -> Request<'a>
     ensures show { (program : List ℕ) (text : ShowText) (file : List ℕ)
         → map S.text words.entry.now ≡ show_line program text file
         → IsNoFlag file → Asks (to_show text false file) result }
+    ensures names { (program : List ℕ) (files : List (List ℕ))
+        → map S.text words.entry.now ≡ names_line program files
+        → 0 < length files → All IsNoFlag files → Asks (to_names files) result }
     ensures survey { (program : List ℕ) (files : List (List ℕ))
         → map S.text words.entry.now ≡ survey_line program files
         → 0 < length files → All IsNoFlag files → Asks (to_survey files) result }
@@ -201,21 +204,40 @@ fn show_request<'a>(alloc: Global, values: &ArgMatches<'a>) -> Result<Request<'a
     requires { IsWhole (Some (codes "show", rows_of (found_of values.now))) }
     ensures { IfOk result (Says (Some (codes "show", rows_of (found_of values.now)))) }
 {
-    match show_text_of(
+    let explain = is_set(values, "explain");
+    let files = files_of(alloc, values)?;
+    match shown_of(
+        is_set(values, "names"),
         is_set(values, "json"),
         is_set(values, "content"),
         is_set(values, "html"),
+        explain,
     ) {
-        Ok(text) => Ok(Request::Show {
-            text,
-            explain: is_set(values, "explain"),
-            file: value_of(values, "file"),
-        }),
+        Ok(Shown::Names) => Ok(Request::Names { files }),
+        Ok(Shown::Text(text)) => match (files.get(0), files.get(1)) {
+            (Some(file), None) => Ok(Request::Show {
+                text,
+                explain,
+                file,
+            }),
+            (_, Some(second)) => refuse_file(alloc, second),
+            (None, None) => unreachable!(),
+        },
         Err(conflict) => {
             let show = show_command(alloc)?.bin_name("amihunk show")?;
             refuse(alloc, show, conflict)
         }
     }
+}
+
+/// Rejects a second file of `show`, as `clap` rejects an argument that it does not expect.
+fn refuse_file<'a>(alloc: Global, file: &str) -> Result<Request<'a>, AllocError>
+    ensures { IfOk result (Answers ErrorKind.UnknownArgument) }
+{
+    let mut show = show_command(alloc)?.bin_name("amihunk show")?;
+    let text = format!(in alloc; "unexpected argument '{file}' found")?;
+    let error = show.error(ErrorKind::UnknownArgument, &text)?;
+    Ok(answer_to(alloc, &error))
 }
 
 /// The request of a parse that found the subcommand `survey`.

@@ -27,6 +27,14 @@ pub enum Conflict {
     ContentAndHtml,
     /// `--content` without `--json`.
     ContentAlone,
+    /// `--names` and `--json`.
+    NamesAndJson,
+    /// `--names` and `--content`.
+    NamesAndContent,
+    /// `--names` and `--html`.
+    NamesAndHtml,
+    /// `--names` and `--explain`.
+    NamesAndExplain,
 }
 
 impl Conflict {
@@ -43,7 +51,11 @@ impl Conflict {
             | Conflict::NormalAndTrim
             | Conflict::NormalAndExplain
             | Conflict::JsonAndHtml
-            | Conflict::ContentAndHtml => ErrorKind::ArgumentConflict,
+            | Conflict::ContentAndHtml
+            | Conflict::NamesAndJson
+            | Conflict::NamesAndContent
+            | Conflict::NamesAndHtml
+            | Conflict::NamesAndExplain => ErrorKind::ArgumentConflict,
         }
     }
 
@@ -62,6 +74,14 @@ impl Conflict {
             }
             Conflict::JsonAndHtml => "the argument '--json' cannot be used with '--html'",
             Conflict::ContentAndHtml => "the argument '--content' cannot be used with '--html'",
+            Conflict::NamesAndJson => "the argument '--names' cannot be used with '--json'",
+            Conflict::NamesAndContent => {
+                "the argument '--names' cannot be used with '--content'"
+            }
+            Conflict::NamesAndHtml => "the argument '--names' cannot be used with '--html'",
+            Conflict::NamesAndExplain => {
+                "the argument '--names' cannot be used with '--explain'"
+            }
             Conflict::ContentAlone => {
                 "the following required arguments were not provided:\n  --json"
             }

@@ -7,10 +7,10 @@ ghost use Rattle.hunk_tool.specs.declared.link_options.LinkOptions.{LinkOptions}
 ghost use Rattle.hunk_commands.specs.Addresses.{Origin};
 ghost use Rattle.hunk_commands.specs.declared.load.LoadText.{LoadText};
 ghost use Rattle.hunk_commands.specs.declared.text.ShowText.{ShowText};
-ghost use Rattle.hunk_commands.specs.Request.{EndsCompare, EndsCopy, EndsImage, EndsLink, EndsLoad, EndsSurvey, EndsText, EndsVersion, Reads, Replaces, Run, run_between};
+ghost use Rattle.hunk_commands.specs.Request.{EndsCompare, EndsCopy, EndsImage, EndsLink, EndsLoad, EndsNames, EndsSurvey, EndsText, EndsVersion, Reads, Replaces, Run, run_between};
 ghost use Rattle.amihunk.specs.Program.{EndsLine, EndsStart, IsNotBegun};
 ghost use Rattle.amihunk.specs.CommandLine.{IsNoFlag, IsNoFlagIn, IsVersionWord, brief_link_line, compare_line, copy_line, file_line, image_line, link_line, load_line};
-ghost use Rattle.amihunk.specs.CommandLine.{normal_line, show_line, survey_line, text_in, version_line};
+ghost use Rattle.amihunk.specs.CommandLine.{names_line, normal_line, show_line, survey_line, text_in, version_line};
 
 use crate::command_line::{read_words, refuse_bytes};
 use hunk_commands::{
@@ -92,6 +92,9 @@ pub fn run<S: Store, O: Output, W: Sink, T: AsStr>(
     ensures show { (program : List ℕ) (text : ShowText) (file : List ℕ)
         → map T.text words.now ≡ show_line program text file
         → IsNoFlag file → Reads (run_between S.content O.taken O.failed O.waiting store.old store.new output.old output.new) (λ contents printed. EndsText contents printed W.taken W.failed errors.old errors.new (Text.Shown text) false file result) }
+    ensures names { (program : List ℕ) (files : List (List ℕ))
+        → map T.text words.now ≡ names_line program files
+        → 0 < length files → All IsNoFlag files → Reads (run_between S.content O.taken O.failed O.waiting store.old store.new output.old output.new) (λ contents printed. EndsNames contents printed W.taken W.failed errors.old errors.new files result) }
     ensures survey { (program : List ℕ) (files : List (List ℕ))
         → map T.text words.now ≡ survey_line program files
         → 0 < length files → All IsNoFlag files → Reads (run_between S.content O.taken O.failed O.waiting store.old store.new output.old output.new) (λ contents printed. EndsSurvey contents printed W.taken W.failed errors.old errors.new files result) }

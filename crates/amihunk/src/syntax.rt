@@ -212,8 +212,9 @@ fn check_command<'a>(alloc: Global) -> Result<Command<'a>, AllocError>
         .arg(file_argument(alloc, "An object file or a load file"))
 }
 
-/// The subcommand `show [--json] [--content] [--html] [--explain] FILE`. No rule of `clap` keeps `--html`
-/// apart from the other two, or `--content` with `--json`: the command line is judged after the parse.
+/// The subcommand `show [--json] [--content] [--html] [--names] [--explain] FILE...`. No rule of `clap` says
+/// which of the flags go together, or that only `--names` goes with several files: the command line is judged
+/// after the parse.
 pub fn show_command<'a>(alloc: Global) -> Result<Command<'a>, AllocError>
     ensures shape { IfOk result (λ c. shape_of c ≡ show_shape) }
     ensures local { IfOk result (λ c. (out-Command c).has_globals ≡ false) }
@@ -223,7 +224,10 @@ pub fn show_command<'a>(alloc: Global) -> Result<Command<'a>, AllocError>
         .after_help(help::SHOW);
     with_shown(alloc, show)?
         .arg(explain_flag(alloc))?
-        .arg(file_argument(alloc, "An object file or a load file"))
+        .arg(files_argument(
+            alloc,
+            "An object file or a load file, or with `--names` object files",
+        ))
 }
 
 /// A subcommand that is told what to print in place of the listing.
@@ -242,6 +246,11 @@ fn with_shown<'a>(alloc: Global, command: Command<'a>) -> Result<Command<'a>, Al
             alloc,
             "html",
             "Prints a page for a browser, which shows the file",
+        ))?
+        .arg(flag(
+            alloc,
+            "names",
+            "Lists the names in the files, sorted, as `nm` lists them",
         ))
 }
 

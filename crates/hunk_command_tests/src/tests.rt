@@ -16,6 +16,7 @@
 //! - `links`: the load file of object files.
 //! - `loads`: the report and the symbols of a load file.
 //! - `maps`: the load file of object files, and its map.
+//! - `names`: the names in files.
 //! - `outcomes`: assertions about how a request ends, and about what was done with files.
 //! - `reasons`: why a file cannot be opened or read, after the line of its failure.
 //! - `replacements`: each way in which a load file takes the place of another file.
@@ -44,6 +45,7 @@ mod lines;
 mod links;
 mod loads;
 mod maps;
+mod names;
 mod outcomes;
 mod reasons;
 mod replacements;

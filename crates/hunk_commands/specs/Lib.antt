@@ -14,6 +14,7 @@ pub mod Link
 pub mod Image
 pub mod Copy
 pub mod Compare
+pub mod Names
 pub mod Survey
 pub mod Text
 pub mod Version

@@ -14,6 +14,7 @@ use Rattle.hunk_commands.specs.Copy.{IsCopiedOut, IsCopyFailure}
 use Rattle.hunk_commands.specs.Load.{IsLoadFailure, IsLoaded}
 use Rattle.hunk_commands.specs.Link.{IsDone, IsUndone}
 use Rattle.hunk_commands.specs.Image.{AreImaged, IsImageFailure}
+use Rattle.hunk_commands.specs.Names.{AreListed, IsNamesFailure}
 use Rattle.hunk_commands.specs.Output.{IsExhausted, IsNothing, IsPrinted, IsUnprinted, Printed, printed_of}
 use Rattle.hunk_commands.specs.Store.{AreUnchanged, Contents}
 use Rattle.hunk_commands.specs.Survey.{IsCutShort, IsSurveyed}
@@ -25,7 +26,7 @@ use Rattle.hunk_commands.specs.declared.load.LoadText.{LoadText}
 use Rattle.hunk_commands.specs.declared.text.Text.{Text}
 use Rattle.hunk_commands.specs.declared.text.Text.TheVariants.{Line, Shown}
 use Rattle.hunk_commands.specs.declared.request.Request.{Request}
-use Rattle.hunk_commands.specs.declared.request.Request.TheVariants.{Load, Link, Image, Check, Show, Survey, Copy, Compare, Version, Help, Refused, OutOfMemory}
+use Rattle.hunk_commands.specs.declared.request.Request.TheVariants.{Load, Link, Image, Check, Show, Names, Survey, Copy, Compare, Version, Help, Refused, OutOfMemory}
 
 -- a request for some files was not done, for a reason of which this holds; the status is that of the
 -- failure, and its line went to the writer, and then further lines of which this holds; or a write to it
@@ -76,6 +77,12 @@ EndsText contents printed taken failed old new text explain file status =
     ((status ≡ 0) × IsTold text contents file printed)
     ⊎ IsFailed taken failed old new (OrExhausted printed (IsTextFailure text contents file printed))
     (IfAsked explain (AreTextLines contents (file ∷ []))) (file ∷ []) status
+
+-- the status after `show --names`
+abbrev pub EndsNames : {W : Type 0} → Contents → Printed → (taken : W → Option (List ℕ)) (failed : W → Bool) (old new : W) (files : List (List ℕ)) → ℕ → Type 0
+EndsNames contents printed taken failed old new files status =
+    ((status ≡ 0) × AreListed contents files printed)
+    ⊎ IsFailed taken failed old new (OrExhausted printed (IsNamesFailure contents files printed)) NoMore files status
 
 -- the status after `survey`: no file stops it
 abbrev pub EndsSurvey : {W : Type 0} → Contents → Printed → (taken : W → Option (List ℕ)) (failed : W → Bool) (old new : W) (files : List (List ℕ)) → ℕ → Type 0
@@ -156,6 +163,8 @@ Ends run taken failed old new (Check explain file) status =
     Reads run (λ contents printed. EndsText contents printed taken failed old new Line explain file.now status)
 Ends run taken failed old new (Show text explain file) status =
     Reads run (λ contents printed. EndsText contents printed taken failed old new (Shown text) explain file.now status)
+Ends run taken failed old new (Names files) status =
+    Reads run (λ contents printed. EndsNames contents printed taken failed old new (file_names files.items) status)
 Ends run taken failed old new (Survey files) status =
     Reads run (λ contents printed. EndsSurvey contents printed taken failed old new (file_names files.items) status)
 Ends run taken failed old new (Compare with_symbols first second) status =

@@ -13,7 +13,7 @@
 //! - `copy`: the command `copy`.
 //! - `compare`: the command `compare`.
 //! - `survey`: the command `survey`.
-//! - `text`: the commands that print a text about a file.
+//! - `text`: the commands that print a text about a file; `names`: the one that lists names.
 //! - `version`: the version of the program.
 //! - `laws`: laws about the files of a store.
 //!
@@ -46,6 +46,7 @@ mod lines;
 pub mod link;
 pub mod load;
 mod memory_store;
+pub mod names;
 mod new_file;
 mod open_fault;
 mod output;

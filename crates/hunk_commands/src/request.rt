@@ -5,7 +5,7 @@ ghost use Rattle.hunk_commands.specs.Addresses.{origin_of};
 ghost use Rattle.hunk_commands.specs.Explain.{AreLinesOf, IfAsked};
 ghost use Rattle.hunk_commands.specs.Link.{IsDone, IsUndone};
 ghost use Rattle.hunk_commands.specs.Output.{IsPrinted, printed_of};
-ghost use Rattle.hunk_commands.specs.Request.{Ends, EndsCompare, EndsCopy, EndsHelp, EndsImage, EndsLink, EndsLoad, EndsSurvey, EndsText, EndsVersion, IsFailed, given_text, run_between};
+ghost use Rattle.hunk_commands.specs.Request.{Ends, EndsCompare, EndsCopy, EndsHelp, EndsImage, EndsLink, EndsLoad, EndsNames, EndsSurvey, EndsText, EndsVersion, IsFailed, given_text, run_between};
 
 use crate::addresses::Addresses;
 use crate::compare::compare;
@@ -17,6 +17,7 @@ use crate::image::image;
 use crate::inputs::names_of;
 use crate::link::{link, link_with_map};
 use crate::load::{LoadText, load};
+use crate::names::print_names;
 use crate::output::Output;
 use crate::store::Store;
 use crate::survey::survey;
@@ -84,6 +85,11 @@ pub enum Request<'a> {
         explain: bool,
         /// The argument FILE.
         file: &'a str,
+    },
+    /// `show --names FILE...`: the names in FILE..., a load file or object files.
+    Names {
+        /// The arguments FILE..., in the order given, of which there is at least one.
+        files: Vec<&'a str>,
     },
     /// `survey FILE...`: a line about each of FILE..., and one with their numbers.
     Survey {
@@ -173,6 +179,7 @@ pub fn answer<S: Store, O: Output, W: Sink>(
             let text = Text::Shown(text);
             answer_text(alloc, store, output, errors, text, explain, file)
         }
+        Request::Names { files } => { answer_names(alloc, store, output, errors, files.as_slice()) }
         Request::Survey { files } => {
             answer_survey(alloc, store, output, errors, files.as_slice())
         }
@@ -331,6 +338,25 @@ fn answer_image<S: Store, O: Output, W: Sink>(
                 alloc, store, errors, command, explain, files, names, &failure,
             )
         }
+    }
+}
+
+/// Does `show --names FILE...`, and returns the exit status.
+fn answer_names<S: Store, O: Output, W: Sink>(
+    alloc: Global,
+    store: &S,
+    output: &mut O,
+    errors: &mut W,
+    files: &[&str],
+) -> u8
+    ensures { EndsNames (S.content store.now) (printed_of O.taken O.failed O.waiting output.old output.new) W.taken W.failed errors.old errors.new (file_names files.now) result }
+{
+    let Ok(names) = names_of(alloc, files) else {
+        return report_failure(errors, &[], &Failure::out_of_memory());
+    };
+    match print_names(alloc, store, output, files) {
+        Ok(()) => DONE,
+        Err(failure) => report_failure(errors, names.as_slice(), &failure),
     }
 }
 

@@ -21,5 +21,7 @@ pub mod OriginsLemmas
 pub mod OriginLemmas
 pub mod DefinedNamesLemmas
 pub mod UndefinedLemmas
+pub mod NamedFilesLemmas
+pub mod NamesLemmas
 pub mod LinkExplanationLemmas
 pub mod BegunLemmas

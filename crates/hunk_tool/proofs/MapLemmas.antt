@@ -77,30 +77,32 @@ unit-is units index place unit within place_is unit_is =
     let unit_at : unit ≡ next.1 = unit_is ∙ get_or-map second units index (place, unit) unit within in
     ap₂ (λ (p : UnitPlace) (u : ObjectUnit). (p, u)) (sym place_at) (sym unit_at)
 
--- the next of the units
-pub units-more : (units : List FileUnit) (index : ℕ) (place : UnitPlace) (unit : ObjectUnit) → index < length units
-    → place ≡ get_or (map (λ u. u.0) units) index place → unit ≡ get_or (units_of units) index unit → drop index units ≡ (place, unit) ∷ drop (index + 1) units
-units-more units index place unit within place_is unit_is =
-    drop_more units index (place, unit) within ∙ ap (λ (u : FileUnit). u ∷ drop (index + 1) units) (unit-is units index place unit within place_is unit_is)
-
 -- a place where there is none
 abbrev pub no_place : UnitPlace
 no_place = record { file = 0; number = 0 }
 
--- the next unit, with its place
+-- the unit at an index, with its place
+pub unit-at : (units : List FileUnit) (places : List UnitPlace) (items : List ObjectUnit) (index : ℕ) (unit : ObjectUnit)
+    → places ≡ map (λ u. u.0) units → items ≡ units_of units → index < length units → unit ≡ get_or items index unit
+    → get_or units index (get_or places index no_place, unit) ≡ (get_or places index no_place, unit)
+unit-at units places items index unit places_are items_are within unit_is =
+    let first : FileUnit → UnitPlace = λ u. u.0 in
+    let place = get_or places index no_place in
+    let place_is : place ≡ get_or (map first units) index place =
+    ap (λ (ps : List UnitPlace). get_or ps index no_place) places_are
+    ∙ get_or-map first units index (no_place, unit) no_place within
+    ∙ sym (get_or-map first units index (no_place, unit) place within) in
+    unit-is units index place unit within place_is (unit_is ∙ ap (λ (us : List ObjectUnit). get_or us index unit) items_are)
+
+-- it is the next one
 pub next_unit : (units : List FileUnit) (places : List UnitPlace) (items : List ObjectUnit) (index : ℕ) (unit : ObjectUnit)
     → places ≡ map (λ u. u.0) units → items ≡ units_of units → index < length items → unit ≡ get_or items index unit
     → drop index units ≡ (get_or places index no_place, unit) ∷ drop (index + 1) units
 next_unit units places items index unit places_are items_are within unit_is =
-    let first : FileUnit → UnitPlace = λ u. u.0 in
     let second : FileUnit → ObjectUnit = λ u. u.1 in
     let inside : index < length units = omega (arith, within, ap length items_are, length-map units second) in
-    let place = get_or places index no_place in
-    let place_is : place ≡ get_or (map first units) index place =
-    ap (λ (ps : List UnitPlace). get_or ps index no_place) places_are
-    ∙ get_or-map first units index (no_place, unit) no_place inside
-    ∙ sym (get_or-map first units index (no_place, unit) place inside) in
-    units-more units index place unit inside place_is (unit_is ∙ ap (λ (us : List ObjectUnit). get_or us index unit) items_are)
+    drop_more units index (get_or places index no_place, unit) inside
+    ∙ ap (λ (u : FileUnit). u ∷ drop (index + 1) units) (unit-at units places items index unit places_are items_are inside unit_is)
 
 -- the text of the units from this one on, the first hunk of which has this number
 abbrev pub units_rest : (names : List (List ℕ)) (first index : ℕ) (file : List FileHunk) (units : List FileUnit) → List ℕ

@@ -1,6 +1,6 @@
 -- The uses of names, one reference after another.
-use Rattle.std.proofs.Common.{◌≡◌, ◌∙◌, ℕ, suc, ◌+◌, ◌<◌, Bool, true, false, cond, not, List, [], ◌∷◌, ◌++◌, Bor, Some, if◌then◌else◌, length, get_or, take, map, refl, sym, ap, arith}
-use Rattle.std.specs.Prelude.{count_by}
+use Rattle.std.proofs.Common.{◌≡◌, ◌∙◌, ℕ, zero, suc, ◌+◌, ◌<◌, Bool, true, false, cond, not, List, [], ◌∷◌, ◌++◌, Bor, None, Some, if◌then◌else◌, length, get_or, take, map, refl, sym, ap, arith}
+use Rattle.std.specs.Prelude.{count_by, slice_get}
 use Rattle.std.specs.Cmp.Lexicographic.{other_text, same_text}
 use Rattle.std.specs.Map.{lookup}
 use Rattle.std.proofs.lemmas.List.{map_more}
@@ -11,6 +11,12 @@ use Rattle.hunk_tool.specs.DefinedNames.{is_defined, is_name}
 use Rattle.hunk_tool.specs.Origins.{Origin}
 use Rattle.hunk_tool.specs.Undefined.{Reference, Use, Uses, look_up, next_use, undefined, uses_of, without}
 use Rattle.hunk_tool.proofs.DefinedNamesLemmas.{same_key}
+
+-- there is something at an index within a list
+pub slice_get-within : {X : Type 0} (xs : List X) (i : ℕ) → i < length xs → None ≡ slice_get xs i → ⊥
+slice_get-within [] i within none = omega (arith, within)
+slice_get-within (x ∷ xs) zero within none = cc
+slice_get-within (x ∷ xs) (suc i) within none = slice_get-within xs i (omega (arith, within)) none
 
 -- ---- names that are equal, or not
 

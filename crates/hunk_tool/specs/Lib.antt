@@ -22,6 +22,8 @@ pub mod OriginText
 pub mod Map
 pub mod DefinedNames
 pub mod Undefined
+pub mod NamedFiles
+pub mod Names
 pub mod UndefinedName
 pub mod LinkExplanation
 pub mod Headline

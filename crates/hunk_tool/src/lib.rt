@@ -24,6 +24,8 @@
 //!   that.
 //! - `defined_names`: the names that hunks define; `undefined`: those that none defines.
 //! - `undefined_name`: what callers are told of a name that none defines.
+//! - `names`: the names in files, what stands for each and where, sorted.
+//! - `named_files`: the files whose names are listed.
 //! - `file_name`: what files are called.
 #![tactic(auto)]
 
@@ -43,6 +45,8 @@ mod link_line;
 pub mod link_options;
 pub mod load;
 pub mod map;
+pub mod named_files;
+pub mod names;
 pub mod object_files;
 mod origin_text;
 mod origins;
@@ -74,6 +78,8 @@ pub use link_explanation_text::write_link_explanation;
 pub use link_options::LinkOptions;
 pub use load::{load_run, load_run_with};
 pub use map::{link_files, write_map};
+pub use named_files::{NamedFiles, read_named_files};
+pub use names::{NameList, write_names};
 pub use object_files::{ObjectFiles, read_object_files};
 pub use show::show_run;
 pub use survey::{

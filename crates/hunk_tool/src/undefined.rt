@@ -86,7 +86,7 @@ impl<'a, A: Allocator + Copy> Uses<'a, A> {
     }
 
     /// Adds the references of a hunk to names that are not among the defined ones.
-    fn add_hunk(
+    pub(crate) fn add_hunk(
         &mut self,
         defined: &DefinedNames<'a, A>,
         origin: &Origin<'a, A>,

@@ -15,6 +15,7 @@
 //! - `link_explanations`: what is told of units that do not link.
 //! - `maps`: the maps of linked files.
 //! - `memory`: allocations that fail.
+//! - `names`: the names in files.
 //! - `records`: images as S-records.
 //! - `refusals`: addresses that are rejected.
 //! - `reports`: files that are loaded.
@@ -43,6 +44,7 @@ mod kept;
 mod link_explanations;
 mod maps;
 mod memory;
+mod names;
 mod records;
 mod refusals;
 mod reports;

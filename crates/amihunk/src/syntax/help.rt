@@ -109,6 +109,14 @@ With `--html` it prints a page for a browser, which needs nothing from outside, 
 bytes, their sites, and all names. For example, this makes a page of a program:
   amihunk show --html program > program.html
 
+With `--names` it lists the names in FILE..., a load file or object files, sorted, each with its value, a
+letter, and where it is. For example, `amihunk show --names main.o` prints
+  00000000 T \"main\" unit 0 hunk 0
+           U \"put\" unit 0 hunk 0
+The letters are those of `nm`: `T`, `D` and `B` for what code, data and bss hunks define, `A` for absolute
+values, `U` for what is referred to and none of the FILEs defines, and `t`, `d` and `b` for symbols. Units
+are numbered from 0 over all FILEs.
+
 The exit status is 0 if the text was printed, 1 if FILE is neither an object file nor a load file, 2 if
 the command line is not understood, 3 if FILE cannot be read or the text cannot be printed, and 4 if
 memory runs out.";

@@ -2,7 +2,7 @@ use Rattle.std.proofs.Common.{◌≤◌, arith, length, map}
 use Rattle.std.proofs.lemmas.List.{length-map}
 use Rattle.clap.specs.Lexer.{usize_max}
 use Rattle.amihunk.proofs.CommandLineAnswerLemmas.{asks, asks_refused, asks_version}
-use Rattle.amihunk.proofs.CommandLinePlainLemmas.{calls-brief, calls-check, calls-compare, calls-copy, calls-image, calls-link, calls-load, calls-normal, calls-show, calls-survey}
+use Rattle.amihunk.proofs.CommandLinePlainLemmas.{calls-brief, calls-check, calls-compare, calls-copy, calls-image, calls-link, calls-load, calls-names, calls-normal, calls-show, calls-survey}
 use Rattle.amihunk.proofs.command_line.read_words.Goals as goal
 
 pub returns : goal.returns
@@ -22,7 +22,8 @@ returns g c =
       image = λ program origin form files is_line plain_value some plain.
           asks words _ _ request fits answer is_line (calls-image program origin form files plain_value some plain) (λ e. cc);
       check = λ program file is_line plain. asks words _ _ request fits answer is_line (λ _. calls-check program file plain) (λ e. cc);
-      show = λ program text file is_line plain. asks words _ _ request fits answer is_line (λ _. calls-show program text file plain) (λ e. cc);
+      show = λ program text file is_line plain. asks words _ _ request fits answer is_line (calls-show program text file plain) (λ e. cc);
+      names = λ program files is_line some plain. asks words _ _ request fits answer is_line (calls-names program files some plain) (λ e. cc);
       survey = λ program files is_line some plain. asks words _ _ request fits answer is_line (calls-survey program files some plain) (λ e. cc);
       copy = λ program options out file is_line plain_out plain.
           asks words _ _ request fits answer is_line (λ _. calls-copy program options out file plain_out plain) (λ e. cc);

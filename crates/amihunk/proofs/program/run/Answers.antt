@@ -2,7 +2,7 @@ use Rattle.std.proofs.Common.{false}
 use Rattle.hunk_tool.specs.declared.copy.CopyForm.TheVariants.{Normal, Written}
 use Rattle.hunk_commands.specs.Request.{run_between}
 use Rattle.amihunk.specs.CommandLine.Meaning.{calls, version}
-use Rattle.amihunk.specs.CommandLine.Call.{to_check, to_compare, to_copy, to_image, to_link, to_load, to_show, to_survey}
+use Rattle.amihunk.specs.CommandLine.Call.{to_check, to_compare, to_copy, to_image, to_link, to_load, to_names, to_show, to_survey}
 use Rattle.amihunk.proofs.ProgramLemmas.{ends_asked}
 use Rattle.amihunk.proofs.program.run.Goals as goal
 
@@ -24,6 +24,7 @@ returns g c =
           ends (calls (to_image origin form false files)) request status (asked.image program origin form files is_line plain_value some plain) c.answer.ensures;
       check = λ program file is_line plain. ends (calls (to_check false file)) request status (asked.check program file is_line plain) c.answer.ensures;
       show = λ program text file is_line plain. ends (calls (to_show text false file)) request status (asked.show program text file is_line plain) c.answer.ensures;
+      names = λ program files is_line some plain. ends (calls (to_names files)) request status (asked.names program files is_line some plain) c.answer.ensures;
       survey = λ program files is_line some plain. ends (calls (to_survey files)) request status (asked.survey program files is_line some plain) c.answer.ensures;
       copy = λ program options out file is_line plain_out plain.
           ends (calls (to_copy out (Written options) false file)) request status (asked.copy program options out file is_line plain_out plain) c.answer.ensures;

@@ -1,18 +1,12 @@
 -- One more name.
-use Rattle.std.proofs.Common.{◌≡◌, ◌∙◌, ◌<◌, ◌++◌, ◌∷◌, [], ℕ, zero, suc, List, None, Vec, map, take, length, ap, sym, arith}
-use Rattle.std.specs.Prelude.{slice_get}
+use Rattle.std.proofs.Common.{◌∙◌, ◌<◌, ◌++◌, ◌∷◌, [], ℕ, List, Vec, map, take, length, ap, sym, arith}
 use Rattle.std.proofs.lemmas.List.{map_more}
 use Rattle.std.proofs.lemmas.Option.{get_or_from_slice_get}
 use Rattle.hunk_tool.specs.Undefined.{Use}
 use Rattle.hunk_tool.specs.UndefinedName.{UndefinedName, undefined_name}
+use Rattle.hunk_tool.proofs.UndefinedLemmas.{slice_get-within}
 use Rattle.hunk_tool.proofs.undefined_name.told_of.Goals as goal
 use Rattle.hunk_tool.proofs.undefined_name.told_of.Goals.{in-Some+in_ok-told+in_ok-push, in_default}
-
--- there is something at an index within a list
-not_none : {X : Type 0} (xs : List X) (i : ℕ) → i < length xs → None ≡ slice_get xs i → ⊥
-not_none [] i within none = omega (arith, within)
-not_none (x ∷ xs) zero within none = cc
-not_none (x ∷ xs) (suc i) within none = not_none xs i (omega (arith, within)) none
 
 pub loop-index-preserved : goal.loop-index-preserved
 loop-index-preserved g c =
@@ -26,5 +20,5 @@ loop-index-preserved g c =
           ∙ ap (λ (told : UndefinedName). c.loop-index.names.items ++ told ∷ []) w.in_ok-told.ensures
           ∙ ap (λ (all : List UndefinedName). all ++ undefined_name used ∷ []) c.loop-index.invariant
           ∙ sym (map_more undefined_name uses index used within ∙ ap (λ (u : List ℕ × Use). map undefined_name (take index uses) ++ undefined_name u ∷ []) (get_or_from_slice_get uses index used used (sym w.in-Some.ensures)))
-      | in_default w ↦ absurd (not_none uses index within w.in_default.ensures)
+      | in_default w ↦ absurd (slice_get-within uses index within w.in_default.ensures)
     ]
