@@ -30,7 +30,7 @@ def text_of(*path):
 def page_of(document):
     """The page of a document: what is between head and tail has no byte that could end it."""
     text = json.dumps(document, separators=(",", ":"), ensure_ascii=False)
-    return text_of("page", "head.html") + text.replace("<", "\\u003c") + "\n" + text_of("page", "tail.html")
+    return text_of("page", "head.html") + text.replace("<", "\\u003c") + text_of("page", "tail.html")
 
 
 def content_value(content, offset):
