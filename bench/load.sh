@@ -62,12 +62,25 @@ for row in "plain 16" "debug 16" "rising 32" "random 32"; do
     figure "$name" "$allowed" "$(ratio "$((kib - image))" 1024)" MiB
 done
 
+hunk_times() { # the least seconds of five runs by `check_places_with` and by `ImageLoader`: ORDER
+    for _ in 1 2 3 4 5; do "$bench" hunks "$1"; done \
+        | awk '{ c = $3 / 1e9; l = $7 / 1e9
+            if (NR == 1 || c < check) check = c
+            if (NR == 1 || l < load) load = l }
+            END { print check, load }'
+}
+
 echo "65,535 hunks at descending bases"
-read -r check load < <(for _ in 1 2 3 4 5; do "$bench" descending; done \
-    | awk '{ c = $3 / 1e9; l = $7 / 1e9
-        if (NR == 1 || c < check) check = c
-        if (NR == 1 || l < load) load = l }
-        END { print check, load }')
-figure "check_places" 5 "$check" s
+scan="$(for _ in 1 2 3 4 5; do "$bench" scan falling; done | awk '{ t = $3 / 1e9; if (NR == 1 || t < least) least = t } END { print least }')"
+read -r _ load < <(hunk_times falling)
+figure "check_places" 5 "$scan" s
 figure "ImageLoader" 5 "$load" s
+
+echo "65,535 hunks at bases in no order"
+read -r _ rising < <(hunk_times rising)
+for order in last-moved halves bit-reversed random organ-pipe shared; do
+    read -r check load < <(hunk_times "$order")
+    figure "check_places_with, $order" 0.1 "$check" s
+    figure "ImageLoader, $order ($load s), by rising ($rising s)" 5 "$(ratio "$load" "$rising")" times
+done
 exit "$missed"

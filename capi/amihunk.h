@@ -335,8 +335,9 @@ amihunk_status amihunk_loader_table(amihunk_loader *loader, size_t hunk, amihunk
 
 /*
  * Chooses the bases of a file whose header is whole: hunk number i is to be at address bases[i].
- * The bases are copied. The time grows with that of amihunk_check_places, and with the bytes of the
- * header.
+ * The bases are copied. The time grows as n log n with the number of hunks, and with the bytes of
+ * the header. Where the hunks stand in no order, that takes a block of 24 bytes for each of them,
+ * which is given back; without one it takes the time of amihunk_check_places.
  *
  * AMIHUNK_OK: the loader is loading, as if it had been opened with these bases and fed the header.
  * amihunk_loader_feed takes what follows.
@@ -380,8 +381,8 @@ amihunk_status amihunk_loader_place_into(amihunk_loader *loader, const amihunk_p
 
 /*
  * Takes the next `size` bytes of the file. The time of all these calls together grows with the
- * bytes of the file and of its hunks in memory; one of them also takes the time of
- * amihunk_check_places.
+ * bytes of the file and of its hunks in memory; one of them also places the hunks, in the time and
+ * with the memory that amihunk_loader_place takes for it.
  *
  * AMIHUNK_OK: the bytes so far may be the beginning of a load file.
  * AMIHUNK_BAD_FILE: they are not. This comes with the last byte of the longword at the place.
@@ -474,7 +475,8 @@ void amihunk_loader_close(amihunk_loader *loader);
  * needed for that. A hunk of no longwords takes no address.
  *
  * If the others stand in ascending or in descending order, and share no address, the time grows
- * with the number of hunks; else with its square.
+ * with the number of hunks; else with its square. A loader has memory, and takes less time for the
+ * same answer: amihunk_loader_place says how much.
  *
  * AMIHUNK_OK: they can.
  * AMIHUNK_WRONG_COUNT, AMIHUNK_PAST_END, AMIHUNK_OVERLAP: they cannot.
@@ -867,9 +869,9 @@ void amihunk_file_close(amihunk_file *file);
 
 /*
  * Opens a closed loader, and loads a load file that was read, without reading it again: hunk number
- * i at address bases[i]. The file stays as it is, and may be closed before the loader. The time
- * grows with that of amihunk_check_places, and with the bytes of the hunks in memory and their
- * sites.
+ * i at address bases[i]. The file stays as it is, and may be closed before the loader. The hunks
+ * are placed in the time and with the memory that amihunk_loader_place takes for it; the time also
+ * grows with the bytes of the hunks in memory and their sites.
  *
  * AMIHUNK_OK: the loader is loaded.
  * AMIHUNK_WRONG_COUNT, AMIHUNK_PAST_END, AMIHUNK_OVERLAP: the hunks cannot be placed at the bases.

@@ -164,6 +164,33 @@ enum { STACK = 256 * 1024 }; /* since the code of the tests takes more then */
 enum { STACK = 24 * 1024 };
 #endif
 
+/* Loads hunks whose bases are in no order; and then with the last hunk over the first. */
+static void load_in_no_order(amihunk_memory memory)
+{
+    enum { BITS = 12, HUNKS = 1 << BITS };
+    static uint32_t scattered[HUNKS];
+    for (uint32_t i = 0; i < HUNKS; i++) {
+        uint32_t backwards = 0;
+        for (uint32_t bit = 0; bit < BITS; bit++) {
+            backwards |= (i >> bit & 1) << (BITS - 1 - bit);
+        }
+        scattered[i] = 0x8000 + 8 * backwards;
+    }
+    struct file file = zero_hunks(HUNKS);
+    amihunk_loader loader = {0};
+    amihunk_hunk told = {0};
+    CHECK(amihunk_loader_open(&loader, memory, scattered, HUNKS) == AMIHUNK_OK);
+    CHECK(load_pieces(&loader, file, 1000).status == AMIHUNK_OK);
+    CHECK(amihunk_loader_get_hunk(&loader, 1, &told) == AMIHUNK_OK && told.base == 0xC000);
+    amihunk_loader_close(&loader);
+    scattered[HUNKS - 1] = scattered[0] - 2;
+    CHECK(amihunk_loader_open(&loader, memory, scattered, HUNKS) == AMIHUNK_OK);
+    amihunk_answer answer = load_pieces(&loader, file, 1000);
+    CHECK(answer.status == AMIHUNK_OVERLAP && answer.hunk == 0 && answer.other == HUNKS - 1);
+    amihunk_loader_close(&loader);
+    free(file.bytes);
+}
+
 static void *load_and_link(void *context)
 {
     CHECK(load(counted_memory(context), 1) == AMIHUNK_OK);
@@ -174,6 +201,7 @@ static void *load_and_link(void *context)
     CHECK(place(counted_memory(context), 1) == AMIHUNK_OK);
     CHECK(look_into_object(counted_memory(context), 1) == AMIHUNK_OK);
     CHECK(reload(counted_memory(context), 1) == AMIHUNK_OK);
+    load_in_no_order(counted_memory(context));
     return NULL;
 }
 

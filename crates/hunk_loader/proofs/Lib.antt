@@ -14,3 +14,4 @@ pub mod PlacesOrderLemmas
 pub mod StackedLemmas
 pub mod MovedBaseLemmas
 pub mod SameMemoryLemmas
+pub mod OverlapsLemmas

@@ -5,7 +5,7 @@ use Rattle.std.proofs.lemmas.List.{get_or_past}
 use Rattle.hunk_loader.specs.declared.places.PlaceFault.{PlaceFault}
 use Rattle.hunk_loader.specs.declared.places.PlaceFault.TheVariants.{WrongCount, PastEnd, Overlap}
 use Rattle.hunk_loader.specs.Laws.{PlacedOrRefused}
-use Rattle.hunk_loader.specs.Places.{Takes, AllApart, AllEndWithin, ApartFromEarlier, Placed, ShareAddress, IsFirstPastEnd, IsLeastEarlier, IsFirstOverlap, IsFirstRefusal, end_of}
+use Rattle.hunk_loader.specs.Places.{Takes, AllApart, AllEndWithin, ApartFromEarlier, Fit, Placed, ShareAddress, IsFirstPastEnd, IsLeastEarlier, IsFirstOverlap, IsFirstRefusal, end_of}
 
 -- what takes an address has a size, so it is a hunk
 pub Takes-is_hunk :
@@ -31,6 +31,16 @@ pub Placed-from_apart :
     AllApart sizes bases → Placed sizes bases
 Placed-from_apart sizes bases counted addresses within apart =
     record { one_base_each = counted; bases_are_addresses = addresses; ends_within = within; apart = AllApart-one_taker sizes bases counted apart }
+
+pub Placed-from_fit :
+    (sizes bases : List ℕ) → EachIndex bases (λ hunk. slice_index bases hunk < 2 ^ 32) → Fit sizes bases →
+    AllApart sizes bases → Placed sizes bases
+Placed-from_fit sizes bases addresses fit apart = Placed-from_apart sizes bases fit.one_base_each addresses fit.ends_within apart
+
+pub Overlap-from_fit :
+    (sizes bases : List ℕ) (earlier later : ℕ) → Fit sizes bases → IsFirstOverlap sizes bases earlier later →
+    IsFirstRefusal sizes bases (Overlap earlier later)
+Overlap-from_fit sizes bases earlier later fit overlap = (fit.one_base_each, fit.ends_within, overlap)
 
 pub Placed-unrefused :
     (sizes bases : List ℕ) → Placed sizes bases → (fault : PlaceFault) →

@@ -1,6 +1,6 @@
 -- Hunks in order, as far as a loop has come; and hunks in order share no address.
-use Rattle.std.proofs.Common.{◌≡◌, ◌⊎◌, ℕ, ◌-◌, ◌<◌, ◌≤◌, List, length, subst, arith, slice_index}
-use Rattle.hunk_loader.specs.Places.{AllApart, IsInOrder, ShareAddress, Takes, end_of}
+use Rattle.std.proofs.Common.{◌≡◌, ◌⊎◌, inl, inr, ℕ, ◌-◌, ◌<◌, ◌≤◌, List, length, subst, arith, slice_index}
+use Rattle.hunk_loader.specs.Places.{AllApart, IsInEitherOrder, IsInOrder, ShareAddress, Takes, end_of}
 use Rattle.hunk_loader.specs.declared.places.Direction.{Direction}
 use Rattle.hunk_loader.specs.declared.places.Direction.TheVariants.{Forward, Backward}
 
@@ -35,3 +35,6 @@ IsInOrder-apart Backward sizes bases order later is_hunk earlier below share =
     (subst (λ k. 0 < slice_index sizes later → 0 < slice_index sizes k → end_of sizes bases later ≤ slice_index bases k) second
     (subst (λ k. 0 < slice_index sizes k → 0 < slice_index sizes (n - 1 - (n - 1 - earlier)) → end_of sizes bases k ≤ slice_index bases (n - 1 - (n - 1 - earlier))) first found))
     (swapped sizes bases earlier later share)
+
+pub IsInEitherOrder-apart : (sizes bases : List ℕ) → IsInEitherOrder sizes bases → AllApart sizes bases
+IsInEitherOrder-apart sizes bases order = elim order [ inl rising ↦ IsInOrder-apart Forward sizes bases rising | inr falling ↦ IsInOrder-apart Backward sizes bases falling ]

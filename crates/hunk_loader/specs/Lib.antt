@@ -9,6 +9,7 @@ pub mod ImageLoader
 pub mod ImageReader
 pub mod Loading
 pub mod OpenImage
+pub mod Overlaps
 pub mod Places
 pub mod Placing
 pub mod Sizes

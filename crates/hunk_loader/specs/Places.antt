@@ -1,6 +1,6 @@
 -- The addresses that hunks take. A hunk is identified by its number; one list has its size in
 -- longwords and another its base, an address.
-use Rattle.std.specs.Prelude.{◌≡◌, ◌≢◌, ℕ, ◌+◌, ◌-◌, ◌*◌, ◌^◌, ◌<◌, ◌≤◌, List, length, slice_index, EachIndex}
+use Rattle.std.specs.Prelude.{◌≡◌, ◌≢◌, ◌⊎◌, ℕ, ◌+◌, ◌-◌, ◌*◌, ◌^◌, ◌<◌, ◌≤◌, List, length, slice_index, EachIndex}
 use Rattle.hunk_loader.specs.declared.places.Direction.{Direction}
 use Rattle.hunk_loader.specs.declared.places.Direction.TheVariants.{Forward, Backward}
 use Rattle.hunk_loader.specs.declared.places.PlaceFault.{PlaceFault}
@@ -63,6 +63,14 @@ IsInOrder direction sizes bases =
     0 < slice_index sizes (hunk_at direction (length bases) before) →
     0 < slice_index sizes (hunk_at direction (length bases) after) →
     end_of sizes bases (hunk_at direction (length bases) before) ≤ slice_index bases (hunk_at direction (length bases) after)
+
+abbrev pub IsInEitherOrder : (sizes bases : List ℕ) → Type 0
+IsInEitherOrder sizes bases = IsInOrder Forward sizes bases ⊎ IsInOrder Backward sizes bases
+
+-- Each hunk has a base, and no hunk ends after the last address.
+pub record Fit (sizes bases : List ℕ) : Type 0 where
+  pub one_base_each : length sizes ≡ length bases
+  pub ends_within : AllEndWithin sizes bases
 
 -- the lowest hunk that ends after the last address
 pub record IsFirstPastEnd (sizes bases : List ℕ) (hunk : ℕ) : Type 0 where

@@ -13,7 +13,8 @@ use crate::header_bytes::HeaderBytes;
 use crate::header_hunks::{HeaderHunk, header_hunks};
 use crate::image_loader::ImageLoader;
 use crate::loading::LoadRefusal;
-use crate::places::{PlaceFault, check_sizes};
+use crate::overlaps::check_sizes_with;
+use crate::places::PlaceFault;
 use std::alloc::{AllocError, Allocator, Global};
 use std::marker::Model;
 
@@ -182,7 +183,7 @@ impl<A: Allocator + Copy> HeaderLoader<A> {
             Some(hunks) => hunks.as_slice(),
             None => return Err(PlaceRefusal::HeaderIncomplete),
         };
-        if let Err(fault) = check_sizes(&hunks, bases) {
+        if let Err(fault) = check_sizes_with(self.alloc, &hunks, bases) {
             return Err(PlaceRefusal::Place(fault));
         }
         let mut loader = ImageLoader::in_rooms(self.alloc, bases, rooms)?;

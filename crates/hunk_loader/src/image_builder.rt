@@ -19,7 +19,7 @@ use std::mem;
 ///
 /// It keeps the bases, the sizes in the header, the hunks that have ended and the current one, but
 /// no names, symbols or debug blocks. If the hunks cannot be placed at the bases, it only checks
-/// sites, and allocates nothing for hunks.
+/// sites, and allocates nothing for their bytes.
 ///
 /// An error leaves it as it was. It also returns `OutOfMemory` for events that the decoder never
 /// sends for a load file.
@@ -90,7 +90,7 @@ impl<A: Allocator + Copy> ImageBuilder<A> {
         ensures { Settled self.now.placing self.now.sizes self.now.bases result }
     {
         match self.placing {
-            Placing::Unknown => decide(&self.sizes, &self.bases),
+            Placing::Unknown => decide(self.alloc, &self.sizes, &self.bases),
             Placing::Placed => Placing::Placed,
             Placing::Refused(fault) => Placing::Refused(fault),
         }

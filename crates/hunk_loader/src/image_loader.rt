@@ -15,7 +15,8 @@ use std::alloc::{AllocError, Allocator, Global};
 /// Apart from the image it keeps the bases, one number for each size in the header, and the sites
 /// of the current hunk, at most one for each of its longwords. Names, symbols and debug blocks are
 /// not kept. If the hunks cannot be placed at the bases, it allocates nothing for the image. All of
-/// this holds after an error too.
+/// this holds after an error too. Where the first hunk begins, it allocates as
+/// [`check_places_with`](crate::check_places_with) does, and keeps nothing of that.
 ///
 /// What is wrong with the file is returned before what is wrong with the bases. After an error,
 /// every later call returns the same error.

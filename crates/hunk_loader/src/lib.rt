@@ -12,6 +12,7 @@
 //! - `open_image`: the current hunk of an image.
 //! - `placing`: whether hunks can be placed, as far as their sizes are known.
 //! - `loading`: loading a load file at addresses.
+//! - `overlaps`: the same as `places`, with memory for the search of hunks that share an address.
 //! - `places`: whether hunks can be placed at given addresses, and if not, why.
 //! - `sizes`: the sizes of hunks, as numbers or from the hunks themselves.
 #![tactic(auto)]
@@ -27,6 +28,7 @@ pub mod image_reader;
 pub mod laws;
 pub mod loading;
 mod open_image;
+pub mod overlaps;
 pub mod places;
 mod placing;
 pub mod sizes;
@@ -37,5 +39,6 @@ pub use image::Image;
 pub use image_loader::ImageLoader;
 pub use image_reader::{ImageFault, read_image};
 pub use loading::{LoadRefusal, load, load_file};
+pub use overlaps::{check_places_with, check_sizes_with};
 pub use places::{PlaceFault, check_places, check_sizes};
 pub use sizes::Sizes;

@@ -11,7 +11,8 @@ ghost use Rattle.hunk_loader.specs.Places.{Placed, IsFirstRefusal};
 ghost use Rattle.hunk_loader.specs.Sizes.{sizes_of};
 
 use crate::image::Image;
-use crate::places::{PlaceFault, check_sizes};
+use crate::overlaps::check_sizes_with;
+use crate::places::PlaceFault;
 use hunk_loadfile::{LoadFile, LoadHunk, patch};
 use hunk_words::{Fault, Refusal, Sites};
 use std::alloc::{AllocError, Allocator};
@@ -53,7 +54,8 @@ impl From<AllocError> for LoadRefusal {
 /// (The AmigaDOS Manual, 3rd edition, "Amiga binary file structure"). [`load_file`] moves the
 /// content into the image instead of copying it.
 ///
-/// It allocates only if the hunks can be placed at the bases.
+/// It allocates for the image only if the hunks can be placed at the bases, and before that as
+/// [`check_places_with`](crate::check_places_with) does.
 ///
 /// # Errors
 ///
@@ -74,7 +76,7 @@ pub fn load<A: Allocator + Copy>(
     ensures read { (fault : Fault) → result ≢ Err (LoadRefusal.File fault) }
 {
     let hunks = file.hunks();
-    if let Err(fault) = check_sizes(&hunks, bases) {
+    if let Err(fault) = check_sizes_with(alloc, &hunks, bases) {
         return Err(LoadRefusal::Place(fault));
     }
     match copied_hunks(alloc, hunks, bases) {
@@ -99,7 +101,7 @@ pub fn load_file<A: Allocator + Copy>(
         ↔ IsFirstRefusal (sizes_of file) bases.now fault }
     ensures read { (fault : Fault) → result ≢ Err (LoadRefusal.File fault) }
 {
-    if let Err(fault) = check_sizes(&file.hunks(), bases) {
+    if let Err(fault) = check_sizes_with(alloc, &file.hunks(), bases) {
         return Err(LoadRefusal::Place(fault));
     }
     match moved_hunks(alloc, file.into_hunks(), bases) {

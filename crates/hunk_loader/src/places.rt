@@ -3,9 +3,9 @@
 //! Addresses run from 0 to 2^32 - 1. A hunk of `n` longwords takes the `4 * n` addresses from its
 //! base; any address may be a base, even an odd one (own rule). A hunk of no longwords takes none.
 
-ghost use Rattle.std.specs.Prelude.{◌≡◌, ◌<◌, ◌↔◌, length, IsOk, IsTrue, MatchOption};
-ghost use Rattle.hunk_loader.specs.Places.{end_of, hunk_at, ShareAddress, IsInOrder, IsLeastEarlier};
-ghost use Rattle.hunk_loader.specs.Places.{Placed, IsFirstPastEnd, AllEndWithin, IsFirstOverlap};
+ghost use Rattle.std.specs.Prelude.{◌≡◌, ◌<◌, ◌↔◌, length, IfErr, IfOk, IsOk, IsTrue, MatchOption, OnOk};
+ghost use Rattle.hunk_loader.specs.Places.{end_of, hunk_at, ShareAddress, IsInOrder, IsInEitherOrder, IsLeastEarlier};
+ghost use Rattle.hunk_loader.specs.Places.{Fit, Placed, IsFirstPastEnd, AllEndWithin, IsFirstOverlap};
 ghost use Rattle.hunk_loader.specs.Places.{AllApart, ApartFromEarlier, IsFirstRefusal};
 
 use crate::sizes::Sizes;
@@ -36,7 +36,9 @@ pub enum PlaceFault {
 /// addresses: one base for each hunk, no hunk past the last address, and no address in two hunks.
 ///
 /// Does not allocate. If the nonempty hunks are in ascending order, or in descending order, the
-/// time is linear in their number, otherwise quadratic.
+/// time is linear in their number, otherwise quadratic. With an allocator
+/// [`check_places_with`](crate::check_places_with) gives the same answer in less time, as the calls
+/// that load a file do.
 ///
 /// # Errors
 ///
@@ -58,16 +60,7 @@ pub fn check_sizes<S: Sizes>(sizes: &S, bases: &[u32]) -> Result<(), PlaceFault>
     ensures refused { (fault : PlaceFault) → (result ≡ Err fault)
         ↔ IsFirstRefusal (S.sizes sizes.now) bases.now fault }
 {
-    if sizes.count() != bases.len() {
-        return Err(PlaceFault::WrongCount);
-    }
-    if let Some(hunk) = first_past_end(sizes, bases) {
-        return Err(PlaceFault::PastEnd(hunk));
-    }
-    if is_in_order(sizes, bases, Direction::Forward) {
-        return Ok(());
-    }
-    if is_in_order(sizes, bases, Direction::Backward) {
+    if are_in_order(sizes, bases)? {
         return Ok(());
     }
     match first_overlap(sizes, bases) {
@@ -76,8 +69,30 @@ pub fn check_sizes<S: Sizes>(sizes: &S, bases: &[u32]) -> Result<(), PlaceFault>
     }
 }
 
+/// Whether the hunks are in ascending or in descending order, so that no two share an address.
+///
+/// # Errors
+///
+/// [`PlaceFault::WrongCount`] and [`PlaceFault::PastEnd`], as [`check_places`] returns them.
+pub(crate) fn are_in_order<S: Sizes>(sizes: &S, bases: &[u32]) -> Result<bool, PlaceFault>
+    ensures order { IfOk result (λ ordered. IsTrue ordered ↔ IsInEitherOrder (S.sizes sizes.now) bases.now) }
+    ensures fit { OnOk result (Fit (S.sizes sizes.now) bases.now) }
+    ensures refused { IfErr result (IsFirstRefusal (S.sizes sizes.now) bases.now) }
+{
+    if sizes.count() != bases.len() {
+        return Err(PlaceFault::WrongCount);
+    }
+    if let Some(hunk) = first_past_end(sizes, bases) {
+        return Err(PlaceFault::PastEnd(hunk));
+    }
+    if is_in_order(sizes, bases, Direction::Forward) {
+        return Ok(true);
+    }
+    Ok(is_in_order(sizes, bases, Direction::Backward))
+}
+
 /// The address after the last one of a hunk; its base if it is empty.
-fn end_of<S: Sizes>(sizes: &S, bases: &[u32], hunk: usize) -> u64
+pub(crate) fn end_of<S: Sizes>(sizes: &S, bases: &[u32], hunk: usize) -> u64
     requires sized { hunk < length (S.sizes sizes.now) }
     requires based { hunk < length bases.now }
     ensures { result ≡ end_of (S.sizes sizes.now) bases.now hunk }
@@ -140,7 +155,7 @@ fn is_in_order<S: Sizes>(sizes: &S, bases: &[u32], direction: Direction) -> bool
 
 /// The lowest hunk that shares an address with an earlier one, and before it in the pair the lowest
 /// of these.
-fn first_overlap<S: Sizes>(sizes: &S, bases: &[u32]) -> Option<(usize, usize)>
+pub(crate) fn first_overlap<S: Sizes>(sizes: &S, bases: &[u32]) -> Option<(usize, usize)>
     requires { length (S.sizes sizes.now) ≡ length bases.now }
     ensures { MatchOption result (AllApart (S.sizes sizes.now) bases.now)
         (λ pair. IsFirstOverlap (S.sizes sizes.now) bases.now pair.0 pair.1) }
@@ -154,7 +169,7 @@ fn first_overlap<S: Sizes>(sizes: &S, bases: &[u32]) -> Option<(usize, usize)>
 }
 
 /// The lowest of the hunks before `later` that share an address with it.
-fn first_meeting<S: Sizes>(sizes: &S, bases: &[u32], later: usize) -> Option<usize>
+pub(crate) fn first_meeting<S: Sizes>(sizes: &S, bases: &[u32], later: usize) -> Option<usize>
     requires counted { length (S.sizes sizes.now) ≡ length bases.now }
     requires is_hunk { later < length bases.now }
     ensures { MatchOption result (ApartFromEarlier (S.sizes sizes.now) bases.now later)

@@ -2,7 +2,9 @@
 
 ghost use Rattle.hunk_loader.specs.Placing.{Decides};
 
-use crate::places::{PlaceFault, check_places};
+use crate::overlaps::check_places_with;
+use crate::places::PlaceFault;
+use std::alloc::Allocator;
 
 /// What is known about it.
 #[derive(Clone, Copy)]
@@ -15,11 +17,11 @@ pub(crate) enum Placing {
     Refused(PlaceFault),
 }
 
-/// Whether hunks of these sizes can be placed at the bases.
-pub(crate) fn decide(sizes: &[u32], bases: &[u32]) -> Placing
+/// Whether hunks of these sizes can be placed at the bases. What it allocates, it gives back.
+pub(crate) fn decide<A: Allocator + Copy>(alloc: A, sizes: &[u32], bases: &[u32]) -> Placing
     ensures { Decides sizes.now bases.now result }
 {
-    match check_places(sizes, bases) {
+    match check_places_with(alloc, sizes, bases) {
         Ok(()) => Placing::Placed,
         Err(fault) => Placing::Refused(fault),
     }

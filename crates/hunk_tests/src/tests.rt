@@ -10,6 +10,7 @@
 //! - `loading`: load files that are made of hunks, in memory.
 //! - `made`: load files that are made of plain values.
 //! - `names`: names from longwords and as longwords.
+//! - `overlaps`: hunks that share an address, searched for with memory and without.
 //! - `partial_hunks`: content and sites of a hunk as they come.
 //! - `parts`: each part of a load file, as it is written.
 //! - `places`: addresses of hunks.
@@ -34,6 +35,7 @@ mod loaded;
 mod loading;
 mod made;
 mod names;
+mod overlaps;
 mod partial_hunks;
 mod parts;
 mod places;

@@ -45,7 +45,7 @@ pub fn image_run<A: Allocator + Copy, R: Source, W: Sink>(
 /// - [`ToolFault::Place`] as `check_places` returns it for the sizes of the hunks.
 /// - [`ToolFault::Output`] if a write failed or took no byte, with the number of bytes of the image
 ///   that were written.
-/// - [`ToolFault::OutOfMemory`] if an allocation failed, with nothing written.
+/// - [`ToolFault::OutOfMemory`] only if an allocation failed, with nothing written.
 pub fn image_run_with<A: Allocator + Copy, R: Source, W: Sink>(
     alloc: A,
     inputs: &mut [R],

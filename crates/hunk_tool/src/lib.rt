@@ -1,7 +1,7 @@
 //! The operations of `amihunk`, and what they tell where they fail.
 //!
-//! Files of either kind are read in `hunk_files`, and the addresses and images of memory are the texts of `hunk_memory`.
-//! What callers of the operations need of both they find here as well.
+//! Files of either kind are read in `hunk_files`, and the texts of addresses and images are in `hunk_memory`. Callers of the
+//! operations find here what they need of both.
 //!
 //! - `laws`: laws about the outcomes of the operations.
 //! - `check`: checks a file of either kind and writes what it is.

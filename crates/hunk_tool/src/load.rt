@@ -43,7 +43,7 @@ pub fn load_run<A: Allocator + Copy, R: Source, W: Sink>(
 ///   its hunks.
 /// - [`ToolFault::Output`] if a write failed or took no byte, with the number of bytes of the
 ///   image that were written.
-/// - [`ToolFault::OutOfMemory`] if an allocation failed, with nothing written.
+/// - [`ToolFault::OutOfMemory`] only if an allocation failed, with nothing written.
 pub fn load_run_with<A: Allocator + Copy, R: Source, W: Sink>(
     alloc: A,
     reader: &mut R,

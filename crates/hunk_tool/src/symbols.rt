@@ -9,7 +9,7 @@ ghost use Rattle.hunk_tool.specs.Load.{ends_of, IsFaultAt, IsWrittenAt};
 ghost use Rattle.hunk_tool.specs.Symbols.{address_line, symbols_text};
 
 use crate::tool_fault::ToolFault;
-use hunk_loader::check_sizes;
+use hunk_loader::check_sizes_with;
 use hunk_loadfile::{LoadHunk, read_load};
 use hunk_words::{Name, Sink, Source, Text, WriteFault};
 use std::alloc::Allocator;
@@ -30,7 +30,7 @@ use std::alloc::Allocator;
 ///   its hunks.
 /// - [`ToolFault::Output`] if a write failed or took no byte, with the number of bytes of the lines
 ///   that were written.
-/// - [`ToolFault::OutOfMemory`] if an allocation failed, with nothing written.
+/// - [`ToolFault::OutOfMemory`] only if an allocation failed, with nothing written.
 pub fn symbols_run<A: Allocator + Copy, R: Source, W: Sink>(
     alloc: A,
     reader: &mut R,
@@ -45,7 +45,7 @@ pub fn symbols_run<A: Allocator + Copy, R: Source, W: Sink>(
 {
     let file = read_load(alloc, reader)?;
     let hunks = file.hunks();
-    if let Err(fault) = check_sizes(&hunks, bases) {
+    if let Err(fault) = check_sizes_with(alloc, &hunks, bases) {
         return Err(ToolFault::Place(fault));
     }
     Ok(write_symbols(hunks, bases, writer)?)

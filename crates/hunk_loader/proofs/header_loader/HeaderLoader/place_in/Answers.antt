@@ -27,18 +27,18 @@ returns-in-Ok-clause-stays g c = λ ok more fault no.
     let bytes = ap (λ state. state.bytes) (sym c.self.view_is) in
     let header = sound-whole c.self.inside.header _ _ c.in-Some.hunks.items c.self.invariant (ap (λ hunks. hunks_told hunks) c.in-Some.is) in
     let first = not-placed c.args.bases.now _ more _ fault header (subst (λ bs. IsNotPlaced c.args.bases.now (bs ++ more) fault) bytes no) in
-    c.in_default.not-Err fault ((c.check_sizes.ensures.refused fault).1 (subst (λ hunks. IsFirstRefusal (told_sizes hunks) c.args.bases.now fault) (sym c.as_slice-hunks.ensures.value) first))
+    c.in_default.not-Err fault ((c.check_sizes_with.ensures.refused fault).1 (subst (λ hunks. IsFirstRefusal (told_sizes hunks) c.args.bases.now fault) (sym c.as_slice-hunks.ensures.value) first))
 
 pub returns-in-Ok-clause-refused : goal.returns-in-Ok-clause-refused
 returns-in-Ok-clause-refused g c = λ fault.
     let told = ap (λ state. state.hunks) (sym c.self.view_is) ∙ ap (λ hunks. hunks_told hunks) c.in-Some.is ∙ ap Some (sym c.as_slice-hunks.ensures.value) in (
       λ wrong. let no = wrong in cc,
-      λ cannot. absurd (c.in_default.not-Err fault ((c.check_sizes.ensures.refused fault).1 (cannot-place _ fault _ _ told cannot))),
+      λ cannot. absurd (c.in_default.not-Err fault ((c.check_sizes_with.ensures.refused fault).1 (cannot-place _ fault _ _ told cannot))),
     )
 
 pub returns-in-Err-OutOfMemory-clause-refused : goal.returns-in-Err-OutOfMemory-clause-refused
 returns-in-Err-OutOfMemory-clause-refused g c = λ fault.
     let told = ap (λ state. state.hunks) (sym c.self.view_is) ∙ ap (λ hunks. hunks_told hunks) c.in-Some.is ∙ ap Some (sym c.as_slice-hunks.ensures.value) in (
       λ wrong. let no = wrong in cc,
-      λ cannot. absurd (c.in_default.not-Err fault ((c.check_sizes.ensures.refused fault).1 (cannot-place _ fault _ _ told cannot))),
+      λ cannot. absurd (c.in_default.not-Err fault ((c.check_sizes_with.ensures.refused fault).1 (cannot-place _ fault _ _ told cannot))),
     )
