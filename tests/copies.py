@@ -188,7 +188,8 @@ def a_copy_is_read_and_written_through_pipes(program):
     program.prints("", "copy", "--out", "/dev/null", "x")
     line = "/dev/stdin: longword 9: file ends too early"
     program.fails(REFUSED, line, "copy", "--out", "/dev/stdout", "/dev/stdin", input=LOAD_FILE[:-4])
-    program.fails(REFUSED, line, "copy", "--explain", "--out", "/dev/stdout", "/dev/stdin", input=LOAD_FILE[:-4])
+    told = f"amihunk: {line}\n  not explained: only regular files can be read again\n"
+    equals(program.run("copy", "--explain", "--out", "/dev/stdout", "/dev/stdin", input=LOAD_FILE[:-4]), (REFUSED, "", told))
     program.fails(REFUSED, "/dev/null: longword 0: file ends too early", "copy", "--out", "out", "/dev/null")
     for form in FORMS:
         program.fails(DEVICE, "output: write failed", "copy", *form, "--out", "/dev/full", "x")

@@ -281,9 +281,9 @@ def what_is_no_refusal_of_a_file_is_told_in_a_line(program):
 
 
 @test
-def a_pipe_is_not_explained(program):
+def that_a_pipe_cannot_be_explained_is_told(program):
     line = "/dev/stdin: longword 9: file ends too early"
-    program.fails(REFUSED, line, "load", "--explain", "--at", "0", "/dev/stdin", input=LOAD_FILE[:-4])
+    tells(program, line, "  not explained: only regular files can be read again\n", "load", "--at", "0", "/dev/stdin", input=LOAD_FILE[:-4])
 
 
 @test

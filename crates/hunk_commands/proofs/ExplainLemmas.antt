@@ -1,9 +1,11 @@
 -- What is told of a failure after its line.
-use Rattle.std.proofs.Common.{◌≡◌, ◌∙◌, ◌+◌, ℕ, List, [], ◌++◌, length, length-append, append-nil, arith, inl, inr, refl, sym, subst, Bool, true, false, Option, Some, None, IsTrue}
+use Rattle.std.proofs.Common.{◌≡◌, ◌⊎◌, ◌∙◌, ◌+◌, ℕ, List, [], ◌++◌, length, length-append, append-nil, arith, inl, inr, refl, sym, subst, Bool, true, false, Option, Some, None, Result, Ok, Err, IsTrue}
 use Rattle.std.proofs.Math.Seq.{take-append-add}
 use Rattle.std.proofs.lemmas.List.{take-append-le}
 use Rattle.hunk_base.specs.Streams.{WriteStopped}
 use Rattle.hunk_base.specs.declared.fault.WriteFault.TheVariants.{Device}
+use Rattle.std.specs.declared.alloc.Global.{Global}
+use Rattle.hunk_link.specs.declared.refusal.LinkRefusal.{LinkRefusal}
 use Rattle.std.proofs.KnownBytes.{Appends-nil, Appends-trans}
 use Rattle.std.specs.Option.{IfSome}
 use Rattle.std.specs.Io.KnownBytes.{Appends}
@@ -17,10 +19,15 @@ use Rattle.hunk_files.specs.Explanation.{EndsWith, IsEnd, IsExplained}
 use Rattle.hunk_memory.specs.PlacesText.{places_text}
 use Rattle.hunk_files.specs.declared.explanation.Explanation.{Explanation}
 use Rattle.hunk_commands.specs.Addresses.{HaveNumbers, Origin}
-use Rattle.hunk_commands.specs.Explain.{AreLines, AreLinesOf, AreNoLines, ArePlaceLines, ArePlaceLinesOf, IfAsked, IsOffence, OrNone, TellsMore, kind_read, sizes_of}
+use Rattle.hunk_commands.specs.Again.{IsOffence}
+use Rattle.hunk_commands.specs.Explain.{AreLines, AreLinesOf, AreNoLines, ArePlaceLines, ArePlaceLinesOf, AreRefusalLinesOf, AreToldThen, IfAsked, OrUnexplained, TellsMore, TellsUnless, kind_read, sizes_of}
 use Rattle.hunk_commands.specs.Failure.{TellsLine}
 use Rattle.hunk_commands.specs.Store.{Contents}
+use Rattle.hunk_commands.specs.Unexplained.{unexplained_line}
 use Rattle.hunk_commands.specs.declared.explain.Command.{Command}
+use Rattle.hunk_commands.specs.declared.explain.Command.TheVariants as command
+use Rattle.hunk_commands.specs.declared.unexplained.Unexplained.{Unexplained}
+use Rattle.hunk_commands.specs.declared.unexplained.Unexplained.TheVariants.{OutOfMemory}
 use Rattle.hunk_commands.specs.declared.failure.Failure.{Failure}
 use Rattle.hunk_commands.specs.declared.failure.Failure.TheVariants.{BadNumber, MapOverFile, Opening, Printing, Reading, SameFile, Tool, Writing}
 use Rattle.hunk_commands.specs.OpenFault.{reason_line}
@@ -62,9 +69,9 @@ module _ {W : Type 0} (taken : W → Option (List ℕ)) (failed : W → Bool) wh
   pub tells_none : (w : W) → TellsMore taken failed w w AreNoLines
   tells_none w = record { more = []; is_more = refl; told = inl (Appends-nil (taken w), refl) }
 
-  -- nothing was written
-  pub tells_nothing : (w : W) (Holds : List ℕ → Type 0) → TellsMore taken failed w w (OrNone Holds)
-  tells_nothing w Holds = record { more = []; is_more = inl refl; told = inl (Appends-nil (taken w), refl) }
+  -- nothing was written, and that may be
+  pub tells_nothing : (w : W) (Holds : List ℕ → Type 0) → Holds [] → TellsMore taken failed w w Holds
+  tells_nothing w Holds holds = record { more = []; is_more = holds; told = inl (Appends-nil (taken w), refl) }
 
   -- nothing was written, since a write had failed before
   pub tells_stopped : (w : W) (Holds : List ℕ → Type 0) (lines : List ℕ) → Holds lines → IsTrue (failed w) → TellsMore taken failed w w Holds
@@ -77,18 +84,19 @@ module _ {W : Type 0} (taken : W → Option (List ℕ)) (failed : W → Bool) wh
   pub tells_exactly : (old new : W) (Holds : List ℕ → Type 0) (lines : List ℕ) → Holds lines → TellsLine taken failed old new lines → TellsMore taken failed old new Holds
   tells_exactly old new Holds lines holds told = record { more = lines; is_more = holds; told = told }
 
-  pub tells_lines : (old new : W) (Holds : List ℕ → Type 0) (lines : List ℕ) → Holds lines → TellsLine taken failed old new lines → TellsMore taken failed old new (OrNone Holds)
-  tells_lines old new Holds lines holds told = record { more = lines; is_more = inr holds; told = told }
-
-  -- lines that may be missing, since they were told
-  pub tells_or_none : (old new : W) (Holds : List ℕ → Type 0) → TellsMore taken failed old new Holds → TellsMore taken failed old new (OrNone Holds)
-  tells_or_none old new Holds tells = record { more = tells.more; is_more = inr tells.is_more; told = tells.told }
+  -- lines were told, or a line that tells why they are not
+  pub tells_or_why : (old between new : W) (Holds : List ℕ → Type 0) (Why : Unexplained → Type 0) (told : Result (Unit {0}) Unexplained)
+      → TellsUnless taken failed old between Holds Why told → AreToldThen taken failed between new told → TellsMore taken failed old new (OrUnexplained Why Holds)
+  tells_or_why old between new Holds Why (Ok done) tells same =
+      subst (λ w. TellsMore taken failed old w (OrUnexplained Why Holds)) (sym same) (record { more = tells.more; is_more = inl tells.is_more; told = tells.told })
+  tells_or_why old between new Holds Why (Err why) (holds, same) told =
+      record { more = unexplained_line why; is_more = inr (why, holds, refl); told = subst (λ w. TellsLine taken failed w new (unexplained_line why)) same told }
 
   -- the lines about hunks beside their addresses
   pub tells_places : (old new : W) (contents : Contents) (origin : Origin) (AreHunks : List FileHunk → Type 0) (loaded hunks : List FileHunk) (bases : List ℕ)
-      → hunks ≡ loaded → AreHunks loaded → HaveNumbers contents origin bases → TellsLine taken failed old new (places_text (sizes_of hunks) bases) → TellsMore taken failed old new (OrNone (ArePlaceLines contents origin AreHunks))
+      → hunks ≡ loaded → AreHunks loaded → HaveNumbers contents origin bases → TellsLine taken failed old new (places_text (sizes_of hunks) bases) → TellsMore taken failed old new (ArePlaceLines contents origin AreHunks)
   tells_places old new contents origin AreHunks loaded hunks bases same are numbers_are told =
-      tells_lines old new (ArePlaceLines contents origin AreHunks) (places_text (sizes_of hunks) bases) (place_lines contents origin AreHunks loaded hunks bases same are numbers_are) told
+      tells_exactly old new (ArePlaceLines contents origin AreHunks) (places_text (sizes_of hunks) bases) (place_lines contents origin AreHunks loaded hunks bases same are numbers_are) told
 
   -- a line, and nothing after it
   pub tells_line_alone : (old new : W) (line : List ℕ) → TellsLine taken failed old new line → TellsLine taken failed old new (line ++ [])
@@ -145,31 +153,58 @@ module _ {W : Type 0} (taken : W → Option (List ℕ)) (failed : W → Bool) wh
   unfolding tells_none
   after_nothing explain Holds failure between unasked = subst (λ b. IsAfter between between (IfAsked b Holds failure)) (sym unasked) (tells_none between, λ failing. refl)
 
+-- what holds of this command, and of those, holds of a command that is one of them
+pub of_either : {A : Type 0} (Holds : Command → Type 0) (command one : Command) (others : A → Command) → (command ≡ one) ⊎ ((a : A) × (command ≡ others a))
+    → Holds one → ((a : A) → Holds (others a)) → Holds command
+of_either Holds command one others (inl is) here there = subst Holds (sym is) here
+of_either Holds command one others (inr (a, is)) here there = subst Holds (sym is) (there a)
+
 -- there are no further lines, asked for or not
 pub none_asked : (explain : Bool) (Holds : Failure → List ℕ → Type 0) (failure : Failure) → Holds failure [] → IfAsked explain Holds failure []
 none_asked true Holds failure none = none
 none_asked false Holds failure none = refl
 
--- there are lines for each failure
-some_lines : (contents : Contents) (kind_of : List ℕ → FileKind) (ArePlaces : List ℕ → Type 0) (files : List (List ℕ)) (failure : Failure) → (more : List ℕ) × AreLines contents kind_of ArePlaces files failure more
-some_lines contents kind_of ArePlaces files (BadNumber addresses index) = ([], refl)
-some_lines contents kind_of ArePlaces files (Opening name reason) = (reason_line reason, refl)
-some_lines contents kind_of ArePlaces files (Reading name) = ([], inl refl)
-some_lines contents kind_of ArePlaces files (Writing name) = ([], refl)
-some_lines contents kind_of ArePlaces files (SameFile name) = ([], refl)
-some_lines contents kind_of ArePlaces files (MapOverFile name) = ([], refl)
-some_lines contents kind_of ArePlaces files Printing = ([], refl)
-some_lines contents kind_of ArePlaces files (Tool (tool_fault.Input file fault)) = ([], inl refl)
-some_lines contents kind_of ArePlaces files (Tool (tool_fault.InputDevice file)) = ([], inl refl)
-some_lines contents kind_of ArePlaces files (Tool (tool_fault.Link refusal)) = ([], inl refl)
-some_lines contents kind_of ArePlaces files (Tool (tool_fault.Place fault)) = ([], inl refl)
-some_lines contents kind_of ArePlaces files (Tool (tool_fault.Output written)) = ([], refl)
-some_lines contents kind_of ArePlaces files (Tool (tool_fault.OutOfMemory written)) = ([], refl)
+-- memory may have run out, which a line tells
+exhausted : (Why : Unexplained → Type 0) (Holds : List ℕ → Type 0) → Why OutOfMemory → (more : List ℕ) × OrUnexplained Why Holds more
+exhausted Why Holds why = (unexplained_line OutOfMemory, inr (OutOfMemory, why, refl))
+
+-- there are lines for units that do not link
+some_refusals : (contents : Contents) (command : Command) (files : List (List ℕ)) (refusal : LinkRefusal Global) → (more : List ℕ) × AreRefusalLinesOf contents command files refusal more
+some_refusals contents command.Link files refusal = exhausted _ _ tt
+some_refusals contents (command.Image addresses) files refusal = exhausted _ _ tt
+some_refusals contents (command.Load addresses) files refusal = ([], refl)
+some_refusals contents command.LoadFile files refusal = ([], refl)
+some_refusals contents command.Text files refusal = ([], refl)
+
+-- there are lines for hunks that cannot be placed
+some_places : (contents : Contents) (command : Command) (files : List (List ℕ)) → (more : List ℕ) × ArePlaceLinesOf contents command files more
+some_places contents command.Link files = ([], refl)
+some_places contents (command.Image addresses) files = exhausted _ _ (inl tt)
+some_places contents (command.Load addresses) files = exhausted _ _ (inl tt)
+some_places contents command.LoadFile files = ([], refl)
+some_places contents command.Text files = ([], refl)
+
+-- and for each failure
+some_lines : (contents : Contents) (kind_of : List ℕ → FileKind) (AreRefusals : LinkRefusal Global → List ℕ → Type 0) (ArePlaces : List ℕ → Type 0) (files : List (List ℕ)) (failure : Failure)
+    → ((refusal : LinkRefusal Global) → (more : List ℕ) × AreRefusals refusal more) → (more : List ℕ) × ArePlaces more → (more : List ℕ) × AreLines contents kind_of AreRefusals ArePlaces files failure more
+some_lines contents kind_of AreRefusals ArePlaces files (BadNumber addresses index) refusals places = ([], refl)
+some_lines contents kind_of AreRefusals ArePlaces files (Opening name reason) refusals places = (reason_line reason, refl)
+some_lines contents kind_of AreRefusals ArePlaces files (Reading name) refusals places = ([], inl refl)
+some_lines contents kind_of AreRefusals ArePlaces files (Writing name) refusals places = ([], refl)
+some_lines contents kind_of AreRefusals ArePlaces files (SameFile name) refusals places = ([], refl)
+some_lines contents kind_of AreRefusals ArePlaces files (MapOverFile name) refusals places = ([], refl)
+some_lines contents kind_of AreRefusals ArePlaces files Printing refusals places = ([], refl)
+some_lines contents kind_of AreRefusals ArePlaces files (Tool (tool_fault.Input file fault)) refusals places = exhausted _ _ tt
+some_lines contents kind_of AreRefusals ArePlaces files (Tool (tool_fault.InputDevice file)) refusals places = ([], inl refl)
+some_lines contents kind_of AreRefusals ArePlaces files (Tool (tool_fault.Link refusal)) refusals places = refusals refusal
+some_lines contents kind_of AreRefusals ArePlaces files (Tool (tool_fault.Place fault)) refusals places = places
+some_lines contents kind_of AreRefusals ArePlaces files (Tool (tool_fault.Output written)) refusals places = ([], refl)
+some_lines contents kind_of AreRefusals ArePlaces files (Tool (tool_fault.OutOfMemory written)) refusals places = ([], refl)
 
 -- nothing is told of any failure once a write has failed
 pub tells_no_failure : {W : Type 0} (taken : W → Option (List ℕ)) (failed : W → Bool) (w : W) (contents : Contents) (command : Command) (files : List (List ℕ)) (failure : Failure) → IsTrue (failed w)
     → TellsMore taken failed w w (AreLinesOf contents command files failure)
-unfolding some_lines
+unfolding some_places some_refusals some_lines exhausted
 tells_no_failure taken failed w contents command files failure failing =
-    let lines = some_lines contents (kind_read command) (ArePlaceLinesOf contents command files) files failure in
+    let lines = some_lines contents (kind_read command) (AreRefusalLinesOf contents command files) (ArePlaceLinesOf contents command files) files failure (some_refusals contents command files) (some_places contents command files) in
     tells_stopped taken failed w (AreLinesOf contents command files failure) lines.0 lines.1 failing

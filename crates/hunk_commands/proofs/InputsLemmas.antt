@@ -1,16 +1,18 @@
 -- The files that a request reads, and the inputs of an operation over them.
-use Rattle.std.proofs.Common.{◌≡◌, ℕ, zero, suc, ◌+◌, ◌<◌, Bool, Bor, IsTrue, List, [], ◌∷◌, ◌++◌, Option, Some, None, length, take, get_or, arith, subst, sym, refl, ap}
+use Rattle.std.proofs.Common.{◌≡◌, ◌≢◌, ℕ, zero, suc, ◌+◌, ◌<◌, Bool, Bor, IsTrue, List, [], ◌∷◌, ◌++◌, Option, Some, None, length, take, drop, get_or, arith, subst, sym, refl, ap}
 use Rattle.std.specs.Io.KnownBytes.{IsAtEnd}
-use Rattle.std.specs.List.{Contains}
+use Rattle.std.specs.List.{All, Contains}
+use Rattle.std.proofs.Math.Seq.{split_at}
+use Rattle.std.proofs.lemmas.List.Elements.{All-cons, All-nil}
 use Rattle.std.proofs.lemmas.List.{get_or-map, length-map}
 use Rattle.hunk_base.specs.declared.streams.Source.{Ghosts as FileGhosts}
 use Rattle.hunk_tool.specs.declared.file_system.FileSystem.{Ghosts}
-use Rattle.hunk_tool.specs.FileSystem.{FileContent}
-use Rattle.hunk_tool.specs.FileSystem.FileContent.{unknown}
+use Rattle.hunk_tool.specs.FileSystem.{FileContent, IsContent, MayBeMissing}
+use Rattle.hunk_tool.specs.FileSystem.FileContent.{missing, unknown}
 use Rattle.hunk_tool.specs.Inputs.{HaveRead, Input, inputs_of, file_names}
 use Rattle.hunk_tool.proofs.InputsLemmas.{HaveRead-weaker}
 use Rattle.hunk_commands.specs.Devices.{IsOpening}
-use Rattle.hunk_commands.specs.Inputs.{AreInputs, AreReadersOf, IsInput, IsOpenFailure, OfFiles, OfWholeFiles, ended_in, ended_where, failed_in, left_in, left_where}
+use Rattle.hunk_commands.specs.Inputs.{AreInputs, AreReadersOf, IsInput, IsOpenFailure, IsUnopened, OfFiles, OfWholeFiles, ended_in, ended_where, failed_in, left_in, left_where}
 use Rattle.hunk_commands.specs.Store.{Contents}
 use Rattle.hunk_commands.specs.declared.failure.Failure.{Failure}
 use Rattle.hunk_commands.specs.declared.failure.Failure.TheVariants.{BadNumber, MapOverFile, Opening, Printing, Reading, SameFile, Tool, Writing}
@@ -22,16 +24,48 @@ Contains-name files index none within =
     let name : Bor (List ℕ) → List ℕ = λ file. file.now in
     (index, omega (arith, length-map files name), get_or-map name files index none (get_or files index none).now within)
 
--- one of the files cannot be opened
-pub IsOpenFailure-opening : (contents : Contents) (names : List (List ℕ)) (file : Bor (List ℕ)) (failure : Failure) → Contains names file.now → IsOpening contents file failure → IsOpenFailure contents names failure
-IsOpenFailure-opening contents names file (BadNumber addresses index) among is = absurd is
-IsOpenFailure-opening contents names file (Opening name reason) among is = subst (λ n. IsOpenFailure contents names (Opening n reason)) (sym is.0) (among, is.1)
-IsOpenFailure-opening contents names file (Reading name) among is = absurd is
-IsOpenFailure-opening contents names file (Writing name) among is = absurd is
-IsOpenFailure-opening contents names file (SameFile name) among is = absurd is
-IsOpenFailure-opening contents names file (MapOverFile name) among is = absurd is
-IsOpenFailure-opening contents names file Printing among is = absurd is
-IsOpenFailure-opening contents names file (Tool fault) among is = absurd is
+-- a file that was opened is not known to be missing
+there : (content : FileContent) (left : Option (List ℕ)) → IsContent content left → content ≢ missing
+there content left is = λ same. subst (λ c. IsContent c left) same is
+
+-- the file with this number cannot be opened, and those before it may be there
+unopened_at : (contents : Contents) (files : List (Bor (List ℕ))) (index : ℕ) (none : Bor (List ℕ)) → index < length files → All (λ other. contents other ≢ missing) (take index (file_names files))
+    → MayBeMissing (contents (get_or files index none).now) → IsUnopened contents (file_names files) (get_or files index none).now
+unopened_at contents files index none within earlier lacks =
+    let name : Bor (List ℕ) → List ℕ = λ file. file.now in
+    let here : get_or (file_names files) index [] ≡ (get_or files index none).now = get_or-map name files index none [] within in
+    record {
+      before = take index (file_names files);
+      after = drop (suc index) (file_names files);
+      among = subst (λ it. file_names files ≡ take index (file_names files) ++ it ∷ drop (suc index) (file_names files)) here (split_at (file_names files) index [] (omega (arith, within, length-map files name)));
+      earlier = earlier;
+      lacks = lacks;
+    }
+
+pub IsOpenFailure-opening : (contents : Contents) (files : List (Bor (List ℕ))) (index : ℕ) (none : Bor (List ℕ)) (failure : Failure) → index < length files → All (λ other. contents other ≢ missing) (take index (file_names files))
+    → IsOpening contents (get_or files index none) failure → IsOpenFailure contents (file_names files) failure
+IsOpenFailure-opening contents files index none (BadNumber addresses part) within earlier is = absurd is
+IsOpenFailure-opening contents files index none (Opening name reason) within earlier is =
+    subst (λ n. IsOpenFailure contents (file_names files) (Opening n reason)) (sym is.0) (unopened_at contents files index none within earlier is.1)
+IsOpenFailure-opening contents files index none (Reading name) within earlier is = absurd is
+IsOpenFailure-opening contents files index none (Writing name) within earlier is = absurd is
+IsOpenFailure-opening contents files index none (SameFile name) within earlier is = absurd is
+IsOpenFailure-opening contents files index none (MapOverFile name) within earlier is = absurd is
+IsOpenFailure-opening contents files index none Printing within earlier is = absurd is
+IsOpenFailure-opening contents files index none (Tool fault) within earlier is = absurd is
+
+-- the first of two files cannot be opened; or it may be there, and the second cannot
+pub unopened_first : (contents : Contents) (first second : List ℕ) → MayBeMissing (contents first) → IsUnopened contents (first ∷ second ∷ []) first
+unopened_first contents first second lacks = record { before = []; after = second ∷ []; among = refl; earlier = All-nil (λ other. contents other ≢ missing); lacks = lacks }
+
+pub unopened_second : (contents : Contents) (first second : List ℕ) (left : Option (List ℕ)) → IsContent (contents first) left → MayBeMissing (contents second) → IsUnopened contents (first ∷ second ∷ []) second
+unopened_second contents first second left is lacks = record {
+  before = first ∷ [];
+  after = [];
+  among = refl;
+  earlier = All-cons (λ other. contents other ≢ missing) first [] (there (contents first) left is) (All-nil (λ other. contents other ≢ missing));
+  lacks = lacks;
+}
 
 module _ {S F : Type 0} {g : Ghosts S F} {h : FileGhosts F} (content : S → Contents) (left : F → Option (List ℕ)) (store : S) where
   -- there is one input for each file
@@ -40,6 +74,13 @@ module _ {S F : Type 0} {g : Ghosts S F} {h : FileGhosts F} (content : S → Con
   length-inputs [] (input ∷ inputs) are = absurd are
   length-inputs (name ∷ names) [] are = absurd are
   length-inputs (name ∷ names) (input ∷ inputs) are = ap suc (length-inputs names inputs are.1)
+
+  -- the files of which there are inputs may be there
+  pub AreInputs-there : (names : List (List ℕ)) (inputs : List (FileInput S F g h)) → AreInputs content left store names inputs → All (λ other. content store other ≢ missing) names
+  AreInputs-there [] inputs are = All-nil (λ other. content store other ≢ missing)
+  AreInputs-there (name ∷ names) [] are = absurd are
+  AreInputs-there (name ∷ names) (input ∷ inputs) are =
+      All-cons (λ other. content store other ≢ missing) name names (there (content store name) (left_in content left input) are.0.from_start) (AreInputs-there names inputs are.1)
 
   -- the inputs so far, and the next one
   inputs_more : (names : List (List ℕ)) (inputs : List (FileInput S F g h)) (input : FileInput S F g h) (index : ℕ) → index < length names

@@ -1,4 +1,6 @@
 pub mod AddressesLemmas
+pub mod AgainLemmas
+pub mod CompareLemmas
 pub mod CopyLemmas
 pub mod ExplainLemmas
 pub mod FailureLemmas

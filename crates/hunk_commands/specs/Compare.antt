@@ -1,8 +1,9 @@
 -- What is known of two load files and the output after `compare`, or why it failed.
-use Rattle.std.specs.Prelude.{◌≡◌, ◌⊎◌, ℕ, List, Bool, IsTrue}
+use Rattle.std.specs.Prelude.{ℕ, List, [], ◌∷◌, Bool, IsTrue}
 use Rattle.hunk_tool.specs.Compare.{BothRead, IsCompareFault, IsCompared}
-use Rattle.hunk_tool.specs.FileSystem.{MayBeMissing, OfFile}
+use Rattle.hunk_tool.specs.FileSystem.{OfFile}
 use Rattle.hunk_tool.specs.Inputs.{Input}
+use Rattle.hunk_commands.specs.Inputs.{IsUnopened}
 use Rattle.hunk_commands.specs.Output.{IsFlushed, IsNothing, Printed, taken_by}
 use Rattle.hunk_commands.specs.Store.{Contents}
 use Rattle.hunk_commands.specs.declared.failure.Failure.{Failure}
@@ -23,15 +24,11 @@ abbrev pub AreCompared : (with_symbols same : Bool) → Contents → (first seco
 AreCompared with_symbols same contents first second printed =
     AreWrittenOf with_symbols same contents first second printed × IsFlushed printed
 
--- the file with this name, one of the two, cannot be opened
-abbrev pub IsUnopened : Contents → (first second name : List ℕ) → Type 0
-IsUnopened contents first second name = ((name ≡ first) ⊎ (name ≡ second)) × MayBeMissing (contents name)
-
 -- why `compare` failed: a file cannot be opened, the output did not pass on what it had taken, or the run over
 -- the files failed
 abbrev pub IsCompareFailure : Bool → Contents → (first second : List ℕ) → Printed → Failure → Type 0
 IsCompareFailure with_symbols contents first second printed (Opening name reason) =
-    IsUnopened contents first second name.now × IsNothing printed
+    IsUnopened contents (first ∷ second ∷ []) name.now × IsNothing printed
 IsCompareFailure with_symbols contents first second printed Printing =
     ((same : Bool) × AreWrittenOf with_symbols same contents first second printed) × IsTrue printed.failed
 IsCompareFailure with_symbols contents first second printed (Tool fault) =

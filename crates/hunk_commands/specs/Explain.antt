@@ -1,27 +1,24 @@
 -- What is told of a failure after its line, if `--explain` is given.
 use Rattle.std.specs.declared.alloc.Global.{Global}
-use Rattle.std.specs.Prelude.{◌≡◌, ◌⊎◌, ℕ, List, [], ◌∷◌, get_or, length, map, Bool, true, false, Option, Some, None}
-use Rattle.hunk_words.specs.FirstOffence.{FirstOffence}
-use Rattle.hunk_base.specs.Longwords.{longwords, unfinished}
+use Rattle.std.specs.Prelude.{◌≡◌, ◌⊎◌, ℕ, List, [], ◌∷◌, get_or, map, Bool, true, false, Option, Some, Result, Ok, Err}
 use Rattle.hunk_words.specs.declared.event.FileKind.{FileKind}
 use Rattle.hunk_words.specs.declared.event.FileKind.TheVariants as file_kind
 use Rattle.hunk_base.specs.declared.fault.Fault.{Fault}
 use Rattle.hunk_loadfile.specs.LoadFile.{IsLoadOf}
 use Rattle.hunk_loadfile.specs.LoadHunk.{FileHunk}
 use Rattle.hunk_link.specs.declared.refusal.LinkRefusal.{LinkRefusal}
-use Rattle.hunk_files.specs.Explanation.{Explains}
 use Rattle.hunk_files.specs.ExplanationText.{explanation_text}
 use Rattle.hunk_files.specs.FileValue.{kind_of_bytes}
 use Rattle.hunk_base.specs.Streams.{HasRead}
 use Rattle.hunk_tool.specs.FileSystem.{FileContent, OfFile, OfWholeFile}
 use Rattle.hunk_tool.specs.LinkExplanation.{told_of, told_text}
-use Rattle.hunk_tool.specs.ObjectFiles.{AreFileUnits, FileUnit}
+use Rattle.hunk_tool.specs.ObjectFiles.{FileUnit}
 use Rattle.hunk_memory.specs.PlacesText.{places_text}
 use Rattle.hunk_files.specs.declared.explanation.Explanation.{Explanation}
 use Rattle.hunk_tool.specs.declared.tool_fault.ToolFault.TheVariants.{Input, InputDevice, Link, Place}
 use Rattle.hunk_commands.specs.Addresses.{AtBases, Origin, origin_of}
+use Rattle.hunk_commands.specs.Again.{AreNoUnitsAgain, HaveUnits, IsGiven, IsNotExplained, IsNotLinkedAgain, IsNotLoadedAgain, IsNotPlacedAgain}
 use Rattle.hunk_commands.specs.Failure.{TellsLine}
-use Rattle.hunk_commands.specs.Inputs.{OfWholeFiles}
 use Rattle.hunk_commands.specs.Store.{Contents}
 use Rattle.hunk_commands.specs.Link.{DoLinkTo}
 use Rattle.hunk_commands.specs.declared.explain.Command.{Command}
@@ -29,6 +26,8 @@ use Rattle.hunk_commands.specs.declared.explain.Command.TheVariants as command
 use Rattle.hunk_commands.specs.declared.failure.Failure.{Failure}
 use Rattle.hunk_commands.specs.declared.failure.Failure.TheVariants.{Opening, Reading, Tool}
 use Rattle.hunk_commands.specs.OpenFault.{reason_line}
+use Rattle.hunk_commands.specs.Unexplained.{unexplained_line}
+use Rattle.hunk_commands.specs.declared.unexplained.Unexplained.{Unexplained}
 use Rattle.hunk_tool.specs.declared.file_system.OpenFault.{OpenFault}
 use Rattle.hunk_tool.specs.declared.file_system.OpenFault.TheVariants.{Directory}
 
@@ -48,15 +47,6 @@ kind_read (command.Image addresses) = reads_objects
 kind_read (command.Load addresses) = reads_a_load_file
 kind_read command.LoadFile = reads_a_load_file
 kind_read command.Text = kind_of_bytes
-
--- this fault is the first offence of the bytes
-abbrev pub IsOffence : FileKind → Fault → List ℕ → Type 0
-IsOffence kind fault bytes = FirstOffence kind (longwords bytes) (length (unfinished bytes)) fault.place fault.reason
-
--- what is given of this fault: an explanation of the bytes, of which it is the first offence, or none
-abbrev pub IsGiven : (kind_of : List ℕ → FileKind) → Fault → Option Explanation → List ℕ → Type 0
-IsGiven kind_of fault (Some e) bytes = (e.fault ≡ fault) × Explains (kind_of bytes) e bytes
-IsGiven kind_of fault None bytes = IsOffence (kind_of bytes) fault bytes → ⊥
 
 -- some bytes are given this explanation of this fault, and these are its lines
 pub record IsOffenceText (kind_of : List ℕ → FileKind) (fault : Fault) (more bytes : List ℕ) : Type 0 where
@@ -90,10 +80,6 @@ ArePlaceLines contents origin AreHunks more =
 
 -- ---- units that do not link
 
--- the files are object files with these units
-abbrev pub HaveUnits : Contents → (files : List (List ℕ)) → List FileUnit → Type 0
-HaveUnits contents files units = OfWholeFiles contents files (AreFileUnits units)
-
 -- the lines about a refusal to link the units of the files
 pub record AreRefusalLines (contents : Contents) (files : List (List ℕ)) (refusal : LinkRefusal Global) (more : List ℕ) : Type 0 where
   pub units : List FileUnit
@@ -112,49 +98,81 @@ IsReason reason more = more ≡ reason_line reason
 abbrev pub AreNoLines : (more : List ℕ) → Type 0
 AreNoLines more = more ≡ []
 
--- the lines are these; or there are none, since memory ran out, or a file is not read again or is not what it was
-abbrev pub OrNone : (Holds : List ℕ → Type 0) → (more : List ℕ) → Type 0
-OrNone Holds more = (more ≡ []) ⊎ Holds more
+-- the lines are these; or there is one line, which tells why there are no others, for a reason of which the first
+-- holds
+abbrev pub OrUnexplained : (Why : Unexplained → Type 0) (Holds : List ℕ → Type 0) → (more : List ℕ) → Type 0
+OrUnexplained Why Holds more = Holds more ⊎ ((why : Unexplained) × Why why × (more ≡ unexplained_line why))
 
--- the lines about a failure for these files, if files are read so, and these are the lines about hunks
--- that cannot be placed: a file that cannot be opened has the line with its reason, and what is told of no file
--- has none
-abbrev pub AreLines : Contents → (kind_of : List ℕ → FileKind) (ArePlaces : List ℕ → Type 0) (files : List (List ℕ)) → Failure → (more : List ℕ) → Type 0
-AreLines contents kind_of ArePlaces files (Tool (Input file fault)) more = OrNone (AreOffenceLines (content_at contents files file) kind_of fault) more
-AreLines contents kind_of ArePlaces files (Tool (Link refusal)) more = OrNone (AreRefusalLines contents files refusal) more
-AreLines contents kind_of ArePlaces files (Tool (Place fault)) more = OrNone ArePlaces more
-AreLines contents kind_of ArePlaces files (Tool (InputDevice file)) more = OrNone (IsReason Directory) more
-AreLines contents kind_of ArePlaces files (Reading name) more = OrNone (IsReason Directory) more
-AreLines contents kind_of ArePlaces files (Opening name reason) more = IsReason reason more
-AreLines contents kind_of ArePlaces files _ more = AreNoLines more
+-- the line that a file which cannot be read is a directory; or there is none
+abbrev pub IsDirectoryOrNone : (more : List ℕ) → Type 0
+IsDirectoryOrNone more = (more ≡ []) ⊎ IsReason Directory more
+
+-- the lines about a failure for these files, if files are read so, these are the lines about a refusal to link,
+-- and these are those about hunks that cannot be placed: a file that cannot be opened has the line with its
+-- reason, and what is told of no file has none
+abbrev pub AreLines : Contents → (kind_of : List ℕ → FileKind) (AreRefusals : LinkRefusal Global → List ℕ → Type 0) (ArePlaces : List ℕ → Type 0) (files : List (List ℕ)) → Failure → (more : List ℕ) → Type 0
+AreLines contents kind_of AreRefusals ArePlaces files (Tool (Input file fault)) more =
+    OrUnexplained (IsNotExplained (content_at contents files file) kind_of fault) (AreOffenceLines (content_at contents files file) kind_of fault) more
+AreLines contents kind_of AreRefusals ArePlaces files (Tool (Link refusal)) more = AreRefusals refusal more
+AreLines contents kind_of AreRefusals ArePlaces files (Tool (Place fault)) more = ArePlaces more
+AreLines contents kind_of AreRefusals ArePlaces files (Tool (InputDevice file)) more = IsDirectoryOrNone more
+AreLines contents kind_of AreRefusals ArePlaces files (Reading name) more = IsDirectoryOrNone more
+AreLines contents kind_of AreRefusals ArePlaces files (Opening name reason) more = IsReason reason more
+AreLines contents kind_of AreRefusals ArePlaces files _ more = AreNoLines more
+
+-- the lines about units of the files that do not link
+abbrev pub AreUnitLines : Contents → (files : List (List ℕ)) → LinkRefusal Global → (more : List ℕ) → Type 0
+AreUnitLines contents files refusal = OrUnexplained (AreNoUnitsAgain contents files) (AreRefusalLines contents files refusal)
+
+-- and about a load file that is too large to be written again: none
+abbrev pub AreNoUnitLines : LinkRefusal Global → (more : List ℕ) → Type 0
+AreNoUnitLines refusal = AreNoLines
+
+-- the lines about a refusal to link, for a command and its files
+abbrev pub AreRefusalLinesOf : Contents → Command → (files : List (List ℕ)) → LinkRefusal Global → (more : List ℕ) → Type 0
+AreRefusalLinesOf contents command.Link files = AreUnitLines contents files
+AreRefusalLinesOf contents (command.Image addresses) files = AreUnitLines contents files
+AreRefusalLinesOf contents (command.Load addresses) files = AreNoUnitLines
+AreRefusalLinesOf contents command.LoadFile files = AreNoUnitLines
+AreRefusalLinesOf contents command.Text files = AreNoUnitLines
+
+-- the lines about the hunks of a load file that cannot be placed
+abbrev pub AreLoadedPlaces : Contents → Origin → FileContent → (more : List ℕ) → Type 0
+AreLoadedPlaces contents origin content =
+    OrUnexplained (IsNotPlacedAgain contents origin (IsNotLoadedAgain content)) (ArePlaceLines contents origin (IsLoadFile content))
+
+-- and about those of the load file of object files
+abbrev pub AreLinkedPlaces : Contents → Origin → (files : List (List ℕ)) → (more : List ℕ) → Type 0
+AreLinkedPlaces contents origin files =
+    OrUnexplained (IsNotPlacedAgain contents origin (IsNotLinkedAgain contents files)) (ArePlaceLines contents origin (DoLinkTo true contents files))
 
 -- the lines about hunks that cannot be placed, for a command and its files
 abbrev pub ArePlaceLinesOf : Contents → Command → (files : List (List ℕ)) → (more : List ℕ) → Type 0
 ArePlaceLinesOf contents command.Link files = AreNoLines
-ArePlaceLinesOf contents (command.Image addresses) files = ArePlaceLines contents (origin_of addresses) (DoLinkTo true contents files)
-ArePlaceLinesOf contents (command.Load addresses) files = ArePlaceLines contents (origin_of addresses) (IsLoadFile (content_at contents files 0))
+ArePlaceLinesOf contents (command.Image addresses) files = AreLinkedPlaces contents (origin_of addresses) files
+ArePlaceLinesOf contents (command.Load addresses) files = AreLoadedPlaces contents (origin_of addresses) (content_at contents files 0)
 ArePlaceLinesOf contents command.LoadFile files = AreNoLines
 ArePlaceLinesOf contents command.Text files = AreNoLines
 
 -- the lines about a failure of a command for these files
 abbrev pub AreLinesOf : Contents → Command → (files : List (List ℕ)) → Failure → (more : List ℕ) → Type 0
-AreLinesOf contents command files = AreLines contents (kind_read command) (ArePlaceLinesOf contents command files) files
+AreLinesOf contents command files = AreLines contents (kind_read command) (AreRefusalLinesOf contents command files) (ArePlaceLinesOf contents command files) files
 
 -- and for each command
 abbrev pub AreLinkLines : Contents → (files : List (List ℕ)) → Failure → (more : List ℕ) → Type 0
-AreLinkLines contents files = AreLines contents reads_objects AreNoLines files
+AreLinkLines contents files = AreLines contents reads_objects (AreUnitLines contents files) AreNoLines files
 
 abbrev pub AreImageLines : Contents → Origin → (files : List (List ℕ)) → Failure → (more : List ℕ) → Type 0
-AreImageLines contents origin files = AreLines contents reads_objects (ArePlaceLines contents origin (DoLinkTo true contents files)) files
+AreImageLines contents origin files = AreLines contents reads_objects (AreUnitLines contents files) (AreLinkedPlaces contents origin files) files
 
 abbrev pub AreLoadLines : Contents → Origin → (file : List ℕ) → Failure → (more : List ℕ) → Type 0
-AreLoadLines contents origin file = AreLines contents reads_a_load_file (ArePlaceLines contents origin (IsLoadFile (contents file))) (file ∷ [])
+AreLoadLines contents origin file = AreLines contents reads_a_load_file AreNoUnitLines (AreLoadedPlaces contents origin (contents file)) (file ∷ [])
 
 abbrev pub AreLoadFileLines : Contents → (files : List (List ℕ)) → Failure → (more : List ℕ) → Type 0
-AreLoadFileLines contents files = AreLines contents reads_a_load_file AreNoLines files
+AreLoadFileLines contents files = AreLines contents reads_a_load_file AreNoUnitLines AreNoLines files
 
 abbrev pub AreTextLines : Contents → (files : List (List ℕ)) → Failure → (more : List ℕ) → Type 0
-AreTextLines contents files = AreLines contents kind_of_bytes AreNoLines files
+AreTextLines contents files = AreLines contents kind_of_bytes AreNoUnitLines AreNoLines files
 
 -- the same, if they are asked for; otherwise there are none
 abbrev pub IfAsked : (explain : Bool) (Holds : Failure → List ℕ → Type 0) → Failure → (more : List ℕ) → Type 0
@@ -168,3 +186,13 @@ pub record TellsMore {W : Type 0} (taken : W → Option (List ℕ)) (failed : W 
   pub more : List ℕ
   pub is_more : Holds more
   pub told : TellsLine taken failed old new more
+
+-- lines of which the first holds were told; or none were, for a reason of which the second holds
+abbrev pub TellsUnless : {W : Type 0} (taken : W → Option (List ℕ)) (failed : W → Bool) (old new : W) (Holds : List ℕ → Type 0) (Why : Unexplained → Type 0) → Result (Unit {0}) Unexplained → Type 0
+TellsUnless taken failed old new Holds Why (Ok done) = TellsMore taken failed old new Holds
+TellsUnless taken failed old new Holds Why (Err why) = Why why × (new ≡ old)
+
+-- the line that tells why they were not told was told then, if there is a reason for it
+abbrev pub AreToldThen : {W : Type 0} (taken : W → Option (List ℕ)) (failed : W → Bool) (old new : W) → Result (Unit {0}) Unexplained → Type 0
+AreToldThen taken failed old new (Ok done) = new ≡ old
+AreToldThen taken failed old new (Err why) = TellsLine taken failed old new (unexplained_line why)

@@ -1,5 +1,6 @@
 -- The files that a request reads.
-use Rattle.std.specs.Prelude.{◌≡◌, ℕ, List, [], ◌∷◌, Bool, false, Option, Some, None, Contains, ⊤}
+use Rattle.std.specs.Prelude.{◌≡◌, ◌≢◌, ℕ, List, [], ◌∷◌, ◌++◌, Bool, false, Option, Some, None, ⊤}
+use Rattle.std.specs.List.{All}
 use Rattle.hunk_base.specs.declared.streams.Source.{Ghosts as FileGhosts}
 use Rattle.hunk_tool.specs.declared.file_system.FileSystem.{Ghosts}
 use Rattle.hunk_tool.specs.FileSystem.{FileContent, IsContent, IsReaderOf, MayBeMissing}
@@ -70,9 +71,13 @@ OfWholeFiles contents names Holds = OfFiles contents names (λ inputs. HaveRead 
 
 -- ---- files that are not opened
 
--- the file with this name, which is one of them, cannot be opened
-abbrev pub IsUnopened : Contents → (names : List (List ℕ)) → (name : List ℕ) → Type 0
-IsUnopened contents names name = Contains names name × MayBeMissing (contents name)
+-- The file with this name, which is one of them, cannot be opened, and is the first that may not be there.
+pub record IsUnopened (contents : Contents) (names : List (List ℕ)) (name : List ℕ) : Type 0 where
+  pub before : List (List ℕ)
+  pub after : List (List ℕ)
+  pub among : names ≡ before ++ name ∷ after
+  pub earlier : All (λ other. contents other ≢ missing) before
+  pub lacks : MayBeMissing (contents name)
 
 -- why the files were not opened: one of them cannot be opened, or out of memory
 abbrev pub IsOpenFailure : Contents → (names : List (List ℕ)) → Failure → Type 0

@@ -1,6 +1,8 @@
 pub mod Request
 pub mod Failure
 pub mod Explain
+pub mod Again
+pub mod Unexplained
 pub mod Devices
 pub mod Output
 pub mod Printer

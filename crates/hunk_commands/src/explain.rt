@@ -1,28 +1,29 @@
 //! What is told of a failure after its line, if `--explain` is given: the files are read once more for
 //! it.
-ghost use Rattle.std.specs.Prelude.{◌≡◌, true, IfErr, IfOk, IfSome, IsTrue};
+ghost use Rattle.std.specs.Prelude.{◌≡◌, [], true, IfErr, IfOk, IfSome, IsTrue, get_or};
 ghost use Rattle.hunk_base.specs.Streams.{HasRead};
 ghost use Rattle.hunk_files.specs.Explanation.{IsEnd, IsExplained, IsUnexplained};
 ghost use Rattle.hunk_memory.specs.PlacesText.{places_text};
-ghost use Rattle.hunk_tool.specs.FileSystem.{IsContent};
 ghost use Rattle.hunk_tool.specs.Inputs.{file_names};
-ghost use Rattle.hunk_commands.specs.Addresses.{HaveNumbers, origin_of};
-ghost use Rattle.hunk_commands.specs.Explain.{AreLinesOf, AreOffenceLines, ArePlaceLines, ArePlaceLinesOf, AreRefusalLines, HaveUnits, IsGiven, IsLoadFile, IsReason, OrNone, TellsMore, kind_read, sizes_of};
+ghost use Rattle.hunk_commands.specs.Addresses.{origin_of};
+ghost use Rattle.hunk_commands.specs.Again.{AreNoUnitsAgain, IsGiven, IsNotExplained, IsNotLinkedAgain, IsNotLoadedAgain, IsNotPlacedAgain};
+ghost use Rattle.hunk_commands.specs.Explain.{AreLinesOf, AreOffenceLines, ArePlaceLines, ArePlaceLinesOf, AreRefusalLines, AreRefusalLinesOf, AreToldThen, IsDirectoryOrNone, IsLoadFile, IsReason, TellsMore, TellsUnless, kind_read, sizes_of};
 ghost use Rattle.hunk_commands.specs.Failure.{TellsLine};
 ghost use Rattle.hunk_commands.specs.Link.{DoLinkTo};
+ghost use Rattle.hunk_commands.specs.Unexplained.{unexplained_line};
 
-use crate::addresses::{Addresses, addresses_of};
-use crate::devices::open;
+use crate::addresses::Addresses;
+use crate::again::{addresses_again, linked_again, open_again, units_again};
 use crate::failure::Failure;
-use crate::inputs::{names_of, open_inputs};
-use crate::link::linked;
+use crate::inputs::names_of;
 use crate::open_fault::write_reason_line;
 use crate::store::Store;
+use crate::unexplained::{Unexplained, write_unexplained_line};
 use hunk_link::LinkRefusal;
-use hunk_loadfile::{LoadFile, LoadHunk, read_load};
+use hunk_loadfile::{LoadHunk, read_load};
 use hunk_tool::{
-    Explanation, ObjectFiles, OpenFault, ToolFault, explain_file, explain_link, explain_load,
-    explain_object, read_object_files, write_explanation, write_link_explanation, write_places,
+    Explanation, OpenFault, ToolFault, explain_file, explain_link, explain_load, explain_object,
+    write_explanation, write_link_explanation, write_places,
 };
 use hunk_words::{Fault, ReadFault, Sink, Source, Text};
 use std::alloc::Global;
@@ -45,12 +46,12 @@ pub enum Command<'a> {
 /// Tells more of a failure of this command for the files named `files`: of a file that is refused, the
 /// lines of [`write_explanation`]; of units that do not link, those of [`write_link_explanation`]; of
 /// hunks that cannot be placed, those of [`write_places`]; and of a file that cannot be opened, or is a
-/// directory and so cannot be read, a line with the reason. Of any other failure it tells nothing.
+/// directory and so cannot be read, a line with the reason. Of any other failure it tells nothing, and
+/// nothing of any if a write to `errors` has failed before.
 ///
-/// Files that are refused, do not link or cannot be placed are read once more for it, so nothing is told of
-/// them unless each of them is a regular file: a pipe cannot be read again. Nothing is told either if a file
-/// that was refused has another first offence by now, if a file cannot be read, if memory runs out, or if a
-/// write to `errors` has failed before. The line with the reason is told in any case but the last.
+/// Files that are refused, do not link or cannot be placed are read once more for it. If that is not
+/// possible, since one of them is no regular file or memory runs out, or if they do not fail so by now, one line
+/// tells it instead.
 pub fn explain_failure<S: Store, W: Sink>(
     alloc: Global,
     store: &S,
@@ -90,25 +91,31 @@ fn explain_fault<S: Store, W: Sink>(
 {
     match fault {
         ToolFault::Input { file, fault } => {
-            if let Some(name) = files.get(*file) {
-                explain_offence(alloc, store, errors, command, name, *fault);
-            }
+            let name = name_at(files, *file);
+            let told = explain_offence(alloc, store, errors, command, name, *fault);
+            tell_unexplained(errors, told);
         }
-        ToolFault::Link(refusal) => explain_refusal(alloc, store, errors, files, refusal),
+        ToolFault::Link(refusal) => explain_units(alloc, store, errors, command, files, refusal),
         ToolFault::Place(_) => explain_places(alloc, store, errors, command, files),
-        ToolFault::InputDevice { file } => {
-            if let Some(name) = files.get(*file) {
-                explain_unread(store, errors, name);
-            }
-        }
+        ToolFault::InputDevice { file } => explain_unread(store, errors, name_at(files, *file)),
         ToolFault::Output { .. } => {}
         ToolFault::OutOfMemory { .. } => {}
     }
 }
 
+/// The name of the file with this number; an empty one if there is no such file.
+fn name_at<'a>(files: &[&'a str], number: usize) -> &'a str
+    ensures { result.now ≡ get_or (file_names files.now) number [] }
+{
+    match files.get(number) {
+        Some(name) => name,
+        None => "",
+    }
+}
+
 /// Tells that the file named `name`, of which a read failed, is a directory, if it is one.
 fn explain_unread<S: Store, W: Sink>(store: &S, errors: &mut W, name: &str)
-    ensures { TellsMore W.taken W.failed errors.old errors.new (OrNone (IsReason OpenFault.Directory)) }
+    ensures { TellsMore W.taken W.failed errors.old errors.new IsDirectoryOrNone }
 {
     if store.is_directory(name) {
         tell_reason(errors, OpenFault::Directory);
@@ -124,6 +131,24 @@ fn tell_reason<W: Sink>(errors: &mut W, reason: OpenFault)
     let _ = text.finish();
 }
 
+/// Tells why nothing was told, if there is a reason for it.
+fn tell_unexplained<W: Sink>(errors: &mut W, told: Result<(), Unexplained>)
+    ensures { AreToldThen W.taken W.failed errors.old errors.new told }
+{
+    if let Err(why) = told {
+        tell_why(errors, why);
+    }
+}
+
+/// Tells why a failure is not explained.
+fn tell_why<W: Sink>(errors: &mut W, why: Unexplained)
+    ensures { TellsLine W.taken W.failed errors.old errors.new (unexplained_line why) }
+{
+    let mut text = Text::new(errors);
+    write_unexplained_line(&mut text, why);
+    let _ = text.finish();
+}
+
 /// Tells of the offence `fault` of the file named `name`.
 fn explain_offence<S: Store, W: Sink>(
     alloc: Global,
@@ -132,18 +157,17 @@ fn explain_offence<S: Store, W: Sink>(
     command: Command<'_>,
     name: &str,
     fault: Fault,
-)
-    ensures { TellsMore W.taken W.failed errors.old errors.new (OrNone (AreOffenceLines (S.content store.now name.now) (kind_read command.entry) fault)) }
+) -> Result<(), Unexplained>
+    ensures { TellsUnless W.taken W.failed errors.old errors.new (AreOffenceLines (S.content store.now name.now) (kind_read command.entry) fault) (IsNotExplained (S.content store.now name.now) (kind_read command.entry) fault) result }
 {
-    let Some(mut reader) = open_again(store, name) else {
-        return;
-    };
-    let Ok(Some(explanation)) = explanation_of(alloc, command, fault, &mut reader) else {
-        return;
+    let mut reader = open_again(store, name)?;
+    let Some(explanation) = explanation_of(alloc, command, fault, &mut reader)? else {
+        return Err(Unexplained::Changed);
     };
     let mut text = Text::new(errors);
     write_explanation(&mut text, &explanation);
     let _ = text.finish();
+    Ok(())
 }
 
 /// Reads a file as this command does, to its first offence, and returns what is there if that is
@@ -191,6 +215,29 @@ fn explain<R: Source>(
     }
 }
 
+/// Tells of a refusal to link, if this command reads object files. A load file that is too large to be
+/// written again has no units to tell of.
+fn explain_units<S: Store, W: Sink>(
+    alloc: Global,
+    store: &S,
+    errors: &mut W,
+    command: Command<'_>,
+    files: &[&str],
+    refusal: &LinkRefusal,
+)
+    ensures { TellsMore W.taken W.failed errors.old errors.new (AreRefusalLinesOf (S.content store.now) command.entry (file_names files.now) refusal.now) }
+{
+    match command {
+        Command::Link | Command::Image(_) => {
+            let told = explain_refusal(alloc, store, errors, files, refusal);
+            tell_unexplained(errors, told);
+        }
+        Command::Load(_) => {}
+        Command::LoadFile => {}
+        Command::Text => {}
+    }
+}
+
 /// Tells of a refusal to link the units of the object files named `files`.
 fn explain_refusal<S: Store, W: Sink>(
     alloc: Global,
@@ -198,21 +245,16 @@ fn explain_refusal<S: Store, W: Sink>(
     errors: &mut W,
     files: &[&str],
     refusal: &LinkRefusal,
-)
-    ensures { TellsMore W.taken W.failed errors.old errors.new (OrNone (AreRefusalLines (S.content store.now) (file_names files.now) refusal.now)) }
+) -> Result<(), Unexplained>
+    ensures { TellsUnless W.taken W.failed errors.old errors.new (AreRefusalLines (S.content store.now) (file_names files.now) refusal.now) (AreNoUnitsAgain (S.content store.now) (file_names files.now)) result }
 {
-    let Some(units) = units_again(alloc, store, files) else {
-        return;
-    };
-    let Ok(names) = names_of(alloc, files) else {
-        return;
-    };
-    let Ok(explanation) = explain_link(alloc, &units, refusal) else {
-        return;
-    };
+    let units = units_again(alloc, store, files)?;
+    let names = names_of(alloc, files)?;
+    let explanation = explain_link(alloc, &units, refusal)?;
     let mut text = Text::new(errors);
     write_link_explanation(&mut text, names.as_slice(), &explanation);
     let _ = text.finish();
+    Ok(())
 }
 
 /// Tells of hunks that cannot be placed at the addresses of this command, if it has addresses.
@@ -223,16 +265,21 @@ fn explain_places<S: Store, W: Sink>(
     command: Command<'_>,
     files: &[&str],
 )
-    ensures { TellsMore W.taken W.failed errors.old errors.new (OrNone (ArePlaceLinesOf (S.content store.now) command.entry (file_names files.now))) }
+    ensures { TellsMore W.taken W.failed errors.old errors.new (ArePlaceLinesOf (S.content store.now) command.entry (file_names files.now)) }
 {
     match command {
         Command::Load(addresses) => {
-            if let [name] = files {
-                explain_loaded_places(alloc, store, errors, addresses, name);
-            }
+            let name = name_at(files, 0);
+            let told = explain_loaded_places(alloc, store, errors, addresses, name);
+            tell_unexplained(errors, told);
         }
-        Command::Image(addresses) => explain_linked_places(alloc, store, errors, addresses, files),
-        Command::Link | Command::LoadFile | Command::Text => {}
+        Command::Image(addresses) => {
+            let told = explain_linked_places(alloc, store, errors, addresses, files);
+            tell_unexplained(errors, told);
+        }
+        Command::Link => {}
+        Command::LoadFile => {}
+        Command::Text => {}
     }
 }
 
@@ -243,19 +290,14 @@ fn explain_loaded_places<S: Store, W: Sink>(
     errors: &mut W,
     addresses: Addresses<'_>,
     name: &str,
-)
-    ensures { TellsMore W.taken W.failed errors.old errors.new (OrNone (ArePlaceLines (S.content store.now) (origin_of addresses.entry) (IsLoadFile (S.content store.now name.now)))) }
+) -> Result<(), Unexplained>
+    ensures { TellsUnless W.taken W.failed errors.old errors.new (ArePlaceLines (S.content store.now) (origin_of addresses.entry) (IsLoadFile (S.content store.now name.now))) (IsNotPlacedAgain (S.content store.now) (origin_of addresses.entry) (IsNotLoadedAgain (S.content store.now name.now))) result }
 {
-    let Some(bases) = addresses_again(alloc, store, addresses) else {
-        return;
-    };
-    let Some(mut reader) = open_again(store, name) else {
-        return;
-    };
-    let Ok(loaded) = read_load(alloc, &mut reader) else {
-        return;
-    };
+    let bases = addresses_again(alloc, store, addresses)?;
+    let mut reader = open_again(store, name)?;
+    let loaded = read_load(alloc, &mut reader)?;
     tell_places(errors, loaded.hunks(), bases.as_slice());
+    Ok(())
 }
 
 /// Tells of the hunks of the load file of the object files named `files`, beside these addresses.
@@ -265,16 +307,13 @@ fn explain_linked_places<S: Store, W: Sink>(
     errors: &mut W,
     addresses: Addresses<'_>,
     files: &[&str],
-)
-    ensures { TellsMore W.taken W.failed errors.old errors.new (OrNone (ArePlaceLines (S.content store.now) (origin_of addresses.entry) (DoLinkTo true (S.content store.now) (file_names files.now)))) }
+) -> Result<(), Unexplained>
+    ensures { TellsUnless W.taken W.failed errors.old errors.new (ArePlaceLines (S.content store.now) (origin_of addresses.entry) (DoLinkTo true (S.content store.now) (file_names files.now))) (IsNotPlacedAgain (S.content store.now) (origin_of addresses.entry) (IsNotLinkedAgain (S.content store.now) (file_names files.now))) result }
 {
-    let Some(bases) = addresses_again(alloc, store, addresses) else {
-        return;
-    };
-    let Some(loaded) = linked_again(alloc, store, files) else {
-        return;
-    };
+    let bases = addresses_again(alloc, store, addresses)?;
+    let loaded = linked_again(alloc, store, files)?;
     tell_places(errors, loaded.hunks(), bases.as_slice());
+    Ok(())
 }
 
 /// Tells of these hunks, beside the numbers of these addresses.
@@ -284,52 +323,4 @@ fn tell_places<W: Sink>(errors: &mut W, hunks: &[LoadHunk], bases: &[u32])
     let mut text = Text::new(errors);
     write_places(&mut text, hunks, bases);
     let _ = text.finish();
-}
-
-/// The addresses, unless they are in a file that cannot be read again.
-fn addresses_again<S: Store>(alloc: Global, store: &S, addresses: Addresses<'_>) -> Option<Vec<u32>>
-    ensures { IfSome result (λ bases. HaveNumbers (S.content store.now) (origin_of addresses.entry) bases.items) }
-{
-    match addresses {
-        Addresses::File(name) if !store.is_regular(name) => None,
-        addresses => addresses_of(alloc, store, addresses).ok(),
-    }
-}
-
-/// The load file of the object files named `files`, without symbols and debug blocks, unless one of
-/// them cannot be read again.
-fn linked_again<S: Store>(alloc: Global, store: &S, files: &[&str]) -> Option<LoadFile>
-    ensures { IfSome result (DoLinkTo true (S.content store.now) (file_names files.now)) }
-{
-    if files.iter().all(|name| store.is_regular(name)) {
-        linked(alloc, store, true, files).ok()
-    } else {
-        None
-    }
-}
-
-/// The units of the object files named `files`, unless one of them cannot be read again.
-fn units_again<S: Store>(alloc: Global, store: &S, files: &[&str]) -> Option<ObjectFiles>
-    ensures { IfSome result (λ units. HaveUnits (S.content store.now) (file_names files.now) units) }
-{
-    if !files.iter().all(|name| store.is_regular(name)) {
-        return None;
-    }
-    let Ok(mut inputs) = open_inputs(alloc, store, files) else {
-        return None;
-    };
-    match read_object_files(alloc, inputs.as_mut_slice()) {
-        Ok(units) => Some(units),
-        Err(_) => None,
-    }
-}
-
-/// Opens the file named `name` once more, unless it cannot be read again.
-fn open_again<S: Store>(store: &S, name: &str) -> Option<S::File>
-    ensures { IfSome result (λ file. IsContent (S.content store.now name.now) (S.File.left file)) }
-{
-    if !store.is_regular(name) {
-        return None;
-    }
-    open(store, name).ok()
 }

@@ -4,7 +4,8 @@
 //! - `failure`: why a command failed, the line that reports it, and the exit status.
 //! - `store`: the files that are read and replaced; `output`: what is printed to.
 //! - `addresses`: where the addresses of the hunks come from.
-//! - `explain`: what is told of a failure after its line.
+//! - `explain`: what is told of a failure after its line; `again`: what is read once more for it; `unexplained`: why
+//!   it is not.
 //! - `devices`: the file that a command reads, the one that it replaces, and what it prints.
 //! - `inputs`: the files that a command reads, if there are several; `input`: one of them.
 //! - `load`: the command `load`.
@@ -32,6 +33,7 @@
 #![tactic(auto)]
 
 pub mod addresses;
+mod again;
 mod buffers;
 pub mod compare;
 pub mod copy;
@@ -59,6 +61,7 @@ pub mod survey;
 mod system;
 mod system_file;
 mod text;
+mod unexplained;
 mod version;
 
 pub use addresses::{Addresses, addresses_of};

@@ -21,8 +21,8 @@ use std::rt::Files;
 /// [`Replacement::finish`] has put all of them there.
 ///
 /// Nothing is begun before the first write. The bytes go to a new file beside the one that they
-/// replace, which is renamed at last. They are kept in memory, and written at last, if the name is that
-/// of a device or a pipe, or no file can be made beside it.
+/// replace, which is renamed in the end. They are kept in memory, and written in the end, if the name
+/// is that of a device or a pipe, or no file can be made beside it.
 #[derive(Drop)]
 pub struct Replacement<'r, R: Files + AllocGlobal> {
     rt: &'r R,

@@ -1,6 +1,7 @@
 //! The files that the program reads and replaces.
 
 ghost use Rattle.std.specs.Prelude.{◌≡◌, ◌≢◌, true, false, IfErr, IfOk, OnErr, OnOk};
+ghost use Rattle.hunk_tool.specs.FileSystem.{MayBeMissing};
 ghost use Rattle.hunk_commands.specs.Store.{AreUnchanged, HasRun, IsBegun, IsCauseOf, IsKnown, IsReplaced};
 
 use crate::failure::Failure;
@@ -15,8 +16,10 @@ pub trait Store: FileSystem {
     /// What is to take the place of a file.
     type New: Sink + Drop;
 
-    /// Whether the file named `name` is a regular file, which can be read more than once.
-    fn is_regular(&self, name: &str) -> bool;
+    /// Whether the file named `name` is a regular file, which can be read more than once. A file of which
+    /// it is known what is in it is one.
+    fn is_regular(&self, name: &str) -> bool
+        ensures { result ≡ false → MayBeMissing (Self.content self.now name.now) };
 
     /// Whether the file named `name` is a directory.
     fn is_directory(&self, name: &str) -> bool;

@@ -144,38 +144,46 @@ static UNLINKED: [Row; 3] = [
     ),
 ];
 
-// Failures of which nothing is told after their lines.
-static UNEXPLAINED: [(Asked, u8, &str); 8] = [
+// Failures that are not explained, since a file is not read again, and why.
+static UNEXPLAINED: [Row; 6] = [
     (
         Asked::Link(&["pipe", "caller"]),
-        1,
         "amihunk: link: unit 1 hunk 0: \"foo\" not defined\n",
+        NOT_REGULAR,
     ),
     (
         Asked::Check("changed"),
-        1,
         "amihunk: changed: longword 5: unknown block type 1023\n",
+        CHANGED,
     ),
     (
         Asked::Link(&["mended"]),
-        1,
         "amihunk: mended: longword 5: unknown block type 1023\n",
+        CHANGED,
     ),
     (
         Asked::Show("mistyped-pipe"),
-        1,
         "amihunk: mistyped-pipe: longword 5: unknown block type 1023\n",
+        NOT_REGULAR,
     ),
     (
         Asked::Load(Addresses::File("addresses-pipe"), "program"),
-        1,
         "amihunk: places: wrong number of addresses\n",
+        NOT_REGULAR,
     ),
     (
         Asked::Image(Addresses::List("0"), &["pipe", "loop"]),
-        1,
         "amihunk: places: wrong number of addresses\n",
+        NOT_REGULAR,
     ),
+];
+
+const NOT_REGULAR: &str = "  not explained: only regular files can be read again\n";
+
+const CHANGED: &str = "  not explained: a file has changed, or cannot be read again\n";
+
+// Failures of which nothing is told after their lines.
+static WITHOUT_MORE: [(Asked, u8, &str); 2] = [
     (
         Asked::Load(Addresses::List("0,x"), "program"),
         2,
@@ -272,70 +280,75 @@ pub(super) const ALL: (usize, usize) = (40, usize::MAX);
 fn tells_more_if_it_is_asked_to(rt: HostRuntime) -> Result<(), Fail> {
     let alloc = rt.alloc();
     for rows in [REFUSED.as_slice(), UNPLACED.as_slice(), UNLINKED.as_slice()] {
-        for (asked, line, more) in rows {
-            ends(&rt, alloc, *asked, false, ALL, 1, line.as_bytes())?;
-            let told = both(alloc, line, more)?;
-            ends(&rt, alloc, *asked, true, ALL, 1, told.as_slice())?;
+        for row in rows {
+            is_explained(&rt, alloc, row)?;
         }
+    }
+    Ok(())
+}
+
+/// The line is told, and the rest of the row if it is asked for.
+fn is_explained(rt: &impl Abort, alloc: Global, (asked, line, more): &Row) -> Result<(), Fail> {
+    ends(rt, alloc, *asked, false, ALL, 1, line.as_bytes())?;
+    let told = both(alloc, line, more)?;
+    ends(rt, alloc, *asked, true, ALL, 1, told.as_slice())
+}
+
+#[test]
+fn tells_why_a_file_is_not_read_again(rt: HostRuntime) -> Result<(), Fail> {
+    for row in &UNEXPLAINED {
+        is_explained(&rt, rt.alloc(), row)?;
     }
     Ok(())
 }
 
 #[test]
 fn tells_nothing_more_of_other_failures(rt: HostRuntime) -> Result<(), Fail> {
-    for (asked, status, line) in &UNEXPLAINED {
+    for (asked, status, line) in &WITHOUT_MORE {
         ends(&rt, rt.alloc(), *asked, true, ALL, *status, line.as_bytes())?;
     }
     Ok(())
 }
 
+/// Only so much is good of what the request opens and reads, and after the line that is told.
+fn is_not_read_again(
+    rt: &impl Abort,
+    alloc: Global,
+    asked: Asked,
+    good: (usize, usize),
+    line: &str,
+) -> Result<(), Fail> {
+    let told = both(alloc, line, CHANGED)?;
+    ends(rt, alloc, asked, true, good, 1, told.as_slice())
+}
+
 // Each file is opened twice, and read in two reads at most: the addresses, the file, and both again.
 #[test]
-fn tells_nothing_more_where_a_file_is_not_read_again(rt: HostRuntime) -> Result<(), Fail> {
+fn tells_that_a_file_cannot_be_read_again(rt: HostRuntime) -> Result<(), Fail> {
     let alloc = rt.alloc();
-    let refused = (
-        Asked::Check("mistyped"),
-        "amihunk: mistyped: longword 5: unknown block type 1023\n",
-    );
-    let unplaced = (
-        Asked::Load(Addresses::File("addresses"), "trailing"),
-        "amihunk: trailing: longword 10: data after the last hunk\n",
-    );
-    ends(&rt, alloc, refused.0, true, (1, 9), 1, refused.1.as_bytes())?;
-    ends(&rt, alloc, refused.0, true, (9, 1), 1, refused.1.as_bytes())?;
-    ends(
-        &rt,
-        alloc,
-        unplaced.0,
-        true,
-        (2, 9),
-        1,
-        unplaced.1.as_bytes(),
-    )
+    let asked = Asked::Check("mistyped");
+    let line = "amihunk: mistyped: longword 5: unknown block type 1023\n";
+    is_not_read_again(&rt, alloc, asked, (1, 9), line)?;
+    is_not_read_again(&rt, alloc, asked, (9, 1), line)?;
+    let asked = Asked::Load(Addresses::File("addresses"), "trailing");
+    let line = "amihunk: trailing: longword 10: data after the last hunk\n";
+    is_not_read_again(&rt, alloc, asked, (2, 9), line)
 }
 
 // Of hunks that cannot be placed, the addresses are read again, and then the file.
 #[test]
-fn tells_nothing_more_where_a_read_fails(rt: HostRuntime) -> Result<(), Fail> {
+fn tells_that_a_read_fails_the_second_time(rt: HostRuntime) -> Result<(), Fail> {
     let alloc = rt.alloc();
     let asked = Asked::Load(Addresses::File("addresses"), "zeros");
     let line = "amihunk: zeros: longword 0: wrong first longword\n";
-    ends(&rt, alloc, asked, true, (40, 3), 1, line.as_bytes())?;
+    is_not_read_again(&rt, alloc, asked, (40, 3), line)?;
     let asked = Asked::Image(Addresses::File("addresses"), &["loop"]);
     let line = "amihunk: places: wrong number of addresses\n";
     for good_reads in 4..8 {
-        ends(
-            &rt,
-            alloc,
-            asked,
-            true,
-            (40, good_reads),
-            1,
-            line.as_bytes(),
-        )?;
+        is_not_read_again(&rt, alloc, asked, (40, good_reads), line)?;
     }
     for openings in 2..4 {
-        ends(&rt, alloc, asked, true, (openings, 40), 1, line.as_bytes())?;
+        is_not_read_again(&rt, alloc, asked, (openings, 40), line)?;
     }
     Ok(())
 }

@@ -1,6 +1,8 @@
 -- Nothing is told of what is no directory.
+use Rattle.std.proofs.Common.{inl, refl}
+use Rattle.hunk_commands.specs.Explain.{IsDirectoryOrNone}
 use Rattle.hunk_commands.proofs.ExplainLemmas.{tells_nothing}
 use Rattle.hunk_commands.proofs.explain.explain_unread.Goals as goal
 
 pub returns-else-is_directory : goal.returns-else-is_directory
-returns-else-is_directory g c = tells_nothing g.W.Sink.taken g.W.Sink.failed c.args.errors.now _
+returns-else-is_directory g c = tells_nothing g.W.Sink.taken g.W.Sink.failed c.args.errors.now IsDirectoryOrNone (inl refl)

@@ -1,0 +1,10 @@
+-- The line was put into a text that was finished.
+use Rattle.std.proofs.Common.{[], rules}
+use Rattle.hunk_commands.proofs.FailureLemmas.{tells_text}
+use Rattle.hunk_commands.proofs.explain.tell_why.Goals as goal
+
+pub returns : goal.returns
+returns g c =
+    let wrote = c.finish.ensures.wrote c.args.errors.now _ (c.write_unexplained_line.ensures.adds _ [] c.new-text.ensures.empty) in
+    let told = tells_text g.W.Sink.taken g.W.Sink.failed c.args.errors.now _ _ c.finish.result wrote in
+    search (rules, told)
