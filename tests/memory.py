@@ -82,8 +82,8 @@ def write_files(program):
     return [[code], [other]]
 
 
-# How many pages more than the least number there are, one run after another: from 4 MB down, and more slowly from 1 MB.
-STEPS = (*range(1024, 256, -64), *range(256, -1, -2))
+# How many pages more than the least number there are, one run after another: from 4 MB down, and page by page from 1 MB.
+STEPS = (*range(1024, 256, -64), *range(256, -1, -1))
 # The same for a link that takes some MB.
 LARGE_STEPS = (*range(4096, 1024, -256), *range(1024, -1, -8))
 
@@ -95,6 +95,7 @@ def with_little_memory_a_text_is_printed_or_none_is(program):
     listing = "load file: 1 hunks\nhunk 0 code any 1 longwords, 1 stored\n"
     document = ('{"hunks":[{"debugs":[],"kind":"code","memory":"any","sites":[],"size":1,"stored":1,"symbols":[]}],'
                 '"kind":"load file"}\n')
+    with_content = document.replace('"symbols"', '"content":"TnVOcQ==","symbols"')
     survey = ["one.o: object file: 1 units, 1 hunks\n", "x: load file: 1 hunks\n",
               "2 files: 1 object files, 1 load files, 0 refused, 0 unreadable\n"]
     # A survey prints what it knows of a file before it opens the next.
@@ -103,10 +104,14 @@ def with_little_memory_a_text_is_printed_or_none_is(program):
         (("--version",), program.run("--version")[1], ()),
         (("load", "--at", "10000", "x"), REPORT, ()),
         (("load", "--at", "10000", "--srec", "x"), RECORDS, ()),
+        (("load", "--at", "10000", "--symbols", "x"), "", ()),
         (("image", "--at", "1000,2000", "x.o", "y.o"), model.report_of(bases, model.memory_of(units, bases)), ()),
         (("check", "x"), "load file: 1 hunks\n", ()),
         (("show", "x"), listing, ()),
         (("show", "--json", "x"), document, ()),
+        (("show", "--json", "--content", "x"), with_content, ()),
+        (("show", "--names", "x.o", "y.o"), model.names_of(units), ()),
+        (("compare", "x", "x"), "", ()),
         (("survey", "one.o", "x"), "".join(survey), parts_of_survey),
     ):
         falls(program, least, STEPS, (DONE, told, ""), words_, also)
@@ -133,7 +138,7 @@ def with_little_memory_a_refusal_is_told_with_more_or_without(program):
             '  unit 0 hunk 0: x.o unit 0 "" hunk 0 ""\n  "other", references: 1, first in x.o unit 0 "" hunk 0 ""\n',
         ),
     ):
-        falls(program, least, STEPS, (REFUSED, "", line + more), words_, [(REFUSED, "", line)])
+        falls(program, least, STEPS, (REFUSED, "", line + more), words_, [(REFUSED, "", line + "  not explained: out of memory\n")])
         assert not os.path.lexists(program.at("out"))
 
 
@@ -163,6 +168,18 @@ def with_little_memory_out_is_old_or_new(program):
     new = words(HEADER, 0, 2, 0, 1, 1, 2, CODE, 1, 0x4E714E71 + 4, RELOC32, 1, 1, 0, 0, END, CODE, 2, 7, 8, RELOC32, 1, 0, 4, 0, END)
     map_ = model.map_of([("x.o", units[:1]), ("y.o", units[1:])]).encode()
     out_is_old_or_new(program, STEPS, new, map_, "x.o", "y.o")
+
+
+@test
+def with_little_memory_a_copy_is_old_or_new(program):
+    program.write("x", LOAD_FILE)
+    program.write("out", OLD)
+
+    def compare(ended):
+        equals((program.read("out"), sorted(os.listdir(program.folder))), (LOAD_FILE if ended[0] == DONE else OLD, ["out", "x"]))
+        program.write("out", OLD)
+
+    falls(program, least_pages(program), STEPS, (DONE, "", ""), ("copy", "--out", "out", "x"), after=compare)
 
 
 def write_many_names(program):

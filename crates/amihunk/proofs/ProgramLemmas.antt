@@ -4,6 +4,7 @@ use Rattle.std.proofs.KnownBytes.{Appends-kept, Appends-nil}
 use Rattle.std.proofs.lemmas.List.Elements.{All-nil}
 use Rattle.hunk_tool.specs.Survey.{AreFoundFirst, IsOfFile}
 use Rattle.std.specs.Prelude.{⊤}
+use Rattle.std.specs.String.{string_bytes}
 use Rattle.hunk_commands.specs.Request.{Ends, EndsCompare, EndsCopy, EndsImage, EndsLink, EndsLoad, EndsNames, EndsSurvey, EndsText, EndsVersion, NoMore, OrExhausted, OrUntouched, Reads, Replaces, Run}
 use Rattle.hunk_commands.specs.Compare.{IsCompareFailure}
 use Rattle.hunk_commands.specs.Copy.{IsCopyFailure}
@@ -26,6 +27,7 @@ use Rattle.hunk_commands.specs.declared.request.Request.TheVariants.{Load, Link,
 use Rattle.hunk_commands.proofs.ExplainLemmas.{none_asked}
 use Rattle.hunk_commands.proofs.RequestLemmas.{fails_with, not_begun}
 use Rattle.amihunk.specs.CommandLine.{Call, Meaning, Means}
+use Rattle.amihunk.specs.Program.{IsRejected}
 use Rattle.amihunk.specs.CommandLine.Meaning.{calls, help, nothing, rejection, version}
 use Rattle.amihunk.specs.CommandLine.Call.{conflict, to_check, to_compare, to_copy, to_image, to_link, to_load, to_names, to_show, to_survey}
 
@@ -99,17 +101,18 @@ module _ {W : Type 0} (run : Run) (taken : W → Option (List ℕ)) (failed : W 
   )
   ends_memory conflict status ends = ends
 
-  -- the status where this was asked for; of help and rejections nothing is said
+  -- the status where this was asked for; of help nothing is said
   abbrev pub EndsAsked : Meaning → ℕ → Type 0
   EndsAsked (calls call) status = EndsCall call status
   EndsAsked version status = Reads run (λ contents printed. EndsVersion printed taken failed old new status)
+  EndsAsked rejection status = IsRejected run taken failed old new status
   EndsAsked _ status = ⊤
 
   ends_nothing : (m : Meaning) (status : ℕ) → Ends run taken failed old new OutOfMemory status → EndsAsked m status
   ends_nothing (calls call) status ends = ends_memory call status ends
   ends_nothing version status ends = (inr (not_begun taken failed (OrExhausted run.printed (IsUnprinted run.printed)) NoMore [] status old new (inl (refl, ends.2)) refl ends.0), ends.1)
   ends_nothing help status ends = tt
-  ends_nothing rejection status ends = tt
+  ends_nothing rejection status ends = (inr ends.0, ends.1, ends.2)
   ends_nothing nothing status ends = tt
 
   pub ends_asked : (m : Meaning) (request : Request) (status : ℕ) → Means m request → Ends run taken failed old new request status → EndsAsked m status
@@ -124,5 +127,5 @@ module _ {W : Type 0} (run : Run) (taken : W → Option (List ℕ)) (failed : W 
   ends_asked m (Compare with_symbols first second) status asks ends = subst (λ x. EndsAsked x status) asks ends
   ends_asked m Version status asks ends = subst (λ x. EndsAsked x status) asks ends
   ends_asked m (Help text) status asks ends = subst (λ x. EndsAsked x status) asks tt
-  ends_asked m (Refused text) status asks ends = subst (λ x. EndsAsked x status) asks tt
+  ends_asked m (Refused text) status asks ends = subst (λ x. EndsAsked x status) asks (inl (ends.0.0, (string_bytes text, ends.0.1)), ends.1, ends.2)
   ends_asked m OutOfMemory status asks ends = ends_nothing m status ends

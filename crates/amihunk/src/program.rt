@@ -1,5 +1,5 @@
 //! The program: the arguments of the command line, what they ask for, and the exit status.
-ghost use Rattle.std.specs.Prelude.{◌≡◌, ◌⊎◌, ◌<◌, ◌≤◌, ℕ, Bool, List, Option, codes, false, length, map};
+ghost use Rattle.std.specs.Prelude.{◌≡◌, ◌⊎◌, ◌<◌, ◌≤◌, ◌∷◌, ℕ, Bool, List, Option, codes, false, length, map};
 ghost use Rattle.std.specs.List.{All};
 ghost use Rattle.hunk_memory.specs.declared.image_form.ImageForm.{ImageForm};
 ghost use Rattle.hunk_tool.specs.declared.copy.CopyForm.{CopyForm};
@@ -8,8 +8,8 @@ ghost use Rattle.hunk_commands.specs.Addresses.{Origin};
 ghost use Rattle.hunk_commands.specs.declared.load.LoadText.{LoadText};
 ghost use Rattle.hunk_commands.specs.declared.text.ShowText.{ShowText};
 ghost use Rattle.hunk_commands.specs.Request.{EndsCompare, EndsCopy, EndsImage, EndsLink, EndsLoad, EndsNames, EndsSurvey, EndsText, EndsVersion, Reads, Replaces, Run, run_between};
-ghost use Rattle.amihunk.specs.Program.{EndsLine, EndsStart, IsNotBegun};
-ghost use Rattle.amihunk.specs.CommandLine.{IsNoFlag, IsNoFlagIn, IsVersionWord, brief_link_line, compare_line, copy_line, file_line, image_line, link_line, load_line};
+ghost use Rattle.amihunk.specs.Program.{EndsLine, EndsStart, IsNotBegun, IsRejected};
+ghost use Rattle.amihunk.specs.CommandLine.{AreRefused, IsNoFlag, IsNoFlagIn, IsVersionWord, brief_link_line, compare_line, copy_line, file_line, image_line, link_line, load_line};
 ghost use Rattle.amihunk.specs.CommandLine.{names_line, normal_line, show_line, survey_line, text_in, version_line};
 
 use crate::command_line::{read_words, refuse_bytes};
@@ -109,6 +109,8 @@ pub fn run<S: Store, O: Output, W: Sink, T: AsStr>(
         → IsNoFlag first → IsNoFlag second → Reads (run_between S.content O.taken O.failed O.waiting store.old store.new output.old output.new) (λ contents printed. EndsCompare contents printed W.taken W.failed errors.old errors.new with_symbols first second result) }
     ensures version { (program word : List ℕ)
         → map T.text words.now ≡ version_line program word → IsVersionWord word → Reads (run_between S.content O.taken O.failed O.waiting store.old store.new output.old output.new) (λ contents printed. EndsVersion printed W.taken W.failed errors.old errors.new result) }
+    ensures refused { (program : List ℕ) (others : List (List ℕ))
+        → map T.text words.now ≡ program ∷ others → AreRefused others → IsRejected (run_between S.content O.taken O.failed O.waiting store.old store.new output.old output.new) W.taken W.failed errors.old errors.new result }
 {
     let request = read_words(alloc, words);
     answer(alloc, store, output, errors, request)

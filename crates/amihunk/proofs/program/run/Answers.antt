@@ -1,7 +1,7 @@
 use Rattle.std.proofs.Common.{false}
 use Rattle.hunk_tool.specs.declared.copy.CopyForm.TheVariants.{Normal, Written}
 use Rattle.hunk_commands.specs.Request.{run_between}
-use Rattle.amihunk.specs.CommandLine.Meaning.{calls, version}
+use Rattle.amihunk.specs.CommandLine.Meaning.{calls, rejection, version}
 use Rattle.amihunk.specs.CommandLine.Call.{to_check, to_compare, to_copy, to_image, to_link, to_load, to_names, to_show, to_survey}
 use Rattle.amihunk.proofs.ProgramLemmas.{ends_asked}
 use Rattle.amihunk.proofs.program.run.Goals as goal
@@ -33,4 +33,5 @@ returns g c =
       compare = λ program with_symbols first second is_line plain_first plain_second.
           ends (calls (to_compare with_symbols first second)) request status (asked.compare program with_symbols first second is_line plain_first plain_second) c.answer.ensures;
       version = λ program word is_line is_word. ends version request status (asked.version program word is_line is_word) c.answer.ensures;
+      refused = λ program others is_line are. ends rejection request status (asked.refused program others is_line are) c.answer.ensures;
     }
