@@ -77,15 +77,18 @@ def in_manual():
     return found
 
 
-def in_bash(command):
-    line = ["amihunk", *([command] if command else [])]
+def in_bash(command, *before):
+    """What bash offers after the command and these words: where a word begins with a dash, and of the program itself also where none
+    has begun."""
+    line = ["amihunk", *([command] if command else []), *before]
     options = set(output("bash", "-c", BASH, "bash", COMPLETIONS, *line, "-").split())
     offered = set(output("bash", "-c", BASH, "bash", COMPLETIONS, *line, "").split()) if not command else None
     return options, offered
 
 
-def in_zsh(command):
-    line = f"amihunk {command} " if command else "amihunk "
+def in_zsh(command, *before):
+    """The same of zsh."""
+    line = "".join(f"{word} " for word in ("amihunk", command, *before) if word)
 
     def offered(more):
         with tempfile.NamedTemporaryFile("r", encoding="utf-8") as file:
@@ -111,15 +114,17 @@ def main():
     for command, options in wanted.items():
         name = command or "the program"
         compare(f"the man page on {name}", manual.get(command, set()), options)
-        long = {it for it in options if it.startswith("--")}
         in_shell, offered = in_bash(command)
-        compare(f"bash on {name}", in_shell, long)
+        compare(f"bash on {name}", in_shell, options)
         if offered is not None:
             compare("bash, commands", offered, set(wanted) - {""})
         in_shell, offered = in_zsh(command)
         compare(f"zsh on {name}", in_shell, options)
         if offered is not None:
             compare("zsh, commands", offered, set(wanted) - {""})
+        else:
+            compare(f"bash on {name}, after --", in_bash(command, "--")[0], set())
+            compare(f"zsh on {name}, after --", in_zsh(command, "--")[0], set())
 
     subprocess.run(["bash", "-n", f"{COMPLETIONS}/amihunk.bash"], check=True)
     subprocess.run(["zsh", "-n", f"{COMPLETIONS}/_amihunk"], check=True)

@@ -1,14 +1,20 @@
 # Bash completion of amihunk: commands, options and files. Source it, or put it in the directory of bash-completion.
 
 _amihunk() {
-    local word="${COMP_WORDS[COMP_CWORD]}" before="${COMP_WORDS[COMP_CWORD - 1]}" command="" index
+    local word="${COMP_WORDS[COMP_CWORD]}" before="${COMP_WORDS[COMP_CWORD - 1]}" command="" has_ended="" index
     for ((index = 1; index < COMP_CWORD; index++)); do
         case "${COMP_WORDS[index]}" in
+            --) has_ended=yes ;;
             -*) ;;
-            *) command="${COMP_WORDS[index]}" && break ;;
+            *) command="${command:-${COMP_WORDS[index]}}" ;;
         esac
     done
     COMPREPLY=()
+    if [ -n "$has_ended" ]; then
+        # After `--` there are no options.
+        mapfile -t COMPREPLY < <(compgen -f -- "$word")
+        return
+    fi
 
     case "$command $before" in
         'load --at' | 'image --at') return ;; # a list of addresses
@@ -20,15 +26,15 @@ _amihunk() {
 
     local options
     case "$command" in
-        '') options='--help --version' ;;
-        link) options='--out --map --strip --short --trim --explain --help' ;;
-        load) options='--at --at-file --srec --symbols --explain --help' ;;
-        image) options='--at --at-file --srec --explain --help' ;;
-        show) options='--json --content --html --names --explain --help' ;;
-        check) options='--explain --help' ;;
-        survey) options='--help' ;;
-        copy) options='--out --strip --short --trim --normal --explain --help' ;;
-        compare) options='--symbols --help' ;;
+        '') options='-h --help -V --version' ;;
+        link) options='-o --out --map -s --strip --short --trim --explain -h --help' ;;
+        load) options='--at --at-file --srec --symbols --explain -h --help' ;;
+        image) options='--at --at-file --srec --explain -h --help' ;;
+        show) options='--json --content --html --names --explain -h --help' ;;
+        check) options='--explain -h --help' ;;
+        survey) options='-h --help' ;;
+        copy) options='-o --out -s --strip --short --trim --normal --explain -h --help' ;;
+        compare) options='--symbols -h --help' ;;
         *) return ;;
     esac
     case "$command $word" in
