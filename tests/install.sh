@@ -1,11 +1,12 @@
 #!/usr/bin/env bash
 # Tests ./install.sh and ./dist.sh: installs, uses and uninstalls what has been built, and runs the program of the archive in
-# an empty root file system with a C library alone. What needs root is left out where it is not there, and so told.
+# an empty root file system with a C library alone. What cannot be done without root is left out then, and the script says so.
 #
 # The last line is 'N passed, M failed', and the status is 0 if M is 0. It needs what was built by rt ci and capi/check.sh, a C
 # compiler ($CC, or cc), python3, GNU tar and binutils.
 set -u
 export LC_ALL=C
+export PATH="$PATH:/usr/sbin:/sbin" # where chroot is
 top="$(cd "$(dirname "$0")/.." && pwd)"
 cc="${CC:-cc}"
 version="$(sed -n 's/^## \([0-9.]*\).*/\1/p' "$top/CHANGELOG.md" | sed -n 1p)"
@@ -167,7 +168,7 @@ destdir_is_not_named() {
 }
 
 wrong_arguments() {
-    cd "$work"
+    cd "$work" || return
     ends 2 "$top/install.sh" --prefix
     ends 2 "$top/install.sh" --prefix relative
     ends 2 "$top/install.sh" --destination x
@@ -184,6 +185,40 @@ nothing_is_built() {
     [ ! -e "$work/nothing" ]
 }
 
+# A run that fails at once leaves nothing, and what one that fails in the middle has put there is uninstalled.
+runs_that_fail() {
+    local part
+    for part in bin include; do
+        mkdir "$work/without $part"
+        echo mine > "$work/without $part/$part"
+        tree_of "$work/without $part" > "$work/mine"
+        ends 1 "$top/install.sh" --prefix "$work/without $part"
+        if [ -e "$work/without $part/bin/amihunk" ]; then
+            "$top/install.sh" --prefix "$work/without $part" --uninstall
+        fi
+        tree_of "$work/without $part" | diff "$work/mine" -
+    done
+}
+
+# What is missing is built: here by a toolchain and a script that put there what has been built already.
+builds_what_is_missing() {
+    local checkout="$work/not built"
+    mkdir -p "$checkout/crates/amihunk" "$checkout/capi" "$work/toolchain"
+    ln -s "$top/docs" "$top/completions" "$top/python" "$top/CHANGELOG.md" "$checkout"
+    cp "$top/install.sh" "$checkout"
+    cat > "$work/toolchain/rt" << END
+#!/bin/sh
+[ "\$*" = 'run -- --version' ] && mkdir -p out && cp "$top/crates/amihunk/out/amihunk" out
+END
+    cat > "$checkout/capi/build.sh" << END
+#!/bin/sh
+cp -a "$top/capi/out" "$checkout/capi"
+END
+    chmod +x "$work/toolchain/rt" "$checkout/capi/build.sh"
+    PATH="$work/toolchain:$PATH" "$checkout/install.sh" --prefix "$work/was built"
+    is_usable "$work/was built"
+}
+
 # What root may do and others may not, as nobody.
 as_nobody() {
     mkdir "$work/locked" "$work/nobody folder"
@@ -197,12 +232,13 @@ as_nobody() {
     [ -z "$(ls -A "$work/nobody folder")" ]
 }
 
+# Whatever the time, the time zone, the folder and the mask of permissions.
 archives_are_the_same() {
     "$top/dist.sh" "$work/one"
     sleep 1.1
-    "$top/dist.sh" "$work/two dist"
+    (umask 077 && TZ=Asia/Tokyo "$top/dist.sh" "$work/two dist")
     cmp "$work/one/$name.tar.gz" "$work/two dist/$name.tar.gz"
-    (cd "$work/two dist" && sha256sum -c "$name.tar.gz.sha256")
+    (cd "$work/two dist" && sha256sum "$name.tar.gz" | cmp - "$name.tar.gz.sha256")
     [ "$(ls "$work/one" | wc -l)" -eq 2 ]
 }
 
@@ -237,18 +273,26 @@ empty_root() {
         mkdir -p "$root$(dirname "$library")"
         cp -L "$library" "$root$library"
     done
-    [ "$(chroot "$root" "/$name/bin/amihunk" --version)" = "amihunk $version" ]
-    chroot "$root" "/$name/bin/amihunk" link --out /hello /examples/main.o /examples/library.o
-    chroot "$root" "/$name/bin/amihunk" load --at 10000,20000,30000,40000 /hello > "$work/loaded"
-    chroot "$root" "/$name/bin/amihunk" image --at 10000,20000,30000,40000 /examples/main.o /examples/library.o \
-        | diff "$work/loaded" -
+    in_root() { $enter "$root" "/$name/bin/amihunk" "$@"; }
+    [ "$(in_root --version)" = "amihunk $version" ]
+    in_root link --out /hello /examples/main.o /examples/library.o
+    in_root load --at 10000,20000,30000,40000 /hello > "$work/loaded"
+    in_root image --at 10000,20000,30000,40000 /examples/main.o /examples/library.o | diff "$work/loaded" -
     [ -s "$work/loaded" ]
 }
 
-export top cc version name shared soname work
+# How a program is run in another root: by root, or by others where they may have a name space of their own.
+enter=
+for words in chroot 'unshare --user --map-root-user chroot'; do
+    if [ -z "$enter" ] && $words / true 2> /dev/null; then
+        enter="$words"
+    fi
+done
+
+export top cc version name shared soname work enter
 export -f ends tree_of emulates python_of is_usable install_twice move uninstall_moved uninstall_leaves_nothing \
-    uninstall_leaves_what_is_not_ours licence_and_module destdir_is_not_named wrong_arguments nothing_is_built as_nobody \
-    archives_are_the_same archive_is_whole needs_the_c_library_alone empty_root
+    uninstall_leaves_what_is_not_ours licence_and_module destdir_is_not_named wrong_arguments nothing_is_built \
+    runs_that_fail builds_what_is_missing as_nobody archives_are_the_same archive_is_whole needs_the_c_library_alone empty_root
 if attempt "a tree in a path with spaces, installed twice, is used" install_twice; then
     attempt "a tree that was moved is used" move
     attempt "a tree that was moved is uninstalled" uninstall_moved
@@ -261,18 +305,20 @@ attempt "wrong arguments are refused" wrong_arguments
 if ! env PATH=/usr/bin:/bin sh -c 'command -v rt' > /dev/null; then
     attempt "nothing is installed where nothing is built" nothing_is_built
 fi
+attempt "a run that fails leaves nothing that is not uninstalled" runs_that_fail
+attempt "what is missing is built" builds_what_is_missing
 if attempt "two archives are the same" archives_are_the_same && attempt "the archive is whole" archive_is_whole; then
     attempt "the program needs the C library alone" needs_the_c_library_alone
-    if [ "$(id -u)" -eq 0 ] && chroot / true 2> /dev/null; then
+    if [ -n "$enter" ]; then
         attempt "the archive runs in an empty root" empty_root
     else
-        echo "The empty root was left out: it needs root."
+        echo "The empty root was left out: it needs root, or a name space of its own."
     fi
 fi
 if [ "$(id -u)" -eq 0 ] && setpriv --reuid=65534 --regid=65534 --clear-groups test -r "$top/install.sh" 2> /dev/null; then
     attempt "it is installed without root" as_nobody
 else
-    echo "Installing as nobody was left out: it needs root, and a checkout that nobody can read."
+    echo "Installing as nobody was left out: it needs root, and a checkout that the user nobody can read."
 fi
 echo "$passed passed, $failed failed"
 [ "$failed" -eq 0 ]

@@ -22,6 +22,7 @@ import maps
 import memory
 import names
 import outputs
+import quotations
 import readme
 import runs
 from harness import TESTS, Program

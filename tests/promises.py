@@ -1,9 +1,11 @@
 #!/usr/bin/env python3
-"""Checks what docs/PROMISES.md and README.md say of the sources, without building anything.
+"""Checks what docs/PROMISES.md, README.md and the other pages say of the sources, without building anything.
 
-Each crate, call, clause, law, test, must-fail edit and file that they name exists where they say, and each public call of the
-libraries, each of its clauses, each law and each edit stands in docs/PROMISES.md. Each word of the sources that
-docs/ARCHITECTURE.md names is there too. A row counts as one test, and so does a page.
+Each crate, call, clause, law, test, must-fail edit and file that docs/PROMISES.md and README.md name exists where they say, and each
+public call of the libraries, each of its clauses, each law and each edit stands in docs/PROMISES.md. Of the other pages each test, each
+file and each word of the sources that they name is there, and the code that they quote. The crates stand in the tables of
+docs/ARCHITECTURE.md and CONTRIBUTING.md, and the scripts of bench/ in that of bench/README.md. A row counts as one test, and so does a
+page.
 The last line is 'N passed, M failed', and the status is 0 if M is 0. With a folder as its argument it checks the copy of the
 repository there.
 """
@@ -18,7 +20,10 @@ from sources import Crate, is_there, text_of
 
 # Claims alone name their calls: nothing in Rattle can call a program, and capi/amihunk.h tells of the exports for C.
 OTHERS = ["amihunk", "amihunk_c"]
-PAGE, README, WORDS = "docs/PROMISES.md", "README.md", "docs/ARCHITECTURE.md"
+PAGE, README, CRATES, GUIDE = "docs/PROMISES.md", "README.md", "docs/ARCHITECTURE.md", "CONTRIBUTING.md"
+CALLERS, BENCHES = "docs/CALLING.md", "bench/README.md"
+# The pages whose words are those of the sources. docs/OUTPUT.md and docs/FORMAT.md have letters and longwords instead.
+WORDED = [PAGE, README, CRATES, GUIDE, CALLERS, BENCHES, "docs/DECISIONS.md", "page/README.md"]
 README_LINES, ROW_LENGTH = 150, 340
 IN_TESTS = re.compile(r"\b(hunk_\w*tests) (`\w+`(?:: `\w+`)?(?:(?:[,;]| and) `\w+`(?::(?= `))?(?: `\w+`)?)*)")
 QUOTED = re.compile(r"`([^`]+)`")
@@ -242,8 +247,10 @@ def vocabulary():
     return words
 
 
-# Commands of the toolchain that no source here names.
-FOREIGN = set("plant version ulimit".split())
+# Commands, files, macros and words of others, and words that stand for any, that no source here names.
+FOREIGN = set("plant version tidy spent incremental the_lemma ARGUMENTS vX ulimit ldconfig lld S5 conflicts_with include_str "
+              "doshunks.h".split())
+FILE = re.compile(r"[\w/]+\.(?:antt|c|cpp|css|edit|h|html|js|o|py|rt|sh)\b")
 
 
 def without_code(text):
@@ -254,6 +261,21 @@ def without_code(text):
 def check_words(file, text, words):
     for word in sorted({word for it in quoted(text) for word in re.findall(r"[A-Za-z_]\w+", it)} - words - FOREIGN):
         check(False, f"{file}: `{word}` is nowhere in the sources")
+
+
+def names_of_files():
+    """The paths of all files, with a slash before each."""
+    found = []
+    for folder, folders, files in os.walk(sources.TOP):
+        folders[:] = [it for it in folders if it not in ("out", ".git", "__pycache__")]
+        found += ["/" + os.path.relpath(os.path.join(folder, file), sources.TOP) for file in files]
+    return found
+
+
+def check_files(file, text, files):
+    """Each file that stands in back quotes by the end of its path."""
+    for name in sorted({it for it in quoted(text) if FILE.fullmatch(it)} - FOREIGN):
+        check(any(it.endswith("/" + name) for it in files), f"{file}: no file `{name}`")
 
 
 def check_links(file, text):
@@ -275,6 +297,63 @@ def pages():
     """The pages whose links are followed."""
     docs = sorted(os.listdir(os.path.join(sources.TOP, "docs")))
     return [README, "CHANGELOG.md", "CONTRIBUTING.md", "bench/README.md", "page/README.md"] + [f"docs/{it}" for it in docs if it.endswith(".md")]
+
+
+# ---- code that is quoted, and tables of what there is
+
+
+def check_code(file, text):
+    """Each block of code in Rattle or C stands word for word in a source that is there to be quoted; what is in Python is run."""
+    places = {"rust": ("crates/hunk_uses/src", ".rt"), "c": ("examples/c", ".c")}
+    for language, block in re.findall(r"^```(\w+)\n(.*?)^```$", text, re.M | re.S):
+        if language != "python":
+            folder, suffix = places[language]
+            stands = any(f"\n{block}" in f"\n{text_of(folder, it)}" for it in os.listdir(os.path.join(sources.TOP, folder))
+                         if it.endswith(suffix))
+            check(stands, f"{file}: not in {folder}: {block.splitlines()[0]}")
+
+
+def check_crates():
+    """docs/ARCHITECTURE.md has each crate with what it depends on, and CONTRIBUTING.md with what its proof takes."""
+    listed = {name: set(words.split()) for name, words in re.findall(r"^(\w+)(?: staticlib)?: (.*)", text_of("crates.txt"), re.M)}
+    told = {quoted(row.cells[0])[0]: row.cells[2] for row in rows_of(text_of(CRATES)) if row.columns == ["Crate", "Does", "Depends on"]}
+    check(told.keys() == listed.keys(), f"{CRATES}: its crates are not those of crates.txt: {told.keys() ^ listed.keys()}")
+    for name in told.keys() & listed.keys():
+        check(set(quoted(told[name])) == listed[name], f"{CRATES}: what `{name}` depends on is not what crates.txt says")
+    timed = {quoted(row.cells[0])[0] for row in rows_of(text_of(GUIDE)) if row.columns == ["Crate", "Its proof", "Its edits"]}
+    check(timed == listed.keys() - {"hunk_test_support"}, f"{GUIDE}: its crates are not those of crates.txt: {timed ^ listed.keys()}")
+
+
+def check_way(text):
+    """Each call on the way of one relocation is in the file that stands behind it, or in the one before."""
+    path = None
+    for call, to in re.findall(r"^\d+\. `([\w:]+)`.*: (crates/\S+|the same)$", text, re.M):
+        path = path if to == "the same" else to
+        name = call.rpartition("::")[2]
+        check(is_there(path) and f"fn {name}" in text_of(path), f"{CRATES}: no `{call}` in {path}")
+    check(path, f"{CRATES}: the way of one relocation is not there")
+
+
+def check_homes(text):
+    """Each word that stands in front of `in` and a crate is in the sources of that crate."""
+    for names, crate in re.findall(r"((?:`\w+`(?:,| and)? )+)in `(hunk_\w+|amihunk\w*)`", text):
+        words = {it for folder, _, files in os.walk(os.path.join(sources.TOP, "crates", crate)) for file in files
+                 if file.endswith((".rt", ".antt")) for it in re.findall(r"\w+", text_of(folder, file))}
+        for name in quoted(names):
+            check(name in words, f"{CRATES}: `{name}` is not in {crate}")
+
+
+def check_version(text):
+    """docs/CALLING.md names the shared library as it is called at the version of CHANGELOG.md."""
+    version = re.search(r"^## ([\d.]+)", text_of("CHANGELOG.md"), re.M)[1]
+    check(f"`libamihunk.so.{version}`" in text, f"{CALLERS}: the shared library is libamihunk.so.{version}")
+    check(f"`libamihunk.so.{version.split('.')[0]}`" in text, f"{CALLERS}: it is found by another name")
+
+
+def check_benches(text):
+    """bench/README.md names each file of its folder."""
+    for name in os.listdir(os.path.join(sources.TOP, "bench")):
+        check(name == "README.md" or name.startswith("__") or f"`{name}`" in text, f"{BENCHES}: `bench/{name}` is not told")
 
 
 # ---- the README
@@ -317,17 +396,31 @@ def main():
             check_laws(name, told.get(name, ""), known)
     with counted():
         check_edits(page, known)
-    words = vocabulary()
-    for file, text in ((PAGE, page), (README, readme)):
+    words, files = vocabulary(), names_of_files()
+    for file in pages():
         with counted():
-            for heading, paragraph in paragraphs_of(text):
+            for heading, paragraph in paragraphs_of(without_code(text_of(file))):
                 check_tests(f"{file}, {heading}", paragraph, known)
-    for file, text in ((PAGE, page), (README, readme), (WORDS, text_of(WORDS))):
+    for file in WORDED:
         with counted():
-            check_words(file, without_code(text), words)
+            text = without_code(text_of(file))
+            check_words(file, text, words)
+            check_files(file, text, files)
     for file in pages():
         with counted():
             check_links(file, text_of(file))
+    for file in (README, CALLERS):
+        with counted():
+            check_code(file, text_of(file))
+    with counted():
+        check_crates()
+    with counted():
+        check_way(text_of(CRATES))
+        check_homes(" ".join(text_of(CRATES).split()))
+    with counted():
+        check_benches(text_of(BENCHES))
+    with counted():
+        check_version(text_of(CALLERS))
     with counted():
         check_readme(readme)
     for complaint in complaints:
