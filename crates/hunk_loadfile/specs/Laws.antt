@@ -20,7 +20,7 @@ use Rattle.hunk_loadfile.specs.WrittenForm.{IsShortEnough, groups_words, written
 
 -- ---- load files
 
--- Decoding is unambiguous: no longwords are the load files of two values.
+-- Decoding is unambiguous: a list of longwords is the load file of one value at most.
 abbrev pub OneLoad : Type 0
 OneLoad = (one other : List FileHunk) (ws : List ℕ) → IsLoad one ws → IsLoad other ws → one ≡ other
 

@@ -3,7 +3,7 @@
 ghost use Rattle.hunk_loadfile.specs.Laws.{AcceptedIsShort, OneLoad, OnlyZerosAreTrimmed, PatchedTwice, ShortNumbersFit, TrimmedIsShortest, WholeIsPartial, WrittenIsLoad, WrittenIsShort};
 ghost use Rattle.hunk_loadfile.specs.MeaningLaws.{NoDifference, NoInfoDifference, NormalIsShortest, NormalMeansTheSame, NormalOnce, OneNormalForm, StrippedAndTrimmedOnce, StrippedMeansTheSame, StrippedOnce, TrimmedMeansTheSame, TrimmedOnce};
 
-/// Decoding is unambiguous: no longwords are the load files of two values.
+/// Decoding is unambiguous: a list of longwords is the load file of one value at most.
 pub fn longwords_tell_load_file()
     ensures { OneLoad }
 {}

@@ -77,7 +77,7 @@ impl ImageForm {
         }
     }
 
-    /// How many bytes the line of a row has beside two for each byte of the row.
+    /// How many bytes the line of a row has besides two for each byte of the row.
     fn line_overhead(self) -> usize
         ensures { result ≡ line_overhead self }
     {

@@ -7,7 +7,7 @@ use Rattle.hunk_words.specs.Values.{object_value}
 use Rattle.hunk_objects.specs.Partial.{partial}
 use Rattle.hunk_objects.specs.ProgramUnit.{IsObject, ObjectUnit, object_units}
 
--- Decoding is unambiguous: no longwords are the object files of two lists of units.
+-- Decoding is unambiguous: a list of longwords is the object file of one list of units at most.
 abbrev pub OneObject : Type 0
 OneObject = (one other : List ObjectUnit) (ws : List ℕ) → IsObject one ws → IsObject other ws → one ≡ other
 

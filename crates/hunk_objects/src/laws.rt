@@ -1,7 +1,7 @@
 //! Laws about object files, each a function without a body.
 ghost use Rattle.hunk_objects.specs.Laws.{OneObject, WholeIsPartial};
 
-/// Decoding is unambiguous: no longwords are the object files of two lists of units.
+/// Decoding is unambiguous: a list of longwords is the object file of one list of units at most.
 pub fn longwords_tell_units()
     ensures { OneObject }
 {}

@@ -80,7 +80,7 @@ pub fn longwords_tell_fields()
     ensures load { LoadSame }
 {}
 
-/// Decoding is unambiguous: no longwords are the files of two values.
+/// Decoding is unambiguous: a list of longwords is the file of one value at most.
 pub fn longwords_tell_value()
     ensures object { ObjectOneValue }
     ensures load { LoadOneValue }

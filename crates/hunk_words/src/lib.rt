@@ -1,6 +1,6 @@
 //! The words of the Amiga hunk format: which longwords are object files and load files, and what they tell.
 //!
-//! What files are made of, names and sites among it, is in `hunk_base`, whose items callers find here as well.
+//! What files are made of, such as names and sites, is in `hunk_base`. Callers find its items here as well.
 //!
 //! - `doshunks`: the numbers of block types and of external symbols.
 //! - `kinds`: the kinds of blocks, hunks, memory, external symbols and half longwords.
