@@ -28,8 +28,7 @@ _amihunk() {
     case "$command" in
         '') options='-h --help -V --version' ;;
         link) options='-o --out --map -s --strip --short --trim --explain -h --help' ;;
-        load) options='--at --at-file --srec --symbols --explain -h --help' ;;
-        image) options='--at --at-file --srec --explain -h --help' ;;
+        load | image) options='--at --at-file --srec --symbols --explain -h --help' ;;
         show) options='--json --content --html --names --explain -h --help' ;;
         check) options='--explain -h --help' ;;
         survey) options='-h --help' ;;

@@ -85,7 +85,7 @@ flag_regular letter name named =
 check_regular : AllRegular false (built_below check_shape).rules
 check_regular = (flag_regular None (codes "explain") refl, (is_valued (inl refl) (omega arith) refl refl, (asks_help refl refl refl, tt)))
 
-files_regular : AllRegular false (drop 3 (built_below image_shape).rules)
+files_regular : AllRegular false (drop 4 (built_below image_shape).rules)
 files_regular = (flag_regular None (codes "explain") refl, (is_valued (inr refl) (omega arith) refl refl, (asks_help refl refl refl, tt)))
 
 link_flags : AllRegular false (drop 2 (built_below link_shape).rules)
@@ -101,7 +101,7 @@ load_regular : AllRegular false (built_below load_shape).rules
 load_regular = (option_regular (codes "at") refl, (option_regular (codes "at-file") refl, load_flags))
 
 image_regular : AllRegular false (built_below image_shape).rules
-image_regular = (option_regular (codes "at") refl, (option_regular (codes "at-file") refl, (flag_regular None (codes "srec") refl, files_regular)))
+image_regular = (option_regular (codes "at") refl, (option_regular (codes "at-file") refl, (flag_regular None (codes "srec") refl, (flag_regular None (codes "symbols") refl, files_regular))))
 
 show_regular : AllRegular false (built_below show_shape).rules
 show_regular = (flag_regular None (codes "json") refl, (flag_regular None (codes "content") refl, (flag_regular None (codes "html") refl, (flag_regular None (codes "names") refl, files_regular))))

@@ -5,7 +5,6 @@ use Rattle.clap.specs.Lexer.{usize_max}
 use Rattle.clap.specs.Words.{Shape, Text}
 use Rattle.clap.specs.Walk.{Held, nothing_held, walk_from}
 use Rattle.clap.proofs.OnLiterals.{clap_on_literals}
-use Rattle.hunk_memory.specs.declared.image_form.ImageForm.{ImageForm}
 use Rattle.hunk_memory.specs.declared.image_form.ImageForm.TheVariants.{Report, SRecords}
 use Rattle.hunk_tool.specs.declared.copy.CopyForm.TheVariants.{Normal, Written}
 use Rattle.hunk_tool.specs.declared.link_options.LinkOptions.{LinkOptions}
@@ -13,6 +12,7 @@ use Rattle.hunk_commands.specs.Addresses.{Origin}
 use Rattle.hunk_commands.specs.Addresses.Origin.{in_file, in_list}
 use Rattle.hunk_commands.specs.declared.load.LoadText.{LoadText}
 use Rattle.hunk_commands.specs.declared.load.LoadText.TheVariants.{Image, Symbols}
+use Rattle.hunk_tool.specs.declared.symbol_form.SymbolForm.TheVariants.{Lines, Records}
 use Rattle.hunk_commands.specs.declared.text.ShowText.{ShowText}
 use Rattle.hunk_commands.specs.declared.text.ShowText.TheVariants.{Json, JsonWithContent, Listing, Page}
 use Rattle.amihunk.proofs.CommandLineLemmas.{built_below}
@@ -20,7 +20,7 @@ use Rattle.amihunk.proofs.CommandLineFilesLemmas.{TakesFile, TakesFiles, TakesTw
 use Rattle.amihunk.proofs.CommandLineSubcommandLemmas.{IsSubcommand}
 use Rattle.amihunk.proofs.CommandLineWalkLemmas.{IsOption, Passes, passes-nil, passes-option, value_held, walk_on}
 use Rattle.amihunk.specs.Syntax.{check_shape, compare_shape, copy_shape, image_shape, letter_o, link_shape, load_shape, show_shape, survey_shape}
-use Rattle.amihunk.specs.CommandLine.{Call, Calls, IsNoFlag, IsNoFlagIn, brief_link_line, brief_words, compare_line, copy_line, file_line, form_words, image_line, link_line, load_line, map_words}
+use Rattle.amihunk.specs.CommandLine.{Call, Calls, IsNoFlag, IsNoFlagIn, brief_link_line, brief_words, compare_line, copy_line, file_line, image_line, link_line, load_line, map_words}
 use Rattle.amihunk.specs.CommandLine.{names_line, normal_line, option_name, option_word, option_words, show_call, show_line, show_words, survey_line, text_in, text_words, word_if}
 use Rattle.amihunk.specs.declared.choices.Shown.{Shown}
 use Rattle.amihunk.specs.declared.choices.Shown.TheVariants as shown
@@ -147,10 +147,12 @@ plain-load : (origin : Origin) (text : LoadText) → IsPlainLoad origin text
 unfolding clap_on_literals
 plain-load (in_list list) (Image Report) = ((refl, refl), (record { by_index = refl; other = refl; quiet = refl; late = λ file. refl }, λ file. refl))
 plain-load (in_list list) (Image SRecords) = ((refl, refl), (record { by_index = refl; other = refl; quiet = refl; late = λ file. refl }, λ file. refl))
-plain-load (in_list list) Symbols = ((refl, refl), (record { by_index = refl; other = refl; quiet = refl; late = λ file. refl }, λ file. refl))
+plain-load (in_list list) (Symbols Lines) = ((refl, refl), (record { by_index = refl; other = refl; quiet = refl; late = λ file. refl }, λ file. refl))
+plain-load (in_list list) (Symbols Records) = ((refl, refl), (record { by_index = refl; other = refl; quiet = refl; late = λ file. refl }, λ file. refl))
 plain-load (in_file name) (Image Report) = ((refl, refl), (record { by_index = refl; other = refl; quiet = refl; late = λ file. refl }, λ file. refl))
 plain-load (in_file name) (Image SRecords) = ((refl, refl), (record { by_index = refl; other = refl; quiet = refl; late = λ file. refl }, λ file. refl))
-plain-load (in_file name) Symbols = ((refl, refl), (record { by_index = refl; other = refl; quiet = refl; late = λ file. refl }, λ file. refl))
+plain-load (in_file name) (Symbols Lines) = ((refl, refl), (record { by_index = refl; other = refl; quiet = refl; late = λ file. refl }, λ file. refl))
+plain-load (in_file name) (Symbols Records) = ((refl, refl), (record { by_index = refl; other = refl; quiet = refl; late = λ file. refl }, λ file. refl))
 
 pub calls-load : (program : Text) (origin : Origin) (text : LoadText) (file : Text) → IsNoFlag (text_in origin) → IsNoFlag file
     → Calls (load_line program origin text file) (to_load origin text false file)
@@ -175,27 +177,31 @@ is_image_option (in_list list) = record { letter = None; needed = false; by_id =
 is_image_option (in_file name) = record { letter = None; needed = false; by_id = refl; met = refl; quiet = refl }
 
 -- what is held before the files
-abbrev image_held : Origin → ImageForm → Held
-image_held origin form = (walk_on built_image (walk_from (origin_held built_image origin)) (form_words form)).held
+abbrev image_held : Origin → LoadText → Held
+image_held origin text = (walk_on built_image (walk_from (origin_held built_image origin)) (text_words text)).held
 
--- the words for the form pass, and files may come after them
-abbrev IsPlainImage : Origin → ImageForm → Type 0
-IsPlainImage origin form = Passes built_image (walk_from (origin_held built_image origin)) (form_words form) (walk_from (image_held origin form))
-    × TakesFiles built_image (image_held origin form) (to_image origin form false)
+-- the words for the text pass, and files may come after them
+abbrev IsPlainImage : Origin → LoadText → Type 0
+IsPlainImage origin text = Passes built_image (walk_from (origin_held built_image origin)) (text_words text) (walk_from (image_held origin text))
+    × TakesFiles built_image (image_held origin text) (to_image origin text false)
 
-plain-image : (origin : Origin) (form : ImageForm) → IsPlainImage origin form
+plain-image : (origin : Origin) (text : LoadText) → IsPlainImage origin text
 unfolding clap_on_literals
-plain-image (in_list list) Report = ((refl, refl), (record { other = refl; quiet = refl; late = λ file rest. refl }, λ file rest. refl))
-plain-image (in_list list) SRecords = ((refl, refl), (record { other = refl; quiet = refl; late = λ file rest. refl }, λ file rest. refl))
-plain-image (in_file name) Report = ((refl, refl), (record { other = refl; quiet = refl; late = λ file rest. refl }, λ file rest. refl))
-plain-image (in_file name) SRecords = ((refl, refl), (record { other = refl; quiet = refl; late = λ file rest. refl }, λ file rest. refl))
+plain-image (in_list list) (Image Report) = ((refl, refl), (record { other = refl; quiet = refl; late = λ file rest. refl }, λ file rest. refl))
+plain-image (in_list list) (Image SRecords) = ((refl, refl), (record { other = refl; quiet = refl; late = λ file rest. refl }, λ file rest. refl))
+plain-image (in_list list) (Symbols Lines) = ((refl, refl), (record { other = refl; quiet = refl; late = λ file rest. refl }, λ file rest. refl))
+plain-image (in_list list) (Symbols Records) = ((refl, refl), (record { other = refl; quiet = refl; late = λ file rest. refl }, λ file rest. refl))
+plain-image (in_file name) (Image Report) = ((refl, refl), (record { other = refl; quiet = refl; late = λ file rest. refl }, λ file rest. refl))
+plain-image (in_file name) (Image SRecords) = ((refl, refl), (record { other = refl; quiet = refl; late = λ file rest. refl }, λ file rest. refl))
+plain-image (in_file name) (Symbols Lines) = ((refl, refl), (record { other = refl; quiet = refl; late = λ file rest. refl }, λ file rest. refl))
+plain-image (in_file name) (Symbols Records) = ((refl, refl), (record { other = refl; quiet = refl; late = λ file rest. refl }, λ file rest. refl))
 
-pub calls-image : (program : Text) (origin : Origin) (form : ImageForm) (files : List Text) → IsNoFlag (text_in origin) → 0 < length files → All IsNoFlag files
-    → length (image_line program origin form files) ≤ usize_max → Calls (image_line program origin form files) (to_image origin form false files)
-calls-image program origin form files plain_value some plain_files fits =
-    let plain = plain-image origin form in
-    calls-files program built_image (option_word origin ∷ text_in origin ∷ form_words form) (image_held origin form) (to_image origin form false) is_image (record { by_index = refl; by_id = refl })
-    (passes-option built_image nothing_held (option_word origin) (option_name origin) (text_in origin) (form_words form) (walk_from (image_held origin form)) (is_image_option origin) plain_value plain.0)
+pub calls-image : (program : Text) (origin : Origin) (text : LoadText) (files : List Text) → IsNoFlag (text_in origin) → 0 < length files → All IsNoFlag files
+    → length (image_line program origin text files) ≤ usize_max → Calls (image_line program origin text files) (to_image origin text false files)
+calls-image program origin text files plain_value some plain_files fits =
+    let plain = plain-image origin text in
+    calls-files program built_image (option_word origin ∷ text_in origin ∷ text_words text) (image_held origin text) (to_image origin text false) is_image (record { by_index = refl; by_id = refl })
+    (passes-option built_image nothing_held (option_word origin) (option_name origin) (text_in origin) (text_words text) (walk_from (image_held origin text)) (is_image_option origin) plain_value plain.0)
     plain.1 files some plain_files (omega (arith, fits))
 
 -- ---- `check`, `show` and `survey`

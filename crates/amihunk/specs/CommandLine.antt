@@ -10,11 +10,11 @@ use Rattle.clap.specs.declared.builder.action.ArgAction.{ArgAction}
 use Rattle.clap.specs.declared.builder.action.ArgAction.TheVariants.{SetTrue}
 use Rattle.clap.specs.declared.error.ErrorKind.{ErrorKind}
 use Rattle.clap.specs.declared.error.ErrorKind.TheVariants as error
-use Rattle.hunk_memory.specs.declared.image_form.ImageForm.{ImageForm}
 use Rattle.hunk_memory.specs.declared.image_form.ImageForm.TheVariants.{Report, SRecords}
 use Rattle.hunk_tool.specs.declared.copy.CopyForm.{CopyForm}
 use Rattle.hunk_tool.specs.declared.copy.CopyForm.TheVariants.{Normal, Written}
 use Rattle.hunk_tool.specs.declared.link_options.LinkOptions.{LinkOptions}
+use Rattle.hunk_tool.specs.declared.symbol_form.SymbolForm.TheVariants.{Lines, Records}
 use Rattle.hunk_commands.specs.Addresses.{Origin, origin_of}
 use Rattle.hunk_commands.specs.Addresses.Origin.{in_file, in_list}
 use Rattle.hunk_commands.specs.Request.{given_text}
@@ -28,7 +28,7 @@ use Rattle.amihunk.specs.Syntax.{command_line}
 use Rattle.amihunk.specs.declared.choices.Shown.{Shown}
 use Rattle.amihunk.specs.declared.choices.Shown.TheVariants as shown
 use Rattle.amihunk.specs.declared.conflict.Conflict.{Conflict}
-use Rattle.amihunk.specs.declared.conflict.Conflict.TheVariants.{Texts, TwoAddresses, NoAddresses, NormalAndExplain, NormalAndShort, NormalAndStrip, NormalAndTrim, JsonAndHtml, ContentAlone, ContentAndHtml, NamesAndJson, NamesAndContent, NamesAndHtml, NamesAndExplain}
+use Rattle.amihunk.specs.declared.conflict.Conflict.TheVariants.{TwoAddresses, NoAddresses, NormalAndExplain, NormalAndShort, NormalAndStrip, NormalAndTrim, JsonAndHtml, ContentAlone, ContentAndHtml, NamesAndJson, NamesAndContent, NamesAndHtml, NamesAndExplain}
 
 -- ---- what was found for the arguments of a subcommand
 
@@ -74,7 +74,7 @@ IsWhole (Some (name, rows)) = AreWholeFor (find (λ s. bytes_eq s.name name) (bu
 pub data Call : Type 0 where
   to_link : (out : Text) (map : Option Text) (options : LinkOptions) (explain : Bool) (files : List Text) → Call
   to_load : (origin : Origin) (text : LoadText) (explain : Bool) (file : Text) → Call
-  to_image : (origin : Origin) (form : ImageForm) (explain : Bool) (files : List Text) → Call
+  to_image : (origin : Origin) (text : LoadText) (explain : Bool) (files : List Text) → Call
   to_check : (explain : Bool) (file : Text) → Call
   to_show : (text : ShowText) (explain : Bool) (file : Text) → Call
   to_names : (files : List Text) → Call
@@ -96,24 +96,20 @@ origin_by (Some list) None = Some (in_list list)
 origin_by None (Some name) = Some (in_file name)
 origin_by _ _ = None
 
--- the form that is asked for, with `--srec` or without
-abbrev pub form_by : Bool → ImageForm
-form_by true = SRecords
-form_by false = Report
+-- the text that is asked for, by `--srec` and `--symbols`
+abbrev pub text_by : (srec symbols : Bool) → LoadText
+text_by false false = load_text.Image Report
+text_by true false = load_text.Image SRecords
+text_by false true = load_text.Symbols Lines
+text_by true true = load_text.Symbols Records
 
--- the text that is asked for, by `--srec` and `--symbols`, which exclude each other
-abbrev pub text_by : (srec symbols : Bool) → Option LoadText
-text_by true true = None
-text_by false true = Some load_text.Symbols
-text_by srec false = Some (load_text.Image (form_by srec))
+abbrev pub load_call : Option Origin → LoadText → Bool → Text → Call
+load_call (Some origin) text explain file = to_load origin text explain file
+load_call None text explain file = conflict
 
-abbrev pub load_call : Option Origin → Option LoadText → Bool → Text → Call
-load_call (Some origin) (Some text) explain file = to_load origin text explain file
-load_call _ _ explain file = conflict
-
-abbrev pub image_call : Option Origin → ImageForm → Bool → List Text → Call
-image_call (Some origin) form explain files = to_image origin form explain files
-image_call None form explain files = conflict
+abbrev pub image_call : Option Origin → LoadText → Bool → List Text → Call
+image_call (Some origin) text explain files = to_image origin text explain files
+image_call None text explain files = conflict
 
 -- the addresses that the options give
 abbrev pub origin_in : List Row → Option Origin
@@ -152,7 +148,8 @@ load_in rows = load_call (origin_in rows) (text_by (is_given (codes "srec") rows
     (is_given (codes "explain") rows) (value_in (codes "file") rows)
 
 abbrev pub image_in : List Row → Call
-image_in rows = image_call (origin_in rows) (form_by (is_given (codes "srec") rows)) (is_given (codes "explain") rows) (files_in rows)
+image_in rows = image_call (origin_in rows) (text_by (is_given (codes "srec") rows) (is_given (codes "symbols") rows))
+    (is_given (codes "explain") rows) (files_in rows)
 
 -- the text that is asked for, by `--json`, `--content`, which goes with it, and `--html`, which goes with neither
 abbrev pub show_text_by : (json content html : Bool) → Option ShowText
@@ -201,7 +198,7 @@ pub data Meaning : Type 0 where
 abbrev pub meaning : Request → Meaning
 meaning (Link out map options explain files) = calls (to_link out.now (given_text map) options explain (texts files.items))
 meaning (Load addresses text explain file) = calls (to_load (origin_of addresses) text explain file.now)
-meaning (Image addresses form explain files) = calls (to_image (origin_of addresses) form explain (texts files.items))
+meaning (Image addresses text explain files) = calls (to_image (origin_of addresses) text explain (texts files.items))
 meaning (Check explain file) = calls (to_check explain file.now)
 meaning (Show text explain file) = calls (to_show text explain file.now)
 meaning (Names files) = calls (to_names (texts files.items))
@@ -215,7 +212,6 @@ meaning OutOfMemory = nothing
 
 -- the kind of error with which `clap` rejects a conflict
 abbrev pub conflict_kind : Conflict → ErrorKind
-conflict_kind Texts = error.ArgumentConflict
 conflict_kind TwoAddresses = error.ArgumentConflict
 conflict_kind NormalAndStrip = error.ArgumentConflict
 conflict_kind NormalAndShort = error.ArgumentConflict
@@ -324,15 +320,12 @@ IsVersionWord word = (word ≡ codes "--version") ⊎ (word ≡ codes "-V")
 abbrev pub version_line : Text → Text → List Text
 version_line program word = program ∷ word ∷ []
 
--- the word `--srec`, if this form is asked for by it
-abbrev pub form_words : ImageForm → List Text
-form_words SRecords = codes "--srec" ∷ []
-form_words Report = []
-
--- the word that asks for this text, if there is one
+-- the words that ask for this text, if there are any
 abbrev pub text_words : LoadText → List Text
-text_words (load_text.Image form) = form_words form
-text_words load_text.Symbols = codes "--symbols" ∷ []
+text_words (load_text.Image Report) = []
+text_words (load_text.Image SRecords) = codes "--srec" ∷ []
+text_words (load_text.Symbols Lines) = codes "--symbols" ∷ []
+text_words (load_text.Symbols Records) = codes "--srec" ∷ codes "--symbols" ∷ []
 
 -- the name and the word of the option that gives these addresses
 abbrev pub option_name : Origin → Text
@@ -348,13 +341,13 @@ abbrev pub text_in : Origin → Text
 text_in (in_list list) = list
 text_in (in_file name) = name
 
--- the arguments `PROGRAM load --at LIST [--srec | --symbols] FILE`, or with `--at-file FILE`
+-- the arguments `PROGRAM load --at LIST [--srec] [--symbols] FILE`, or with `--at-file FILE`
 abbrev pub load_line : Text → Origin → LoadText → Text → List Text
 load_line program origin text file = program ∷ codes "load" ∷ option_word origin ∷ text_in origin ∷ (text_words text ++ file ∷ [])
 
--- the arguments `PROGRAM image --at LIST [--srec] FILE...`, or with `--at-file FILE`
-abbrev pub image_line : Text → Origin → ImageForm → List Text → List Text
-image_line program origin form files = program ∷ codes "image" ∷ option_word origin ∷ text_in origin ∷ (form_words form ++ files)
+-- the arguments `PROGRAM image --at LIST [--srec] [--symbols] FILE...`, or with `--at-file FILE`
+abbrev pub image_line : Text → Origin → LoadText → List Text → List Text
+image_line program origin text files = program ∷ codes "image" ∷ option_word origin ∷ text_in origin ∷ (text_words text ++ files)
 
 -- the arguments `PROGRAM NAME FILE`
 abbrev pub file_line : Text → Text → Text → List Text

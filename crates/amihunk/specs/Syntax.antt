@@ -72,10 +72,9 @@ given_texts app = with_rule (with_rule app (flag_rule (codes "srec"))) (flag_rul
 abbrev pub load_shape : Shape
 load_shape = (with_rule (with_rule (given_texts (given_addresses (new_app (codes "load")))) explain_rule) file_rule).top
 
--- `image [--at LIST] [--at-file FILE] [--srec] [--explain] FILE...`
+-- `image [--at LIST] [--at-file FILE] [--srec] [--symbols] [--explain] FILE...`
 abbrev pub image_shape : Shape
-image_shape = (with_rule (with_rule (with_rule
-    (given_addresses (new_app (codes "image"))) (flag_rule (codes "srec"))) explain_rule) files_rule).top
+image_shape = (with_rule (with_rule (given_texts (given_addresses (new_app (codes "image")))) explain_rule) files_rule).top
 
 -- `check [--explain] FILE`
 abbrev pub check_shape : Shape

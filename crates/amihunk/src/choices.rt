@@ -1,31 +1,21 @@
 //! What the flags of a subcommand choose together.
 ghost use Rattle.std.specs.Prelude.{◌≡◌, MatchResult, None, Some};
 ghost use Rattle.clap.specs.declared.error.ErrorKind.TheVariants.{ArgumentConflict};
-ghost use Rattle.amihunk.specs.CommandLine.{conflict_kind, copy_form_by, form_by, show_text_by, shown_by, text_by};
+ghost use Rattle.amihunk.specs.CommandLine.{conflict_kind, copy_form_by, show_text_by, shown_by, text_by};
 
 use crate::conflict::Conflict;
 use hunk_commands::{LoadText, ShowText};
-use hunk_tool::{CopyForm, ImageForm, LinkOptions};
+use hunk_tool::{CopyForm, ImageForm, LinkOptions, SymbolForm};
 
-/// What is printed of a load file, unless both flags are given.
-pub fn text_of(srec: bool, symbols: bool) -> Option<LoadText>
+/// What is printed of a load file, or of object files, at addresses.
+pub fn text_of(srec: bool, symbols: bool) -> LoadText
     ensures { result ≡ text_by srec symbols }
 {
     match (srec, symbols) {
-        (true, true) => None,
-        (false, true) => Some(LoadText::Symbols),
-        (srec, false) => Some(LoadText::Image(form_of(srec))),
-    }
-}
-
-/// The form in which an image is printed.
-pub fn form_of(srec: bool) -> ImageForm
-    ensures { result ≡ form_by srec }
-{
-    if srec {
-        ImageForm::SRecords
-    } else {
-        ImageForm::Report
+        (false, false) => LoadText::Image(ImageForm::Report),
+        (true, false) => LoadText::Image(ImageForm::SRecords),
+        (false, true) => LoadText::Symbols(SymbolForm::Lines),
+        (true, true) => LoadText::Symbols(SymbolForm::Records),
     }
 }
 

@@ -13,11 +13,10 @@ ghost use Rattle.hunk_commands.specs.Addresses.{Origin, origin_of};
 ghost use Rattle.hunk_commands.specs.Request.{given_text};
 ghost use Rattle.hunk_commands.specs.declared.load.LoadText.{LoadText};
 ghost use Rattle.hunk_commands.specs.declared.text.ShowText.{ShowText};
-ghost use Rattle.hunk_memory.specs.declared.image_form.ImageForm.{ImageForm};
 ghost use Rattle.hunk_tool.specs.declared.copy.CopyForm.{CopyForm};
 ghost use Rattle.hunk_tool.specs.declared.link_options.LinkOptions.{LinkOptions};
 
-use crate::choices::{Shown, copy_form, form_of, shown_of, text_of};
+use crate::choices::{Shown, copy_form, shown_of, text_of};
 use crate::conflict::Conflict;
 use crate::syntax::{command, copy_command, image_command, load_command, show_command};
 use clap::error::ErrorKind;
@@ -39,9 +38,9 @@ pub fn read_words<'a, S: AsStr>(alloc: Global, words: &'a [S]) -> Request<'a>
     ensures load { (program : List ℕ) (origin : Origin) (text : LoadText) (file : List ℕ)
         → map S.text words.entry.now ≡ load_line program origin text file
         → IsNoFlag (text_in origin) → IsNoFlag file → Asks (to_load origin text false file) result }
-    ensures image { (program : List ℕ) (origin : Origin) (form : ImageForm) (files : List (List ℕ))
-        → map S.text words.entry.now ≡ image_line program origin form files
-        → IsNoFlag (text_in origin) → 0 < length files → All IsNoFlag files → Asks (to_image origin form false files) result }
+    ensures image { (program : List ℕ) (origin : Origin) (text : LoadText) (files : List (List ℕ))
+        → map S.text words.entry.now ≡ image_line program origin text files
+        → IsNoFlag (text_in origin) → 0 < length files → All IsNoFlag files → Asks (to_image origin text false files) result }
     ensures check { (program file : List ℕ)
         → map S.text words.entry.now ≡ file_line program (codes "check") file
         → IsNoFlag file → Asks (to_check false file) result }
@@ -146,27 +145,18 @@ fn load_request<'a>(alloc: Global, values: &ArgMatches<'a>) -> Result<Request<'a
     requires { IsWhole (Some (codes "load", rows_of (found_of values.now))) }
     ensures { IfOk result (Says (Some (codes "load", rows_of (found_of values.now)))) }
 {
-    let addresses = match addresses_in(values) {
-        Ok(addresses) => addresses,
-        Err(conflict) => return refuse_load(alloc, conflict),
-    };
-    match text_of(is_set(values, "srec"), is_set(values, "symbols")) {
-        Some(text) => Ok(Request::Load {
+    match addresses_in(values) {
+        Ok(addresses) => Ok(Request::Load {
             addresses,
-            text,
+            text: text_of(is_set(values, "srec"), is_set(values, "symbols")),
             explain: is_set(values, "explain"),
             file: value_of(values, "file"),
         }),
-        None => refuse_load(alloc, Conflict::Texts),
+        Err(conflict) => {
+            let load = load_command(alloc)?.bin_name("amihunk load")?;
+            refuse(alloc, load, conflict)
+        }
     }
-}
-
-/// Rejects such arguments of `load`.
-fn refuse_load<'a>(alloc: Global, conflict: Conflict) -> Result<Request<'a>, AllocError>
-    ensures { IfOk result (Answers (conflict_kind conflict)) }
-{
-    let load = load_command(alloc)?.bin_name("amihunk load")?;
-    refuse(alloc, load, conflict)
 }
 
 /// The request of a parse that found the subcommand `image`.
@@ -177,7 +167,7 @@ fn image_request<'a>(alloc: Global, values: &ArgMatches<'a>) -> Result<Request<'
     match addresses_in(values) {
         Ok(addresses) => Ok(Request::Image {
             addresses,
-            form: form_of(is_set(values, "srec")),
+            text: text_of(is_set(values, "srec"), is_set(values, "symbols")),
             explain: is_set(values, "explain"),
             files: files_of(alloc, values)?,
         }),

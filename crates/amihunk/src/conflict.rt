@@ -7,8 +7,6 @@ use clap::error::ErrorKind;
 /// Arguments that exclude each other, or of which one is missing.
 #[derive(Clone, Copy)]
 pub enum Conflict {
-    /// `--srec` and `--symbols`.
-    Texts,
     /// `--at` and `--at-file`.
     TwoAddresses,
     /// Neither `--at` nor `--at-file`.
@@ -44,8 +42,7 @@ impl Conflict {
     {
         match self {
             Conflict::NoAddresses | Conflict::ContentAlone => ErrorKind::MissingRequiredArgument,
-            Conflict::Texts
-            | Conflict::TwoAddresses
+            Conflict::TwoAddresses
             | Conflict::NormalAndStrip
             | Conflict::NormalAndShort
             | Conflict::NormalAndTrim
@@ -62,7 +59,6 @@ impl Conflict {
     /// The words in which `clap` rejects such arguments.
     pub fn text(self) -> &'static str {
         match self {
-            Conflict::Texts => "the argument '--srec' cannot be used with '--symbols'",
             Conflict::TwoAddresses => {
                 "the argument '--at <LIST>' cannot be used with '--at-file <FILE>'"
             }

@@ -1,7 +1,6 @@
 //! The program: the arguments of the command line, what they ask for, and the exit status.
 ghost use Rattle.std.specs.Prelude.{◌≡◌, ◌⊎◌, ◌<◌, ◌≤◌, ◌∷◌, ℕ, Bool, List, Option, codes, false, length, map};
 ghost use Rattle.std.specs.List.{All};
-ghost use Rattle.hunk_memory.specs.declared.image_form.ImageForm.{ImageForm};
 ghost use Rattle.hunk_tool.specs.declared.copy.CopyForm.{CopyForm};
 ghost use Rattle.hunk_tool.specs.declared.link_options.LinkOptions.{LinkOptions};
 ghost use Rattle.hunk_commands.specs.Addresses.{Origin};
@@ -83,9 +82,9 @@ pub fn run<S: Store, O: Output, W: Sink, T: AsStr>(
     ensures load { (program : List ℕ) (origin : Origin) (text : LoadText) (file : List ℕ)
         → map T.text words.now ≡ load_line program origin text file
         → IsNoFlag (text_in origin) → IsNoFlag file → Reads (run_between S.content O.taken O.failed O.waiting store.old store.new output.old output.new) (λ contents printed. EndsLoad contents printed W.taken W.failed errors.old errors.new origin text false file result) }
-    ensures image { (program : List ℕ) (origin : Origin) (form : ImageForm) (files : List (List ℕ))
-        → map T.text words.now ≡ image_line program origin form files
-        → IsNoFlag (text_in origin) → 0 < length files → All IsNoFlag files → Reads (run_between S.content O.taken O.failed O.waiting store.old store.new output.old output.new) (λ contents printed. EndsImage contents printed W.taken W.failed errors.old errors.new origin form false files result) }
+    ensures image { (program : List ℕ) (origin : Origin) (text : LoadText) (files : List (List ℕ))
+        → map T.text words.now ≡ image_line program origin text files
+        → IsNoFlag (text_in origin) → 0 < length files → All IsNoFlag files → Reads (run_between S.content O.taken O.failed O.waiting store.old store.new output.old output.new) (λ contents printed. EndsImage contents printed W.taken W.failed errors.old errors.new origin text false files result) }
     ensures check { (program file : List ℕ)
         → map T.text words.now ≡ file_line program (codes "check") file
         → IsNoFlag file → Reads (run_between S.content O.taken O.failed O.waiting store.old store.new output.old output.new) (λ contents printed. EndsText contents printed W.taken W.failed errors.old errors.new Text.Line false file result) }

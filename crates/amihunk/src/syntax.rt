@@ -134,18 +134,9 @@ fn explain_flag<'a>(alloc: Global) -> Arg<'a>
     flag(alloc, "explain", help)
 }
 
-/// The flag `--srec`.
-fn srec_flag<'a>(alloc: Global) -> Arg<'a>
-    ensures rule { rule_of result ≡ flag_rule (codes "srec") }
-    ensures local { result.global ≡ false }
-{
-    let help = "Prints Motorola S-records in place of the report";
-    flag(alloc, "srec", help)
-}
-
 /// The subcommand `load --at LIST [--srec] [--symbols] [--explain] FILE`, or with `--at-file FILE` in
-/// place of `--at LIST`. No rule of `clap` keeps the two texts apart, and none the two options: the
-/// command line is judged after the parse.
+/// place of `--at LIST`. No rule of `clap` keeps the two options apart: the command line is judged after
+/// the parse.
 pub fn load_command<'a>(alloc: Global) -> Result<Command<'a>, AllocError>
     ensures shape { IfOk result (λ c. shape_of c ≡ load_shape) }
     ensures local { IfOk result (λ c. (out-Command c).has_globals ≡ false) }
@@ -158,8 +149,8 @@ pub fn load_command<'a>(alloc: Global) -> Result<Command<'a>, AllocError>
         .arg(file_argument(alloc, "A load file"))
 }
 
-/// The subcommand `image --at LIST [--srec] [--explain] FILE...`, or with `--at-file FILE` in place of
-/// `--at LIST`.
+/// The subcommand `image --at LIST [--srec] [--symbols] [--explain] FILE...`, or with `--at-file FILE` in
+/// place of `--at LIST`.
 pub fn image_command<'a>(alloc: Global) -> Result<Command<'a>, AllocError>
     ensures shape { IfOk result (λ c. shape_of c ≡ image_shape) }
     ensures local { IfOk result (λ c. (out-Command c).has_globals ≡ false) }
@@ -167,8 +158,7 @@ pub fn image_command<'a>(alloc: Global) -> Result<Command<'a>, AllocError>
     let image = Command::new(alloc, "image")
         .about("Links object files at addresses, and prints the bytes of their hunks")
         .after_help(help::IMAGE);
-    with_addresses(alloc, image, help::IMAGE_USAGE)?
-        .arg(srec_flag(alloc))?
+    with_texts(alloc, with_addresses(alloc, image, help::IMAGE_USAGE)?)?
         .arg(explain_flag(alloc))?
         .arg(files_argument(alloc, "Object files, in the order of linking"))
 }
@@ -193,11 +183,12 @@ fn with_texts<'a>(alloc: Global, command: Command<'a>) -> Result<Command<'a>, Al
     ensures shape { IfOk result (λ c. app_of c ≡ given_texts (app_of command.entry)) }
     ensures local { (out-Command command.entry).has_globals ≡ false → IfOk result (λ c. (out-Command c).has_globals ≡ false) }
 {
-    command.arg(srec_flag(alloc))?.arg(flag(
-        alloc,
-        "symbols",
-        "Prints the address of each symbol in place of the report",
-    ))
+    let records = "Prints Motorola S-records in place of the report";
+    let symbols =
+        "Prints the address of each symbol in place of the report, or before the S-records";
+    command
+        .arg(flag(alloc, "srec", records))?
+        .arg(flag(alloc, "symbols", symbols))
 }
 
 /// The subcommand `check [--explain] FILE`.

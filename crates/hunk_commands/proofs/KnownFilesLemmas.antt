@@ -4,7 +4,6 @@ use Rattle.std.specs.declared.alloc.Global.{Global}
 use Rattle.hunk_tool.specs.FileSystem.{FileContent, OfFile}
 use Rattle.hunk_tool.specs.FileSystem.FileContent.{known, missing, unknown}
 use Rattle.hunk_tool.specs.Inputs.{Input, IsUnread}
-use Rattle.hunk_memory.specs.declared.image_form.ImageForm.{ImageForm}
 use Rattle.hunk_tool.specs.declared.copy.CopyForm.{CopyForm}
 use Rattle.hunk_tool.specs.declared.link_options.LinkOptions.{LinkOptions}
 use Rattle.hunk_tool.specs.declared.tool_fault.ToolFault.{ToolFault}
@@ -99,9 +98,9 @@ module _ (contents contents_then : Contents) (printed : Printed) (are_known : Ar
       (λ number why. elim why [ inl first ↦ device_apart number first.0 | inr at ↦ no_file file (at.holds.is_reader.may_fail at.holds.holds.1) ])
       (λ written why. elim why [ inl first ↦ output_apart written first.0 | inr at ↦ no_write at.holds.holds.2 ])
 
-  image : (form : ImageForm) (origin : Origin) (files : List (List ℕ)) (failure : Failure) → IsOfDevice failure → IsImageFailure form contents origin files printed failure → ⊥
+  image : (text : LoadText) (origin : Origin) (files : List (List ℕ)) (failure : Failure) → IsOfDevice failure → IsImageFailure text contents origin files printed failure → ⊥
   unfolding no_write no_file no_reader no_readers
-  image form origin files = by_device (λ failure. IsImageFailure form contents origin files printed failure → ⊥)
+  image text origin files = by_device (λ failure. IsImageFailure text contents origin files printed failure → ⊥)
       (λ name why. elim why [
         | inl first ↦ no_reader name.now (λ input. IsTrue input.failed) (λ input failing. failing) first.0.1
         | inr second ↦ elim second [ inl unopened ↦ absurd unopened.0.holds | inr third ↦ elim third [ inl stopped ↦ absurd stopped | inr unprinted ↦ no_write unprinted.2 ] ]
@@ -211,7 +210,7 @@ pub no_device_fails : NoDeviceFails
 unfolding load image told compared surveyed linked mapped copied
 no_device_fails contents contents_then printed failure are_known are_known_then whole is = record {
   load = λ text origin file. load contents contents_then printed are_known are_known_then whole text origin file failure is;
-  image = λ form origin files. image contents contents_then printed are_known are_known_then whole form origin files failure is;
+  image = λ text origin files. image contents contents_then printed are_known are_known_then whole text origin files failure is;
   text = λ text file. told contents contents_then printed are_known are_known_then whole text file failure is;
   compare = λ with_symbols first second. compared contents contents_then printed are_known are_known_then whole with_symbols first second failure is;
   survey = λ files. surveyed contents contents_then printed are_known are_known_then whole files failure is;

@@ -5,11 +5,11 @@ use Rattle.std.proofs.KnownBytes.{Appends-kept}
 use Rattle.hunk_base.specs.Streams.{HasRead}
 use Rattle.hunk_base.proofs.StreamsLemmas.{HasRead-weaker}
 use Rattle.hunk_loadfile.specs.LoadHunk.{FileHunk}
+use Rattle.hunk_objects.specs.ProgramUnit.{ObjectUnit}
 use Rattle.hunk_files.specs.FileValue.{FileValue}
-use Rattle.hunk_memory.specs.declared.image_form.ImageForm.{ImageForm}
 use Rattle.hunk_tool.specs.Compare.{BothRead, IsCompared}
 use Rattle.hunk_tool.specs.FileText.{IsWritten}
-use Rattle.hunk_tool.specs.Image.{IsImaged}
+use Rattle.hunk_tool.specs.Image.{IsUnitsText}
 use Rattle.hunk_tool.specs.Inputs.{HaveRead, Input}
 use Rattle.hunk_tool.specs.Load.{IsWrittenAt}
 use Rattle.hunk_tool.proofs.InputsLemmas.{HaveRead-weaker}
@@ -40,10 +40,10 @@ kept_text text left left_then old between new kept read =
     HasRead-weaker left left_then (IsWritten text old between) (IsWritten text old new)
     (λ bytes is. record { value = is.value; is_file = is.is_file; written = Appends-kept old between new _ is.written kept }) read
 
-pub kept_image : (form : ImageForm) (bases : List ℕ) (inputs : List Input) (old between new : Option (List ℕ)) → Keeps between new
-    → HaveRead inputs (IsImaged form bases old between) → HaveRead inputs (IsImaged form bases old new)
-kept_image form bases inputs old between new kept read =
-    HaveRead-weaker inputs (IsImaged form bases old between) (IsImaged form bases old new)
+pub kept_of_units : (strip : Bool) (text : List ObjectUnit → List ℕ → List ℕ) (bases : List ℕ) (inputs : List Input) (old between new : Option (List ℕ)) → Keeps between new
+    → HaveRead inputs (IsUnitsText strip text bases old between) → HaveRead inputs (IsUnitsText strip text bases old new)
+kept_of_units strip text bases inputs old between new kept read =
+    HaveRead-weaker inputs (IsUnitsText strip text bases old between) (IsUnitsText strip text bases old new)
     (λ files is. record { units = is.units; link = is.link; placed = is.placed; written = Appends-kept old between new _ is.written kept }) read
 
 pub kept_comparison : (with_symbols same : Bool) (first second : Input) (old between new : Option (List ℕ)) → Keeps between new

@@ -38,5 +38,5 @@ LoadPrintsTheImage =
     (loaded imaged : Printed) (told other : List ℕ)
     → IsMadeOf options contents files texts out map_file contents_then → AreKept contents contents_then origin
     → IsLoaded (Image form) contents_then origin out loaded → PrintsAfter loaded told
-    → AreImaged form contents origin files imaged → PrintsAfter imaged other
+    → AreImaged (Image form) contents origin files imaged → PrintsAfter imaged other
     → told ≡ other

@@ -1,6 +1,5 @@
 -- Over files that are known, and an output that has not failed, no request fails for a device.
 use Rattle.std.specs.Prelude.{◌≡◌, ℕ, List, Bool, false, ⊤}
-use Rattle.hunk_memory.specs.declared.image_form.ImageForm.{ImageForm}
 use Rattle.hunk_tool.specs.declared.copy.CopyForm.{CopyForm}
 use Rattle.hunk_tool.specs.declared.link_options.LinkOptions.{LinkOptions}
 use Rattle.hunk_tool.specs.declared.tool_fault.ToolFault.TheVariants.{InputDevice, Output}
@@ -35,7 +34,7 @@ AreKnown contents = (name : List ℕ) → IsKnown (contents name)
 -- no request failed so
 pub record IsNoFailure (contents contents_then : Contents) (printed : Printed) (failure : Failure) : Type 0 where
   pub load : (text : LoadText) (origin : Origin) (file : List ℕ) → IsLoadFailure text contents origin file printed failure → ⊥
-  pub image : (form : ImageForm) (origin : Origin) (files : List (List ℕ)) → IsImageFailure form contents origin files printed failure → ⊥
+  pub image : (text : LoadText) (origin : Origin) (files : List (List ℕ)) → IsImageFailure text contents origin files printed failure → ⊥
   pub text : (text : Text) (file : List ℕ) → IsTextFailure text contents file printed failure → ⊥
   pub compare : (with_symbols : Bool) (first second : List ℕ) → IsCompareFailure with_symbols contents first second printed failure → ⊥
   pub survey : (files : List (List ℕ)) → IsCutShort contents files printed failure → ⊥

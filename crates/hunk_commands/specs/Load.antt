@@ -15,7 +15,7 @@ use Rattle.hunk_commands.specs.Store.{Contents}
 -- the text of the hunks of a load file at these bases
 abbrev pub text_of : LoadText → List FileHunk → List ℕ → List ℕ
 text_of (Image form) = loaded_text form
-text_of Symbols = symbols_text
+text_of (Symbols form) = symbols_text form
 
 -- the numbers of the addresses are the bases at which the load file was placed, and this text of it at
 -- these bases is what the output has taken

@@ -1,7 +1,6 @@
 -- The exit status after a request, the line of its failure, and what is told after it.
 use Rattle.std.specs.Borrow.{Bor}
 use Rattle.std.specs.Prelude.{◌≡◌, ◌⊎◌, ◌∷◌, ◌++◌, [], ℕ, List, Bool, Option, if◌then◌else◌, option_map, string_bytes}
-use Rattle.hunk_memory.specs.declared.image_form.ImageForm.{ImageForm}
 use Rattle.hunk_tool.specs.Inputs.{file_names}
 use Rattle.hunk_tool.specs.declared.copy.CopyForm.{CopyForm}
 use Rattle.hunk_tool.specs.declared.link_options.LinkOptions.{LinkOptions}
@@ -65,10 +64,10 @@ EndsLoad contents printed taken failed old new origin text explain file status =
     (IfAsked explain (AreLoadLines contents origin file)) (file ∷ []) status
 
 -- the status after `image`
-abbrev pub EndsImage : {W : Type 0} → Contents → Printed → (taken : W → Option (List ℕ)) (failed : W → Bool) (old new : W) (origin : Origin) (form : ImageForm) (explain : Bool) (files : List (List ℕ)) → ℕ → Type 0
-EndsImage contents printed taken failed old new origin form explain files status =
-    ((status ≡ 0) × AreImaged form contents origin files printed)
-    ⊎ IsFailed taken failed old new (OrExhausted printed (IsImageFailure form contents origin files printed))
+abbrev pub EndsImage : {W : Type 0} → Contents → Printed → (taken : W → Option (List ℕ)) (failed : W → Bool) (old new : W) (origin : Origin) (text : LoadText) (explain : Bool) (files : List (List ℕ)) → ℕ → Type 0
+EndsImage contents printed taken failed old new origin text explain files status =
+    ((status ≡ 0) × AreImaged text contents origin files printed)
+    ⊎ IsFailed taken failed old new (OrExhausted printed (IsImageFailure text contents origin files printed))
     (IfAsked explain (AreImageLines contents origin files)) files status
 
 -- the status after a text about FILE
@@ -157,8 +156,8 @@ Refuses run Holds = Holds × AreUnchanged run.contents run.contents_then × IsNo
 abbrev pub Ends : {W : Type 0} → Run → (taken : W → Option (List ℕ)) (failed : W → Bool) (old new : W) → Request → ℕ → Type 0
 Ends run taken failed old new (Load addresses text explain file) status =
     Reads run (λ contents printed. EndsLoad contents printed taken failed old new (origin_of addresses) text explain file.now status)
-Ends run taken failed old new (Image addresses form explain files) status =
-    Reads run (λ contents printed. EndsImage contents printed taken failed old new (origin_of addresses) form explain (file_names files.items) status)
+Ends run taken failed old new (Image addresses text explain files) status =
+    Reads run (λ contents printed. EndsImage contents printed taken failed old new (origin_of addresses) text explain (file_names files.items) status)
 Ends run taken failed old new (Check explain file) status =
     Reads run (λ contents printed. EndsText contents printed taken failed old new Line explain file.now status)
 Ends run taken failed old new (Show text explain file) status =

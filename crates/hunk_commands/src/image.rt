@@ -1,41 +1,66 @@
-//! The request `image`: the memory that object files define at given addresses.
+//! The request `image`: the memory that object files define at given addresses, or their symbols.
 ghost use Rattle.std.specs.Prelude.{IfErr, OnOk};
-ghost use Rattle.hunk_tool.specs.Inputs.{file_names};
+ghost use Rattle.hunk_tool.specs.Image.{IsUnitsFault, IsUnitsText};
+ghost use Rattle.hunk_tool.specs.Inputs.{HaveRead, file_names, inputs_of};
 ghost use Rattle.hunk_commands.specs.Addresses.{origin_of};
-ghost use Rattle.hunk_commands.specs.Image.{AreImaged, IsImageFailure};
+ghost use Rattle.hunk_commands.specs.Image.{AreImaged, IsImageFailure, is_stripped, units_text};
 ghost use Rattle.hunk_commands.specs.Output.{printed_of};
 
 use crate::addresses::{Addresses, addresses_of};
 use crate::devices::flush;
 use crate::failure::Failure;
 use crate::inputs::open_inputs;
+use crate::load::LoadText;
 use crate::output::Output;
 use crate::store::Store;
-use hunk_tool::{ImageForm, image_run_with};
+use hunk_tool::{ToolFault, image_run_with, image_symbols_run};
+use hunk_words::{Sink, Source};
 use std::alloc::Global;
 
-/// Links the object files named `files`, and prints in this form the memory that they define at these
-/// addresses. The addresses are known before the files are opened.
+/// Links the object files named `files`, and prints this text of them at these addresses. The addresses are
+/// known before the files are opened.
 ///
 /// # Errors
 ///
 /// - Those of [`addresses_of`].
 /// - [`Failure::Opening`] with the first of `files` that cannot be opened.
-/// - [`Failure::Tool`] with what [`image_run_with`] returns, or out of memory.
-/// - [`Failure::Printing`] if the output did not pass on all of the image.
+/// - [`Failure::Tool`] with what [`image_to`] returns, or out of memory.
+/// - [`Failure::Printing`] if the output did not pass on all of the text.
 pub fn image<'a, S: Store, O: Output>(
     alloc: Global,
     store: &S,
     output: &mut O,
     addresses: Addresses<'a>,
-    form: ImageForm,
+    text: LoadText,
     files: &[&'a str],
 ) -> Result<(), Failure<'a>>
-    ensures ok { OnOk result (AreImaged form (S.content store.now) (origin_of addresses.entry) (file_names files.entry.now) (printed_of O.taken O.failed O.waiting output.old output.new)) }
-    ensures err { IfErr result (IsImageFailure form (S.content store.now) (origin_of addresses.entry) (file_names files.entry.now) (printed_of O.taken O.failed O.waiting output.old output.new)) }
+    ensures ok { OnOk result (AreImaged text (S.content store.now) (origin_of addresses.entry) (file_names files.entry.now) (printed_of O.taken O.failed O.waiting output.old output.new)) }
+    ensures err { IfErr result (IsImageFailure text (S.content store.now) (origin_of addresses.entry) (file_names files.entry.now) (printed_of O.taken O.failed O.waiting output.old output.new)) }
 {
     let bases = addresses_of(alloc, store, addresses)?;
     let mut inputs = open_inputs(alloc, store, files)?;
-    image_run_with(alloc, inputs.as_mut_slice(), bases.as_slice(), form, output)?;
+    image_to(alloc, inputs.as_mut_slice(), bases.as_slice(), text, output)?;
     flush(output)
+}
+
+/// Writes this text of the object files that are read from `inputs`, each to its end, at these addresses.
+///
+/// # Errors
+///
+/// Those of [`image_run_with`] for an image, and of [`image_symbols_run`] for symbols.
+pub fn image_to<R: Source, W: Sink>(
+    alloc: Global,
+    inputs: &mut [R],
+    bases: &[u32],
+    text: LoadText,
+    writer: &mut W,
+) -> Result<(), ToolFault>
+    ensures ok { OnOk result (HaveRead (inputs_of R.left R.failed R.ended inputs.old inputs.new) (IsUnitsText (is_stripped text) (units_text text) bases.now (W.taken writer.old) (W.taken writer.new))) }
+    ensures err { IfErr result (IsUnitsFault (is_stripped text) (units_text text) bases.now (inputs_of R.left R.failed R.ended inputs.old inputs.new)
+        (record { old = W.taken writer.old; new = W.taken writer.new; failed = W.failed writer.new })) }
+{
+    match text {
+        LoadText::Image(form) => image_run_with(alloc, inputs, bases, form, writer),
+        LoadText::Symbols(form) => image_symbols_run(alloc, inputs, bases, form, writer),
+    }
 }

@@ -11,17 +11,17 @@ use crate::devices::{flush, open};
 use crate::failure::Failure;
 use crate::output::Output;
 use crate::store::Store;
-use hunk_tool::{ImageForm, ToolFault, load_run_with, symbols_run};
+use hunk_tool::{ImageForm, SymbolForm, ToolFault, load_run_with, symbols_run};
 use hunk_words::{Sink, Source};
 use std::alloc::Global;
 
-/// What is printed of a load file at given addresses.
+/// What is printed of a load file, or of object files, at given addresses.
 #[derive(Clone, Copy)]
 pub enum LoadText {
-    /// Its image, in this form.
+    /// The image of the load file, or the memory that the object files define, in this form.
     Image(ImageForm),
-    /// Its symbols, each with its address and the number of its hunk.
-    Symbols,
+    /// The symbols of the load file, or of the one that the object files make, in this form.
+    Symbols(SymbolForm),
 }
 
 /// Loads the file named `file` at these addresses, and prints this text of it. The addresses are known
@@ -70,6 +70,6 @@ pub fn load_to<R: Source, W: Sink>(
 {
     match text {
         LoadText::Image(form) => load_run_with(alloc, reader, bases, form, writer),
-        LoadText::Symbols => symbols_run(alloc, reader, bases, writer),
+        LoadText::Symbols(form) => symbols_run(alloc, reader, bases, form, writer),
     }
 }

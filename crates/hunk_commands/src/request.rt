@@ -23,7 +23,7 @@ use crate::store::Store;
 use crate::survey::survey;
 use crate::text::{ShowText, Text, print_text};
 use crate::version::print_version;
-use hunk_tool::{CopyForm, ImageForm, LinkOptions};
+use hunk_tool::{CopyForm, LinkOptions};
 use hunk_words::Sink;
 use std::alloc::Global;
 
@@ -44,26 +44,26 @@ pub enum Request<'a> {
         /// The arguments FILE..., in the order given, of which there is at least one.
         files: Vec<&'a str>,
     },
-    /// `load --at LIST [--srec | --symbols] [--explain] FILE`, or with `--at-file`: the image or the
+    /// `load --at LIST [--srec] [--symbols] [--explain] FILE`, or with `--at-file`: the image or the
     /// symbols of FILE, loaded at the addresses.
     Load {
         /// Where the addresses come from: LIST, not yet parsed, or a file, not yet opened.
         addresses: Addresses<'a>,
-        /// The symbols if `--symbols` is given, the image as S-records if `--srec` is given, and
-        /// otherwise the report.
+        /// The symbols if `--symbols` is given, as records before the image if `--srec` is given too; the
+        /// image as S-records if `--srec` alone is given, and otherwise the report.
         text: LoadText,
         /// Whether `--explain` is given.
         explain: bool,
         /// The argument FILE.
         file: &'a str,
     },
-    /// `image --at LIST [--srec] [--explain] FILE...`, or with `--at-file`: the memory that the object
-    /// files FILE... define at the addresses.
+    /// `image --at LIST [--srec] [--symbols] [--explain] FILE...`, or with `--at-file`: the memory that the
+    /// object files FILE... define at the addresses, or their symbols.
     Image {
         /// Where the addresses come from: LIST, not yet parsed, or a file, not yet opened.
         addresses: Addresses<'a>,
-        /// S-records if `--srec` is given, and otherwise the report.
-        form: ImageForm,
+        /// As for `load`.
+        text: LoadText,
         /// Whether `--explain` is given.
         explain: bool,
         /// The arguments FILE..., in the order given, of which there is at least one.
@@ -159,13 +159,13 @@ pub fn answer<S: Store, O: Output, W: Sink>(
         } => answer_load(alloc, store, output, errors, addresses, text, explain, file),
         Request::Image {
             addresses,
-            form,
+            text,
             explain,
             files,
         } => {
             let files = files.as_slice();
             answer_image(
-                alloc, store, output, errors, addresses, form, explain, files,
+                alloc, store, output, errors, addresses, text, explain, files,
             )
         }
         Request::Check { explain, file } => {
@@ -320,16 +320,16 @@ fn answer_image<S: Store, O: Output, W: Sink>(
     output: &mut O,
     errors: &mut W,
     addresses: Addresses<'_>,
-    form: ImageForm,
+    text: LoadText,
     explain: bool,
     files: &[&str],
 ) -> u8
-    ensures { EndsImage (S.content store.now) (printed_of O.taken O.failed O.waiting output.old output.new) W.taken W.failed errors.old errors.new (origin_of addresses.entry) form explain (file_names files.now) result }
+    ensures { EndsImage (S.content store.now) (printed_of O.taken O.failed O.waiting output.old output.new) W.taken W.failed errors.old errors.new (origin_of addresses.entry) text explain (file_names files.now) result }
 {
     let Ok(names) = names_of(alloc, files) else {
         return report_failure(errors, &[], &Failure::out_of_memory());
     };
-    match image(alloc, store, output, addresses, form, files) {
+    match image(alloc, store, output, addresses, text, files) {
         Ok(()) => DONE,
         Err(failure) => {
             let command = Command::Image(addresses);

@@ -105,7 +105,7 @@ length-all_hunk_lines-lt form hunks few inside =
     subst Short (sym (get_or-enumerate_from 0 hunks k d found)) (length-numbered_lines form (0 + k) (slice_index_or hunks k d.1) (omega (arith, found, few)) (inside k d.1 found)) in
     omega (arith, length-flat_map-le (numbered_lines form) most numbered each, length-enumerate_from 0 hunks)
 
-pub length-image_text-lt : (form : ImageForm) (hunks : List (ℕ × List ℕ)) → length hunks < 2 ^ 16 → All EndsInside hunks → length (image_text form hunks) < 2 ^ 64
+pub length-image_text-lt : (form : ImageForm) (hunks : List (ℕ × List ℕ)) → length hunks < 2 ^ 16 → All EndsInside hunks → length (image_text form hunks) < 2 ^ 61
 length-image_text-lt form hunks few inside =
     let lines = all_hunk_lines form hunks in
     omega (arith, length-append (opening form) (lines ++ closing form), length-append lines (closing form), length-opening form, length-closing form, length-all_hunk_lines-lt form hunks few inside)

@@ -9,13 +9,13 @@ use Rattle.std.proofs.lemmas.Grind.{flat_map-append}
 use Rattle.std.proofs.lemmas.List.{drop-append-le, drop_all, length-append, take-append-drop, take-append-le, take_all, take_min}
 use Rattle.std.proofs.lemmas.List.Elements.{All-head, All-tail}
 use Rattle.std.proofs.lemmas.List.FromFn.{length-range_with_len}
-use Rattle.hex.specs.Hex.{encode_upper, lower_digits, upper_digits}
+use Rattle.hex.specs.Hex.{lower_digits}
 use Rattle.hex.proofs.HexLemmas.{length-encode_with}
 use Rattle.hunk_base.specs.Digits.{eight_digits}
-use Rattle.hunk_memory.specs.Record.{checksum, counted, record_line}
 use Rattle.hunk_memory.specs.Rows.{first_row_lines, line_overhead, longest_line, row_count, row_line, row_lines, row_of, row_size}
 use Rattle.hunk_memory.specs.declared.image_form.ImageForm.{ImageForm}
 use Rattle.hunk_memory.specs.declared.image_form.ImageForm.TheVariants.{Report, SRecords}
+use Rattle.hunk_memory.proofs.RecordLemmas.{length-record_line}
 
 -- ---- numbers
 
@@ -176,11 +176,6 @@ length-flat_map-le part most (x ∷ xs) small =
 
 pub length-eight_digits : (number : ℕ) → length (eight_digits number) ≡ 8
 length-eight_digits number = length-encode_with lower_digits (bytes_high_first 4 number)
-
-length-record_line : (kind bytes : List ℕ) → length (record_line kind bytes) ≡ length kind + 2 * length bytes + 5
-length-record_line kind bytes =
-    let all : List ℕ = counted bytes ++ checksum (counted bytes) ∷ [] in
-    omega (arith, length-append (kind ++ encode_upper all) (codes "\n"), length-append kind (encode_upper all), length-encode_with upper_digits all, length-append (counted bytes) (checksum (counted bytes) ∷ []))
 
 pub length-row_line : (form : ImageForm) (address : ℕ) (row : List ℕ) → length (row_line form address row) ≡ line_overhead form + 2 * length row
 length-row_line Report address row = simp length-append (omega (arith, length-eight_digits address, length-encode_with lower_digits row))

@@ -1,5 +1,6 @@
 -- Records of Motorola's S-record format: lines of text that hold bytes.
 use Rattle.std.specs.Prelude.{ℕ, ◌+◌, ◌-◌, ◌%◌, List, [], ◌∷◌, ◌++◌, length, codes, sum}
+use Rattle.std.specs.Fmt.{decimal}
 use Rattle.std.specs.Int.{bytes_high_first}
 use Rattle.hex.specs.Hex.{encode_upper}
 use Rattle.hunk_base.specs.Text.{line}
@@ -17,9 +18,20 @@ counted bytes = (length bytes + 1) ∷ bytes
 abbrev pub record_line : (kind bytes : List ℕ) → List ℕ
 record_line kind bytes = line (kind ++ encode_upper (counted bytes ++ checksum (counted bytes) ∷ []))
 
--- the first record: an address of 16 bits, which is not used, and a text
+-- a record that tells a text: an address of 16 bits, which is not used, and the text
+abbrev pub text_record : List ℕ → List ℕ
+text_record text = record_line (codes "S0") (0 ∷ 0 ∷ text)
+
+-- the first record
 abbrev pub header_record : List ℕ
-header_record = record_line (codes "S0") (0 ∷ 0 ∷ codes "amihunk")
+header_record = text_record (codes "amihunk")
+
+-- the record that tells how many symbols are left out
+abbrev pub left_out_words : ℕ → List ℕ
+left_out_words count = codes "symbols left out: " ++ decimal count
+
+abbrev pub left_out_record : ℕ → List ℕ
+left_out_record count = text_record (left_out_words count)
 
 -- bytes at an address of 32 bits
 abbrev pub data_record : ℕ → List ℕ → List ℕ

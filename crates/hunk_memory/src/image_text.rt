@@ -32,10 +32,22 @@ pub fn write_image<A: Allocator, W: Sink>(
     ensures device { IfErr result IsDevice }
 {
     let mut text = Text::new(writer);
-    text.put(form.opening());
-    write_hunks(&mut text, form, hunks);
-    text.put(form.closing());
+    put_image(&mut text, form, hunks);
     text.finish()
+}
+
+/// Puts an image with these hunks in this form at the end of a text, as [`write_image`] writes it.
+pub fn put_image<A: Allocator, W: Sink>(
+    text: &mut Text<'_, W>,
+    form: ImageForm,
+    hunks: &[(u32, Vec<u8, A>)],
+)
+    requires { All EndsInside (hunks_of hunks.now) }
+    ensures { Puts W.taken W.failed text.old text.new (image_text form (hunks_of hunks.now)) }
+{
+    text.put(form.opening());
+    write_hunks(text, form, hunks);
+    text.put(form.closing());
 }
 
 /// Writes all lines of the hunks.

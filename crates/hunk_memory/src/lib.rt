@@ -23,5 +23,6 @@ mod rows;
 pub use bases::{BasesFault, parse_bases};
 pub use bases_file::{BasesFileFault, read_bases};
 pub use image_form::ImageForm;
-pub use image_text::write_image;
+pub use image_text::{put_image, write_image};
 pub use places_text::write_places;
+pub use record::put_left_out;

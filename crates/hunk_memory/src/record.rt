@@ -1,14 +1,24 @@
 //! The lines of S-records.
 ghost use Rattle.std.specs.Prelude.{◌≡◌, ◌+◌, ◌*◌, ◌≤◌, ◌++◌, length, take};
 ghost use Rattle.hex.specs.Hex.{encode_upper};
-ghost use Rattle.hunk_base.specs.Text.{line};
-ghost use Rattle.hunk_memory.specs.Record.{checksum, data_record, end_record, header_record};
+ghost use Rattle.hunk_base.specs.Text.{Puts, line};
+ghost use Rattle.hunk_memory.specs.Record.{checksum, data_record, end_record, header_record, left_out_record, left_out_words, record_line, text_record};
 
 use crate::hex_digits::put_upper_digits;
+use hunk_words::{Sink, Text};
 
-/// The most bytes that a record of data spells out: their count, four of an address, 32 of a row,
-/// and the checksum.
-const MOST_BYTES: usize = 1 + 4 + 32 + 1;
+/// The most bytes of data of a record: those of a text that counts symbols, with 20 digits.
+const MOST_DATA: usize = LEFT_OUT.len() + 20;
+
+/// The most bytes that a record spells out: their count, four of an address, its data, and the
+/// checksum.
+const MOST_BYTES: usize = 1 + 4 + MOST_DATA + 1;
+
+/// The most bytes of a line: its kind, two digits for each byte, and the newline.
+const MOST_LINE: usize = 2 + 2 * MOST_BYTES + 1;
+
+/// What the text of a record that counts symbols begins with.
+const LEFT_OUT: &[u8] = b"symbols left out: ";
 
 /// The first record of an image.
 pub(crate) fn header<'a>() -> &'a [u8]
@@ -30,14 +40,57 @@ pub(crate) fn put_data_record(line: &mut [u8], address: u32, row: &[u8])
     requires short { length row.now ≤ 32 }
     ensures { line.new ≡ data_record address row.now }
 {
+    put_record(line, b"S3", &address.to_be_bytes(), row);
+}
+
+/// Writes the record that tells how many symbols are left out of the lines before it: an `S0`
+/// record, which readers of S-records pass over. It does not allocate.
+pub fn put_left_out<W: Sink>(text: &mut Text<'_, W>, count: u64)
+    ensures { Puts W.taken W.failed text.old text.new (left_out_record count) }
+{
+    let mut words = [0; MOST_DATA];
+    let end = put_words(&mut words, count);
+    put_text_record(text, &words[..end]);
+}
+
+/// Puts the text that counts symbols at the start of `words`, and returns its length.
+fn put_words(words: &mut [u8], count: u64) -> usize
+    requires { length words.old ≡ 38 }
+    ensures short { result ≤ 38 }
+    ensures size { length words.new ≡ 38 }
+    ensures text { take result words.new ≡ left_out_words count }
+{
+    let mut digits = itoa::Buffer::new();
+    let end = put(words, 0, LEFT_OUT);
+    put(words, end, digits.format(count).as_bytes())
+}
+
+/// Writes the record that tells a text.
+fn put_text_record<W: Sink>(text: &mut Text<'_, W>, words: &[u8])
+    requires { length words.now ≤ 38 }
+    ensures { Puts W.taken W.failed text.old text.new (text_record words.now) }
+{
+    let mut line = [0; MOST_LINE];
+    let size = 11 + 2 * words.len();
+    put_record(&mut line[..size], b"S0", &[0, 0], words);
+    text.put(&line[..size]);
+}
+
+/// Fills `line` with the record of this kind that spells out an address and these bytes.
+fn put_record(line: &mut [u8], kind: &[u8], address: &[u8], content: &[u8])
+    requires size { length line.old ≡ length kind.now + 2 * (length address.now + length content.now + 2) + 1 }
+    requires narrow { length address.now ≤ 4 }
+    requires short { length content.now ≤ 38 }
+    ensures { line.new ≡ record_line kind.now (address.now ++ content.now) }
+{
     let mut bytes = [0; MOST_BYTES];
-    let count = 5 + row.len() as u8;
+    let count = (address.len() + content.len() + 1) as u8;
     let end = put(&mut bytes, 0, &[count]);
-    let end = put(&mut bytes, end, &address.to_be_bytes());
-    let end = put(&mut bytes, end, row);
+    let end = put(&mut bytes, end, address);
+    let end = put(&mut bytes, end, content);
     let sum = checksum(&bytes[..end]);
     let end = put(&mut bytes, end, &[sum]);
-    put_line(line, b"S3", &bytes[..end]);
+    put_line(line, kind, &bytes[..end]);
 }
 
 /// The checksum of these bytes.

@@ -117,7 +117,7 @@ few-loaded bases bytes hunks image are loads =
     )
 
 -- The remaining hunks end within the addresses if each of them does.
-ends-loaded_from : (all bases : List ℕ) (hunks : List FileHunk) → ((k : ℕ) → k < length bases → slice_index bases k + 4 * slice_index (sizes_of hunks) k ≤ 2 ^ 32) → All EndsInside (loaded_from all bases hunks)
+pub ends-loaded_from : (all bases : List ℕ) (hunks : List FileHunk) → ((k : ℕ) → k < length bases → slice_index bases k + 4 * slice_index (sizes_of hunks) k ≤ 2 ^ 32) → All EndsInside (loaded_from all bases hunks)
 ends-loaded_from all [] hunks ends = All-nil EndsInside
 ends-loaded_from all (base ∷ bases) [] ends = All-nil EndsInside
 ends-loaded_from all (base ∷ bases) (hunk ∷ hunks) ends =

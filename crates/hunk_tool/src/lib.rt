@@ -16,7 +16,8 @@
 //! - `compare`: tells where two load files first differ.
 //! - `image`: writes the memory that object files define.
 //! - `load`: loads a file and writes its image.
-//! - `symbols`: writes the symbols of a load file with their addresses.
+//! - `symbols`: writes the symbols of a load file, or of object files, with their addresses; `symbol_form`: in
+//!   which form.
 //! - `tool_fault`: why an operation failed.
 //! - `fault_line`: the line that reports why an operation failed.
 //! - `link_line`: the line that reports why units do not link.
@@ -52,6 +53,7 @@ mod origin_text;
 mod origins;
 pub mod show;
 pub mod survey;
+pub mod symbol_form;
 pub mod symbols;
 pub mod tool_fault;
 mod undefined;
@@ -85,6 +87,7 @@ pub use show::show_run;
 pub use survey::{
     Finding, SurveyFault, survey_file, survey_files, survey_status, write_finding, write_totals,
 };
-pub use symbols::symbols_run;
+pub use symbol_form::SymbolForm;
+pub use symbols::{image_symbols_run, symbols_run};
 pub use tool_fault::{ToolFault, status_of};
 pub use undefined_name::{UndefinedName, undefined_names};

@@ -22,6 +22,7 @@
 //! - `runs`: contents that are compared while they come.
 //! - `streaming`: what `ImageLoader` allocates.
 //! - `surveys`: what a survey finds of files, and the lines that it writes.
+//! - `symbol_records`: the symbols of load files and of object files before their S-records.
 //! - `symbols`: the symbols of load files, with their addresses.
 //! - `texts`: the texts that are written about files.
 //! - `undefined`: the names that no hunk defines.
@@ -51,6 +52,7 @@ mod reports;
 mod runs;
 mod streaming;
 mod surveys;
+mod symbol_records;
 mod symbols;
 mod texts;
 mod undefined;

@@ -47,7 +47,17 @@ the number of its hunk, and its name. The address is that of the hunk plus the s
 2^32. For example, `amihunk load --at 10000 --symbols FILE` prints for a file whose only symbol has the
 value 2
   00010002 hunk 0 \"loop\"
-`--srec` and `--symbols` exclude each other.
+
+With `--srec` and `--symbols` it prints the names and addresses of the symbols, and then the S-records,
+in the form that GNU binutils calls `symbolsrec`: for that file
+  $$ amihunk
+    loop $00010002
+  $$
+  S00A0000616D6968756E6B08
+  S309000100004E754E7173
+  S70500000000FA
+where a space follows the second `$$`. A name that is empty, or has a byte that is not a visible ASCII
+character, is left out, and an `S0` record before the others then tells how many there are.
 
 The exit status is 0 if the text was printed, 1 if FILE is not a load file or its hunks cannot be
 placed at the addresses, 2 if the addresses or the command line are not understood, 3 if a file cannot
@@ -62,9 +72,13 @@ prints two hunks, the first of them at the address 10000:
   amihunk image --at 10000,20000 startup.o main.o
 With `--at-file`, the addresses are read from a file, which may have any length.
 
-The exit status is 0 if the bytes were printed, 1 if a FILE is not an object file, or the units do not
+With `--symbols`, that load file has the symbols and debug blocks of the object files, and the addresses
+of its symbols are printed, in lines or, with `--srec` too, before the S-records. For example:
+  amihunk image --at 10000,20000 --srec --symbols startup.o main.o
+
+The exit status is 0 if the text was printed, 1 if a FILE is not an object file, or the units do not
 link, or their hunks cannot be placed at the addresses, 2 if the addresses or the command line are not
-understood, 3 if a file cannot be read or the bytes cannot be printed, and 4 if memory runs out.";
+understood, 3 if a file cannot be read or the text cannot be printed, and 4 if memory runs out.";
 
 /// The end of the help of `check`.
 pub const CHECK: &str = "\

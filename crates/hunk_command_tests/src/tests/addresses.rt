@@ -48,7 +48,7 @@ fn image_of<'a>(
 ) -> Result<Request<'a>, AllocError> {
     Ok(Request::Image {
         addresses,
-        form: ImageForm::Report,
+        text: LoadText::Image(ImageForm::Report),
         explain: false,
         files: files.to_vec(alloc)?,
     })

@@ -210,7 +210,7 @@ fn request_of(alloc: Global, asked: Asked, explain: bool) -> Result<Request<'sta
         Asked::LinkTo(out) => link_of(out, explain, ["caller", "callee"].to_vec(alloc)?),
         Asked::Image(addresses, files) => Request::Image {
             addresses,
-            form: ImageForm::Report,
+            text: LoadText::Image(ImageForm::Report),
             explain,
             files: files.to_vec(alloc)?,
         },

@@ -4,7 +4,7 @@ use super::asserts::equals;
 use crate::samples::{Broken, ONE_HUNK, ONE_SYMBOL};
 use hunk_commands::LoadText;
 use hunk_commands::load::load_to;
-use hunk_tool::{ImageForm, ToolFault};
+use hunk_tool::{ImageForm, SymbolForm, ToolFault};
 use hunk_words::{Fault, Reason, Watched};
 use std::alloc::Global;
 use std::io::Read;
@@ -38,8 +38,13 @@ fn writes_the_texts_of_files(rt: HostRuntime) {
     let records = LoadText::Image(ImageForm::SRecords);
     let lines = "S00A0000616D6968756E6B08\nS309000100004E754E7173\nS70500000000FA\n";
     has_text(&rt, alloc, &ONE_HUNK, records, lines);
+    let symbols = LoadText::Symbols(SymbolForm::Lines);
     let lines = "00010002 hunk 0 \"loop\"\n";
-    has_text(&rt, alloc, &ONE_SYMBOL, LoadText::Symbols, lines);
+    has_text(&rt, alloc, &ONE_SYMBOL, symbols, lines);
+    let symbols = LoadText::Symbols(SymbolForm::Records);
+    let lines = "$$ amihunk\n  loop $00010002\n$$ \n\
+         S00A0000616D6968756E6B08\nS309000100004E754E7173\nS70500000000FA\n";
+    has_text(&rt, alloc, &ONE_SYMBOL, symbols, lines);
 }
 
 #[test]
@@ -50,7 +55,9 @@ fn tells_why_there_is_no_text_of_a_file(rt: HostRuntime) {
         place: 9,
         reason: Reason::PartialLongword,
     };
-    for text in [report, LoadText::Symbols] {
+    let lines = LoadText::Symbols(SymbolForm::Lines);
+    let records = LoadText::Symbols(SymbolForm::Records);
+    for text in [report, lines, records] {
         let (bytes, got) = load_at(alloc, &ONE_HUNK[..38], text, 0x1_0000);
         equals(&rt, got, Err(ToolFault::Input { file: 0, fault }));
         equals(&rt, bytes.as_slice(), b"");

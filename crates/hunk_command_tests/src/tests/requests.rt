@@ -4,7 +4,7 @@ use super::outcomes::is_answered;
 use crate::fake_files::FakeFiles;
 use crate::fake_log::Log;
 use crate::samples::PLAIN;
-use hunk_commands::{Addresses, Request};
+use hunk_commands::{Addresses, LoadText, Request};
 use hunk_tool::ImageForm;
 use std::alloc::Global;
 use std::process::Abort;
@@ -87,7 +87,7 @@ fn tells_why_there_is_no_image(rt: HostRuntime) -> Result<(), Fail> {
     for (list, status, line) in lists {
         let request = Request::Image {
             addresses: Addresses::List(list),
-            form: ImageForm::Report,
+            text: LoadText::Image(ImageForm::Report),
             explain: false,
             files: ["no-such-file"].to_vec(rt.alloc())?,
         };

@@ -8,7 +8,7 @@ use hunk_commands::image::image;
 use hunk_commands::link::{link, link_with_map};
 use hunk_commands::load::load;
 use hunk_commands::{Addresses, Failure, LoadText, MemoryStore, Output, Store};
-use hunk_tool::{CopyForm, FileSystem, ImageForm, LinkOptions, OpenFault, ToolFault};
+use hunk_tool::{CopyForm, FileSystem, ImageForm, LinkOptions, OpenFault, SymbolForm, ToolFault};
 use hunk_words::{DeviceFault, Fault, Reason, Sink, Source, Watched};
 use std::alloc::{AllocError, Global};
 use std::process::Abort;
@@ -111,7 +111,8 @@ fn prints_of_a_linked_file_what_it_prints_of_its_object_files(rt: HostRuntime) -
         let ended = load(alloc, &store, &mut loaded, addresses, text, "out");
         equals(&rt, ended, Ok(()));
         let mut imaged = new_output(alloc);
-        let ended = image(alloc, &store, &mut imaged, addresses, form, &files);
+        let text = LoadText::Image(form);
+        let ended = image(alloc, &store, &mut imaged, addresses, text, &files);
         equals(&rt, ended, Ok(()));
         let text = loaded.sink.into_inner();
         holds(&rt, &"something is printed", !text.is_empty());
@@ -184,7 +185,7 @@ fn prints_nothing_of_a_file_that_is_missing(rt: HostRuntime) -> Result<(), Fail>
     let arena = Bump::new(alloc);
     let store = store_in(alloc, &arena)?;
     let mut printed = new_output(alloc);
-    let text = LoadText::Symbols;
+    let text = LoadText::Symbols(SymbolForm::Lines);
     for (addresses, file) in [
         (Addresses::List("0"), "x"),
         (Addresses::File("x"), "one-hunk"),

@@ -3,9 +3,9 @@
 //! Each returns once what is printed has left the buffer, as far as the standard output takes it.
 
 use hunk_commands::{
-    Addresses, Failure, Printer, Request, System, compare, copy, image, link, survey,
+    Addresses, Failure, LoadText, Printer, Request, System, compare, copy, image, link, survey,
 };
-use hunk_tool::{CopyForm, ImageForm, LinkOptions};
+use hunk_tool::{CopyForm, LinkOptions};
 use hunk_words::Sink;
 use std::io;
 use std::rt::Files;
@@ -81,13 +81,13 @@ pub(super) fn compare<'a, R: Files + Print + AllocGlobal>(
 pub(super) fn image<'a, R: Files + Print + AllocGlobal>(
     system: &R,
     addresses: Addresses<'a>,
-    form: ImageForm,
+    text: LoadText,
     files: &[&'a str],
 ) -> Result<Result<(), Failure<'a>>, Fail> {
     let alloc = system.alloc();
     let store = System::new(system);
     let mut output = Printer::new(alloc, io::writer(system))?;
-    Ok(image::image(alloc, &store, &mut output, addresses, form, files))
+    Ok(image::image(alloc, &store, &mut output, addresses, text, files))
 }
 
 /// Surveys files.

@@ -5,14 +5,14 @@ use super::devices::{Devices, WHOLE, short_of};
 use super::memory::{MOST_GROWTHS, is_done};
 use hunk_loader::PlaceFault;
 use hunk_test_support::{BASE, CHUNKS, FILE, ROOM, Refusing, bytes_of};
-use hunk_tool::{ToolFault, symbols_run};
+use hunk_tool::{SymbolForm, ToolFault, symbols_run};
 use hunk_words::{Fault, Pieces, Reason, Room};
 use std::alloc::Global;
 use std::process::Abort;
 use std::test::Fail;
 
-// A hunk of code with the symbols `loop`, `a"b\`, and one of the bytes ff, 1 and `A`.
-const NAMED: [u32; 21] = [
+/// A hunk of code with the symbols `loop`, `a"b\`, and one of the bytes ff, 1 and `A`.
+pub(crate) const NAMED: [u32; 21] = [
     0x3F3,
     0,
     1,
@@ -40,8 +40,8 @@ const NAMED_LINES: &str = "00010002 hunk 0 \"loop\"\n\
                            0000ffff hunk 0 \"a\\x22b\\x5c\"\n\
                            00010000 hunk 0 \"\\xff\\x01A\"\n";
 
-// Code with the symbol `a`, memory without symbols, and data with the symbols `a` and `b`.
-const SEVERAL: [u32; 32] = [
+/// Code with the symbol `a`, memory without symbols, and data with the symbols `a` and `b`.
+pub(crate) const SEVERAL: [u32; 32] = [
     0x3F3,
     0,
     3,
@@ -92,7 +92,7 @@ fn is_run(
     let bytes = bytes_of(alloc, words, &[])?;
     let mut reader = Pieces::new(bytes, devices.chunk, devices.failing.0);
     let mut writer = Room::new(alloc, devices.most, devices.room, devices.zero)?;
-    let got = symbols_run(alloc, &mut reader, bases, &mut writer);
+    let got = symbols_run(alloc, &mut reader, bases, SymbolForm::Lines, &mut writer);
     equals_at(rt, &devices, got, wanted);
     equals_at(rt, &devices, writer.bytes(), text);
     Ok(())
@@ -198,7 +198,7 @@ fn is_out_of_memory_with_each_growth_refused(rt: HostRuntime) -> Result<(), Fail
         let heap = Refusing::new(rt.alloc(), refused);
         let mut reader = Pieces::new(bytes_of(rt.alloc(), &NAMED, &[])?, 64, None);
         let mut writer = Room::new(rt.alloc(), 64, ROOM, false)?;
-        let got = symbols_run(&heap, &mut reader, &[BASE], &mut writer);
+        let got = symbols_run(&heap, &mut reader, &[BASE], SymbolForm::Lines, &mut writer);
         if is_done(&rt, &heap, refused, &got, writer.bytes(), NAMED_LINES) {
             holds(&rt, &("growths", refused), 5 <= refused);
             return Ok(());

@@ -1,9 +1,0 @@
--- One more symbol.
-use Rattle.hunk_base.proofs.TextLemmas.{Puts-more}
-use Rattle.hunk_tool.specs.Symbols.{address_line}
-use Rattle.hunk_tool.proofs.symbols.write_hunk.Goals as goal
-
-pub loop-symbol-preserved : goal.loop-symbol-preserved
-loop-symbol-preserved g c =
-    Puts-more g.W.Sink.taken g.W.Sink.failed (address_line c.args.number c.args.base) c.args.symbols.now c.loop-symbol.symbol-index c.symbol-item.result c.symbol-item.result
-    c.loop-symbol-test.true c.symbol-item.is c.loop-symbol.invariant c.write_symbol.ensures
