@@ -10,7 +10,7 @@ from model import CODE, END, HEADER, RELOC32, RELOC32SHORT, SYMBOL, Hunk, words
 HERE = os.path.dirname(os.path.abspath(__file__))
 # Files, some of which are named as an option or as a command, and the first longword of each one's hunk.
 FILES = {"x": 1, "y": 2, "z": 3, "link": 4, "strip": 5, "--strip": 6, "--short": 7, "--trim": 8, "--at": 9, "--srec": 10,
-         "--at-file": 11, "--map": 12, "--json": 13, "--content": 14, "--html": 15}
+         "--at-file": 11, "--map": 12, "--json": 13, "--content": 14, "--html": 15, "--symbols": 16}
 
 
 def write_files(program):
@@ -96,6 +96,11 @@ IMAGES = (
     ("--at-file list x y", "x y"),
     ("x --at-file=list y x", "x y x"),
     ("x --srec y --at-file list", "x y"),
+    ("--at LIST --symbols x y", "x y"),
+    ("x --symbols --at-file=list y", "x y"),
+    ("--symbols --at=LIST --srec x", "x"),
+    ("x --srec y --at-file list --symbols x", "x y x"),
+    ("--srec --at LIST x -- --symbols", "x --symbols"),
     ("--at LIST x -- --at-file", "x --at-file"),
     ("--at-file list -- --at-file --at x", "--at-file --at x"),
 )
@@ -106,15 +111,24 @@ def memory(names):
     return bases, [words(FILES[name] + base, 0) for name, base in zip(names, bases)]
 
 
+def text_of(options, bases, contents):
+    """What is printed of hunks with these bytes at these bases, each with the symbol `s`, with these options."""
+    records = model.records_of(bases, contents) if "--srec" in options else ""
+    if "--symbols" not in options:
+        return records or model.report_of(bases, contents)
+    if records:
+        return "$$ amihunk\n" + "".join(f"  s ${base:08x}\n" for base in bases) + "$$ \n" + records
+    return "".join(f'{base:08x} hunk {number} "s"\n' for number, base in enumerate(bases))
+
+
 @test
 def the_words_of_an_image_come_in_any_order(program):
     write_files(program)
     for line, names in IMAGES:
         bases, contents = memory(names.split())
-        options = line.split(" -- ")[0]
-        printed_of = model.records_of if "--srec" in options else model.report_of
+        told = text_of(line.split(" -- ")[0], bases, contents)
         program.write("list", model.addresses(bases).encode())
-        program.prints(printed_of(bases, contents), "image", *line.replace("LIST", model.addresses(bases)).split())
+        program.prints(told, "image", *line.replace("LIST", model.addresses(bases)).split())
 
 
 @test
@@ -125,13 +139,12 @@ def the_words_of_a_load_come_in_any_order(program):
     program.write("list", b"10000\n")
     bases, contents = [0x10000], [words(0x10001, 0)]
     for line in ("--at 10000 x", "x --at=10000", "--at 10000 -- x", "--at 10000 -- --at-file",
-                 "--at-file list x", "x --at-file=list", "--at-file list -- --at-file"):
-        program.prints(model.report_of(bases, contents), "load", *line.split())
-    for line in ("--at 10000 --srec x", "--srec x --at=00010000", "--srec --at-file list x"):
-        program.prints(model.records_of(bases, contents), "load", *line.split())
-    for line in ("--at 10000 --symbols x", "--symbols x --at=00010000", "x --symbols --at 10000",
-                 "--at-file list --symbols x"):
-        program.prints('00010000 hunk 0 "s"\n', "load", *line.split())
+                 "--at-file list x", "x --at-file=list", "--at-file list -- --at-file",
+                 "--at 10000 --srec x", "--srec x --at=00010000", "--srec --at-file list x",
+                 "--at 10000 --symbols x", "--symbols x --at=00010000", "x --symbols --at 10000",
+                 "--at-file list --symbols x", "--at 10000 --srec --symbols x", "--symbols x --at=00010000 --srec",
+                 "x --srec --at-file list --symbols"):
+        program.prints(text_of(line.split(" -- ")[0], bases, contents), "load", *line.split())
 
 
 @test

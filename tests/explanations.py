@@ -54,9 +54,11 @@ def a_file_of_the_other_kind_is_told_as_one(program):
         (("load", "--at", "0"), "x.o", "000003e7", load_file_due, "  kind: object file\n"),
         (("load", "--srec", "--at", "0,1"), "x.o", "000003e7", load_file_due, "  kind: object file\n"),
         (("load", "--symbols", "--at", "0"), "x.o", "000003e7", load_file_due, "  kind: object file\n"),
+        (("load", "--srec", "--symbols", "--at", "0"), "x.o", "000003e7", load_file_due, "  kind: object file\n"),
         (("link", "--out", "out", "x.o"), "x", "000003f3", object_file_due, "  kind: load file\n"),
         (("link", "--out", "out", "--map", "map"), "x", "000003f3", object_file_due, "  kind: load file\n"),
         (("image", "--at", "0", "x.o", "x.o"), "x", "000003f3", object_file_due, "  kind: load file\n"),
+        (("image", "--symbols", "--at", "0", "x.o"), "x", "000003f3", object_file_due, "  kind: load file\n"),
         # It is of neither kind, and these commands take files of both.
         (("load", "--at", "0"), "text", "6e6f2068", load_file_due, ""),
         (("image", "--at", "0"), "text", "6e6f2068", object_file_due, ""),
@@ -78,6 +80,8 @@ def hunks_that_cannot_be_placed_are_told_beside_the_addresses(program):
         tells(program, "places: wrong number of addresses", one, command, "--at", "1000", file)
         tells(program, "places: hunk 1 passes the end of memory", two, command, "--at", "0,fffffffc", file)
         tells(program, "places: hunk 1 passes the end of memory", two, command, "--at-file", "addresses", file)
+        tells(program, "places: hunk 1 passes the end of memory", two, command, "--symbols", "--at", "0,fffffffc", file)
+        tells(program, "places: hunk 1 passes the end of memory", two, command, "--srec", "--symbols", "--at", "0,fffffffc", file)
 
 
 @test
@@ -110,6 +114,7 @@ def units_that_do_not_link_are_explained(program):
         tells(program, f"link: {line}", more, "link", "--out", "out", *files)
         tells(program, f"link: {line}", more, "link", "--out", "out", "--map", "map", "--strip", *files)
         tells(program, f"link: {line}", more, "image", "--at", "0", *files)
+        tells(program, f"link: {line}", more, "image", "--srec", "--symbols", "--at", "0", *files)
 
 
 def origin_text(files, parts, place):

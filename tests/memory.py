@@ -6,7 +6,7 @@ import subprocess
 
 import model
 from harness import DONE, NO_MEMORY, REFUSED, as_nobody, equals, test
-from model import CODE, DEF, END, HEADER, RELOC32, Hunk, words
+from model import CODE, DEF, END, HEADER, RELOC32, SYMBOL, Hunk, words
 from runs import LOAD_FILE, OBJECT_FILE, RECORDS, REPORT
 
 PAGE = resource.getpagesize()
@@ -79,6 +79,9 @@ def write_files(program):
     program.write("one.o", OBJECT_FILE)
     program.write("x", LOAD_FILE)
     program.write("bad", LOAD_FILE + words(0x1234))
+    symbol = words(SYMBOL, 1) + b"loop" + words(2, 0, END)
+    for name, bytes_ in (("named.o", OBJECT_FILE), ("named", LOAD_FILE)):
+        program.write(name, bytes_[:-4] + symbol)
     return [[code], [other]]
 
 
@@ -100,12 +103,16 @@ def with_little_memory_a_text_is_printed_or_none_is(program):
               "2 files: 1 object files, 1 load files, 0 refused, 0 unreadable\n"]
     # A survey prints what it knows of a file before it opens the next.
     parts_of_survey = [(NO_MEMORY, "".join(survey[:lines]), TOLD) for lines in range(1, 3)]
+    named = f"$$ amihunk\n  loop $00010002\n$$ \n{RECORDS}"
     for words_, told, also in (
         (("--version",), program.run("--version")[1], ()),
         (("load", "--at", "10000", "x"), REPORT, ()),
         (("load", "--at", "10000", "--srec", "x"), RECORDS, ()),
-        (("load", "--at", "10000", "--symbols", "x"), "", ()),
+        (("load", "--at", "10000", "--symbols", "named"), '00010002 hunk 0 "loop"\n', ()),
+        (("load", "--at", "10000", "--srec", "--symbols", "named"), named, ()),
         (("image", "--at", "1000,2000", "x.o", "y.o"), model.report_of(bases, model.memory_of(units, bases)), ()),
+        (("image", "--at", "10000", "--symbols", "named.o"), '00010002 hunk 0 "loop"\n', ()),
+        (("image", "--at", "10000", "--srec", "--symbols", "named.o"), named, ()),
         (("check", "x"), "load file: 1 hunks\n", ()),
         (("show", "x"), listing, ()),
         (("show", "--json", "x"), document, ()),

@@ -4,6 +4,7 @@ names that are not defined.
 It knows nothing of load files, and nothing of how the program links: all of it is computed from the units alone.
 """
 import random
+import re
 import struct
 
 UNIT, NAME, CODE, DATA, BSS, RELOC32, EXT, SYMBOL, DEBUG, END, HEADER = *range(0x3E7, 0x3ED), *range(0x3EF, 0x3F4)
@@ -120,15 +121,16 @@ def report_of(bases, memory):
     return "".join(f"{line}\n" for line in lines)
 
 
+def record(kind, bytes_):
+    """An S-record of this kind, whose address and data are these bytes."""
+    counted = bytes([len(bytes_) + 1]) + bytes_
+    return f"S{kind}{counted.hex().upper()}{255 - sum(counted) % 256:02X}\n"
+
+
 def records_of(bases, memory):
     """What they print of it with `--srec`."""
     parts = [(base + at, bytes_[at : at + 32]) for base, bytes_ in zip(bases, memory) for at in range(0, len(bytes_), 32)]
-    rows = [(0, b"\0\0amihunk"), *((3, words(address) + part) for address, part in parts), (7, words(0))]
-    lines = []
-    for kind, bytes_ in rows:
-        counted = bytes([len(bytes_) + 1]) + bytes_
-        lines.append(f"S{kind}{counted.hex().upper()}{255 - sum(counted) % 256:02X}\n")
-    return "".join(lines)
+    return record(0, b"\0\0amihunk") + "".join(record(3, words(address) + part) for address, part in parts) + record(7, words(0))
 
 
 def quoted(name):
@@ -137,11 +139,21 @@ def quoted(name):
 
 
 def symbols_of(units, bases):
-    """What `load` prints with `--symbols`, unless the symbols were left out."""
+    """What `load` and `image` print with `--symbols`, unless the symbols were left out."""
     hunks = [hunk for unit in units for hunk in unit]
     lines = [f"{(base + value) % MODULUS:08x} hunk {number} {quoted(name)}"
              for number, (base, hunk) in enumerate(zip(bases, hunks)) for name, value in hunk.symbols]
     return "".join(f"{line}\n" for line in lines)
+
+
+def symbol_records_of(hunks, bases, memory):
+    """What they print of hunks that have symbols with `--srec` and `--symbols`: names of visible ASCII characters with their
+    addresses, how many others there are, and the S-records."""
+    rows = [(name.decode("latin-1"), (base + value) % MODULUS) for base, hunk in zip(bases, hunks) for name, value in hunk.symbols]
+    held = [f"  {name} ${address:08x}\n" for name, address in rows if re.fullmatch("[!-~]+", name)]
+    left_out = len(rows) - len(held)
+    told = record(0, b"\0\0symbols left out: %d" % left_out) if left_out else ""
+    return "$$ amihunk\n" + "".join(held) + "$$ \n" + told + records_of(bases, memory)
 
 
 def map_of(files):

@@ -25,6 +25,7 @@ import outputs
 import quotations
 import readme
 import runs
+import symbol_records
 from harness import TESTS, Program
 
 

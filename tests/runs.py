@@ -44,7 +44,9 @@ def random_units_are_linked_and_loaded_as_their_memory(program):
         program.prints(f"load file: {len(bases)} hunks\n", "check", "out")
         program.prints(f"object file: {len(parts[0])} units, {sum(map(len, parts[0]))} hunks\n", "check", files[0])
         program.prints(records, "load", "--at", at, "--srec", "out")
-        program.prints("" if "--strip" in options else model.symbols_of(units, bases), "load", "--at", at, "--symbols", "out")
+        symbols = model.symbols_of(units, bases)
+        program.prints("" if "--strip" in options else symbols, "load", "--at", at, "--symbols", "out")
+        program.prints(symbols, "image", "--at", at, "--symbols", *files)
         program.prints(records, "image", "--srec", "--at", at, *files)
 
 
