@@ -9,7 +9,7 @@ use std::test::Fail;
 
 // A hunk to build: its size, the number of its zero bytes of content, and the target of its site at
 // 0.
-#[derive(Clone, Copy, Debug)]
+#[derive(Clone, Copy, Debug, PartialEq)]
 struct Plan {
     kind: HunkKind,
     size: u32,
@@ -85,12 +85,15 @@ fn hunk_of(rt: &impl Abort, alloc: Global, plan: &Plan) -> Result<LoadHunk, Allo
 // These hunks are those of the plans.
 fn are_planned(rt: &impl Abort, hunks: &[LoadHunk], plans: &[Plan]) {
     equals(rt, hunks.len(), plans.len());
-    for (hunk, plan) in hunks.iter().zip(plans) {
-        equals_at(rt, &plans, hunk.kind, plan.kind);
-        equals_at(rt, &plans, hunk.size, plan.size);
-        equals_at(rt, &plans, hunk.content.len(), plan.content);
-        equals_at(rt, &plans, hunk.sites.limit(), plan.limit);
-        equals_at(rt, &plans, hunk.sites.get(0).copied(), plan.target);
+    for (index, hunk) in hunks.iter().enumerate() {
+        let planned = Plan {
+            kind: hunk.kind,
+            size: hunk.size,
+            content: hunk.content.len(),
+            limit: hunk.sites.limit(),
+            target: hunk.sites.get(0).copied(),
+        };
+        equals_at(rt, &plans, Some(planned), plans.get(index).copied());
     }
 }
 

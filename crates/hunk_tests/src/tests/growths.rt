@@ -10,7 +10,7 @@ use hunk_loadfile::{read_load, write_load};
 use hunk_test_support::words::{SCATTERED, WRITTEN};
 use hunk_test_support::{ROOM, Refusing, bytes_of};
 use hunk_words::{Pieces, ReadFault, Refusal, Room, WriteFault};
-use std::alloc::Global;
+use std::alloc::{Allocator, Global};
 use std::process::Abort;
 use std::test::Fail;
 
@@ -41,10 +41,10 @@ pub(crate) fn growths_of_reading(alloc: Global, bytes: &[u8]) -> Result<u64, Fai
 }
 
 // Whether the file was read. If not, memory ran out; likewise for the other calls.
-fn is_read(
+fn is_read<A: Allocator + Copy>(
     rt: &impl Abort,
     alloc: Global,
-    heap: &Refusing<Global>,
+    heap: A,
     bytes: &[u8],
 ) -> Result<bool, Fail> {
     let mut reader = Pieces::new(bytes.to_vec(alloc)?, ROOM, None);
@@ -58,10 +58,10 @@ fn is_read(
     Ok(true)
 }
 
-fn is_image(
+fn is_image<A: Allocator + Copy>(
     rt: &impl Abort,
     alloc: Global,
-    heap: &Refusing<Global>,
+    heap: A,
     bytes: &[u8],
 ) -> Result<bool, Fail> {
     let mut reader = Pieces::new(bytes.to_vec(alloc)?, ROOM, None);
@@ -75,7 +75,7 @@ fn is_image(
     Ok(true)
 }
 
-fn is_sized(rt: &impl Abort, heap: &Refusing<Global>, bytes: &[u8]) -> bool {
+fn is_sized<A: Allocator + Copy>(rt: &impl Abort, heap: A, bytes: &[u8]) -> bool {
     match sized(rt, heap, bytes, &BASES, ROOM) {
         Ok(image) => has_bytes(rt, &image, &BASES, &MEMORY),
         Err(refusal) => {
@@ -86,10 +86,10 @@ fn is_sized(rt: &impl Abort, heap: &Refusing<Global>, bytes: &[u8]) -> bool {
     true
 }
 
-fn is_loaded(
+fn is_loaded<A: Allocator + Copy>(
     rt: &impl Abort,
     alloc: Global,
-    heap: &Refusing<Global>,
+    heap: A,
     bytes: &[u8],
 ) -> Result<bool, Fail> {
     let file = file_of(heap, bytes.to_vec(alloc)?)?;
@@ -103,10 +103,10 @@ fn is_loaded(
     Ok(true)
 }
 
-fn is_written(
+fn is_written<A: Allocator + Copy>(
     rt: &impl Abort,
     alloc: Global,
-    heap: &Refusing<Global>,
+    heap: A,
     bytes: &[u8],
 ) -> Result<bool, Fail> {
     let file = file_of(heap, bytes.to_vec(alloc)?)?;
@@ -117,7 +117,7 @@ fn is_written(
         Err(fault) => {
             let written = writer.bytes().len() as u64;
             equals(rt, fault, WriteFault::OutOfMemory { written });
-            assert!(rt; text.starts_with(writer.bytes()));
+            holds(rt, &written, text.starts_with(writer.bytes()));
             return Ok(false);
         }
     }

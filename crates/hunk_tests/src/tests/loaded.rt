@@ -25,11 +25,12 @@ pub(crate) fn has_bytes<A: Allocator + Copy>(
 ) {
     let hunks = image.hunks();
     equals(rt, (hunks.len(), bases.len()), (wanted.len(), wanted.len()));
-    for (((base, bytes), at), want) in hunks.iter().zip(bases).zip(wanted) {
-        equals(rt, *base, *at);
-        equals_at(rt, &("at", base), bytes.as_slice(), *want);
+    for (index, (base, bytes)) in hunks.iter().enumerate() {
+        equals(rt, Some(*base), bases.get(index).copied());
+        let (got, want) = (Some(bytes.as_slice()), wanted.get(index).copied());
+        equals_at(rt, &("at", base), got, want);
         let mut address = *base;
-        for byte in *want {
+        for byte in bytes.as_slice() {
             equals_at(rt, &("at", address), image.byte(address), Some(*byte));
             address = address.wrapping_add(1);
         }

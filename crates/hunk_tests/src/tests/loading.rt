@@ -1,6 +1,7 @@
 //! Load files that are made of hunks, in memory.
 
 use super::asserts::{equals, holds};
+use super::loaded::has_bytes;
 use super::made::file_of_hunks;
 use super::values::{EMPTY, Hunk};
 use hunk_loader::{LoadRefusal, PlaceFault, load, load_file};
@@ -49,10 +50,7 @@ fn adds_the_bases_of_later_hunks(rt: HostRuntime) -> Result<(), Fail> {
         &[0, 3, 0, 8],
         &[],
     ];
-    equals(&rt, image.hunks().len(), wants.len());
-    for ((_, bytes), want) in image.hunks().iter().zip(wants) {
-        equals(&rt, bytes.as_slice(), want);
-    }
+    has_bytes(&rt, &image, &bases, &wants);
     Ok(())
 }
 
@@ -88,11 +86,7 @@ fn moves_content_and_relocates_the_zeros_after_it(rt: HostRuntime) -> Result<(),
         &[0, 1, 0, 8, 0, 3, 0, 0],
         &[],
     ];
-    equals(&rt, image.hunks().len(), wants.len());
-    for (((base, bytes), at), want) in image.hunks().iter().zip(&bases).zip(wants) {
-        equals(&rt, *base, *at);
-        equals(&rt, bytes.as_slice(), want);
-    }
+    has_bytes(&rt, &image, &bases, &wants);
     equals(&rt, image.byte(0x0001_0009), Some(2));
     equals(&rt, image.byte(0x0001_000C), None);
     Ok(())

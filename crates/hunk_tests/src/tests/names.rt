@@ -3,7 +3,9 @@
 use super::asserts::{equals, holds};
 use hunk_test_support::Refusing;
 use hunk_words::{Name, OpenName};
+use std::alloc::{Allocator, Global};
 use std::collections::{BTreeSet, HashSet};
+use std::process::Abort;
 use std::test::Fail;
 
 #[test]
@@ -66,30 +68,38 @@ fn takes_longwords_at_once_and_one_by_one(rt: HostRuntime) -> Result<(), Fail> {
     Ok(())
 }
 
-#[test]
-fn allocates_once_for_a_run_and_the_longword_after_it(rt: HostRuntime) -> Result<(), Fail> {
-    let heap = Refusing::new(rt.alloc(), u64::MAX);
-    let mut name = OpenName::new(&heap);
+// Opens a name at an allocator that counts in `heap`.
+fn opens_once<A: Allocator + Copy>(
+    rt: &impl Abort,
+    heap: &Refusing<Global>,
+    alloc: A,
+) -> Result<(), Fail> {
+    let mut name = OpenName::new(alloc);
     name.push_bytes(b"_start_of_")?;
-    equals(&rt, heap.asked(), 1);
+    equals(rt, heap.asked(), 1);
     name.push(0x7061_6765)?;
-    equals(&rt, heap.asked(), 1);
-    equals(&rt, name.close().bytes(), b"_start_of_page".as_slice());
+    equals(rt, heap.asked(), 1);
+    equals(rt, name.close().bytes(), b"_start_of_page".as_slice());
     Ok(())
 }
 
 #[test]
-fn stays_as_it_was_where_a_run_of_a_name_has_no_memory(rt: HostRuntime) -> Result<(), Fail> {
-    let heap = Refusing::new(rt.alloc(), 1);
-    let mut name = OpenName::new(&heap);
+fn allocates_once_for_a_run_and_the_longword_after_it(rt: HostRuntime) -> Result<(), Fail> {
+    let heap = Refusing::new(rt.alloc(), u64::MAX);
+    opens_once(&rt, &heap, &heap)
+}
+
+// Opens a name whose second allocation fails.
+fn stays_as_it_was<A: Allocator + Copy>(rt: &impl Abort, alloc: A) -> Result<(), Fail> {
+    let mut name = OpenName::new(alloc);
     name.push_bytes(b"_start_of_")?;
     // more than the memory that the first run was given
     let run = b"the_longest_name_that_any_of_these_tests_has";
-    holds(&rt, &"refused", name.push_bytes(run).is_err());
-    equals(&rt, name.len(), 10);
+    holds(rt, &"refused", name.push_bytes(run).is_err());
+    equals(rt, name.len(), 10);
     name.push_bytes(run)?;
     equals(
-        &rt,
+        rt,
         name.close().bytes(),
         b"_start_of_the_longest_name_that_any_of_these_tests_has".as_slice(),
     );
@@ -97,19 +107,33 @@ fn stays_as_it_was_where_a_run_of_a_name_has_no_memory(rt: HostRuntime) -> Resul
 }
 
 #[test]
+fn stays_as_it_was_where_a_run_of_a_name_has_no_memory(rt: HostRuntime) -> Result<(), Fail> {
+    stays_as_it_was(&rt, &Refusing::new(rt.alloc(), 1))
+}
+
+// Makes a name, whose first allocation fails.
+fn has_no_bytes<A: Allocator + Copy>(rt: &impl Abort, alloc: A) -> Result<(), Fail> {
+    let refused = Name::from_words(alloc, &[0x666F_6F00]).is_err();
+    holds(rt, &"the first name", refused);
+    let name = Name::from_words(alloc, &[0x666F_6F00])?;
+    equals(rt, name.bytes(), b"foo".as_slice());
+    Ok(())
+}
+
+#[test]
 fn is_out_of_memory_where_the_bytes_of_a_name_have_none(rt: HostRuntime) -> Result<(), Fail> {
-    let heap = Refusing::new(rt.alloc(), 0);
-    assert!(rt; Name::from_words(&heap, &[0x666F_6F00]).is_err());
-    let name = Name::from_words(&heap, &[0x666F_6F00])?;
-    equals(&rt, name.bytes(), b"foo".as_slice());
+    has_no_bytes(&rt, &Refusing::new(rt.alloc(), 0))
+}
+
+// Makes a name and its longwords, whose first allocation fails.
+fn has_no_longwords<A: Allocator + Copy>(rt: &impl Abort, alloc: A) -> Result<(), Fail> {
+    let name = Name::from_words(alloc, &[0x666F_6F00])?;
+    holds(rt, &"the first longwords", name.words(alloc).is_err());
+    equals(rt, name.words(alloc)?.as_slice(), [0x666F_6F00].as_slice());
     Ok(())
 }
 
 #[test]
 fn is_out_of_memory_where_the_longwords_of_a_name_have_none(rt: HostRuntime) -> Result<(), Fail> {
-    let heap = Refusing::new(rt.alloc(), 1);
-    let name = Name::from_words(&heap, &[0x666F_6F00])?;
-    assert!(rt; name.words(&heap).is_err());
-    equals(&rt, name.words(&heap)?.as_slice(), [0x666F_6F00].as_slice());
-    Ok(())
+    has_no_longwords(&rt, &Refusing::new(rt.alloc(), 1))
 }

@@ -175,6 +175,12 @@ fn allocations_of_making(alloc: Global) -> Result<u64, Fail> {
     Ok(heap.asked())
 }
 
+// Loads such a file at these bases, and returns why it is refused.
+fn refusal_at<A: Allocator + Copy>(alloc: A, bases: &[u32]) -> Result<Option<LoadRefusal>, Fail> {
+    let file = file_of_hunks(alloc, &[LONGWORD; 3])?;
+    Ok(load(alloc, &file, bases).err())
+}
+
 #[test]
 fn loads_without_memory_for_the_search(rt: HostRuntime) -> Result<(), Fail> {
     let before = allocations_of_making(rt.alloc())?;
@@ -187,8 +193,7 @@ fn loads_without_memory_for_the_search(rt: HostRuntime) -> Result<(), Fail> {
     ];
     for (bases, want) in rows {
         let heap = Refusing::new(rt.alloc(), before);
-        let file = file_of_hunks(&heap, &[LONGWORD; 3])?;
-        equals_at(&rt, &bases, load(&heap, &file, &bases).err(), want);
+        equals_at(&rt, &bases, refusal_at(&heap, &bases)?, want);
         holds(&rt, &bases, before < heap.asked());
     }
     Ok(())

@@ -1,9 +1,10 @@
 //! The current hunk of a reader: its content and its sites.
 
-use super::asserts::equals;
+use super::asserts::{equals, holds};
 use hunk_test_support::Refusing;
 use hunk_words::{PartialHunk, SiteRefusal};
-use std::alloc::Global;
+use std::alloc::Allocator;
+use std::process::Abort;
 use std::test::Fail;
 
 #[test]
@@ -47,15 +48,19 @@ fn content_stays_below_the_limit(rt: HostRuntime) -> Result<(), Fail> {
     Ok(())
 }
 
-#[test]
-fn content_stays_as_it_was_where_it_cannot_be_filled(rt: HostRuntime) -> Result<(), Fail> {
-    let heap = Refusing::new(rt.alloc(), 0);
-    let mut hunk = PartialHunk::<u32, &Refusing<Global>>::new(&heap, 0);
-    assert!(rt; hunk.begin_content(&heap, 8));
-    assert!(rt; hunk.fill().is_err());
+// Fills a hunk whose first allocation fails.
+fn stays_as_it_was<A: Allocator + Copy>(rt: &impl Abort, alloc: A) -> Result<(), Fail> {
+    let mut hunk = PartialHunk::<u32, A>::new(alloc, 0);
+    holds(rt, &"not begun", hunk.begin_content(alloc, 8));
+    holds(rt, &"filled", hunk.fill().is_err());
     hunk.add_word(0x0102_0304)?;
     hunk.fill()?;
     let (content, _) = hunk.into_parts();
-    equals(&rt, content.as_slice(), [1, 2, 3, 4, 0, 0, 0, 0].as_slice());
+    equals(rt, content.as_slice(), [1, 2, 3, 4, 0, 0, 0, 0].as_slice());
     Ok(())
+}
+
+#[test]
+fn content_stays_as_it_was_where_it_cannot_be_filled(rt: HostRuntime) -> Result<(), Fail> {
+    stays_as_it_was(&rt, &Refusing::new(rt.alloc(), 0))
 }

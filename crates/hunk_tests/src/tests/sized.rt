@@ -10,6 +10,35 @@ use std::alloc::{Allocator, Global};
 use std::process::Abort;
 use std::test::Fail;
 
+// The calls that the tests make of a header at the global allocator, each in a function of its own.
+// A method of a type with type parameters is tied to it anew in each function that calls it, which is
+// most of the time that these tests take to be proved.
+
+fn new_header(alloc: Global) -> HeaderLoader {
+    HeaderLoader::new(alloc)
+}
+
+fn feed(header: &mut HeaderLoader, bytes: &[u8]) -> Result<usize, LoadRefusal> {
+    header.feed(bytes)
+}
+
+fn feed_in_pieces(
+    rt: &impl Abort,
+    header: &mut HeaderLoader,
+    bytes: &[u8],
+    chunk: usize,
+) -> Result<usize, LoadRefusal> {
+    feed_header(rt, header, bytes, chunk)
+}
+
+fn refusal_of(header: &HeaderLoader, bases: &[u32]) -> Option<PlaceRefusal> {
+    header.place(bases).err()
+}
+
+fn hunks_of(header: &HeaderLoader) -> Option<&[HeaderHunk]> {
+    header.hunks()
+}
+
 // Feeds these bytes in pieces of this size, and returns how many were taken.
 fn feed_header<A: Allocator + Copy>(
     rt: &impl Abort,
@@ -114,19 +143,25 @@ fn tells_sizes_and_memory(rt: HostRuntime) -> Result<(), Fail> {
     let words = [0x3F3, 0, 3, 0, 2, 5, 0x4000_0000, 0x80FF_FFFB, 0x3E9];
     let bytes = bytes_of(rt.alloc(), &words, &[])?;
     let wants = [
-        (5, Memory::Any),
-        (0, Memory::Chip),
-        (0x00FF_FFFB, Memory::Fast),
+        HeaderHunk {
+            size: 5,
+            memory: Memory::Any,
+        },
+        HeaderHunk {
+            size: 0,
+            memory: Memory::Chip,
+        },
+        HeaderHunk {
+            size: 0x00FF_FFFB,
+            memory: Memory::Fast,
+        },
     ];
     for chunk in CHUNKS {
-        let mut header = HeaderLoader::new(rt.alloc());
-        equals(&rt, feed_header(&rt, &mut header, &bytes, chunk)?, 32);
-        let hunks = header.hunks().ok_or("no hunks")?;
-        equals(&rt, hunks.len(), wants.len());
-        for (hunk, (size, memory)) in hunks.iter().zip(wants) {
-            equals(&rt, *hunk, HeaderHunk { size, memory });
-        }
-        equals(&rt, header.feed(&bytes), Ok(0));
+        let mut header = new_header(rt.alloc());
+        let taken = feed_in_pieces(&rt, &mut header, &bytes, chunk);
+        equals(&rt, taken, Ok(32));
+        equals(&rt, hunks_of(&header), Some(wants.as_slice()));
+        equals(&rt, feed(&mut header, &bytes), Ok(0));
     }
     Ok(())
 }
@@ -137,13 +172,13 @@ fn answers_a_refused_header_again(rt: HostRuntime) -> Result<(), Fail> {
         place: 0,
         reason: Reason::WrongStart,
     });
-    let mut header = HeaderLoader::new(rt.alloc());
-    equals(&rt, header.feed(&[0, 0, 3, 0xE7, 0]), Err(refusal));
-    equals(&rt, header.feed(&[]), Err(refusal));
-    holds(&rt, &"told hunks", header.hunks().is_none());
+    let mut header = new_header(rt.alloc());
+    equals(&rt, feed(&mut header, &[0, 0, 3, 0xE7, 0]), Err(refusal));
+    equals(&rt, feed(&mut header, &[]), Err(refusal));
+    equals(&rt, hunks_of(&header), None);
     equals(
         &rt,
-        header.place(&[0x1000]).err(),
+        refusal_of(&header, &[0x1000]),
         Some(PlaceRefusal::HeaderIncomplete),
     );
     equals(&rt, header.finish(), refusal);
@@ -153,15 +188,15 @@ fn answers_a_refused_header_again(rt: HostRuntime) -> Result<(), Fail> {
 #[test]
 fn places_a_whole_header_alone(rt: HostRuntime) -> Result<(), Fail> {
     let bytes = bytes_of(rt.alloc(), &TWO_HUNKS, &[])?;
-    let mut header = HeaderLoader::new(rt.alloc());
-    for byte in bytes.iter().take(28) {
-        holds(&rt, &"told hunks", header.hunks().is_none());
+    let mut header = new_header(rt.alloc());
+    for byte in &bytes[..28] {
+        equals(&rt, hunks_of(&header), None);
         equals(
             &rt,
-            header.place(&[0x1000, 0x2000]).err(),
+            refusal_of(&header, &[0x1000, 0x2000]),
             Some(PlaceRefusal::HeaderIncomplete),
         );
-        equals(&rt, header.feed(&[*byte]), Ok(1));
+        equals(&rt, feed(&mut header, &[*byte]), Ok(1));
     }
     let rows: [(&[u32], PlaceFault); 4] = [
         (&[], PlaceFault::WrongCount),
@@ -172,7 +207,7 @@ fn places_a_whole_header_alone(rt: HostRuntime) -> Result<(), Fail> {
     for (bases, fault) in rows {
         equals(
             &rt,
-            header.place(bases).err(),
+            refusal_of(&header, bases),
             Some(PlaceRefusal::Place(fault)),
         );
     }
@@ -181,16 +216,18 @@ fn places_a_whole_header_alone(rt: HostRuntime) -> Result<(), Fail> {
 
 // The bytes at offsets 2 to 5 of the first hunk: the base of the second one.
 fn is_at<A: Allocator + Copy>(rt: &impl Abort, image: &Image<A>, base: u32, wanted: [u8; 4]) {
-    for (offset, want) in (2u32..).zip(wanted) {
-        equals(rt, image.byte(base.wrapping_add(offset)), Some(want));
+    let mut address = base.wrapping_add(2);
+    for want in wanted {
+        equals(rt, image.byte(address), Some(want));
+        address = address.wrapping_add(1);
     }
 }
 
 #[test]
 fn loads_a_file_twice(rt: HostRuntime) -> Result<(), Fail> {
     let bytes = bytes_of(rt.alloc(), &TWO_HUNKS, &[])?;
-    let mut header = HeaderLoader::new(rt.alloc());
-    let taken = header.feed(&bytes)?;
+    let mut header = new_header(rt.alloc());
+    let taken = feed(&mut header, &bytes)?;
     let rest = bytes.get(taken..).ok_or("no rest")?;
     let rows = [
         (0x1000, 0x0002_0000, [0, 2, 0, 0]),
@@ -208,13 +245,27 @@ fn loads_a_file_twice(rt: HostRuntime) -> Result<(), Fail> {
     Ok(())
 }
 
+// Rooms for these hunks, with bytes that are to be forgotten.
+fn rooms_of<A: Allocator + Copy>(
+    alloc: A,
+    hunks: &[HeaderHunk],
+) -> Result<Vec<Vec<u8, A>, A>, Fail> {
+    let mut rooms = Vec::new(alloc);
+    for hunk in hunks {
+        let mut room = Vec::with_capacity(alloc, 4 * hunk.size as usize)?;
+        room.resize(4 * hunk.size as usize, 0xFF)?;
+        rooms.push(room)?;
+    }
+    Ok(rooms)
+}
+
 // Loads the rest of `TWO_HUNKS` in these rooms, and returns how many allocations that takes.
-fn allocations<'a>(
+fn allocations<A: Allocator + Copy>(
     rt: &impl Abort,
-    heap: &'a Refusing<Global>,
-    header: &HeaderLoader<&'a Refusing<Global>>,
+    heap: &Refusing<Global>,
+    header: &HeaderLoader<A>,
     rest: &[u8],
-    rooms: Vec<Vec<u8, &'a Refusing<Global>>, &'a Refusing<Global>>,
+    rooms: Vec<Vec<u8, A>, A>,
 ) -> Result<u64, Fail> {
     let before = heap.asked();
     let placed = header.place_in(&[0x1000, 0x0002_0000], rooms);
@@ -225,24 +276,30 @@ fn allocations<'a>(
     Ok(heap.asked().wrapping_sub(before))
 }
 
+// Loads `TWO_HUNKS` without rooms and with them, at an allocator that counts in `heap`.
+fn loads_in_rooms<A: Allocator + Copy>(
+    rt: &impl Abort,
+    heap: &Refusing<Global>,
+    alloc: A,
+    bytes: &[u8],
+) -> Result<(), Fail> {
+    let mut header = HeaderLoader::new(alloc);
+    let taken = header.feed(bytes)?;
+    let rest = bytes.get(taken..).ok_or("no rest")?;
+    let alone = allocations(rt, heap, &header, rest, Vec::new(alloc))?;
+    for given in [1, 2] {
+        let hunks = header.hunks().ok_or("no hunks")?;
+        let rooms = rooms_of(alloc, hunks.get(..given).ok_or("too few hunks")?)?;
+        // Each of the two hunks has bytes, and takes one allocation where it has no room.
+        let beside = allocations(rt, heap, &header, rest, rooms)?;
+        equals(rt, alone.wrapping_sub(beside), given as u64);
+    }
+    Ok(())
+}
+
 #[test]
 fn makes_hunks_in_rooms(rt: HostRuntime) -> Result<(), Fail> {
     let bytes = bytes_of(rt.alloc(), &TWO_HUNKS, &[])?;
     let heap = Refusing::new(rt.alloc(), u64::MAX);
-    let mut header: HeaderLoader<&Refusing<Global>> = HeaderLoader::new(&heap);
-    let taken = header.feed(&bytes)?;
-    let rest = bytes.get(taken..).ok_or("no rest")?;
-    let alone = allocations(&rt, &heap, &header, rest, Vec::new(&heap))?;
-    for given in [1, 2] {
-        let mut rooms = Vec::new(&heap);
-        for hunk in header.hunks().ok_or("no hunks")?.iter().take(given) {
-            let mut room = Vec::with_capacity(&heap, 4 * hunk.size as usize)?;
-            room.resize(4 * hunk.size as usize, 0xFF)?;
-            rooms.push(room)?;
-        }
-        // Each of the two hunks has bytes, and takes one allocation where it has no room.
-        let beside = allocations(&rt, &heap, &header, rest, rooms)?;
-        equals(&rt, alone.wrapping_sub(beside), given as u64);
-    }
-    Ok(())
+    loads_in_rooms(&rt, &heap, &heap, &bytes)
 }

@@ -3,7 +3,7 @@
 use super::asserts::{equals, equals_at};
 use hunk_test_support::Refusing;
 use hunk_words::{Room, Sink, Text, Watched, WriteFault};
-use std::alloc::Global;
+use std::alloc::{Allocator, Global};
 use std::process::Abort;
 use std::test::Fail;
 
@@ -93,31 +93,31 @@ fn stops_at_each_byte(rt: HostRuntime) -> Result<(), Fail> {
     Ok(())
 }
 
+// Puts bytes to a writer that fails after so many of them. Later it would take more.
+fn stops_after<W: Sink>(rt: &impl Abort, writer: &mut W, written: u64) {
+    let mut text = Text::new(writer);
+    text.put(b"a");
+    text.put(&[b'b'; 64]);
+    text.put(b"c");
+    text.end_line();
+    equals_at(rt, &written, text.written(), written);
+    let fault = WriteFault::Device { written };
+    equals_at(rt, &written, text.finish(), Err(fault));
+}
+
+// The same to memory of which one allocation fails.
+fn takes_only<A: Allocator + Copy>(rt: &impl Abort, alloc: A, front: &[u8]) {
+    let mut writer = Watched::new(Vec::new(alloc));
+    stops_after(rt, &mut writer, front.len() as u64);
+    equals_at(rt, &front, writer.into_inner().as_slice(), front);
+}
+
 // After a write that failed, each of these writers would take more bytes.
 #[test]
 fn writes_nothing_after_a_failed_write(rt: HostRuntime) -> Result<(), Fail> {
     for (refused, front) in [(0, ""), (1, "a")] {
         let heap = Refusing::new(rt.alloc(), refused);
-        let mut writer = Watched::new(Vec::new(&heap));
-        let mut text = Text::new(&mut writer);
-        text.put(b"a");
-        text.put(&[b'b'; 64]);
-        text.put(b"c");
-        text.end_line();
-        let written = front.len() as u64;
-        equals_at(&rt, &refused, text.written(), written);
-        equals_at(
-            &rt,
-            &refused,
-            text.finish(),
-            Err(WriteFault::Device { written }),
-        );
-        equals_at(
-            &rt,
-            &refused,
-            writer.into_inner().as_slice(),
-            front.as_bytes(),
-        );
+        takes_only(&rt, &heap, front.as_bytes());
     }
     Ok(())
 }

@@ -50,33 +50,36 @@ fn are_symbols<A: Allocator + Copy>(
     wanted: &Hunk<'_>,
 ) {
     equals_at(rt, &wanted, symbols.len(), wanted.symbols.len());
-    for ((name, value), (bytes, number)) in symbols.iter().zip(wanted.symbols) {
-        equals_at(rt, &wanted, name.bytes(), *bytes);
-        equals_at(rt, &wanted, *value, *number);
+    for (index, (name, value)) in symbols.iter().enumerate() {
+        let symbol = Some((name.bytes(), *value));
+        equals_at(rt, &wanted, symbol, wanted.symbols.get(index).copied());
     }
 }
 
 // These debug blocks are the expected ones.
 fn are_debugs<A: Allocator + Copy>(rt: &impl Abort, debugs: &[Vec<u32, A>], wanted: &Hunk<'_>) {
     equals_at(rt, &wanted, debugs.len(), wanted.debugs.len());
-    for (debug, words) in debugs.iter().zip(wanted.debugs) {
-        equals_at(rt, &wanted, debug.as_slice(), *words);
+    for (index, debug) in debugs.iter().enumerate() {
+        let block = Some(debug.as_slice());
+        equals_at(rt, &wanted, block, wanted.debugs.get(index).copied());
     }
 }
 
 // The sites of a hunk are the expected ones.
 fn has_sites<A: Allocator + Copy>(rt: &impl Abort, hunk: &UnitHunk<A>, wanted: &Hunk<'_>) {
     equals_at(rt, &wanted, hunk.sites().walk().count(), wanted.sites.len());
-    for ((offset, adds), (at, other)) in hunk.sites().walk().zip(wanted.sites) {
-        equals_at(rt, &wanted, (offset, *adds), (*at, *other));
+    for (index, (offset, adds)) in hunk.sites().walk().enumerate() {
+        let site = Some((offset, *adds));
+        equals_at(rt, &wanted, site, wanted.sites.get(index).copied());
     }
 }
 
 // The names that a hunk refers to are the expected ones.
 fn are_references<A: Allocator + Copy>(rt: &impl Abort, references: &[Name<A>], wanted: &Hunk<'_>) {
     equals_at(rt, &wanted, references.len(), wanted.references.len());
-    for (name, bytes) in references.iter().zip(wanted.references) {
-        equals_at(rt, &wanted, name.bytes(), *bytes);
+    for (index, name) in references.iter().enumerate() {
+        let bytes = Some(name.bytes());
+        equals_at(rt, &wanted, bytes, wanted.references.get(index).copied());
     }
 }
 
@@ -87,9 +90,9 @@ fn are_definitions<A: Allocator + Copy>(
     wanted: &Hunk<'_>,
 ) {
     equals_at(rt, &wanted, definitions.len(), wanted.definitions.len());
-    for ((name, definition), (bytes, other)) in definitions.iter().zip(wanted.definitions) {
-        equals_at(rt, &wanted, name.bytes(), *bytes);
-        equals_at(rt, &wanted, *definition, *other);
+    for (index, (name, definition)) in definitions.iter().enumerate() {
+        let defined = Some((name.bytes(), *definition));
+        equals_at(rt, &wanted, defined, wanted.definitions.get(index).copied());
     }
 }
 
@@ -124,6 +127,17 @@ pub(crate) fn is_copied<A: Allocator + Copy>(
     are_debugs(rt, debugs, wanted);
 }
 
+// A unit is this one.
+fn is_unit<A: Allocator + Copy>(rt: &impl Abort, unit: &ProgramUnit<A>, wanted: &Unit<'_>) {
+    equals_at(rt, &wanted, unit.name().bytes(), wanted.name);
+    equals_at(rt, &wanted, unit.hunks().len(), wanted.hunks.len());
+    for (index, want) in wanted.hunks.iter().enumerate() {
+        if let Some(hunk) = unit.hunks().get(index) {
+            is_hunk(rt, hunk, want);
+        }
+    }
+}
+
 /// These units are the expected ones.
 pub(crate) fn are_units<A: Allocator + Copy>(
     rt: &impl Abort,
@@ -131,11 +145,9 @@ pub(crate) fn are_units<A: Allocator + Copy>(
     wanted: &[Unit<'_>],
 ) {
     equals(rt, units.len(), wanted.len());
-    for (unit, want) in units.iter().zip(wanted) {
-        equals_at(rt, &want, unit.name().bytes(), want.name);
-        equals_at(rt, &want, unit.hunks().len(), want.hunks.len());
-        for (hunk, other) in unit.hunks().iter().zip(want.hunks) {
-            is_hunk(rt, hunk, other);
+    for (index, want) in wanted.iter().enumerate() {
+        if let Some(unit) = units.get(index) {
+            is_unit(rt, unit, want);
         }
     }
 }

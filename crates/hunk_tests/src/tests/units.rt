@@ -248,7 +248,8 @@ fn copies_symbols_and_debug_blocks(rt: HostRuntime) -> Result<(), Fail> {
     equals(&rt, units.len(), 1);
     for unit in &units {
         equals(&rt, unit.hunks().len(), ASSEMBLED_HUNKS.len());
-        for (hunk, wanted) in unit.hunks().iter().zip(&ASSEMBLED_HUNKS) {
+        for (index, wanted) in ASSEMBLED_HUNKS.iter().enumerate() {
+            let hunk = unit.hunks().get(index).ok_or("no such hunk")?;
             let symbols = hunk.copy_symbols(rt.alloc())?;
             let debugs = hunk.copy_debugs(rt.alloc())?;
             is_copied(&rt, &symbols, &debugs, wanted);
@@ -340,6 +341,19 @@ fn refuses_each_growth_of_an_object_file(rt: HostRuntime) -> Result<(), Fail> {
     refuses_each_growth_of(&rt, rt.alloc(), &REFERS, &[REFERS_UNIT], 6)
 }
 
+// Reads these bytes, and returns why they are refused.
+fn fault_of<A: Allocator + Copy>(alloc: A, bytes: Vec<u8>) -> Option<ReadFault> {
+    let mut reader = Pieces::new(bytes, ROOM, None);
+    read_object(alloc, &mut reader).err()
+}
+
+// Decodes these bytes, which are taken, and returns why the end is refused.
+fn end_of<A: Allocator + Copy>(rt: &impl Abort, alloc: A, bytes: &[u8]) -> Option<Refusal> {
+    let mut decoder = ObjectDecoder::new(alloc);
+    equals(rt, decoder.feed(bytes), Ok(()));
+    decoder.finish().err()
+}
+
 // A number in the file reserves no memory.
 #[test]
 fn allocates_for_what_has_come(rt: HostRuntime) -> Result<(), Fail> {
@@ -350,13 +364,10 @@ fn allocates_for_what_has_come(rt: HostRuntime) -> Result<(), Fail> {
         reason: Reason::UnexpectedEnd,
     });
     let heap = Refusing::new(rt.alloc(), u64::MAX);
-    let mut reader = Pieces::new(bytes.clone()?, ROOM, None);
-    let got = read_object(&heap, &mut reader).err();
+    let got = fault_of(&heap, bytes.clone()?);
     equals(&rt, got, Some(ReadFault::Refused(early)));
     holds(&rt, &("growths", heap.asked()), heap.asked() <= 4);
     let small = LocalHeap::new(rt.alloc(), BUDGET)?;
-    let mut decoder = ObjectDecoder::new(&small);
-    equals(&rt, decoder.feed(&bytes), Ok(()));
-    equals(&rt, decoder.finish().err(), Some(early));
+    equals(&rt, end_of(&rt, &small, &bytes), Some(early));
     Ok(())
 }

@@ -54,13 +54,14 @@ pub(crate) static SCATTERED_HUNKS: [Hunk<'static>; 2] = [
 // The lists of a hunk for a debugger are these.
 fn carries<A: Allocator + Copy>(rt: &impl Abort, hunk: &LoadHunk<A>, wanted: &Hunk<'_>) {
     equals_at(rt, &wanted, hunk.symbols.len(), wanted.symbols.len());
-    for ((name, value), (bytes, number)) in hunk.symbols.iter().zip(wanted.symbols) {
-        equals_at(rt, &wanted, name.bytes(), *bytes);
-        equals_at(rt, &wanted, *value, *number);
+    for (index, (name, value)) in hunk.symbols.iter().enumerate() {
+        let symbol = Some((name.bytes(), *value));
+        equals_at(rt, &wanted, symbol, wanted.symbols.get(index).copied());
     }
     equals_at(rt, &wanted, hunk.debugs.len(), wanted.debugs.len());
-    for (debug, words) in hunk.debugs.iter().zip(wanted.debugs) {
-        equals_at(rt, &wanted, debug.as_slice(), *words);
+    for (index, debug) in hunk.debugs.iter().enumerate() {
+        let block = Some(debug.as_slice());
+        equals_at(rt, &wanted, block, wanted.debugs.get(index).copied());
     }
 }
 
@@ -77,8 +78,9 @@ pub(crate) fn is_hunk<A: Allocator + Copy>(rt: &impl Abort, hunk: &LoadHunk<A>, 
         u64::from(wanted.size).saturating_mul(4),
     );
     equals_at(rt, &wanted, hunk.sites.walk().count(), wanted.sites.len());
-    for ((offset, target), (at, number)) in hunk.sites.walk().zip(wanted.sites) {
-        equals_at(rt, &wanted, (offset, *target), (*at, *number));
+    for (index, (offset, target)) in hunk.sites.walk().enumerate() {
+        let site = Some((offset, *target));
+        equals_at(rt, &wanted, site, wanted.sites.get(index).copied());
     }
     carries(rt, hunk, wanted);
 }
@@ -90,8 +92,10 @@ pub(crate) fn are_hunks<A: Allocator + Copy>(
     wanted: &[Hunk<'_>],
 ) {
     equals(rt, hunks.len(), wanted.len());
-    for (hunk, want) in hunks.iter().zip(wanted) {
-        is_hunk(rt, hunk, want);
+    for (index, want) in wanted.iter().enumerate() {
+        if let Some(hunk) = hunks.get(index) {
+            is_hunk(rt, hunk, want);
+        }
     }
 }
 

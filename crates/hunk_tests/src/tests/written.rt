@@ -81,7 +81,7 @@ fn writes(rt: &impl Abort, alloc: Global, text: Text<'_>, most: usize) -> Result
     let got = write_load_with(alloc, text.file, text.form, &mut writer);
     equals(rt, got, Ok(()));
     equals_at(rt, &(most, "a write"), writer.bytes(), text.bytes);
-    assert!(rt; !Sink::failed(&writer));
+    holds(rt, &most, !Sink::failed(&writer));
     Ok(())
 }
 
@@ -132,7 +132,7 @@ fn fails_to_write(
         Some(writer.bytes()),
         text.bytes.get(..room),
     );
-    assert!(rt; Sink::failed(&writer));
+    holds(rt, &room, Sink::failed(&writer));
     Ok(())
 }
 
@@ -163,6 +163,17 @@ fn tells_what_a_writer_took_of_a_file(rt: HostRuntime) -> Result<(), Fail> {
     fails_at_each_byte(&rt, rt.alloc(), text)
 }
 
+// Reads the file of these bytes, and writes it in this form.
+fn rewrite<A: Allocator + Copy>(
+    alloc: A,
+    bytes: Vec<u8>,
+    form: LoadForm,
+    writer: &mut Room,
+) -> Result<Result<(), WriteFault>, Fail> {
+    let file = file_of(alloc, bytes)?;
+    Ok(write_load_with(alloc, &file, form, writer))
+}
+
 /// A file in this form is written with each allocation failing in turn: exactly the bytes up to the
 /// relocation blocks of the first hunk that has sites, and then, after at least `least` allocations,
 /// with none failing. The allocations to read the file come before those to write it.
@@ -179,9 +190,8 @@ pub(crate) fn is_written_up_to(
     for number in 0..MOST_GROWTHS {
         let refused = before.saturating_add(number);
         let heap = Refusing::new(alloc, refused);
-        let file = file_of(&heap, text.to_vec(alloc)?)?;
         let mut writer = Room::new(alloc, 64, text.len(), false)?;
-        let got = write_load_with(&heap, &file, form, &mut writer);
+        let got = rewrite(&heap, text.to_vec(alloc)?, form, &mut writer)?;
         if heap.asked() <= refused {
             equals(rt, got, Ok(()));
             equals(rt, writer.bytes(), text);
@@ -201,7 +211,7 @@ pub(crate) fn is_written_up_to(
             text.get(..front),
             Some(writer.bytes()),
         );
-        assert!(rt; !Sink::failed(&writer));
+        holds(rt, &number, !Sink::failed(&writer));
     }
     holds(rt, &("growths", growths), least <= growths);
     Ok(())
