@@ -15,8 +15,8 @@ fn sites_of<A: Allocator + Copy>(alloc: A, hunk: &Hunk<'_>) -> Result<Sites<u32,
     Ok(sites)
 }
 
-// The hunk of these fields, without symbols and debug blocks.
-fn hunk_of<A: Allocator + Copy>(alloc: A, hunk: &Hunk<'_>) -> Result<LoadHunk<A>, Fail> {
+/// The hunk of these fields, without symbols and debug blocks.
+pub(crate) fn hunk_of<A: Allocator + Copy>(alloc: A, hunk: &Hunk<'_>) -> Result<LoadHunk<A>, Fail> {
     Ok(LoadHunk {
         kind: hunk.kind,
         memory: hunk.memory,
@@ -42,5 +42,15 @@ pub(crate) fn file_of_hunks<A: Allocator + Copy>(
     alloc: A,
     rows: &[Hunk<'_>],
 ) -> Result<LoadFile<A>, Fail> {
-    Ok(LoadFile::new(hunks_of(alloc, rows)?).map_err(|refusal| refusal.fault)?)
+    file_of_parts(hunks_of(alloc, rows)?)
+}
+
+/// The load file of these hunks.
+pub(crate) fn file_of_parts<A: Allocator + Copy>(
+    hunks: Vec<LoadHunk<A>, A>,
+) -> Result<LoadFile<A>, Fail> {
+    match LoadFile::new(hunks) {
+        Ok(file) => Ok(file),
+        Err(refusal) => Err(refusal.fault.into()),
+    }
 }

@@ -2,7 +2,7 @@
 
 use super::asserts::{equals, equals_at};
 use super::loaded::has_bytes;
-use super::made::file_of_hunks;
+use super::made::{file_of_hunks, file_of_parts, hunk_of};
 use super::values::{EMPTY, Hunk, has_hunks, is_hunk};
 use hunk_loader::load;
 use hunk_loadfile::{HunkKind, LoadFile, LoadHunk, Memory};
@@ -183,19 +183,19 @@ fn trims_each_hunk_alone(rt: HostRuntime) -> Result<(), Fail> {
 #[test]
 fn keeps_symbols_and_debug_blocks(rt: HostRuntime) -> Result<(), Fail> {
     let alloc = rt.alloc();
-    let mut hunks = file_of_rows(alloc, &[CODE])?.into_hunks();
-    for hunk in hunks.iter_mut() {
-        hunk.symbols
-            .push((Name::from_words(alloc, &[0x4100_0000])?, 8))?;
-        hunk.debugs.push(vec![in alloc; 7, 0]?)?;
-    }
+    let mut hunk = hunk_of(alloc, &hunk_of_row(&CODE))?;
+    hunk.symbols
+        .push((Name::from_words(alloc, &[0x4100_0000])?, 8))?;
+    hunk.debugs.push(Vec::from_slice(alloc, &[7, 0])?)?;
+    let mut hunks = Vec::new(alloc);
+    hunks.push(hunk)?;
     let wanted = Hunk {
         content: &[0x4E, 0x71, 0x4E, 0x71],
         symbols: &[(b"A", 8)],
         debugs: &[&[7, 0]],
         ..hunk_of_row(&CODE)
     };
-    has_hunks(&rt, &LoadFile::new(hunks)?.trimmed(), &[wanted]);
+    has_hunks(&rt, &file_of_parts(hunks)?.trimmed(), &[wanted]);
     Ok(())
 }
 

@@ -67,11 +67,11 @@ fn are_debugs<A: Allocator + Copy>(rt: &impl Abort, debugs: &[Vec<u32, A>], want
 
 // The sites of a hunk are the expected ones.
 fn has_sites<A: Allocator + Copy>(rt: &impl Abort, hunk: &UnitHunk<A>, wanted: &Hunk<'_>) {
-    equals_at(rt, &wanted, hunk.sites().walk().count(), wanted.sites.len());
-    for (index, (offset, adds)) in hunk.sites().walk().enumerate() {
-        let site = Some((offset, *adds));
-        equals_at(rt, &wanted, site, wanted.sites.get(index).copied());
+    let mut walk = hunk.sites().walk();
+    for (offset, adds) in wanted.sites {
+        equals_at(rt, &wanted, walk.next(), Some((*offset, adds)));
     }
+    equals_at(rt, &wanted, walk.next(), None);
 }
 
 // The names that a hunk refers to are the expected ones.

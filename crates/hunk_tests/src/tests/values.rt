@@ -65,6 +65,15 @@ fn carries<A: Allocator + Copy>(rt: &impl Abort, hunk: &LoadHunk<A>, wanted: &Hu
     }
 }
 
+// The sites of a hunk are the expected ones.
+fn has_sites<A: Allocator + Copy>(rt: &impl Abort, hunk: &LoadHunk<A>, wanted: &Hunk<'_>) {
+    let mut walk = hunk.sites.walk();
+    for (offset, target) in wanted.sites {
+        equals_at(rt, &wanted, walk.next(), Some((*offset, target)));
+    }
+    equals_at(rt, &wanted, walk.next(), None);
+}
+
 /// A hunk is this one.
 pub(crate) fn is_hunk<A: Allocator + Copy>(rt: &impl Abort, hunk: &LoadHunk<A>, wanted: &Hunk<'_>) {
     equals_at(rt, &wanted, hunk.kind, wanted.kind);
@@ -77,11 +86,7 @@ pub(crate) fn is_hunk<A: Allocator + Copy>(rt: &impl Abort, hunk: &LoadHunk<A>, 
         hunk.sites.limit(),
         u64::from(wanted.size).saturating_mul(4),
     );
-    equals_at(rt, &wanted, hunk.sites.walk().count(), wanted.sites.len());
-    for (index, (offset, target)) in hunk.sites.walk().enumerate() {
-        let site = Some((offset, *target));
-        equals_at(rt, &wanted, site, wanted.sites.get(index).copied());
-    }
+    has_sites(rt, hunk, wanted);
     carries(rt, hunk, wanted);
 }
 
