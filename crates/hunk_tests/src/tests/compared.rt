@@ -1,14 +1,12 @@
 //! Load files that are compared, that are stripped, and in normal form.
 
 use super::asserts::{equals, equals_at};
-use super::made::{file_of_hunks, file_of_parts, hunk_of};
+use super::made::{file_of_hunks, file_of_parts, hunk_with};
 use super::values::{EMPTY, Hunk, has_hunks};
 use hunk_loadfile::{
-    Difference, HunkKind, InfoDifference, LoadFile, LoadHunk, Memory, first_difference,
-    first_info_difference,
+    Difference, HunkKind, InfoDifference, LoadFile, Memory, first_difference, first_info_difference,
 };
 use hunk_test_support::Refusing;
-use hunk_words::Name;
 use std::alloc::{Allocator, Global};
 use std::process::Abort;
 use std::test::Fail;
@@ -191,24 +189,6 @@ fn tells_the_hunk_that_differs(rt: HostRuntime) -> Result<(), Fail> {
     };
     equals(&rt, first_difference(&file, &second), Some(wanted));
     Ok(())
-}
-
-// The hunk of a row, with these symbols and these debug blocks.
-fn hunk_with<A: Allocator + Copy>(
-    alloc: A,
-    row: &Hunk<'_>,
-    symbols: &[(u32, u32)],
-    debugs: &[&[u32]],
-) -> Result<LoadHunk<A>, Fail> {
-    let mut hunk = hunk_of(alloc, row)?;
-    for (name, value) in symbols {
-        hunk.symbols
-            .push((Name::from_words(alloc, &[*name])?, *value))?;
-    }
-    for debug in debugs {
-        hunk.debugs.push(Vec::from_slice(alloc, debug)?)?;
-    }
-    Ok(hunk)
 }
 
 // The file of the code and the zeros, each with these symbols and these debug blocks.

@@ -2,7 +2,7 @@
 
 use super::values::Hunk;
 use hunk_loadfile::{LoadFile, LoadHunk};
-use hunk_words::{SiteRefusal, Sites};
+use hunk_words::{Name, SiteRefusal, Sites};
 use std::alloc::Allocator;
 use std::test::Fail;
 
@@ -15,8 +15,8 @@ fn sites_of<A: Allocator + Copy>(alloc: A, hunk: &Hunk<'_>) -> Result<Sites<u32,
     Ok(sites)
 }
 
-/// The hunk of these fields, without symbols and debug blocks.
-pub(crate) fn hunk_of<A: Allocator + Copy>(alloc: A, hunk: &Hunk<'_>) -> Result<LoadHunk<A>, Fail> {
+// The hunk of these fields, without symbols and debug blocks.
+fn hunk_of<A: Allocator + Copy>(alloc: A, hunk: &Hunk<'_>) -> Result<LoadHunk<A>, Fail> {
     Ok(LoadHunk {
         kind: hunk.kind,
         memory: hunk.memory,
@@ -26,6 +26,25 @@ pub(crate) fn hunk_of<A: Allocator + Copy>(alloc: A, hunk: &Hunk<'_>) -> Result<
         symbols: Vec::new(alloc),
         debugs: Vec::new(alloc),
     })
+}
+
+/// The hunk of these fields, with these symbols, each a name of one longword and a value, and these
+/// debug blocks.
+pub(crate) fn hunk_with<A: Allocator + Copy>(
+    alloc: A,
+    row: &Hunk<'_>,
+    symbols: &[(u32, u32)],
+    debugs: &[&[u32]],
+) -> Result<LoadHunk<A>, Fail> {
+    let mut hunk = hunk_of(alloc, row)?;
+    for (name, value) in symbols {
+        hunk.symbols
+            .push((Name::from_words(alloc, &[*name])?, *value))?;
+    }
+    for debug in debugs {
+        hunk.debugs.push(Vec::from_slice(alloc, debug)?)?;
+    }
+    Ok(hunk)
 }
 
 // The hunks of these fields, without symbols and debug blocks.

@@ -2,12 +2,11 @@
 
 use super::asserts::{equals, equals_at};
 use super::loaded::has_bytes;
-use super::made::{file_of_hunks, file_of_parts, hunk_of};
+use super::made::{file_of_hunks, file_of_parts, hunk_with};
 use super::values::{EMPTY, Hunk, has_hunks, is_hunk};
 use hunk_loader::load;
 use hunk_loadfile::{HunkKind, LoadFile, LoadHunk, Memory};
 use hunk_test_support::Refusing;
-use hunk_words::Name;
 use std::alloc::{Allocator, Global};
 use std::process::Abort;
 use std::test::Fail;
@@ -183,10 +182,8 @@ fn trims_each_hunk_alone(rt: HostRuntime) -> Result<(), Fail> {
 #[test]
 fn keeps_symbols_and_debug_blocks(rt: HostRuntime) -> Result<(), Fail> {
     let alloc = rt.alloc();
-    let mut hunk = hunk_of(alloc, &hunk_of_row(&CODE))?;
-    hunk.symbols
-        .push((Name::from_words(alloc, &[0x4100_0000])?, 8))?;
-    hunk.debugs.push(Vec::from_slice(alloc, &[7, 0])?)?;
+    let debugs: [&[u32]; 1] = [&[7, 0]];
+    let hunk = hunk_with(alloc, &hunk_of_row(&CODE), &[(0x4100_0000, 8)], &debugs)?;
     let mut hunks = Vec::new(alloc);
     hunks.push(hunk)?;
     let wanted = Hunk {
