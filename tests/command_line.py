@@ -113,12 +113,14 @@ def memory(names):
 
 def text_of(options, bases, contents):
     """What is printed of hunks with these bytes at these bases, each with the symbol `s`, with these options."""
-    records = model.records_of(bases, contents) if "--srec" in options else ""
+    hunks = [Hunk(CODE, []) for _ in bases]
+    for hunk in hunks:
+        hunk.symbols = [(b"s", 0)]
     if "--symbols" not in options:
-        return records or model.report_of(bases, contents)
-    if records:
-        return "$$ amihunk\n" + "".join(f"  s ${base:08x}\n" for base in bases) + "$$ \n" + records
-    return "".join(f'{base:08x} hunk {number} "s"\n' for number, base in enumerate(bases))
+        return (model.records_of if "--srec" in options else model.report_of)(bases, contents)
+    if "--srec" in options:
+        return model.symbol_records_of(hunks, bases, contents)
+    return model.symbols_of([hunks], bases)
 
 
 @test
