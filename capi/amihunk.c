@@ -220,7 +220,8 @@ amihunk_status amihunk_linker_open(amihunk_linker *linker, amihunk_memory memory
     const amihunk_memory *before = enter(&memory);
     uint32_t status =
         leave(before, amihunk_c_open_linker(&linker->session, options.strip, options.short_form,
-                                            options.trim, options.keep));
+                                            options.trim, options.keep, options.key[0],
+                                            options.key[1]));
     if (status == AMIHUNK_OK) {
         linker->memory = memory;
     }

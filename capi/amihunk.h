@@ -502,6 +502,8 @@ typedef struct amihunk_options {
     bool trim;       /* leaves out zero longwords at the end of contents that are not relocated */
     bool keep;       /* keeps what is in the object files when they are linked, which
                         amihunk_linker_map and amihunk_linker_get_undefined tell */
+    uint64_t key[2]; /* with which names are hashed: 16 random bytes, where object files may be from
+                        strangers, such as getentropy(options.key, sizeof(options.key)) writes */
 } amihunk_options;
 
 /* A name that hunks refer to and no hunk of the object files defines. */
@@ -555,8 +557,9 @@ amihunk_status amihunk_linker_end_input(amihunk_linker *linker, amihunk_answer *
  * Links the units of all object files, in the order in which they came.
  *
  * The time grows with the bytes of the object files and of the load file, and as n log n with the
- * number of relocations of one hunk. The names are in a hash table, whose hash has no secret key:
- * with names that were made to collide, the time grows with the square of their number.
+ * number of relocations of one hunk. The names are in a hash table: whoever knows the key of its
+ * hash, as everyone does who sees that it was left at zeros, can make names that collide, with which
+ * the time grows with the square of their number. No answer depends on the key.
  *
  * AMIHUNK_OK: the linker is linked, and has the load file. With `keep` it has what is in the object
  * files too, and the hunks of the load file.
@@ -623,10 +626,11 @@ amihunk_status amihunk_linker_get_undefined(amihunk_linker *linker, size_t index
  *       define "main" at 00000000
  *
  * `names` are what the object files are called, the first of them first: `count` strings of bytes
- * of any encoding that end with a zero byte. One that is missing or NULL is empty. `into` and
- * `size` are as in amihunk_loader_line, and so is what is returned: the length of the whole map.
- * The map is empty if the linker is not linked, if it was opened without `keep`, or if its memory
- * has no room for the map. The time grows with the length of the map and of the names.
+ * of any encoding that end with a zero byte. One that is missing or NULL is empty; one that is not
+ * printable ASCII, or has ": " in it, is quoted as all other names are. `into` and `size` are as in
+ * amihunk_loader_line, and so is what is returned: the length of the whole map. The map is empty if
+ * the linker is not linked, if it was opened without `keep`, or if its memory has no room for the
+ * map. The time grows with the length of the map and of the names.
  */
 size_t amihunk_linker_map(amihunk_linker *linker, const char *const *names, size_t count,
                           char *into, size_t size);

@@ -59,7 +59,8 @@ uint32_t amihunk_c_compare(void **first, void **second, bool with_symbols,
 uint32_t amihunk_c_compare_with_itself(void **session, bool with_symbols, amihunk_difference *told);
 uint32_t amihunk_c_check_places(const uint32_t *sizes, size_t size_count, const uint32_t *bases,
                                 size_t base_count, amihunk_answer *answer);
-uint32_t amihunk_c_open_linker(void **session, bool strip, bool short_form, bool trim, bool keep);
+uint32_t amihunk_c_open_linker(void **session, bool strip, bool short_form, bool trim, bool keep,
+                               uint64_t key0, uint64_t key1);
 uint32_t amihunk_c_feed_input(void **session, const uint8_t *piece, size_t size,
                               amihunk_answer *answer);
 uint32_t amihunk_c_end_input(void **session, amihunk_answer *answer);

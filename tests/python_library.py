@@ -65,6 +65,9 @@ class Header(unittest.TestCase):
             for field in body.split(";")[:-1]:
                 if function := re.search(r"\(\*(\w+)\)", field):
                     fields.append((function[1], ctypes.c_void_p))
+                elif array := re.fullmatch(r"(.*)\[(\d+)\]", field.strip(), re.S):
+                    type_, of = without_name(array[1])
+                    fields.append((of, type_of(type_) * int(array[2])))
                 else:
                     type_, of = without_name(field)
                     fields.append((of, type_of(type_)))

@@ -117,7 +117,7 @@ static bool keeps_what_it_links()
     const char *const names[] = {"x.o"};
     char map[sizeof expected];
     amihunk_answer answer;
-    amihunk_options options = {false, false, false, true};
+    amihunk_options options = {false, false, false, true, {1, 2}};
     amihunk_linker linker = {};
     amihunk_undefined undefined;
     bool good = amihunk_linker_open(&linker, amihunk_from_malloc(), options) == AMIHUNK_OK &&
@@ -137,7 +137,7 @@ static bool links_and_loads()
     static unsigned char room[16384];
     const uint32_t sizes[] = {1, 4}, bases[] = {0x1000, 0x2000};
     amihunk_answer answer;
-    amihunk_options options = {true, false, true, false};
+    amihunk_options options = {true, false, true, false, {0, 0}};
     amihunk_linker linker = {};
     amihunk_loader loader = {};
     bool good = amihunk_linker_open(&linker, amihunk_from_malloc(), options) == AMIHUNK_OK &&

@@ -129,7 +129,8 @@ static void check_missing(const struct file *files, size_t count, uint64_t unit,
 {
     static const size_t pieces[] = {0, 1, 3, 5};
     for (size_t i = 0; i < COUNT(pieces); i++) {
-        const amihunk_options options = {i == 0, i == 1, i == 2, true};
+        const amihunk_options options = {
+            .strip = i == 0, .short_form = i == 1, .trim = i == 2, .keep = true, .key = {i, ~i}};
         struct counted counted = {0};
         struct file copies[MOST_FILES];
         for (size_t k = 0; k < count; k++) {

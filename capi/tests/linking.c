@@ -156,7 +156,10 @@ static void what_is_linked_can_be_loaded(void)
     static const uint32_t bases[] = {0x10000, 0x20000};
     const struct file files[] = {caller(), definer()};
     for (unsigned bits = 0; bits < 16; bits++) {
-        amihunk_options options = {bits & 1, (bits & 2) != 0, (bits & 4) != 0, (bits & 8) != 0};
+        const amihunk_options options = {.strip = bits & 1,
+                                         .short_form = (bits & 2) != 0,
+                                         .trim = (bits & 4) != 0,
+                                         .keep = (bits & 8) != 0};
         amihunk_linker linker = {0};
         amihunk_loader loader = {0};
         amihunk_bytes file;

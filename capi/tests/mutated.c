@@ -99,11 +99,14 @@ static void object_files_in_pieces_and_whole(void)
         static struct file (*const kinds[])(void) = {caller, definer, table, assembled};
         struct file files[] = {definer(), mutated(kinds[dice(COUNT(kinds))]()), caller()};
         size_t first = dice(2), count = 3 - first;
-        amihunk_options options = {dice(2) == 0, dice(2) == 0, dice(2) == 0, false};
+        amihunk_options options = {
+            .strip = dice(2) == 0, .short_form = dice(2) == 0, .trim = dice(2) == 0};
         struct counted counted = {0};
         amihunk_linker whole = {0}, pieces = {0};
         CHECK(amihunk_linker_open(&whole, amihunk_from_malloc(), options) == AMIHUNK_OK);
         options.keep = i % 2 != 0;
+        options.key[0] = dice(1u << 30);
+        options.key[1] = dice(1u << 30);
         CHECK(amihunk_linker_open(&pieces, counted_memory(&counted), options) == AMIHUNK_OK);
         amihunk_answer answer = link_pieces(&whole, files + first, count, 0);
         amihunk_answer other = link_at_random(&pieces, files + first, count);

@@ -57,7 +57,7 @@ class Linker(ctypes.Structure):
 
 
 class Options(ctypes.Structure):
-    _fields_ = [("strip", c_bool), ("short_form", c_bool), ("trim", c_bool), ("keep", c_bool)]
+    _fields_ = [("strip", c_bool), ("short_form", c_bool), ("trim", c_bool), ("keep", c_bool), ("key", c_uint64 * 2)]
 
 
 class Undefined(ctypes.Structure):

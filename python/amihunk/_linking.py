@@ -2,6 +2,7 @@
 from __future__ import annotations
 
 import ctypes
+import os
 from typing import Iterable, Tuple
 
 from . import _library as c
@@ -30,7 +31,7 @@ def link(
     while they are linked, which takes more memory.
     """
     with Handle("linker", c.Linker, names) as linker:
-        link_files(linker, files, c.Options(bool(strip), bool(short), bool(trim), bool(explain)))
+        link_files(linker, files, options_of(strip, short, trim, explain))
         return linked_bytes(linker)
 
 
@@ -40,11 +41,18 @@ def link_with_map(
     """Links as `link` does with `explain`, and returns the bytes of the load file, and its map: what `amihunk link --map` writes.
 
     The map has a line for each hunk of the load file, which says where it is from, and one for each name that this hunk defines.
-    It has the `names` of the files as they are, in the encoding of the file system. All else is ASCII.
+    It has the `names` of the files as they are, but for one that is not printable ASCII or has `: ` in it: that one is quoted as all
+    other names are.
     """
     with Handle("linker", c.Linker, names) as linker:
-        link_files(linker, files, c.Options(bool(strip), bool(short), bool(trim), True))
+        link_files(linker, files, options_of(strip, short, trim, True))
         return linked_bytes(linker), map_of(linker)
+
+
+def options_of(strip: bool, short: bool, trim: bool, keep: bool) -> c.Options:
+    """How a linker links. It hashes names with a random key, so that nobody can make names that collide."""
+    key = (ctypes.c_uint64 * 2).from_buffer_copy(os.urandom(16))
+    return c.Options(bool(strip), bool(short), bool(trim), bool(keep), key)
 
 
 def link_files(linker: Handle, files: Iterable[File], options: c.Options) -> None:

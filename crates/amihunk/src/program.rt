@@ -13,18 +13,21 @@ ghost use Rattle.amihunk.specs.CommandLine.{names_line, normal_line, show_line, 
 
 use crate::command_line::{read_words, refuse_bytes};
 use hunk_commands::{
-    Failure, Output, Printer, Request, Store, System, Text, answer, report_failure,
+    Failure, Output, Printer, Request, Store, System, Text, answer, random_key, report_failure,
 };
+use hunk_tool::NameHasher;
 use hunk_words::Sink;
 use std::alloc::Global;
 use std::convert::AsStr;
 use std::io::ErrorKind;
+use std::random::RandomSource;
 use std::rt::{Env, Files};
 use std::{env, io};
 
 /// Does what the system's command line asks for with the system's files, and prints to the standard output.
-/// Returns the exit status.
-pub fn begin<R: Env + Files + Print + AllocGlobal, W: Sink>(
+/// Names are hashed with a key from the system's source of random bytes, or with one that is no secret where
+/// it has none. Returns the exit status.
+pub fn begin<R: Env + Files + Print + RandomSource + AllocGlobal, W: Sink>(
     rt: &R,
     errors: &mut W,
     has_stack: bool,
@@ -33,7 +36,11 @@ pub fn begin<R: Env + Files + Print + AllocGlobal, W: Sink>(
     ensures status { result ≤ 4 }
 {
     match Printer::new(rt.alloc(), io::writer(rt)) {
-        Ok(mut output) => start(rt, &mut System::new(rt), &mut output, errors, has_stack),
+        Ok(mut output) => {
+            let hasher = NameHasher::new(random_key(rt));
+            let mut system = System::new(rt, hasher);
+            start(rt, &mut system, &mut output, errors, has_stack)
+        }
         Err(_) => report_failure(errors, &[], &Failure::out_of_memory()),
     }
 }

@@ -7,6 +7,7 @@ use Rattle.hunk_base.specs.Longwords.{longwords, unfinished}
 use Rattle.hunk_words.specs.declared.event.FileKind.TheVariants.{Object}
 use Rattle.hunk_tool.specs.declared.tool_fault.ToolFault.{ToolFault}
 use Rattle.hunk_tool.specs.declared.tool_fault.ToolFault.TheVariants.{Input, OutOfMemory}
+use Rattle.hunk_link.specs.NameHasher.{begun_with}
 use Rattle.amihunk_c.specs.Answers.{plain_answer}
 use Rattle.amihunk_c.specs.Linked.{IsLinkedFile}
 use Rattle.amihunk_c.specs.Linkers.{HasTaken, IsLinkStop, begun}
@@ -19,10 +20,10 @@ use Rattle.amihunk_c.specs.declared.refused.Refused.{Refused}
 use Rattle.amihunk_c.specs.declared.session.Session.{Session}
 use Rattle.amihunk_c.specs.declared.session.Session.TheVariants.{Linking, Linked, Stopped}
 
--- A session begins with these options, before the first input.
-abbrev pub BeginsLinker : LinkerOptions → Session → Type 0
-BeginsLinker options (Linking linker) = HasTaken options [] None linker
-BeginsLinker options session = ⊥
+-- A session begins with these options, before the first input, and hashes names with this key.
+abbrev pub BeginsLinker : LinkerOptions → (key0 key1 : ℕ) → Session → Type 0
+BeginsLinker options key0 key1 (Linking linker) = HasTaken options [] None linker × (linker.hasher.begun ≡ begun_with key0 key1)
+BeginsLinker options key0 key1 session = ⊥
 
 -- ---- a piece
 

@@ -9,7 +9,7 @@ ghost use Rattle.amihunk_c.specs.Linked.{IsLinkedFile};
 ghost use Rattle.amihunk_c.specs.Linkers.{AreTaken, IsLinkStop, IsUndefined, TellsUndefined};
 
 use crate::refused::Refused;
-use hunk_link::{LinkRefusal, link, link_units};
+use hunk_link::{LinkRefusal, NameHasher, link_units_with, link_with};
 use hunk_loadfile::{LoadFile, written_bytes};
 use hunk_tool::{LinkOptions, ObjectFiles, UndefinedName, undefined_names, write_map};
 use hunk_words::{Text, Watched};
@@ -68,11 +68,12 @@ pub(crate) fn link_and_drop(
     files: ObjectFiles,
     ends: &[usize],
     options: LinkOptions,
+    hasher: NameHasher,
 ) -> Result<LinkedFile, Refused>
     ensures linked { IfOk result (λ linked. (inputs : List (List ℕ)) → AreTaken inputs files ends.now → IsLinkedFile (record { link = options; keep = false }) inputs linked) }
     ensures refused { IfErr result (λ refused. (inputs : List (List ℕ)) → AreTaken inputs files ends.now → IsLinkStop (record { link = options; keep = false }) inputs refused refused.fault) }
 {
-    match link_units(alloc, files.into_units(), options.strip) {
+    match link_units_with(alloc, files.into_units(), options.strip, hasher) {
         Ok(linked) => match written(alloc, linked, options) {
             Ok((_, bytes)) => Ok(LinkedFile { bytes, kept: None }),
             Err(_) => Err(Refused::memory()),
@@ -88,11 +89,12 @@ pub(crate) fn link_and_keep(
     files: ObjectFiles,
     ends: &[usize],
     options: LinkOptions,
+    hasher: NameHasher,
 ) -> Result<LinkedFile, Refused>
     ensures linked { IfOk result (λ linked. (inputs : List (List ℕ)) → AreTaken inputs files ends.now → IsLinkedFile (record { link = options; keep = true }) inputs linked) }
     ensures refused { IfErr result (λ refused. (inputs : List (List ℕ)) → AreTaken inputs files ends.now → IsLinkStop (record { link = options; keep = true }) inputs refused refused.fault) }
 {
-    match link(alloc, files.units(), options.strip) {
+    match link_with(alloc, files.units(), options.strip, hasher) {
         Ok(linked) => match written(alloc, linked, options) {
             Ok((file, bytes)) => Ok(LinkedFile {
                 bytes,
@@ -100,7 +102,7 @@ pub(crate) fn link_and_keep(
             }),
             Err(_) => Err(Refused::memory()),
         },
-        Err(refusal) => match undefined_of(alloc, &refusal, &files) {
+        Err(refusal) => match undefined_of(alloc, &refusal, &files, hasher) {
             Ok(undefined) => Err(Refused::link(refusal, ends).with_undefined(undefined)),
             Err(_) => Err(Refused::memory()),
         },
@@ -112,12 +114,13 @@ fn undefined_of(
     alloc: Global,
     refusal: &LinkRefusal,
     files: &ObjectFiles,
+    hasher: NameHasher,
 ) -> Result<Option<Vec<UndefinedName>>, AllocError>
     ensures told { IfOk result (λ told. TellsUndefined files.now refusal.now told) }
     ensures failed { OnErr result (IsUndefined refusal.now) }
 {
     match refusal {
-        LinkRefusal::UndefinedName { .. } => Ok(Some(undefined_names(alloc, files)?)),
+        LinkRefusal::UndefinedName { .. } => Ok(Some(undefined_names(alloc, files, hasher)?)),
         _ => Ok(None),
     }
 }

@@ -8,6 +8,7 @@ ghost use Rattle.hunk_words.specs.declared.event.FileKind.TheVariants.{Object};
 use crate::linked::{LinkedFile, link_and_drop, link_and_keep};
 use crate::refused::Refused;
 use core::mem::replace;
+use hunk_link::NameHasher;
 use hunk_objects::ObjectDecoder;
 use hunk_tool::{LinkOptions, ObjectFiles};
 use hunk_words::Refusal;
@@ -26,6 +27,8 @@ pub struct LinkerOptions {
 #[derive(Drop)]
 pub struct Linker {
     options: LinkerOptions,
+    // how names are hashed
+    hasher: NameHasher,
     files: ObjectFiles,
     // for each input that has ended, the number of units up to its end
     ends: Vec<usize>,
@@ -38,11 +41,13 @@ impl Linker {
     ghost use Rattle.hunk_objects.specs.ObjectDecoder.{StandsFor};
 
     /// A linker before the first input. It does not allocate.
-    pub(crate) fn new(alloc: Global, options: LinkerOptions) -> Linker
-        ensures { HasTaken options [] None result }
+    pub(crate) fn new(alloc: Global, options: LinkerOptions, hasher: NameHasher) -> Linker
+        ensures taken { HasTaken options [] None result }
+        ensures hasher { result.hasher ≡ hasher }
     {
         Linker {
             options,
+            hasher,
             files: ObjectFiles::new(alloc),
             ends: Vec::new(alloc),
             current: None,
@@ -134,9 +139,9 @@ impl Linker {
     {
         let files = replace(&mut self.files, ObjectFiles::new(alloc));
         if self.options.keep {
-            link_and_keep(alloc, files, &self.ends, self.options.link)
+            link_and_keep(alloc, files, &self.ends, self.options.link, self.hasher)
         } else {
-            link_and_drop(alloc, files, &self.ends, self.options.link)
+            link_and_drop(alloc, files, &self.ends, self.options.link, self.hasher)
         }
     }
 }

@@ -13,13 +13,15 @@ use crate::inputs::{end_input, feed_input, link_inputs, linked_in, locate_linked
 use crate::linker::{Linker, LinkerOptions};
 use crate::session::Session;
 use crate::span::Span;
+use hunk_link::NameHasher;
 use hunk_tool::LinkOptions;
 use std::alloc::Global;
 
 /// Begins to link object files. The handle has no session yet. With `strip`, symbols and debug
 /// blocks are left out of the load file; with `short_form` its relocations have 16-bit numbers where
 /// these hold the offset; with `trim` the zeros at the end of contents are cut off; with `keep` what is
-/// in the object files is kept once they are linked, or not linked since a name is not defined.
+/// in the object files is kept once they are linked, or not linked since a name is not defined. Names
+/// are hashed with a key of two numbers, on which no answer depends.
 ///
 /// It answers `OK`, or `OUT_OF_MEMORY`, and then the handle still has no session; `WRONG_STATE` if
 /// the handle has one, which stays.
@@ -31,8 +33,10 @@ pub extern "C" fn amihunk_c_open_linker(
     short_form: bool,
     trim: bool,
     keep: bool,
+    key0: u64,
+    key1: u64,
 ) -> u32
-    ensures { OpensHandle (BeginsLinker (record { link = record { strip = strip; short = short_form; trim = trim }; keep = keep })) handle.old.session handle.new.session result }
+    ensures { OpensHandle (BeginsLinker (record { link = record { strip = strip; short = short_form; trim = trim }; keep = keep }) key0 key1) handle.old.session handle.new.session result }
 {
     let status = match handle.take(alloc) {
         Some(session) => {
@@ -46,7 +50,8 @@ pub extern "C" fn amihunk_c_open_linker(
                 trim,
             };
             let options = LinkerOptions { link, keep };
-            handle.begin(alloc, Session::Linking(Linker::new(alloc, options)))
+            let hasher = NameHasher::new([key0, key1]);
+            handle.begin(alloc, Session::Linking(Linker::new(alloc, options, hasher)))
         }
     };
     status.code()

@@ -12,6 +12,7 @@
 //! - `json_load`, `json_object`: load files and object files as JSON texts.
 //! - `json_pages`: pages of files.
 //! - `json_runs`: files of either kind as JSON, from readers to writers.
+//! - `keys`: keys from sources of random bytes.
 //! - `lines`: lines that reach a writer whole.
 //! - `links`: the load file of object files.
 //! - `loads`: the report and the symbols of a load file.
@@ -41,6 +42,7 @@ mod json_load;
 mod json_object;
 mod json_pages;
 mod json_runs;
+mod keys;
 mod lines;
 mod links;
 mod loads;

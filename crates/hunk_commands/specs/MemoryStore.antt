@@ -2,6 +2,8 @@
 use Rattle.std.specs.Borrow.{Bor}
 use Rattle.std.specs.BTreeMap.{get_by_text}
 use Rattle.std.specs.Prelude.{◌≡◌, ℕ, List, false, IsTrue, Option, Some, None}
+use Rattle.hunk_link.specs.NameHasher.{begun_with}
+use Rattle.hunk_link.specs.declared.name_hasher.NameHasher.{NameHasher}
 use Rattle.hunk_tool.specs.FileSystem.{FileContent}
 use Rattle.hunk_tool.specs.FileSystem.FileContent.{missing, known, unknown}
 use Rattle.hunk_commands.specs.Store.{Contents}
@@ -28,3 +30,7 @@ found_known (Some bytes) is = cc
 -- so it is not that nothing is known of a file
 pub all_known : (store other : MemoryStore) (name another : List ℕ) → content_in store name ≡ unknown → content_in other another ≡ unknown
 all_known store other name another is = absurd (found_known (get_by_text store.files name) is)
+
+-- how names in its files are hashed: by a key that is no secret
+abbrev pub keyless : NameHasher
+keyless = record { begun = begun_with 0 0 }

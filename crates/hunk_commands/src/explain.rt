@@ -250,7 +250,7 @@ fn explain_refusal<S: Store, W: Sink>(
 {
     let units = units_again(alloc, store, files)?;
     let names = names_of(alloc, files)?;
-    let explanation = explain_link(alloc, &units, refusal)?;
+    let explanation = explain_link(alloc, &units, refusal, store.name_hasher())?;
     let mut text = Text::new(errors);
     write_link_explanation(&mut text, names.as_slice(), &explanation);
     let _ = text.finish();

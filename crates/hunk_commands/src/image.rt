@@ -13,7 +13,7 @@ use crate::inputs::open_inputs;
 use crate::load::LoadText;
 use crate::output::Output;
 use crate::store::Store;
-use hunk_tool::{ToolFault, image_run_with, image_symbols_run};
+use hunk_tool::{NameHasher, ToolFault, image_run_with, image_symbols_run};
 use hunk_words::{Sink, Source};
 use std::alloc::Global;
 
@@ -39,7 +39,15 @@ pub fn image<'a, S: Store, O: Output>(
 {
     let bases = addresses_of(alloc, store, addresses)?;
     let mut inputs = open_inputs(alloc, store, files)?;
-    image_to(alloc, inputs.as_mut_slice(), bases.as_slice(), text, output)?;
+    let hasher = store.name_hasher();
+    image_to(
+        alloc,
+        inputs.as_mut_slice(),
+        bases.as_slice(),
+        text,
+        hasher,
+        output,
+    )?;
     flush(output)
 }
 
@@ -53,6 +61,7 @@ pub fn image_to<R: Source, W: Sink>(
     inputs: &mut [R],
     bases: &[u32],
     text: LoadText,
+    hasher: NameHasher,
     writer: &mut W,
 ) -> Result<(), ToolFault>
     ensures ok { OnOk result (HaveRead (inputs_of R.left R.failed R.ended inputs.old inputs.new) (IsUnitsText (is_stripped text) (units_text text) bases.now (W.taken writer.old) (W.taken writer.new))) }
@@ -60,7 +69,7 @@ pub fn image_to<R: Source, W: Sink>(
         (record { old = W.taken writer.old; new = W.taken writer.new; failed = W.failed writer.new })) }
 {
     match text {
-        LoadText::Image(form) => image_run_with(alloc, inputs, bases, form, writer),
-        LoadText::Symbols(form) => image_symbols_run(alloc, inputs, bases, form, writer),
+        LoadText::Image(form) => image_run_with(alloc, inputs, bases, form, hasher, writer),
+        LoadText::Symbols(form) => image_symbols_run(alloc, inputs, bases, form, hasher, writer),
     }
 }

@@ -25,6 +25,7 @@
 //!   a buffer.
 //! - `same_file`: whether two names are of one file.
 //! - `open_fault`: why a file cannot be opened or created.
+//! - `random`: a key from its source of random bytes.
 //! - `printer`: the standard output behind a buffer; `lines`: lines that reach standard error whole.
 //!
 //! And over no system:
@@ -53,6 +54,7 @@ mod new_file;
 mod open_fault;
 mod output;
 mod printer;
+mod random;
 mod replacement;
 mod request;
 mod same_file;
@@ -73,6 +75,7 @@ pub use load::LoadText;
 pub use memory_store::{MemoryFile, MemoryStore, NewBytes};
 pub use output::Output;
 pub use printer::Printer;
+pub use random::random_key;
 pub use request::{Request, answer};
 pub use store::Store;
 pub use system::System;

@@ -15,13 +15,13 @@ use crate::inputs::open_inputs;
 use crate::store::Store;
 use hunk_loadfile::{LoadFile, write_load_with};
 use hunk_tool::{
-    LinkOptions, ObjectFiles, ToolFault, link_files, link_inputs, link_run, write_map,
+    LinkOptions, ObjectFiles, ToolFault, link_files, link_inputs, link_run_with, write_map,
 };
 use hunk_words::{Sink, Text, WriteFault};
 use std::alloc::Global;
 
 /// Links the object files named `files`, and puts their load file in the place of the file named `out`,
-/// as `options` say: [`link_run`], over what replaces `out`.
+/// as `options` say: [`link_run_with`], over what replaces `out`.
 ///
 /// Nothing is done to `out` before the files have been linked, so it may be one of them. Whatever fails,
 /// it is what it was, or the whole load file: unless it is a device or a pipe, or its directory takes no
@@ -31,7 +31,7 @@ use std::alloc::Global;
 ///
 /// - [`Failure::Opening`] with the first of `files` that cannot be opened, or with `out` if it
 ///   cannot be created or replaced.
-/// - [`Failure::Tool`] with what [`link_run`] returns, or out of memory.
+/// - [`Failure::Tool`] with what [`link_run_with`] returns, or out of memory.
 /// - [`Failure::Printing`] if `out` did not take everything that was written to it.
 pub fn link<'a, S: Store>(
     alloc: Global,
@@ -46,7 +46,8 @@ pub fn link<'a, S: Store>(
 {
     let mut inputs = open_inputs(alloc, store, files)?;
     let mut new = begin(store, out)?;
-    let ran = link_run(alloc, inputs.as_mut_slice(), options, &mut new);
+    let hasher = store.name_hasher();
+    let ran = link_run_with(alloc, inputs.as_mut_slice(), options, hasher, &mut new);
     drop(inputs);
     store.finish(out, new, ran)
 }
@@ -109,7 +110,8 @@ pub(crate) fn linked<'a, S: Store>(
     ensures err { IfErr result (AreUnlinked strip (S.content store.now) (file_names files.entry.now)) }
 {
     let mut inputs = open_inputs(alloc, store, files)?;
-    Ok(link_inputs(alloc, inputs.as_mut_slice(), strip)?)
+    let hasher = store.name_hasher();
+    Ok(link_inputs(alloc, inputs.as_mut_slice(), strip, hasher)?)
 }
 
 /// The same load file, with the units of the object files.
@@ -125,7 +127,8 @@ fn linked_files<'a, S: Store>(
     ensures err { IfErr result (AreUnlinked strip (S.content store.now) (file_names files.entry.now)) }
 {
     let mut inputs = open_inputs(alloc, store, files)?;
-    Ok(link_files(alloc, inputs.as_mut_slice(), strip)?)
+    let hasher = store.name_hasher();
+    Ok(link_files(alloc, inputs.as_mut_slice(), strip, hasher)?)
 }
 
 /// Puts a load file in the place of the file named `out`, as `options` say, and returns it as it was

@@ -5,7 +5,7 @@ ghost use Rattle.std.specs.Prelude.{◌≡◌, [], ℕ, List, Some, false, IsTru
 use crate::failure::Failure;
 use crate::store::Store;
 use bumpalo::Bump;
-use hunk_tool::{FileSystem, OpenFault, ToolFault};
+use hunk_tool::{FileSystem, NameHasher, OpenFault, ToolFault};
 use hunk_words::{DeviceFault, Sink, Source};
 use std::alloc::{AllocError, Global};
 use std::collections::BTreeMap;
@@ -149,6 +149,8 @@ impl<'m> FileSystem for MemoryStore<'m> {
 }
 
 impl<'m> Store for MemoryStore<'m> {
+    ghost use Rattle.hunk_commands.specs.MemoryStore.{keyless};
+
     type New = NewBytes;
 
     fn is_regular(&self, name: &str) -> bool {
@@ -165,6 +167,12 @@ impl<'m> Store for MemoryStore<'m> {
 
     fn is_one_file(&self, first: &str, second: &str) -> bool {
         first == second
+    }
+
+    ghost name_hasher = { λ store. keyless };
+
+    fn name_hasher(&self) -> NameHasher {
+        NameHasher::new([0; 2])
     }
 
     fn begin(&self, _name: &str) -> Result<NewBytes, AllocError> {

@@ -37,7 +37,7 @@ pub fn print_names<'a, S: Store, O: Output>(
     ensures err { IfErr result (IsNamesFailure (S.content store.now) (file_names files.entry.now) (printed_of O.taken O.failed O.waiting output.old output.new)) }
 {
     let named = named_files(alloc, store, files)?;
-    let Ok(names) = NameList::of(alloc, &named) else {
+    let Ok(names) = NameList::of(alloc, &named, store.name_hasher()) else {
         return Err(Failure::out_of_memory());
     };
     let Ok(()) = write_list(&names, output) else {

@@ -1,11 +1,12 @@
 //! The files that the program reads and replaces.
 
 ghost use Rattle.std.specs.Prelude.{◌≡◌, ◌≢◌, true, false, IfErr, IfOk, OnErr, OnOk};
+ghost use Rattle.hunk_link.specs.declared.name_hasher.NameHasher.{NameHasher as Hasher};
 ghost use Rattle.hunk_tool.specs.FileSystem.{MayBeMissing};
 ghost use Rattle.hunk_commands.specs.Store.{AreUnchanged, HasRun, IsBegun, IsCauseOf, IsKnown, IsReplaced};
 
 use crate::failure::Failure;
-use hunk_tool::{FileSystem, ToolFault};
+use hunk_tool::{FileSystem, NameHasher, ToolFault};
 use hunk_words::Sink;
 use std::alloc::AllocError;
 
@@ -31,6 +32,12 @@ pub trait Store: FileSystem {
     fn is_one_file(&self, first: &str, second: &str) -> bool
         ensures same { first.now ≡ second.now → result ≡ true }
         ensures apart { IsKnown (Self.content self.now first.now) → first.now ≢ second.now → result ≡ false };
+
+    ghost name_hasher: { Self → Hasher };
+
+    /// How the names in files are hashed, which may be from strangers. No outcome depends on it.
+    fn name_hasher(&self) -> NameHasher
+        ensures { result ≡ name_hasher self.now };
 
     /// Begins what is to take the place of the file named `name`. No file is touched.
     ///

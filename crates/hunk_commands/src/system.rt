@@ -1,4 +1,5 @@
 //! The files of the operating system, or of what stands for it.
+ghost use Rattle.std.specs.Prelude.{◌≡◌};
 
 use crate::failure::Failure;
 use crate::open_fault::reason_of;
@@ -6,7 +7,7 @@ use crate::replacement::Replacement;
 use crate::same_file::is_one_file;
 use crate::store::Store;
 use crate::system_file::SystemFile;
-use hunk_tool::{FileSystem, OpenFault, ToolFault};
+use hunk_tool::{FileSystem, NameHasher, OpenFault, ToolFault};
 use std::alloc::AllocError;
 use std::fs;
 use std::fs::OpenFile;
@@ -16,12 +17,15 @@ use std::rt::Files;
 #[derive(Drop)]
 pub struct System<'r, R: Files + AllocGlobal> {
     rt: &'r R,
+    hasher: NameHasher,
 }
 
 impl<'r, R: Files + AllocGlobal> System<'r, R> {
-    /// The files that `rt` opens.
-    pub fn new(rt: &'r R) -> System<'r, R> {
-        System { rt }
+    /// The files that `rt` opens. The names in them are hashed so.
+    pub fn new(rt: &'r R, hasher: NameHasher) -> System<'r, R>
+        ensures { result.hasher ≡ hasher }
+    {
+        System { rt, hasher }
     }
 }
 
@@ -65,6 +69,12 @@ impl<'r, R: Files + AllocGlobal> Store for System<'r, R> {
 
     fn is_one_file(&self, first: &str, second: &str) -> bool {
         is_one_file(self.rt, first, second)
+    }
+
+    ghost name_hasher = { λ system. system.hasher };
+
+    fn name_hasher(&self) -> NameHasher {
+        self.hasher
     }
 
     fn begin(&self, name: &str) -> Result<Replacement<'r, R>, AllocError> {

@@ -16,27 +16,6 @@ use Rattle.hunk_link.specs.declared.refusal.LinkRefusal.TheVariants.{DuplicateNa
 use Rattle.hunk_link.specs.declared.symbol_table.Defined.{Defined}
 use Rattle.hunk_link.proofs.FirstToBreakLemmas.{first-front}
 
--- ---- the table as entries of a map, whose keys are references
-
-abbrev pub Entries : Type 0
-Entries = List (Bor (List ℕ) × Defined)
-
-abbrev pub table_seen : Entries → Table
-table_seen entries = map (λ e. (e.0.now, e.1)) entries
-
-abbrev pub same_name : Bor (List ℕ) → Bor (List ℕ) → Bool
-same_name one other = pointwise nat_eq one.now other.now
-
-pub look_up-seen : (entries : Entries) (name : List ℕ) → look_up (table_seen entries) name ≡ lookup (λ key. pointwise nat_eq name key.now) entries
-look_up-seen [] name = refl
-look_up-seen (e ∷ entries) name = ap (λ found. cond (pointwise nat_eq name e.0.now) (Some e.1) found) (look_up-seen entries name)
-
--- a name that the map does not have goes last
-pub table_seen-insert : {S : Type 0} (m : IndexMap (Bor (List ℕ)) Defined S) (name : Bor (List ℕ)) (defined : Defined)
-    → get same_name m name ≡ None → table_seen (insert_entry same_name m.entries name defined) ≡ table_seen m.entries ++ (name.now, defined) ∷ []
-table_seen-insert m name defined absent =
-    ap table_seen (insert_entry-new same_name m name defined absent) ∙ map_push (λ (e : Bor (List ℕ) × Defined). (e.0.now, e.1)) m.entries (name, defined)
-
 -- ---- names that are defined once
 
 different_texts : (one other : List ℕ) → other ≢ one → pointwise nat_eq one other ≡ false

@@ -1,3 +1,4 @@
+pub mod NameHasher
 pub mod Ranks
 pub mod FirstToBreak
 pub mod Limits

@@ -5,7 +5,7 @@
 //! - `limits`: how much units may have that are linked.
 //! - `ranked_hunk`: a hunk with its place in the order of linking.
 //! - `own_hunks`: whether sites name hunks of their own unit.
-//! - `symbol_table`: what each name stands for.
+//! - `symbol_table`: what each name stands for; `name_hasher`: how names are hashed with a key.
 //! - `addend`: what the linker knows of what is added at a site.
 //! - `references`: what the references of hunks add.
 //! - `carried`: the hunks of the load file.
@@ -17,11 +17,15 @@ mod carried;
 pub mod laws;
 mod limits;
 pub mod linking;
+pub mod name_hasher;
+pub mod name_key;
 mod own_hunks;
 mod ranked_hunk;
 mod references;
 pub mod refusal;
 pub mod symbol_table;
 
-pub use linking::{link, link_units};
+pub use linking::{link, link_units, link_units_with, link_with};
+pub use name_hasher::NameHasher;
+pub use name_key::NameKey;
 pub use refusal::LinkRefusal;

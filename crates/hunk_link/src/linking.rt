@@ -22,6 +22,7 @@ use crate::symbol_table::symbol_table;
 use hunk_loadfile::{LoadFile, LoadHunk};
 use hunk_objects::ProgramUnit;
 use std::alloc::Allocator;
+use std::hash::{BuildHasher, BuildHasherDefault, FoldHasher};
 
 /// Links program units into a load file, with copies of what they contain. [`link_units`] moves it
 /// instead.
@@ -31,6 +32,9 @@ use std::alloc::Allocator;
 /// the base of a hunk is still to be added, which the load file numbers over all units (The AmigaDOS
 /// Manual, 3rd edition, "Amiga binary file structure"). Symbols and debug blocks are kept, in order,
 /// or left out with `strip`. The names of units and hunks are left out.
+///
+/// Names are hashed without a secret: whoever makes the units can choose names that collide, which takes
+/// time that grows with the square of their number. [`link_with`] takes a hasher for units of strangers.
 ///
 /// # Errors
 ///
@@ -47,9 +51,31 @@ pub fn link<A: Allocator + Copy>(
     ensures short { IfOk result (λ file. IsShortEnough file) }
     ensures refused { IfErr result (IsLinkRefusal units.now strip) }
 {
+    let hasher = BuildHasherDefault::<FoldHasher>::new();
+    link_with(alloc, units, strip, hasher)
+}
+
+/// Links as [`link`] does, and hashes names with `hasher`, such as a
+/// [`NameHasher`](crate::NameHasher) whose key is secret. What it returns does not depend on it.
+///
+/// # Errors
+///
+/// Those of [`link`].
+pub fn link_with<H: BuildHasher + Drop, A: Allocator + Copy>(
+    alloc: A,
+    units: &[ProgramUnit<A>],
+    strip: bool,
+    hasher: H,
+) -> Result<LoadFile<A>, LinkRefusal<A>>
+    ensures linkable { OnOk result (Linkable units.now strip) }
+    ensures typed { OnOk result (All IsUnit units.now) }
+    ensures file { IfOk result (λ file. file ≡ carried units.now strip) }
+    ensures short { IfOk result (λ file. IsShortEnough file) }
+    ensures refused { IfErr result (IsLinkRefusal units.now strip) }
+{
     let total = check_limits(units, strip)?;
     let hunks = ranked_hunks(alloc, units, total)?;
-    let addends = link_names(alloc, &hunks)?;
+    let addends = link_names(alloc, &hunks, hasher)?;
     let carried = copied_hunks(alloc, &hunks, &addends, strip)?;
     Ok(load_file(carried))
 }
@@ -71,19 +97,41 @@ pub fn link_units<A: Allocator + Copy>(
     ensures short { IfOk result (λ file. IsShortEnough file) }
     ensures refused { IfErr result (IsLinkRefusal units.items strip) }
 {
+    let hasher = BuildHasherDefault::<FoldHasher>::new();
+    link_units_with(alloc, units, strip, hasher)
+}
+
+/// Links as [`link_units`] does, and hashes names with `hasher`, as [`link_with`] does.
+///
+/// # Errors
+///
+/// Those of [`link`].
+pub fn link_units_with<H: BuildHasher + Drop, A: Allocator + Copy>(
+    alloc: A,
+    units: Vec<ProgramUnit<A>, A>,
+    strip: bool,
+    hasher: H,
+) -> Result<LoadFile<A>, LinkRefusal<A>>
+    ensures linkable { OnOk result (Linkable units.items strip) }
+    ensures typed { OnOk result (All IsUnit units.items) }
+    ensures file { IfOk result (λ file. file ≡ carried units.items strip) }
+    ensures short { IfOk result (λ file. IsShortEnough file) }
+    ensures refused { IfErr result (IsLinkRefusal units.items strip) }
+{
     let total = check_limits(&units, strip)?;
     let addends = {
         let hunks = ranked_hunks(alloc, &units, total)?;
-        link_names(alloc, &hunks)?
+        link_names(alloc, &hunks, hasher)?
     };
     let carried = moved_hunks(alloc, units, total, &addends, strip)?;
     Ok(load_file(carried))
 }
 
 /// What all references of the hunks add, in order.
-fn link_names<A: Allocator + Copy>(
+fn link_names<H: BuildHasher + Drop, A: Allocator + Copy>(
     alloc: A,
     hunks: &[RankedHunk<'_, A>],
+    hasher: H,
 ) -> Result<Vec<Addend, A>, LinkRefusal<A>>
     requires { All IsRanked hunks.now }
     ensures own { OnOk result (AllNameOwnHunks (sites_of hunks.now)) }
@@ -93,7 +141,7 @@ fn link_names<A: Allocator + Copy>(
     ensures refused { (strip : Bool) → IsHunkCount hunks.now → IsSmall strip hunks.now → IfErr result (IsFirstReason hunks.now strip) }
 {
     check_own_hunks(hunks)?;
-    let table = symbol_table(alloc, hunks)?;
+    let table = symbol_table(alloc, hunks, hasher)?;
     resolve(alloc, hunks, &table)
 }
 

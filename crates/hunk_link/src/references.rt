@@ -10,12 +10,13 @@ use crate::ranked_hunk::RankedHunk;
 use crate::refusal::LinkRefusal;
 use crate::symbol_table::SymbolTable;
 use std::alloc::Allocator;
+use std::hash::BuildHasher;
 
 /// What the references of the hunks add, in order, by the meanings of the table.
-pub(crate) fn resolve<A: Allocator + Copy>(
+pub(crate) fn resolve<H: BuildHasher + Drop, A: Allocator + Copy>(
     alloc: A,
     hunks: &[RankedHunk<'_, A>],
-    table: &SymbolTable<'_, A>,
+    table: &SymbolTable<'_, H, A>,
 ) -> Result<Vec<Addend, A>, LinkRefusal<A>>
     ensures addends { IfOk result (λ addends. addends.items ≡ flat_map (λ ranked. reference_addends table.now ranked.hunk) hunks.now) }
     ensures defined { OnOk result (AllDefined table.now (references_of hunks.now)) }
@@ -31,11 +32,11 @@ pub(crate) fn resolve<A: Allocator + Copy>(
 }
 
 /// Appends what the references of one hunk add.
-fn resolve_hunk<A: Allocator + Copy>(
+fn resolve_hunk<H: BuildHasher + Drop, A: Allocator + Copy>(
     alloc: A,
     addends: &mut Vec<Addend, A>,
     ranked: &RankedHunk<'_, A>,
-    table: &SymbolTable<'_, A>,
+    table: &SymbolTable<'_, H, A>,
 ) -> Result<(), LinkRefusal<A>>
     ensures addends { OnOk result (addends.new.items ≡ addends.old.items ++ reference_addends table.now ranked.now.hunk) }
     ensures defined { OnOk result (AllDefined table.now (items_of references_in ranked.now)) }

@@ -4,13 +4,14 @@ ghost use Rattle.hunk_link.specs.SymbolTable.{Definition as TableDefinition, Def
 ghost use Rattle.std.specs.List.{All};
 ghost use Rattle.hunk_link.specs.Ranks.{IsRanked, items_of};
 
+use crate::name_key::NameKey;
 use crate::ranked_hunk::RankedHunk;
 use crate::refusal::LinkRefusal;
 use hunk_objects::Definition;
 use hunk_words::Name;
 use indexmap::IndexMap;
 use std::alloc::{AllocError, Allocator, Global};
-use std::hash::{BuildHasherDefault, FoldHasher};
+use std::hash::BuildHasher;
 use std::marker::Model;
 
 /// What a name stands for: the definition, and the rank of the hunk that defines it.
@@ -24,25 +25,23 @@ pub struct Defined {
 
 /// The names that hunks define, in the order of their definitions. The names stay in their hunks.
 #[derive(Drop)]
-pub(crate) struct SymbolTable<'a, A: Allocator + Copy = Global> {
-    entries: IndexMap<&'a [u8], Defined, BuildHasherDefault<FoldHasher>, A>,
+pub(crate) struct SymbolTable<'a, H: BuildHasher + Drop, A: Allocator + Copy = Global> {
+    entries: IndexMap<NameKey<'a>, Defined, H, A>,
 }
 
-impl<'a, A: Allocator + Copy> Model for SymbolTable<'a, A> {
+impl<'a, H: BuildHasher + Drop, A: Allocator + Copy> Model for SymbolTable<'a, H, A> {
     ghost use Rattle.hunk_link.specs.SymbolTable.{Table};
-    ghost use Rattle.std.specs.Prelude.{map};
 
     ghost Value = { Table };
 
-    ghost view = { λ t. map (λ e. (e.0.now, e.1)) t.entries.entries };
+    ghost view = { λ t. t.entries.entries };
 }
 
-impl<'a, A: Allocator + Copy> SymbolTable<'a, A> {
-    /// A table without names, with memory for `count` of them.
-    fn with_capacity(alloc: A, count: usize) -> Result<Self, AllocError>
+impl<'a, H: BuildHasher + Drop, A: Allocator + Copy> SymbolTable<'a, H, A> {
+    /// A table without names, with memory for `count` of them, which hashes them so.
+    fn with_capacity(alloc: A, count: usize, hasher: H) -> Result<Self, AllocError>
         ensures { IfOk result (λ table. table ≡ []) }
     {
-        let hasher = BuildHasherDefault::new();
         let entries = IndexMap::with_capacity_and_hasher(alloc, count, hasher)?;
         Ok(SymbolTable { entries })
     }
@@ -51,7 +50,7 @@ impl<'a, A: Allocator + Copy> SymbolTable<'a, A> {
     pub(crate) fn get(&self, name: &Name<A>) -> Option<Defined>
         ensures { result ≡ look_up self.now name.now }
     {
-        self.entries.get(&name.bytes()).copied()
+        self.entries.get(&NameKey::new(name.bytes())).copied()
     }
 
     /// Adds a name, or returns false if it is there.
@@ -59,7 +58,7 @@ impl<'a, A: Allocator + Copy> SymbolTable<'a, A> {
         ensures added { result ≡ Ok true → (look_up self.old name.now ≡ None) × (self.new ≡ self.old ++ (name.now, defined) ∷ []) }
         ensures there { result ≡ Ok false → look_up self.old name.now ≢ None }
     {
-        match self.entries.insert(name.bytes(), defined) {
+        match self.entries.insert(NameKey::new(name.bytes()), defined) {
             Ok(before) => Ok(before.is_none()),
             Err(_) => Err(AllocError),
         }
@@ -90,11 +89,12 @@ impl<'a, A: Allocator + Copy> SymbolTable<'a, A> {
     }
 }
 
-/// The table of all names that the hunks define.
-pub(crate) fn symbol_table<'a, A: Allocator + Copy>(
+/// The table of all names that the hunks define, which hashes them so.
+pub(crate) fn symbol_table<'a, H: BuildHasher + Drop, A: Allocator + Copy>(
     alloc: A,
     hunks: &[RankedHunk<'a, A>],
-) -> Result<SymbolTable<'a, A>, LinkRefusal<A>>
+    hasher: H,
+) -> Result<SymbolTable<'a, H, A>, LinkRefusal<A>>
     requires { All IsRanked hunks.now }
     ensures table { IfOk result (λ table. table ≡ table_of hunks.now) }
     ensures once { OnOk result (DefinedOnce (definitions_of hunks.now)) }
@@ -102,7 +102,7 @@ pub(crate) fn symbol_table<'a, A: Allocator + Copy>(
 {
     let counts = hunks.iter().map(|ranked| ranked.hunk.definitions().len());
     let count = counts.fold(0, usize::saturating_add);
-    let mut table = SymbolTable::with_capacity(alloc, count)?;
+    let mut table = SymbolTable::with_capacity(alloc, count, hasher)?;
     for ranked in hunks {
         table.add_definitions(ranked)?;
     }

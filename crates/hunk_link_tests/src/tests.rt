@@ -11,6 +11,7 @@
 //! - `files`: units that link.
 //! - `forms`: one object file, and its load file for every choice of options.
 //! - `growths`: allocations that fail.
+//! - `hashers`: names that are hashed in other ways.
 //! - `limits`: as many hunks as a link may have, and as large ones.
 //! - `loads`: allocations of loading that fail.
 //! - `made_places`: places made at random.
@@ -38,6 +39,7 @@ mod far_sites;
 mod files;
 mod forms;
 mod growths;
+mod hashers;
 mod limits;
 mod loads;
 mod made_places;

@@ -28,6 +28,9 @@ pub const REPORT: &str = "hunk 0 at 00010000 size 4\n00010000 4e754e71\n";
 /// More bytes than a file of the tests has, or its report.
 pub const ROOM: usize = 512;
 
+/// The key with which names are hashed. No answer depends on it.
+pub const KEY: [u64; 2] = [0x0123_4567_89AB_CDEF, 0xFEDC_BA98_7654_3210];
+
 /// Bytes per read: all at once, or in pieces. No file of the tests has more bytes, and no report of
 /// them.
 pub const CHUNKS: [usize; 4] = [ROOM, 1, 3, 5];

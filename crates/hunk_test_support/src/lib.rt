@@ -11,5 +11,5 @@ pub mod load_words;
 pub mod refusing;
 pub mod words;
 
-pub use files::{BASE, CHUNKS, FILE, LATER_PIECES, REPORT, ROOM, bytes_of};
+pub use files::{BASE, CHUNKS, FILE, KEY, LATER_PIECES, REPORT, ROOM, bytes_of};
 pub use refusing::Refusing;

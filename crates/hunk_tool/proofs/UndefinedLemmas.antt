@@ -1,5 +1,5 @@
 -- The uses of names, one reference after another.
-use Rattle.std.proofs.Common.{◌≡◌, ◌∙◌, ℕ, zero, suc, ◌+◌, ◌<◌, Bool, true, false, cond, not, List, [], ◌∷◌, ◌++◌, Bor, None, Some, if◌then◌else◌, length, get_or, take, map, refl, sym, ap, arith}
+use Rattle.std.proofs.Common.{◌≡◌, ◌∙◌, ℕ, zero, suc, ◌+◌, ◌<◌, Bool, true, false, cond, not, List, [], ◌∷◌, ◌++◌, None, Some, if◌then◌else◌, length, get_or, take, map, refl, sym, ap, arith}
 use Rattle.std.specs.Prelude.{count_by, slice_get}
 use Rattle.std.specs.Cmp.Lexicographic.{other_text, same_text}
 use Rattle.std.specs.Map.{lookup}
@@ -10,7 +10,6 @@ use Rattle.indexmap.specs.IndexMap.{insert_entry}
 use Rattle.hunk_tool.specs.DefinedNames.{is_defined, is_name}
 use Rattle.hunk_tool.specs.Origins.{Origin}
 use Rattle.hunk_tool.specs.Undefined.{Reference, Use, Uses, look_up, next_use, undefined, uses_of, without}
-use Rattle.hunk_tool.proofs.DefinedNamesLemmas.{same_key}
 
 -- there is something at an index within a list
 pub slice_get-within : {X : Type 0} (xs : List X) (i : ℕ) → i < length xs → None ≡ slice_get xs i → ⊥
@@ -164,25 +163,3 @@ undefined-more hunks origin names i name defined within is told =
     ap (undefined hunks) (map_more reference names i name within ∙ ap (λ n. from_hunk origin (take i names) ++ reference n ∷ []) (sym is))
     ∙ filter-append test (from_hunk origin (take i names)) ((name, origin) ∷ [])
     ∙ ap (λ b. undefined hunks (from_hunk origin (take i names)) ++ cond (not b) ((name, origin) ∷ []) []) (sym told)
-
--- ---- the uses as the entries of a map, whose keys are references
-
-abbrev pub Entries : Type 0
-Entries = List (Bor (List ℕ) × Use)
-
-abbrev pub uses_seen : Entries → Uses
-uses_seen entries = map (λ e. (e.0.now, e.1)) entries
-
-pub look_up-seen : (entries : Entries) (name : List ℕ) → look_up (uses_seen entries) name ≡ lookup (λ key. is_name name key.now) entries
-look_up-seen [] name = refl
-look_up-seen (e ∷ entries) name = ap (λ found. cond (is_name name e.0.now) (Some e.1) found) (look_up-seen entries name)
-
-pub uses_seen-inserted : (entries : Entries) (key : Bor (List ℕ)) (used : Use) → uses_seen (insert_entry same_key entries key used) ≡ inserted (uses_seen entries) key.now used
-uses_seen-inserted [] key used = refl
-uses_seen-inserted (e ∷ entries) key used = by (is_name key.now e.0.now) (uses_seen-inserted entries key used)
-  where
-    by : (same : Bool) → uses_seen (insert_entry same_key entries key used) ≡ inserted (uses_seen entries) key.now used
-        → uses_seen (if same then (e.0, used) ∷ entries else e ∷ insert_entry same_key entries key used)
-        ≡ (if same then (e.0.now, used) ∷ uses_seen entries else (e.0.now, e.1) ∷ inserted (uses_seen entries) key.now used)
-    by true others = refl
-    by false others = ap (λ us. (e.0.now, e.1) ∷ us) others

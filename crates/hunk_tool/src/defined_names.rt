@@ -5,37 +5,41 @@ ghost use Rattle.std.specs.List.{list_any};
 ghost use Rattle.hunk_tool.specs.DefinedNames.{AreDefinedBy, defines, first_definition, is_name};
 
 use crate::origins::Origin;
+use hunk_link::{NameHasher, NameKey};
 use hunk_objects::UnitHunk;
 use indexmap::IndexSet;
 use std::alloc::{AllocError, Allocator, Global};
-use std::hash::{BuildHasherDefault, FoldHasher};
 use std::marker::Model;
 
 /// The names that some hunks define. The names stay in their hunks.
 #[derive(Drop)]
 pub(crate) struct DefinedNames<'a, A: Allocator + Copy = Global> {
-    names: IndexSet<&'a [u8], BuildHasherDefault<FoldHasher>, A>,
+    names: IndexSet<NameKey<'a>, NameHasher, A>,
 }
 
 impl<'a, A: Allocator + Copy> Model for DefinedNames<'a, A> {
-    ghost use Rattle.std.specs.Prelude.{ℕ, List, map};
+    ghost use Rattle.std.specs.Prelude.{ℕ, List};
 
     ghost Value = { List (List ℕ) };
 
-    ghost view = { λ d. map (λ name. name.now) d.names.keys };
+    ghost view = { λ d. d.names.keys };
 }
 
 impl<'a, A: Allocator + Copy> DefinedNames<'a, A> {
-    /// Those of these hunks.
+    /// Those of these hunks, which are hashed so.
     ///
     /// # Errors
     ///
     /// [`AllocError`] only if an allocation failed.
-    pub(crate) fn of_hunks(alloc: A, hunks: &[Origin<'a, A>]) -> Result<Self, AllocError>
+    pub(crate) fn of_hunks(
+        alloc: A,
+        hunks: &[Origin<'a, A>],
+        hasher: NameHasher,
+    ) -> Result<Self, AllocError>
         ensures { IfOk result (AreDefinedBy hunks.now) }
     {
         let mut defined = DefinedNames {
-            names: IndexSet::with_hasher(alloc, BuildHasherDefault::new()),
+            names: IndexSet::with_hasher(alloc, hasher),
         };
         for origin in hunks {
             defined.add_hunk(origin.hunk)?;
@@ -43,11 +47,16 @@ impl<'a, A: Allocator + Copy> DefinedNames<'a, A> {
         Ok(defined)
     }
 
+    /// How they are hashed.
+    pub(crate) fn hasher(&self) -> NameHasher {
+        *self.names.hasher()
+    }
+
     /// Whether this name is among them.
     pub(crate) fn has(&self, name: &[u8]) -> bool
         ensures { result ≡ list_any (is_name name.now) self.now }
     {
-        self.names.contains(&name)
+        self.names.contains(&NameKey::new(name))
     }
 
     /// Adds the names that a hunk defines.
@@ -64,7 +73,7 @@ impl<'a, A: Allocator + Copy> DefinedNames<'a, A> {
     fn add(&mut self, name: &'a [u8]) -> Result<(), AllocError>
         ensures { OnOk result ((other : List ℕ) → list_any (is_name other) self.new ≡ (list_any (is_name other) self.old || is_name other name.now)) }
     {
-        match self.names.insert(name) {
+        match self.names.insert(NameKey::new(name)) {
             Ok(_) => Ok(()),
             Err(_) => Err(AllocError),
         }

@@ -7,6 +7,7 @@ ghost use Rattle.hunk_memory.specs.declared.image_form.ImageForm.TheVariants.{Re
 
 use crate::link::link_inputs;
 use crate::tool_fault::ToolFault;
+use hunk_link::NameHasher;
 use hunk_loader::{LoadRefusal, load_file};
 use hunk_memory::{ImageForm, write_image};
 use hunk_words::{Sink, Source};
@@ -14,7 +15,7 @@ use std::alloc::Allocator;
 
 /// Reads every input in order, to its end, as an object file, and writes the report of the memory
 /// that all their units define at `bases`: [`image_run_with`] and [`ImageForm::Report`], with the
-/// same errors.
+/// same errors. Names are hashed with a key that is no secret, as by [`link_run`](crate::link_run).
 pub fn image_run<A: Allocator + Copy, R: Source, W: Sink>(
     alloc: A,
     inputs: &mut [R],
@@ -25,7 +26,8 @@ pub fn image_run<A: Allocator + Copy, R: Source, W: Sink>(
     ensures err { IfErr result (IsImageFault Report bases.now (inputs_of R.left R.failed R.ended inputs.old inputs.new)
         (record { old = W.taken writer.old; new = W.taken writer.new; failed = W.failed writer.new })) }
 {
-    image_run_with(alloc, inputs, bases, ImageForm::Report, writer)
+    let hasher = NameHasher::new([0; 2]);
+    image_run_with(alloc, inputs, bases, ImageForm::Report, hasher, writer)
 }
 
 /// Reads every input in order, to its end, as an object file, and writes in this form the memory
@@ -33,7 +35,8 @@ pub fn image_run<A: Allocator + Copy, R: Source, W: Sink>(
 /// number that each site names added to the longword there, modulo 2^32. The bases are addresses, one
 /// for each hunk, in the order of linking.
 ///
-/// Nothing is written before all inputs have been read, linked and placed. It does not flush.
+/// Nothing is written before all inputs have been read, linked and placed. It does not flush. What is
+/// written does not depend on `hasher`, by which names are looked up.
 ///
 /// # Errors
 ///
@@ -51,13 +54,14 @@ pub fn image_run_with<A: Allocator + Copy, R: Source, W: Sink>(
     inputs: &mut [R],
     bases: &[u32],
     form: ImageForm,
+    hasher: NameHasher,
     writer: &mut W,
 ) -> Result<(), ToolFault<A>>
     ensures ok { OnOk result (HaveRead (inputs_of R.left R.failed R.ended inputs.old inputs.new) (IsImaged form bases.now (W.taken writer.old) (W.taken writer.new))) }
     ensures err { IfErr result (IsImageFault form bases.now (inputs_of R.left R.failed R.ended inputs.old inputs.new)
         (record { old = W.taken writer.old; new = W.taken writer.new; failed = W.failed writer.new })) }
 {
-    let file = link_inputs(alloc, inputs, true)?;
+    let file = link_inputs(alloc, inputs, true, hasher)?;
     // What `write_image` requires of the image follows from the rules for load files, which `hunks`
     // states for this one.
     let _hunks = file.hunks();

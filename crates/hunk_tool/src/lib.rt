@@ -69,12 +69,13 @@ pub use hunk_files::{
     CountedFile, Explanation, File, Found, HunkFile, HunkFileDecoder, LoadCounter, ObjectCounter,
     count_file, explain_file, explain_load, explain_object, read_hunk_file, write_explanation,
 };
+pub use hunk_link::NameHasher;
 pub use hunk_loader::PlaceFault;
 pub use hunk_memory::{
     BasesFault, BasesFileFault, ImageForm, parse_bases, read_bases, write_image, write_places,
 };
 pub use image::{image_run, image_run_with};
-pub use link::{link_inputs, link_run, link_to_vec};
+pub use link::{link_inputs, link_run, link_run_with, link_to_vec};
 pub use link_explanation::{LinkExplanation, explain_link};
 pub use link_explanation_text::write_link_explanation;
 pub use link_options::LinkOptions;

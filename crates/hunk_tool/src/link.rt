@@ -8,7 +8,7 @@ ghost use Rattle.hunk_tool.specs.Link.{IsLinkFault, IsLinked, IsUnlinked, LinkTo
 use crate::link_options::LinkOptions;
 use crate::object_files::read_object_files;
 use crate::tool_fault::ToolFault;
-use hunk_link::link_units;
+use hunk_link::{NameHasher, link_units_with};
 use hunk_loadfile::{LoadFile, write_load_with, written_bytes};
 use hunk_words::{Sink, Source};
 use std::alloc::Allocator;
@@ -17,6 +17,10 @@ use std::alloc::Allocator;
 /// load file, as `options` say.
 ///
 /// Nothing is written before all inputs have been read and their units linked. It does not flush.
+///
+/// Names are hashed with a key that is no secret: whoever makes the inputs can choose names that
+/// collide, which takes time that grows with the square of their number. [`link_run_with`] takes a
+/// hasher for inputs of strangers.
 ///
 /// # Errors
 ///
@@ -37,13 +41,33 @@ pub fn link_run<A: Allocator + Copy, R: Source, W: Sink>(
     ensures err { IfErr result (IsLinkFault options (inputs_of R.left R.failed R.ended inputs.old inputs.new)
         (record { old = W.taken writer.old; new = W.taken writer.new; failed = W.failed writer.new })) }
 {
-    let linked = link_inputs(alloc, inputs, options.strip)?;
+    link_run_with(alloc, inputs, options, NameHasher::new([0; 2]), writer)
+}
+
+/// Links as [`link_run`] does, and hashes names with `hasher`, whose key is secret if the inputs come
+/// from strangers. What is written does not depend on it.
+///
+/// # Errors
+///
+/// Those of [`link_run`].
+pub fn link_run_with<A: Allocator + Copy, R: Source, W: Sink>(
+    alloc: A,
+    inputs: &mut [R],
+    options: LinkOptions,
+    hasher: NameHasher,
+    writer: &mut W,
+) -> Result<(), ToolFault<A>>
+    ensures ok { OnOk result (HaveRead (inputs_of R.left R.failed R.ended inputs.old inputs.new) (IsLinked options (W.taken writer.old) (W.taken writer.new))) }
+    ensures err { IfErr result (IsLinkFault options (inputs_of R.left R.failed R.ended inputs.old inputs.new)
+        (record { old = W.taken writer.old; new = W.taken writer.new; failed = W.failed writer.new })) }
+{
+    let linked = link_inputs(alloc, inputs, options.strip, hasher)?;
     let file = options.trimmed(linked);
     Ok(write_load_with(alloc, &file, options.form(), writer)?)
 }
 
-/// Links as [`link_run`] does, and returns the bytes of the load file, in one allocation of exactly
-/// their number.
+/// Links as [`link_run_with`] does, and returns the bytes of the load file, in one allocation of
+/// exactly their number.
 ///
 /// # Errors
 ///
@@ -54,18 +78,20 @@ pub fn link_to_vec<A: Allocator + Copy, R: Source>(
     alloc: A,
     inputs: &mut [R],
     options: LinkOptions,
+    hasher: NameHasher,
 ) -> Result<Vec<u8, A>, ToolFault<A>>
     ensures ok { IfOk result (λ bytes. HaveRead (inputs_of R.left R.failed R.ended inputs.old inputs.new) (IsLinked options (Some []) (Some bytes.items))) }
     ensures err { IfErr result (IsUnlinked options.strip (inputs_of R.left R.failed R.ended inputs.old inputs.new)) }
 {
-    let linked = link_inputs(alloc, inputs, options.strip)?;
+    let linked = link_inputs(alloc, inputs, options.strip, hasher)?;
     let file = options.trimmed(linked);
     Ok(written_bytes(alloc, &file, options.form())?)
 }
 
 /// Reads every input in order, to its end, as an object file, and links all their units. The load
 /// file that it returns has at most 2^28 longwords in either form, trimmed or not. With `strip`,
-/// symbols and debug blocks are left out.
+/// symbols and debug blocks are left out. What is returned does not depend on `hasher`, by which names
+/// are looked up.
 ///
 /// # Errors
 ///
@@ -74,6 +100,7 @@ pub fn link_inputs<A: Allocator + Copy, R: Source>(
     alloc: A,
     inputs: &mut [R],
     strip: bool,
+    hasher: NameHasher,
 ) -> Result<LoadFile<A>, ToolFault<A>>
     ensures linked { IfOk result (λ file. HaveRead (inputs_of R.left R.failed R.ended inputs.old inputs.new) (LinkTo strip file)) }
     ensures short { IfOk result (λ file. IsShortEnough file) }
@@ -81,5 +108,5 @@ pub fn link_inputs<A: Allocator + Copy, R: Source>(
 {
     let files = read_object_files(alloc, inputs)?;
     let units = files.into_units();
-    Ok(link_units(alloc, units, strip)?)
+    Ok(link_units_with(alloc, units, strip, hasher)?)
 }

@@ -7,7 +7,7 @@ use crate::defined_names::first_definition;
 use crate::object_files::ObjectFiles;
 use crate::origins::{Origin, origin_at, origins};
 use crate::undefined::Uses;
-use hunk_link::LinkRefusal;
+use hunk_link::{LinkRefusal, NameHasher};
 use std::alloc::{AllocError, Allocator, Global};
 use std::marker::Model;
 
@@ -50,7 +50,7 @@ impl<'a, A: Allocator + Copy> Model for LinkExplanation<'a, A> {
 /// returned for them. A unit or a hunk that the files do not have is not told of.
 ///
 /// The names stay in the files; for undefined names it takes memory for each name that is defined or
-/// not, once.
+/// not, once. What is told does not depend on `hasher`, by which names are looked up.
 ///
 /// # Errors
 ///
@@ -59,6 +59,7 @@ pub fn explain_link<'a, A: Allocator + Copy>(
     alloc: A,
     files: &'a ObjectFiles<A>,
     refusal: &LinkRefusal<A>,
+    hasher: NameHasher,
 ) -> Result<LinkExplanation<'a, A>, AllocError>
     ensures { IfOk result (λ told. told ≡ told_of files.now refusal.now) }
 {
@@ -66,14 +67,14 @@ pub fn explain_link<'a, A: Allocator + Copy>(
         LinkRefusal::NoSuchHunk { unit, hunk, .. } => Ok(LinkExplanation {
             place: place_at(files, *unit, *hunk),
             first: None,
-            undefined: Uses::none(alloc),
+            undefined: Uses::none(alloc, hasher),
         }),
         LinkRefusal::DuplicateName { unit, hunk, name } => {
             let hunks = origins(alloc, files)?;
             Ok(LinkExplanation {
                 place: place_at(files, *unit, *hunk),
                 first: first_definition(&hunks, name.bytes()),
-                undefined: Uses::none(alloc),
+                undefined: Uses::none(alloc, hasher),
             })
         }
         LinkRefusal::UndefinedName { unit, hunk, .. } => {
@@ -81,7 +82,7 @@ pub fn explain_link<'a, A: Allocator + Copy>(
             Ok(LinkExplanation {
                 place: place_at(files, *unit, *hunk),
                 first: None,
-                undefined: Uses::undefined(alloc, &hunks)?,
+                undefined: Uses::undefined(alloc, &hunks, hasher)?,
             })
         }
         LinkRefusal::NoHunks
@@ -90,7 +91,7 @@ pub fn explain_link<'a, A: Allocator + Copy>(
         | LinkRefusal::OutOfMemory => Ok(LinkExplanation {
             place: None,
             first: None,
-            undefined: Uses::none(alloc),
+            undefined: Uses::none(alloc, hasher),
         }),
     }
 }

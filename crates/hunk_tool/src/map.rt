@@ -13,7 +13,7 @@ use crate::object_files::{ObjectFiles, UnitPlace, read_object_files};
 use crate::origin_text::write_origin;
 use crate::origins::Origin;
 use crate::tool_fault::ToolFault;
-use hunk_link::link;
+use hunk_link::{NameHasher, link_with};
 use hunk_loadfile::{LoadFile, LoadHunk};
 use hunk_objects::ProgramUnit;
 use hunk_text::{write_definitions, write_hunk_front};
@@ -30,6 +30,7 @@ pub fn link_files<A: Allocator + Copy, R: Source>(
     alloc: A,
     inputs: &mut [R],
     strip: bool,
+    hasher: NameHasher,
 ) -> Result<(ObjectFiles<A>, LoadFile<A>), ToolFault<A>>
     ensures linked { IfOk result (λ linked. HaveRead (inputs_of R.left R.failed R.ended inputs.old inputs.new) (LinkFiles strip linked.0 linked.1)) }
     ensures short { IfOk result (λ linked. IsShortEnough linked.1) }
@@ -37,7 +38,7 @@ pub fn link_files<A: Allocator + Copy, R: Source>(
     ensures unlinked { IfErr result (IsUnlinked strip (inputs_of R.left R.failed R.ended inputs.old inputs.new)) }
 {
     let files = read_object_files(alloc, inputs)?;
-    let file = link(alloc, files.units(), strip)?;
+    let file = link_with(alloc, files.units(), strip, hasher)?;
     Ok((files, file))
 }
 

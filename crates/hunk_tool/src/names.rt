@@ -11,6 +11,7 @@ use crate::named_files::NamedFiles;
 use crate::object_files::{ObjectFiles, UnitPlace};
 use crate::origins::{Origin, origins};
 use crate::undefined::Uses;
+use hunk_link::NameHasher;
 use hunk_loadfile::LoadFile;
 use hunk_objects::{Definition, ProgramUnit};
 use hunk_words::{HunkKind, Name, Sink, Text};
@@ -109,17 +110,22 @@ impl<'a, A: Allocator + Copy> Model for NameList<'a, A> {
 impl<'a, A: Allocator + Copy> NameList<'a, A> {
     /// The names of these files: of a load file, its symbols; and of object files, the symbols and the definitions of
     /// their units, and the names that they refer to and none of them defines, each of these once for each hunk that
-    /// refers to it. Units are numbered from 0 over all files.
+    /// refers to it. Units are numbered from 0 over all files. They do not depend on `hasher`, by which names
+    /// are looked up.
     ///
     /// # Errors
     ///
     /// [`AllocError`] only if an allocation failed.
-    pub fn of(alloc: A, files: &'a NamedFiles<A>) -> Result<Self, AllocError>
+    pub fn of(
+        alloc: A,
+        files: &'a NamedFiles<A>,
+        hasher: NameHasher,
+    ) -> Result<Self, AllocError>
         ensures { IfOk result (AreSorted (names_of files.now)) }
     {
         match files {
             NamedFiles::Load(file) => NameList::of_load_file(alloc, file),
-            NamedFiles::Objects(files) => NameList::of_object_files(alloc, files),
+            NamedFiles::Objects(files) => NameList::of_object_files(alloc, files, hasher),
         }
     }
 
@@ -135,11 +141,15 @@ impl<'a, A: Allocator + Copy> NameList<'a, A> {
     }
 
     /// The names of object files.
-    fn of_object_files(alloc: A, files: &'a ObjectFiles<A>) -> Result<Self, AllocError>
+    fn of_object_files(
+        alloc: A,
+        files: &'a ObjectFiles<A>,
+        hasher: NameHasher,
+    ) -> Result<Self, AllocError>
         ensures { IfOk result (AreSorted (object_names files.now)) }
     {
         let all = origins(alloc, files)?;
-        let defined = DefinedNames::of_hunks(alloc, &all)?;
+        let defined = DefinedNames::of_hunks(alloc, &all, hasher)?;
         let mut names = NameList::none(alloc);
         let places = files.places();
         for (index, unit) in files.units().iter().enumerate() {
@@ -252,7 +262,7 @@ impl<'a, A: Allocator + Copy> NameList<'a, A> {
         ensures { (all : List HunkOrigin) → AreDefinedBy all defined.now
             → OnOk result (self.new ≡ self.old ++ undefined_entries all (Some unit) origin.now) }
     {
-        let mut uses = Uses::none(alloc);
+        let mut uses = Uses::none(alloc, defined.hasher());
         uses.add_hunk(defined, origin)?;
         for index in 0..uses.len() {
             if let Some((name, _)) = uses.get(index) {

@@ -16,6 +16,7 @@ ghost use Rattle.hunk_tool.specs.declared.symbol_form.SymbolForm.TheVariants.{Li
 use crate::link::link_inputs;
 use crate::symbol_form::SymbolForm;
 use crate::tool_fault::ToolFault;
+use hunk_link::NameHasher;
 use hunk_loader::{LoadRefusal, check_sizes_with, load};
 use hunk_loadfile::{LoadFile, LoadHunk, read_load};
 use hunk_memory::{ImageForm, put_image, put_left_out};
@@ -60,7 +61,8 @@ pub fn symbols_run<A: Allocator + Copy, R: Source, W: Sink>(
 /// symbols and debug blocks, and writes the symbols of the load file that they make, as
 /// [`symbols_run`] writes them. The bases are addresses, one for each hunk, in the order of linking.
 ///
-/// Nothing is written before all inputs have been read, linked and placed. It does not flush.
+/// Nothing is written before all inputs have been read, linked and placed. It does not flush. What is
+/// written does not depend on `hasher`, by which names are looked up.
 ///
 /// # Errors
 ///
@@ -78,13 +80,14 @@ pub fn image_symbols_run<A: Allocator + Copy, R: Source, W: Sink>(
     inputs: &mut [R],
     bases: &[u32],
     form: SymbolForm,
+    hasher: NameHasher,
     writer: &mut W,
 ) -> Result<(), ToolFault<A>>
     ensures ok { OnOk result (HaveRead (inputs_of R.left R.failed R.ended inputs.old inputs.new) (IsUnitsText false (unit_symbols_text form) bases.now (W.taken writer.old) (W.taken writer.new))) }
     ensures err { IfErr result (IsUnitsFault false (unit_symbols_text form) bases.now (inputs_of R.left R.failed R.ended inputs.old inputs.new)
         (record { old = W.taken writer.old; new = W.taken writer.new; failed = W.failed writer.new })) }
 {
-    let file = link_inputs(alloc, inputs, false)?;
+    let file = link_inputs(alloc, inputs, false, hasher)?;
     write_symbols(alloc, &file, bases, form, writer)
 }
 

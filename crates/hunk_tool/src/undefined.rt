@@ -8,9 +8,9 @@ ghost use Rattle.hunk_tool.specs.Undefined.{Reference, look_up, next_use, refere
 
 use crate::defined_names::DefinedNames;
 use crate::origins::Origin;
+use hunk_link::{NameHasher, NameKey};
 use indexmap::IndexMap;
 use std::alloc::{AllocError, Allocator, Global};
-use std::hash::{BuildHasherDefault, FoldHasher};
 use std::marker::Model;
 
 /// Where a name is first referred to, and the number of references to it.
@@ -32,38 +32,41 @@ impl<'a, A: Allocator + Copy> Model for Use<'a, A> {
 /// hunks.
 #[derive(Drop)]
 pub(crate) struct Uses<'a, A: Allocator + Copy = Global> {
-    entries: IndexMap<&'a [u8], Use<'a, A>, BuildHasherDefault<FoldHasher>, A>,
+    entries: IndexMap<NameKey<'a>, Use<'a, A>, NameHasher, A>,
 }
 
 impl<'a, A: Allocator + Copy> Model for Uses<'a, A> {
-    ghost use Rattle.std.specs.Prelude.{map};
     ghost use Rattle.hunk_tool.specs.Undefined.{Uses as NameUses};
 
     ghost Value = { NameUses };
 
-    ghost view = { λ u. map (λ e. (e.0.now, e.1)) u.entries.entries };
+    ghost view = { λ u. u.entries.entries };
 }
 
 impl<'a, A: Allocator + Copy> Uses<'a, A> {
-    /// Of no names.
-    pub(crate) fn none(alloc: A) -> Self
+    /// Of no names. Those that are added are hashed so.
+    pub(crate) fn none(alloc: A, hasher: NameHasher) -> Self
         ensures { result ≡ [] }
     {
         Uses {
-            entries: IndexMap::with_hasher(alloc, BuildHasherDefault::new()),
+            entries: IndexMap::with_hasher(alloc, hasher),
         }
     }
 
-    /// Of the names that these hunks refer to and none of them defines.
+    /// Of the names that these hunks refer to and none of them defines, which are hashed so.
     ///
     /// # Errors
     ///
     /// [`AllocError`] only if an allocation failed.
-    pub(crate) fn undefined(alloc: A, hunks: &[Origin<'a, A>]) -> Result<Self, AllocError>
+    pub(crate) fn undefined(
+        alloc: A,
+        hunks: &[Origin<'a, A>],
+        hasher: NameHasher,
+    ) -> Result<Self, AllocError>
         ensures { IfOk result (λ uses. uses ≡ undefined_uses hunks.now) }
     {
-        let defined = DefinedNames::of_hunks(alloc, hunks)?;
-        let mut uses = Uses::none(alloc);
+        let defined = DefinedNames::of_hunks(alloc, hunks, hasher)?;
+        let mut uses = Uses::none(alloc, hasher);
         for origin in hunks {
             uses.add_hunk(&defined, origin)?;
         }
@@ -82,7 +85,7 @@ impl<'a, A: Allocator + Copy> Uses<'a, A> {
         ensures { option_map (λ used. (used.0.now, used.1.now)) result ≡ slice_get self.now index }
     {
         let (name, used) = self.entries.get_index(index)?;
-        Some((*name, used))
+        Some((name.bytes(), used))
     }
 
     /// Adds the references of a hunk to names that are not among the defined ones.
@@ -107,7 +110,7 @@ impl<'a, A: Allocator + Copy> Uses<'a, A> {
         ensures { OnOk result (self.new ≡ insert_entry is_name self.old name.now (next_use (look_up self.old name.now) origin.now)) }
     {
         let used = self.next_use(name, origin)?;
-        match self.entries.insert(name, used) {
+        match self.entries.insert(NameKey::new(name), used) {
             Ok(_) => Ok(()),
             Err(_) => Err(AllocError),
         }
@@ -117,7 +120,7 @@ impl<'a, A: Allocator + Copy> Uses<'a, A> {
     fn next_use(&self, name: &[u8], origin: &Origin<'a, A>) -> Result<Use<'a, A>, AllocError>
         ensures { IfOk result (λ used. used ≡ next_use (look_up self.now name.now) origin.now) }
     {
-        match self.entries.get(&name) {
+        match self.entries.get(&NameKey::new(name)) {
             Some(used) => match used.count.checked_add(1) {
                 Some(count) => Ok(Use {
                     origin: used.origin.copied(),

@@ -6,6 +6,7 @@ ghost use Rattle.hunk_tool.specs.UndefinedName.{undefined_name, undefined_names}
 use crate::object_files::ObjectFiles;
 use crate::origins::origins;
 use crate::undefined::{Use, Uses};
+use hunk_link::NameHasher;
 use std::alloc::{AllocError, Allocator, Global};
 use std::marker::Model;
 
@@ -33,7 +34,8 @@ impl<A: Allocator + Copy> Model for UndefinedName<A> {
 }
 
 /// The names that hunks of these files refer to and none of them defines, each once, in the order in
-/// which they are first referred to.
+/// which they are first referred to. What is returned does not depend on `hasher`, by which names are
+/// looked up.
 ///
 /// # Errors
 ///
@@ -41,11 +43,12 @@ impl<A: Allocator + Copy> Model for UndefinedName<A> {
 pub fn undefined_names<A: Allocator + Copy>(
     alloc: A,
     files: &ObjectFiles<A>,
+    hasher: NameHasher,
 ) -> Result<Vec<UndefinedName<A>, A>, AllocError>
     ensures { IfOk result (λ names. names.items ≡ undefined_names files.now) }
 {
     let hunks = origins(alloc, files)?;
-    told_of(alloc, &Uses::undefined(alloc, &hunks)?)
+    told_of(alloc, &Uses::undefined(alloc, &hunks, hasher)?)
 }
 
 /// What is told of names that are used so.

@@ -1,9 +1,10 @@
 //! Files that are open at once.
 
 use super::asserts::{equals, equals_at, holds};
+use super::systems::store_of;
 use crate::fake_files::FakeFiles;
 use crate::fake_log::Log;
-use hunk_commands::{Failure, System, open_inputs};
+use hunk_commands::{Failure, open_inputs};
 use hunk_tool::OpenFault;
 use hunk_words::Source;
 use std::process::Abort;
@@ -18,7 +19,7 @@ fn opens<R: Files + AllocGlobal>(
     name: &str,
     open: usize,
 ) -> Result<(), Fail> {
-    let store = System::new(system);
+    let store = store_of(system);
     let inputs = open_inputs(system.alloc(), &store, &[name; 40])
         .ok()
         .ok_or("inputs")?;
@@ -49,7 +50,7 @@ fn opens_the_last<R: Files + AllocGlobal>(
     system: &R,
     log: &Log,
 ) -> Result<(), Fail> {
-    let store = System::new(system);
+    let store = store_of(system);
     let mut inputs = open_inputs(system.alloc(), &store, &["loop"; 33])
         .ok()
         .ok_or("inputs")?;
@@ -79,7 +80,7 @@ fn an_input_is_open_from_its_first_read_to_its_end(rt: HostRuntime) -> Result<()
 
 // Why these files are not opened.
 fn failure_of<'a, R: Files + AllocGlobal>(system: &R, names: &[&'a str]) -> Option<Failure<'a>> {
-    match open_inputs(system.alloc(), &System::new(system), names) {
+    match open_inputs(system.alloc(), &store_of(system), names) {
         Ok(_) => None,
         Err(failure) => Some(failure),
     }

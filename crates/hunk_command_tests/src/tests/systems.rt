@@ -5,11 +5,17 @@
 use hunk_commands::{
     Addresses, Failure, LoadText, Printer, Request, System, compare, copy, image, link, survey,
 };
-use hunk_tool::{CopyForm, LinkOptions};
+use hunk_test_support::KEY;
+use hunk_tool::{CopyForm, LinkOptions, NameHasher};
 use hunk_words::Sink;
 use std::io;
 use std::rt::Files;
 use std::test::Fail;
+
+/// The files of a system.
+pub(super) fn store_of<R: Files + AllocGlobal>(system: &R) -> System<'_, R> {
+    System::new(system, NameHasher::new(KEY))
+}
 
 /// Does what a request asks for.
 pub(super) fn answer<R: Files + Print + AllocGlobal, W: Sink>(
@@ -18,7 +24,7 @@ pub(super) fn answer<R: Files + Print + AllocGlobal, W: Sink>(
     request: Request<'_>,
 ) -> Result<u8, Fail> {
     let alloc = system.alloc();
-    let mut store = System::new(system);
+    let mut store = store_of(system);
     let mut output = Printer::new(alloc, io::writer(system))?;
     Ok(hunk_commands::answer(alloc, &mut store, &mut output, errors, request))
 }
@@ -30,7 +36,7 @@ pub(super) fn link<'a, R: Files + AllocGlobal>(
     options: LinkOptions,
     files: &[&'a str],
 ) -> Result<(), Failure<'a>> {
-    let mut store = System::new(system);
+    let mut store = store_of(system);
     link::link(system.alloc(), &mut store, out, options, files)
 }
 
@@ -43,7 +49,7 @@ pub(super) fn link_with_map<'a, R: Files + AllocGlobal>(
     files: &[&'a str],
     names: &[String],
 ) -> Result<(), Failure<'a>> {
-    let mut store = System::new(system);
+    let mut store = store_of(system);
     link::link_with_map(
         system.alloc(),
         &mut store,
@@ -62,7 +68,7 @@ pub(super) fn copy<'a, R: Files + AllocGlobal>(
     form: CopyForm,
     file: &'a str,
 ) -> Result<(), Failure<'a>> {
-    copy::copy(system.alloc(), &mut System::new(system), out, form, file)
+    copy::copy(system.alloc(), &mut store_of(system), out, form, file)
 }
 
 /// Compares two files.
@@ -72,7 +78,7 @@ pub(super) fn compare<'a, R: Files + Print + AllocGlobal>(
     (first, second): (&'a str, &'a str),
 ) -> Result<Result<bool, Failure<'a>>, Fail> {
     let alloc = system.alloc();
-    let store = System::new(system);
+    let store = store_of(system);
     let mut output = Printer::new(alloc, io::writer(system))?;
     Ok(compare::compare(alloc, &store, &mut output, with_symbols, first, second))
 }
@@ -85,7 +91,7 @@ pub(super) fn image<'a, R: Files + Print + AllocGlobal>(
     files: &[&'a str],
 ) -> Result<Result<(), Failure<'a>>, Fail> {
     let alloc = system.alloc();
-    let store = System::new(system);
+    let store = store_of(system);
     let mut output = Printer::new(alloc, io::writer(system))?;
     Ok(image::image(alloc, &store, &mut output, addresses, text, files))
 }
@@ -96,7 +102,7 @@ pub(super) fn survey<'a, R: Files + Print + AllocGlobal>(
     files: &[&'a str],
 ) -> Result<Result<u8, Failure<'a>>, Fail> {
     let alloc = system.alloc();
-    let store = System::new(system);
+    let store = store_of(system);
     let mut output = Printer::new(alloc, io::writer(system))?;
     Ok(survey::survey(alloc, &store, &mut output, files))
 }

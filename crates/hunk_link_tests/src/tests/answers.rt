@@ -1,7 +1,8 @@
 //! What units link to is compared with what it is to be.
 
 use super::asserts::{equals, equals_at, holds};
-use hunk_link::{LinkRefusal, link, link_units};
+use super::hashers::Alike;
+use hunk_link::{LinkRefusal, link, link_units, link_units_with, link_with};
 use hunk_loadfile::{LoadFile, LoadForm, write_load_with};
 use hunk_objects::{ProgramUnit, read_object};
 use hunk_tool::LinkOptions;
@@ -78,7 +79,8 @@ fn is_answer(
     Ok(())
 }
 
-/// Both calls give this answer for the units of these object files, as the options say.
+/// Each call that links gives this answer for the units of these object files, as the options say, also
+/// if all names have the same hash.
 pub(crate) fn links_to(
     rt: &impl Abort,
     alloc: Global,
@@ -89,6 +91,11 @@ pub(crate) fn links_to(
     let units = units_of(alloc, alloc, objects)?;
     let copied = link(alloc, &units, options.strip);
     is_answer(rt, alloc, copied, options, wanted)?;
+    let alike = link_with(alloc, &units, options.strip, Alike);
+    is_answer(rt, alloc, alike, options, wanted)?;
     let moved = link_units(alloc, units, options.strip);
-    is_answer(rt, alloc, moved, options, wanted)
+    is_answer(rt, alloc, moved, options, wanted)?;
+    let units = units_of(alloc, alloc, objects)?;
+    let alike = link_units_with(alloc, units, options.strip, Alike);
+    is_answer(rt, alloc, alike, options, wanted)
 }

@@ -2,7 +2,10 @@
 
 use super::answers::bytes_of;
 use super::asserts::{equals, equals_at, holds};
-use hunk_tool::{LinkOptions, ToolFault, image_run, link_run, link_to_vec, load_run, status_of};
+use hunk_test_support::KEY;
+use hunk_tool::{
+    LinkOptions, NameHasher, ToolFault, image_run, link_run, link_to_vec, load_run, status_of,
+};
 use hunk_words::{Pieces, Room, Sink, Text};
 use std::alloc::{AllocError, Allocator, Global};
 use std::process::Abort;
@@ -13,7 +16,7 @@ use std::test::Fail;
 pub(crate) enum Run<'a> {
     /// They are linked as the options say.
     Link { options: LinkOptions },
-    /// They are linked so to a list of bytes, which is written then.
+    /// They are linked so to a list of bytes, which is written then. Names are hashed with another key.
     LinkToVec { options: LinkOptions },
     /// Their memory at these addresses is reported.
     Image { bases: &'a [u32] },
@@ -30,7 +33,8 @@ impl Run<'_> {
         match self {
             Run::Link { options } => link_run(alloc, inputs, options, writer),
             Run::LinkToVec { options } => {
-                let bytes = link_to_vec(alloc, inputs, options)?;
+                let hasher = NameHasher::new(KEY);
+                let bytes = link_to_vec(alloc, inputs, options, hasher)?;
                 let mut text = Text::new(writer);
                 text.put(&bytes);
                 Ok(text.finish()?)

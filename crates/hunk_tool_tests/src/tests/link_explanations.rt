@@ -4,8 +4,8 @@ use super::asserts::{equals_at, holds};
 use super::memory::MOST_GROWTHS;
 use super::unlinked::{AGAIN, END, FAR, NONE, ONE, OTHER};
 use hunk_link::{LinkRefusal, link};
-use hunk_test_support::{Refusing, bytes_of};
-use hunk_tool::{ObjectFiles, ToolFault, explain_link, read_object_files, write_link_explanation};
+use hunk_test_support::{KEY, Refusing, bytes_of};
+use hunk_tool::{NameHasher, ObjectFiles, ToolFault, explain_link, read_object_files, write_link_explanation};
 use hunk_words::{Pieces, Room, Text, WriteFault};
 use std::alloc::{AllocError, Allocator, Global};
 use std::process::Abort;
@@ -131,7 +131,7 @@ fn told_of(
 ) -> Result<(Room, Result<(), WriteFault>), Fail> {
     assert!(rt; 1 <= most);
     let refusal = refusal_of(rt, alloc, files);
-    let explanation = explain_link(alloc, files, &refusal)?;
+    let explanation = explain_link(alloc, files, &refusal, NameHasher::new(KEY))?;
     let mut writer = Room::new(alloc, most, room, false)?;
     let mut text = Text::new(&mut writer);
     write_link_explanation(&mut text, names, &explanation);
@@ -189,7 +189,7 @@ fn explains<A: Allocator + Copy>(rt: &impl Abort, alloc: A, inputs: &mut [Pieces
     match link(alloc, files.units(), false) {
         Ok(_) => panic!(rt; "linked"),
         Err(LinkRefusal::OutOfMemory) => false,
-        Err(refusal) => explain_link(alloc, &files, &refusal).is_ok(),
+        Err(refusal) => explain_link(alloc, &files, &refusal, NameHasher::new(KEY)).is_ok(),
     }
 }
 
@@ -308,7 +308,7 @@ fn tells_nothing_of_hunks_that_are_not_there(rt: HostRuntime) -> Result<(), Fail
     let files = files_of(&rt, rt.alloc(), &ROWS[0])?;
     let names: [String; 0] = [];
     for refusal in &ABOUT_NONE {
-        let explanation = explain_link(rt.alloc(), &files, refusal)?;
+        let explanation = explain_link(rt.alloc(), &files, refusal, NameHasher::new(KEY))?;
         let mut writer = Room::new(rt.alloc(), 64, ROOM, false)?;
         let mut text = Text::new(&mut writer);
         write_link_explanation(&mut text, &names, &explanation);

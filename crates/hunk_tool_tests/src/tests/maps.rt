@@ -2,8 +2,8 @@
 
 use super::asserts::{equals_at, holds};
 use super::memory::MOST_GROWTHS;
-use hunk_test_support::{Refusing, bytes_of};
-use hunk_tool::{ToolFault, link_files, write_map};
+use hunk_test_support::{KEY, Refusing, bytes_of};
+use hunk_tool::{NameHasher, ToolFault, link_files, write_map};
 use hunk_words::{Pieces, Room, Text, WriteFault};
 use std::alloc::Global;
 use std::process::Abort;
@@ -63,7 +63,7 @@ const MAP: &str = "hunk 0 code any 1 longwords one.o unit 0 \"one\" hunk 0 \"tex
                    hunk 1 bss chip 2 longwords one.o unit 0 \"one\" hunk 1 \"\"\n\
                    hunk 2 data any 1 longwords one.o unit 1 \"\" hunk 0 \"d\"\n\
                    \x20 define \"x\" at 00000004\n\
-                   hunk 3 code fast 1 longwords \"t w\"/o unit 0 \"two\" hunk 0 \"\"\n";
+                   hunk 3 code fast 1 longwords \"t: w/o\" unit 0 \"two\" hunk 0 \"\"\n";
 
 // More bytes than the map has.
 const ROOM: usize = 512;
@@ -84,10 +84,10 @@ fn is_mapped(
     ];
     let names = [
         String::from_str(alloc, "one.o")?,
-        String::from_str(alloc, "\"t w\"/o")?,
+        String::from_str(alloc, "t: w/o")?,
     ];
     let mut writer = Room::new(alloc, most, room, false)?;
-    let (files, file) = match link_files(alloc, &mut inputs, strip) {
+    let (files, file) = match link_files(alloc, &mut inputs, strip, NameHasher::new(KEY)) {
         Ok(linked) => linked,
         Err(fault) => panic!(rt; "{fault:?}"),
     };
@@ -132,7 +132,7 @@ fn is_linked(rt: &impl Abort, alloc: Global, refused: u64) -> Result<bool, Fail>
         Pieces::new(bytes_of(alloc, &ONE, &END)?, 64, None),
         Pieces::new(bytes_of(alloc, &TWO, &CODE)?, 64, None),
     ];
-    let got = link_files(&heap, &mut inputs, false);
+    let got = link_files(&heap, &mut inputs, false, NameHasher::new(KEY));
     if heap.asked() <= refused {
         holds(rt, &("growth", refused), got.is_ok());
         return Ok(true);

@@ -2,8 +2,8 @@
 
 use super::asserts::{equals, equals_at, holds};
 use super::memory::MOST_GROWTHS;
-use hunk_test_support::{ROOM, Refusing, bytes_of};
-use hunk_tool::{NameList, NamedFiles, ToolFault, read_named_files, write_names};
+use hunk_test_support::{KEY, ROOM, Refusing, bytes_of};
+use hunk_tool::{NameHasher, NameList, NamedFiles, ToolFault, read_named_files, write_names};
 use hunk_words::{Fault, Pieces, Reason, Room, Text, WriteFault};
 use std::alloc::{AllocError, Allocator, Global};
 use std::process::Abort;
@@ -261,7 +261,7 @@ fn are_names(
     wanted: &'static str,
 ) -> Result<(), Fail> {
     let files = files_of(rt, alloc, inputs)?;
-    let names = NameList::of(alloc, &files)?;
+    let names = NameList::of(alloc, &files, NameHasher::new(KEY))?;
     stop_at_each_byte(rt, alloc, &names, wanted)?;
     Ok(())
 }
@@ -295,7 +295,7 @@ fn lists<A: Allocator + Copy>(
     wanted: &'static str,
 ) -> Result<(), AllocError> {
     let files = files_of(rt, heap, inputs)?;
-    let names = NameList::of(heap, &files)?;
+    let names = NameList::of(heap, &files, NameHasher::new(KEY))?;
     are_written(rt, alloc, &names, wanted, ROOM, ROOM)
 }
 

@@ -4,8 +4,8 @@ use super::asserts::{equals, equals_at, holds};
 use super::files::one_hunk;
 use super::reports::EMPTY_BETWEEN;
 use hunk_test_support::load_words::TWO_HUNKS;
-use hunk_test_support::{BASE, CHUNKS, FILE, ROOM, bytes_of};
-use hunk_tool::{ImageForm, ToolFault, image_run_with, load_run_with};
+use hunk_test_support::{BASE, CHUNKS, FILE, KEY, ROOM, bytes_of};
+use hunk_tool::{ImageForm, NameHasher, ToolFault, image_run_with, load_run_with};
 use hunk_words::{Pieces, Room, Sink};
 use std::alloc::Global;
 use std::process::Abort;
@@ -77,7 +77,7 @@ fn writes_the_records_of_object_files(rt: HostRuntime) -> Result<(), Fail> {
     let mut inputs = [Pieces::new(bytes_of(rt.alloc(), &OBJECT, &[])?, 5, None)];
     let mut writer = Room::new(rt.alloc(), 7, ROOM, false)?;
     let form = ImageForm::SRecords;
-    let got = image_run_with(rt.alloc(), &mut inputs, &[BASE], form, &mut writer);
+    let got = image_run_with(rt.alloc(), &mut inputs, &[BASE], form, NameHasher::new(KEY), &mut writer);
     equals(&rt, got, Ok(()));
     equals(&rt, writer.bytes(), RECORDS.as_bytes());
     Ok(())
@@ -200,7 +200,7 @@ fn tells_what_a_writer_took_of_the_records_of_object_files(rt: HostRuntime) -> R
         let mut inputs = [Pieces::new(bytes_of(alloc, &OBJECT, &[])?, 64, None)];
         let mut writer = Room::new(alloc, 7, room, false)?;
         let form = ImageForm::SRecords;
-        let got = image_run_with(alloc, &mut inputs, &[BASE], form, &mut writer);
+        let got = image_run_with(alloc, &mut inputs, &[BASE], form, NameHasher::new(KEY), &mut writer);
         is_cut(&rt, room, got, &writer);
     }
     Ok(())

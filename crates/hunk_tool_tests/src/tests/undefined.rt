@@ -4,8 +4,8 @@ use super::asserts::equals_at;
 use super::memory::MOST_GROWTHS;
 use super::unlinked::{AGAIN, END, LATER, NONE, ONE, OTHER};
 use hunk_objects::read_object;
-use hunk_test_support::{Refusing, bytes_of};
-use hunk_tool::{ObjectFiles, UndefinedName, undefined_names};
+use hunk_test_support::{KEY, Refusing, bytes_of};
+use hunk_tool::{NameHasher, ObjectFiles, UndefinedName, undefined_names};
 use hunk_words::{Pieces, ReadFault, Refusal};
 use std::alloc::{AllocError, Allocator, Global};
 use std::process::Abort;
@@ -88,7 +88,7 @@ fn tells<A: Allocator + Copy>(
     wanted: &'static [Wanted],
 ) -> Result<(), AllocError> {
     let files = files_of(rt, alloc, inputs)?;
-    let names = undefined_names(alloc, &files)?;
+    let names = undefined_names(alloc, &files, NameHasher::new(KEY))?;
     are_told(rt, &names, wanted);
     Ok(())
 }

@@ -40,7 +40,7 @@ pub returns-in-Ok-undefined_of-clause-refused : goal.returns-in-Ok-undefined_of-
 returns-in-Ok-undefined_of-clause-refused c = λ inputs taken.
     let options : LinkerOptions = record { link = c.args.options; keep = true } in
     let told = c.in-Ok-undefined_of.undefined in
-    let refused = c.with_undefined.ensures ∙ ap (λ (r : Refused). record r { undefined = told }) c.link-in-Ok-undefined_of.ensures in
+    let refused = c.with_undefined.ensures ∙ ap (λ (r : Refused). record r { undefined = told }) c.link.ensures in
     subst (λ (refused : Refused). IsLinkStop options inputs refused refused.fault) (sym refused)
     (IsLinkStop-refused inputs c.args.files c.units.result.now c.args.ends.now c.units.ensures taken options c.in-Err.refusal told c.in-Err.ensures.refused (c.args.files, taken.are, c.in-Ok-undefined_of.ensures.told))
 

@@ -13,7 +13,7 @@ returns-in-Ok-push-clause-taken c = λ options files current has.
     let old = c.args.self.now in
     let more = c.in-Ok.units.items in
     HasTaken-ended options files current old
-    (record { options = c.take_current-decoder.new.self.options; files = c.in-Ok-with_file.files; ends = c.push.new.self; current = c.take_current-decoder.new.self.current })
+    (record { options = c.take_current-decoder.new.self.options; hasher = c.take_current-decoder.new.self.hasher; files = c.in-Ok-with_file.files; ends = c.push.new.self; current = c.take_current-decoder.new.self.current })
     more (begun current)
     (ap (λ (l : Linker). l.options) rest)
     (c.in-Ok-with_file.ensures

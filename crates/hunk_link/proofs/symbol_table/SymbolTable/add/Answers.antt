@@ -1,6 +1,7 @@
-use Rattle.std.proofs.Common.{◌≡◌, true, false, not, Option, None, Some, is_some, true≢false, ◌++◌, ◌∷◌, [], ap, sym, ◌∙◌}
+use Rattle.std.proofs.Common.{◌≡◌, true, false, not, nat_eq, Option, None, Some, is_some, true≢false, ◌++◌, ◌∷◌, [], ap, sym, ◌∙◌}
+use Rattle.std.specs.Cmp.Lexicographic.{pointwise}
 use Rattle.hunk_link.specs.SymbolTable.{look_up}
-use Rattle.hunk_link.proofs.SymbolTableLemmas.{look_up-seen, table_seen, table_seen-insert}
+use Rattle.indexmap.proofs.CallerLemmas.{insert_entry-new}
 use Rattle.hunk_link.proofs.symbol_table.SymbolTable.add.Goals as goal
 use Rattle.hunk_link.proofs.symbol_table.SymbolTable.add.Goals.{in-Ok, in-Err}
 
@@ -10,16 +11,16 @@ none_from_is_none (Some x) told = cc
 
 pub returns-clause-added : goal.returns-clause-added
 returns-clause-added g c =
-    let key = c.bytes.result in
-    let same = c.bytes.ensures.value in
+    let key = c.new.result in
+    let same = c.new.ensures ∙ c.bytes.ensures.value in
     let m = c.self.inside.entries in
     elim c.match-insert.branch [
       | in-Ok w ↦ λ added.
           let was_none : w.is_none.result ≡ true = cc in
           let before : w.in-Ok.before ≡ None = none_from_is_none w.in-Ok.before (w.is_none.ensures ∙ ap not was_none) in
           let absent = sym w.in-Ok.ensures.old ∙ before in (
-            ap (look_up c.args.self.now) (sym same) ∙ sym (ap (λ table. look_up table key.now) c.self.view_is) ∙ look_up-seen m.entries key.now ∙ absent,
-            ap table_seen w.in-Ok.ensures.entries ∙ table_seen-insert m key c.args.defined absent ∙ ap (λ table. table ++ (key.now, c.args.defined) ∷ []) c.self.view_is
+            ap (look_up c.args.self.now) (sym same) ∙ sym (ap (λ table. look_up table key) c.self.view_is) ∙ absent,
+            w.in-Ok.ensures.entries ∙ insert_entry-new (pointwise nat_eq) m key c.args.defined absent ∙ ap (λ table. table ++ (key, c.args.defined) ∷ []) c.self.view_is
                 ∙ ap (λ name. c.args.self.now ++ (name, c.args.defined) ∷ []) same,
           )
       | in-Err w ↦ λ added. cc
@@ -27,12 +28,11 @@ returns-clause-added g c =
 
 pub returns-clause-there : goal.returns-clause-there
 returns-clause-there g c =
-    let key = c.bytes.result in
-    let m = c.self.inside.entries in
+    let key = c.new.result in
     elim c.match-insert.branch [
       | in-Ok w ↦ λ there absent.
           let was_some : w.is_none.result ≡ false = cc in
-          let is : w.in-Ok.before ≡ None = w.in-Ok.ensures.old ∙ sym (look_up-seen m.entries key.now) ∙ ap (λ table. look_up table key.now) c.self.view_is ∙ ap (look_up c.args.self.now) c.bytes.ensures.value ∙ absent in
+          let is : w.in-Ok.before ≡ None = w.in-Ok.ensures.old ∙ ap (λ table. look_up table key) c.self.view_is ∙ ap (look_up c.args.self.now) (c.new.ensures ∙ c.bytes.ensures.value) ∙ absent in
           true≢false (sym (w.is_none.ensures ∙ ap not was_some) ∙ ap is_some is)
       | in-Err w ↦ λ there absent. cc
     ]

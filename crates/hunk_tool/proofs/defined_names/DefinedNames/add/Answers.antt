@@ -1,7 +1,7 @@
 use Rattle.std.proofs.Common.{◌∙◌, ◌||◌, ap}
 use Rattle.std.specs.List.{list_any}
 use Rattle.hunk_tool.specs.DefinedNames.{is_name}
-use Rattle.hunk_tool.proofs.DefinedNamesLemmas.{list_any-insert, names_seen}
+use Rattle.hunk_tool.proofs.DefinedNamesLemmas.{list_any-insert}
 use Rattle.hunk_tool.proofs.defined_names.DefinedNames.add.Goals as goal
 use Rattle.hunk_tool.proofs.defined_names.DefinedNames.add.Goals.{in-Ok, in-Err}
 
@@ -9,8 +9,9 @@ pub returns : goal.returns
 returns g c =
     elim c.match-insert.branch [
       | in-Ok w ↦ rw w.result-is (λ other.
-          ap (λ keys. list_any (is_name other) (names_seen keys)) w.in-Ok.ensures.keys
-          ∙ list_any-insert other c.self.inside.names.keys c.args.name
-          ∙ ap (λ names. list_any (is_name other) names || is_name other c.args.name.now) c.self.view_is)
+          ap (list_any (is_name other)) w.in-Ok.ensures.keys
+          ∙ list_any-insert other c.self.inside.names.keys c.new.result
+          ∙ ap (λ names. list_any (is_name other) names || is_name other c.new.result) c.self.view_is
+          ∙ ap (λ name. list_any (is_name other) c.args.self.now || is_name other name) c.new.ensures)
       | in-Err w ↦ rw w.result-is tt
     ]

@@ -6,14 +6,14 @@ use Rattle.std.proofs.lemmas.Option.{get_or_from_slice_get}
 use Rattle.hunk_tool.specs.Names.{Entry, undefined_entry}
 use Rattle.hunk_tool.specs.Origins.{Origin}
 use Rattle.hunk_tool.specs.Undefined.{Use, Uses}
-use Rattle.hunk_tool.proofs.UndefinedLemmas.{slice_get-within, uses_seen}
+use Rattle.hunk_tool.proofs.UndefinedLemmas.{slice_get-within}
 use Rattle.hunk_tool.proofs.names.NameList.add_undefined.Goals as goal
 use Rattle.hunk_tool.proofs.names.NameList.add_undefined.Goals.{in-Some+in_ok-push, in_default}
 
 pub loop-index-preserved : goal.loop-index-preserved
 loop-index-preserved g c =
     let index = c.loop-index.index in
-    let uses = uses_seen c.uses.inside.entries.entries in
+    let uses = c.uses.inside.entries.entries in
     let entry = undefined_entry (Some c.args.unit) c.args.origin.now.number in
     let within : index < length uses = omega (arith, c.loop-index-test.true, c.len-index-end.ensures, ap length c.uses.view_is) in
     let before = c.args.self.now in
@@ -31,7 +31,7 @@ loop-index-preserved g c =
 
 pub returns : goal.returns
 returns g c = λ all defined.
-    let uses = uses_seen c.uses.inside.entries.entries in
+    let uses = c.uses.inside.entries.entries in
     let entry = undefined_entry (Some c.args.unit) c.args.origin.now.number in
     let ended : length uses ≤ c.loop-index.index = omega (arith, c.loop-index-test.false, c.len-index-end.ensures, ap length c.uses.view_is) in
     c.loop-index.invariant

@@ -6,7 +6,7 @@ use Rattle.hunk_link.specs.Limits.{IsHunkCount, IsSmall}
 use Rattle.hunk_link.specs.Linkable.{IsFirstReason}
 use Rattle.hunk_link.specs.Ranks.{IsUnit, hunks_of}
 use Rattle.hunk_link.proofs.LinkingLemmas.{accepted-linked, carried-linked, linkable-linked, linked-all, reference_count-linked}
-use Rattle.hunk_link.proofs.linking.link_units.Goals as goal
+use Rattle.hunk_link.proofs.linking.link_units_with.Goals as goal
 
 pub returns-in_err-addends-clause-refused : goal.returns-in_err-addends-clause-refused
 returns-in_err-addends-clause-refused g c =

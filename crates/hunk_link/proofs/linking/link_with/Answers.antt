@@ -4,7 +4,7 @@ use Rattle.std.proofs.lemmas.Result.{err_from_is_err_and}
 use Rattle.hunk_link.specs.Limits.{IsHunkCount, IsSmall}
 use Rattle.hunk_link.specs.Linkable.{IsFirstReason}
 use Rattle.hunk_link.proofs.LinkingLemmas.{accepted-linked, carried-linked, linkable-linked, linked-all, reference_count-linked}
-use Rattle.hunk_link.proofs.linking.link.Goals as goal
+use Rattle.hunk_link.proofs.linking.link_with.Goals as goal
 
 pub returns-in_err-addends-clause-refused : goal.returns-in_err-addends-clause-refused
 returns-in_err-addends-clause-refused g c =

@@ -5,7 +5,7 @@ use Rattle.std.proofs.lemmas.Result.{err_from_is_err_and}
 use Rattle.hunk_base.specs.Streams.{WriteStopped}
 use Rattle.hunk_loadfile.specs.Rules.{IsLoadFile}
 use Rattle.hunk_tool.proofs.LinkLemmas.{IsLinkFault-unlinked, IsLinkFault-written, IsLinked-written, bytes-chosen}
-use Rattle.hunk_tool.proofs.link.link_run.Goals as goal
+use Rattle.hunk_tool.proofs.link.link_run_with.Goals as goal
 
 pub returns-in_err-linked-clause-err : goal.returns-in_err-linked-clause-err
 returns-in_err-linked-clause-err g c =
