@@ -117,11 +117,21 @@ def units_that_do_not_link_are_explained(program):
         tells(program, f"link: {line}", more, "image", "--srec", "--symbols", "--at", "0", *files)
 
 
+@test
+def an_explanation_quotes_a_name_that_forges_lines(program):
+    hunk, name = Hunk(CODE, [0]), "b: c\n  kind: load file"
+    hunk.sites = [(0, b"go")]
+    program.write(name, model.object_file([Unit([hunk], b"one")]))
+    origin = '"b: c\\x0a  kind: load file" unit 0 "one" hunk 0 ""\n'
+    more = f'  unit 0 hunk 0: {origin}  "go", references: 1, first in {origin}'
+    tells(program, 'link: unit 0 hunk 0: "go" not defined', more, "link", "--out", "out", name)
+
+
 def origin_text(files, parts, place):
     """Where a hunk is from, by the numbers of its file, of the unit in it and of the hunk."""
     file, unit, hunk = place
     names = [model.quoted(it) for it in (model.name_of(parts[file][unit]), parts[file][unit][hunk].name)]
-    return f"{files[file]} unit {unit} {names[0]} hunk {hunk} {names[1]}\n"
+    return f"{model.shown(files[file].encode())} unit {unit} {names[0]} hunk {hunk} {names[1]}\n"
 
 
 def undefined_text(files, parts, uses):

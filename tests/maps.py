@@ -27,7 +27,7 @@ def a_map_tells_where_each_hunk_is_from(program):
 
 
 @test
-def a_map_has_the_names_of_the_files_as_given(program):
+def a_map_has_the_names_of_the_files(program):
     code, zeros = Hunk(CODE, [0, 0], b"CODE"), Hunk(BSS, [0, 0], memory="chip")
     code.definitions = [(DEF, b"main", 0), (ABS, b'a"\\\n\xff', 0x80000000)]
     data = Hunk(DATA, [], b"\xc3\xa9", "fast")
@@ -35,8 +35,8 @@ def a_map_has_the_names_of_the_files_as_given(program):
     program.write("x.o", model.object_file([Unit([code, zeros], b"test")]))
     program.write("a lib\xe9.o", model.object_file([Unit([], b"none"), [Hunk(CODE, [])], [], [data]]))
     text = (
-        'hunk 0 code any 0 longwords a lib\xe9.o unit 1 "" hunk 0 ""\n'
-        'hunk 1 data fast 0 longwords a lib\xe9.o unit 3 "" hunk 0 "\\xc3\\xa9"\n'
+        'hunk 0 code any 0 longwords "a lib\\xc3\\xa9.o" unit 1 "" hunk 0 ""\n'
+        'hunk 1 data fast 0 longwords "a lib\\xc3\\xa9.o" unit 3 "" hunk 0 "\\xc3\\xa9"\n'
         '  define "" at ffffffff\n'
         'hunk 2 code any 2 longwords ./x.o unit 0 "test" hunk 0 "CODE"\n'
         '  define "main" at 00000000\n'

@@ -138,6 +138,13 @@ def quoted(name):
     return '"' + "".join(chr(it) if 32 <= it < 127 and it not in b'"\\' else f"\\x{it:02x}" for it in name) + '"'
 
 
+def shown(file):
+    """The name of a file, in bytes, in a line of `survey`, of a map or of what explains a failure: as it is, unless a terminal obeys a
+    byte of it, or it has what ends a name."""
+    text = file.decode("latin-1")
+    return text if re.fullmatch("[ -~]*", text) and ": " not in text else quoted(file)
+
+
 def symbols_of(units, bases):
     """What `load` and `image` print with `--symbols`, unless the symbols were left out."""
     hunks = [hunk for unit in units for hunk in unit]
@@ -163,7 +170,7 @@ def map_of(files):
         for place, unit in enumerate(units):
             for own, hunk in enumerate(unit):
                 front = f"hunk {number} {KINDS[hunk.kind]} {hunk.memory} {len(hunk.words)} longwords"
-                lines.append(f"{front} {file} unit {place} {quoted(name_of(unit))} hunk {own} {quoted(hunk.name)}")
+                lines.append(f"{front} {shown(file.encode())} unit {place} {quoted(name_of(unit))} hunk {own} {quoted(hunk.name)}")
                 lines += [f"  define {quoted(name)} {'at' if kind == DEF else 'as'} {value:08x}" for kind, name, value in hunk.definitions]
                 number += 1
     return "".join(f"{line}\n" for line in lines)

@@ -137,10 +137,12 @@ class Linking(unittest.TestCase):
             (["", "b"], [b"", b"b"]),
             (["a", "b", "c"], [b"a", b"b"]),
             ([pathlib.Path("a/b \u00e9.o"), b'\xff"\n'], [b"a/b \xc3\xa9.o", b'\xff"\n']),
+            ([pathlib.Path("a/b: c"), "a:b "], [b"a/b: c", b"a:b "]),
             (["\udce9", bytes(range(1, 256))], [b"\xe9", bytes(range(1, 256))]),
             (["x" * 100000, "%s"], [b"x" * 100000, b"%s"]),
         ):
-            text = HELLO_MAP.replace(b" main.o ", b" %b " % wanted[0]).replace(b" library.o ", b" %b " % wanted[1])
+            shown = [model.shown(name).encode() for name in wanted]
+            text = HELLO_MAP.replace(b" main.o ", b" %b " % shown[0]).replace(b" library.o ", b" %b " % shown[1])
             self.assertEqual(amihunk.link_with_map(files, names=given), (HELLO, text))
 
     def test_a_map_has_all_kinds_of_hunks_and_names(self):

@@ -113,6 +113,10 @@ def a_survey_tells_what_each_file_is(program):
     totals = "6 files: 1 object files, 1 load files, 2 refused, 2 unreadable\n"
     words_ = ("survey", "folder", "missing", "text", "cut", "a.o", "--", "a")
     equals(program.run(*words_), (DEVICE, unread + refused + hunks + totals, ""))
+    for name, shown in (("a\nb: load file", '"a\\x0ab: load file"'), ("caf\xe9", '"caf\\xc3\\xa9"'), ('"a:b" \\', '"a:b" \\'), ("\x1b[2J", '"\\x1b[2J"')):
+        program.write(name, LOAD_FILE)
+        totals = "1 files: 0 object files, 1 load files, 0 refused, 0 unreadable\n"
+        program.prints(f"{shown}: load file: 1 hunks\n{totals}", "survey", name)
     files, limit = ["a"] * 200, (resource.RLIMIT_NOFILE, 16)
     totals = "200 files: 0 object files, 200 load files, 0 refused, 0 unreadable\n"
     program.prints("a: load file: 1 hunks\n" * 200 + totals, "survey", *files, limit=limit)

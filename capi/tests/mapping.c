@@ -79,9 +79,9 @@ static struct file others(void)
                      0x3EB, 1, 0x3F2);                          /* zeros */
 }
 
-/* What the three files are called: the bytes of a name stand for themselves. */
-#define OTHERS "a \"lib\"\xFF\n.o"
-static const char *const names[] = {"main.o", OTHERS, "dir/z.o"};
+/* What the three files are called. One of the names is quoted. */
+#define OTHERS "\"a \\x22lib\\x22\\xff\\x0a.o\""
+static const char *const names[] = {"main.o", "a \"lib\"\xFF\n.o", "dir/z \"z\".o"};
 
 static const char map[] =
     "hunk 0 code any 2 longwords main.o unit 0 \"test\" hunk 0 \"CODE\"\n"
@@ -99,7 +99,7 @@ static const char map[] =
     "hunk 6 code fast 0 longwords " OTHERS " unit 2 \"x\" hunk 1 \"\"\n"
     "hunk 7 data chip 2 longwords " OTHERS " unit 2 \"x\" hunk 2 \"\"\n"
     "hunk 8 bss any 1 longwords " OTHERS " unit 2 \"x\" hunk 3 \"\"\n"
-    "hunk 9 code any 2 longwords dir/z.o unit 0 \"\" hunk 0 \"\"\n"
+    "hunk 9 code any 2 longwords dir/z \"z\".o unit 0 \"\" hunk 0 \"\"\n"
     "  define \"foo\" at 00000004\n";
 
 static void a_map_tells_where_each_hunk_of_a_load_file_is_from(void)
@@ -164,7 +164,7 @@ static void check_names(amihunk_linker *linker, const char *const *given, size_t
 
 static void a_file_without_a_name_has_an_empty_one(void)
 {
-    static char all[256], long_name[100000];
+    static char all[256], all_quoted[2 + 4 * 255 + 1], long_name[100000];
     static const char *const none[] = {NULL, NULL, NULL}, *const first[] = {"a", NULL},
                              *const second[] = {NULL, "b"}, *const both[] = {"a", "b"},
                              *const more[] = {"a", "b", "c", NULL, ""}, *const empty[] = {"", ""},
@@ -174,6 +174,13 @@ static void a_file_without_a_name_has_an_empty_one(void)
     for (size_t i = 0; i + 1 < sizeof(all); i++) {
         all[i] = (char)(i + 1);
     }
+    char *end = all_quoted;
+    *end++ = '"';
+    for (unsigned byte = 1; byte < 256; byte++) {
+        bool is_plain = byte >= ' ' && byte <= '~' && byte != '"' && byte != '\\';
+        end += sprintf(end, is_plain ? "%c" : "\\x%02x", byte);
+    }
+    *end++ = '"';
     memset(long_name, 'x', sizeof(long_name) - 1);
     check_names(&linker, NULL, 0, "", "");
     check_names(&linker, both, 0, "", "");
@@ -185,7 +192,7 @@ static void a_file_without_a_name_has_an_empty_one(void)
     check_names(&linker, second, 2, "", "b");
     check_names(&linker, more, 5, "a", "b");
     check_names(&linker, empty, 2, "", "");
-    check_names(&linker, strange, 2, all, "%s");
+    check_names(&linker, strange, 2, all_quoted, "%s");
     check_names(&linker, large, 2, "", long_name);
     amihunk_linker_close(&linker);
     free(files[0].bytes);

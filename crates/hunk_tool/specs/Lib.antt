@@ -18,6 +18,7 @@ pub mod CopyLaws
 pub mod Image
 pub mod ObjectFiles
 pub mod Origins
+pub mod ShownName
 pub mod OriginText
 pub mod Map
 pub mod DefinedNames

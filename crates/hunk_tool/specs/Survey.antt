@@ -10,6 +10,7 @@ use Rattle.hunk_base.specs.Text.{line}
 use Rattle.hunk_tool.specs.FaultLine.{reason_text}
 use Rattle.hunk_tool.specs.FileSystem.{FileContent, MayBeMissing, OfFile}
 use Rattle.hunk_tool.specs.Link.{Taken}
+use Rattle.hunk_tool.specs.ShownName.{shown_name}
 use Rattle.hunk_files.specs.FileDecoder.{IsRefused}
 use Rattle.hunk_files.specs.FileValue.{FileValue, IsOfItsKind}
 use Rattle.hunk_files.specs.FileValue.FileValue.{object_file, load_file}
@@ -56,7 +57,7 @@ finding_text Unread = line (codes "read failed")
 finding_text Unopened = line (codes "cannot be opened")
 
 abbrev pub finding_line : List ℕ → Finding → List ℕ
-finding_line name finding = name ++ codes ": " ++ finding_text finding
+finding_line name finding = shown_name name ++ codes ": " ++ finding_text finding
 
 -- ---- all files
 

@@ -27,7 +27,7 @@
 //! - `undefined_name`: what callers are told of a name that none defines.
 //! - `names`: the names in files, what stands for each and where, sorted.
 //! - `named_files`: the files whose names are listed.
-//! - `file_name`: what files are called.
+//! - `file_name`: what files are called; `shown_name`: their names in lines.
 #![tactic(auto)]
 
 pub mod check;
@@ -52,6 +52,7 @@ pub mod object_files;
 mod origin_text;
 mod origins;
 pub mod show;
+mod shown_name;
 pub mod survey;
 pub mod symbol_form;
 pub mod symbols;
@@ -85,6 +86,7 @@ pub use named_files::{NamedFiles, read_named_files};
 pub use names::{NameList, write_names};
 pub use object_files::{ObjectFiles, read_object_files};
 pub use show::show_run;
+pub use shown_name::write_name;
 pub use survey::{
     Finding, SurveyFault, survey_file, survey_files, survey_status, write_finding, write_totals,
 };

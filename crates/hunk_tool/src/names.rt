@@ -116,11 +116,7 @@ impl<'a, A: Allocator + Copy> NameList<'a, A> {
     /// # Errors
     ///
     /// [`AllocError`] only if an allocation failed.
-    pub fn of(
-        alloc: A,
-        files: &'a NamedFiles<A>,
-        hasher: NameHasher,
-    ) -> Result<Self, AllocError>
+    pub fn of(alloc: A, files: &'a NamedFiles<A>, hasher: NameHasher) -> Result<Self, AllocError>
         ensures { IfOk result (AreSorted (names_of files.now)) }
     {
         match files {

@@ -6,6 +6,7 @@ ghost use Rattle.hunk_tool.specs.OriginText.{origin_text};
 
 use crate::file_name::{FileName, name_at};
 use crate::origins::Origin;
+use crate::shown_name::write_name;
 use hunk_words::{Sink, Text};
 use std::alloc::Allocator;
 
@@ -18,7 +19,7 @@ pub(crate) fn write_origin<'x, N: FileName, A: Allocator + Copy, W: Sink>(
 )
     ensures { Puts W.taken W.failed text.old text.new (origin_text (map N.bytes names.now) origin.now) }
 {
-    text.put(name_at(names, origin.place.file));
+    write_name(text, name_at(names, origin.place.file));
     text.put(b" unit ");
     text.put_decimal(origin.place.number as u64);
     text.put(b" ");

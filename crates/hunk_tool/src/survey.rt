@@ -10,6 +10,7 @@ ghost use Rattle.hunk_tool.specs.Survey.{AreFound, IsFound, IsOfFile, IsSurveyFa
 
 use crate::fault_line::write_reason;
 use crate::file_system::FileSystem;
+use crate::shown_name::write_name;
 use hunk_files::{File, count_file};
 use hunk_text::{write_load_line, write_object_line};
 use hunk_words::{Fault, ReadFault, Refusal, Sink, Source, Text, WriteFault};
@@ -157,13 +158,13 @@ fn write_about<W: Sink>(name: &str, finding: Finding, writer: &mut W) -> Result<
     text.finish()
 }
 
-/// Writes the line about the file named `name`: the name, `: `, and what
+/// Writes the line about the file named `name`: the name as [`write_name`] writes it, `: `, and what
 /// [`check_run`](crate::check_run) writes of the file, or the reason why there is nothing to write. It
 /// does not allocate.
 pub fn write_finding<W: Sink>(text: &mut Text<'_, W>, name: &str, finding: Finding)
     ensures { Puts W.taken W.failed text.old text.new (finding_line name.now finding) }
 {
-    text.put(name.as_bytes());
+    write_name(text, name.as_bytes());
     text.put(b": ");
     match finding {
         Finding::Object { units, hunks } => write_object_line(text, units, hunks),

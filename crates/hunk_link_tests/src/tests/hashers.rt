@@ -82,6 +82,11 @@ fn hashes_the_key_before_the_name(rt: HostRuntime) {
         ),
     ];
     for (key, name, wanted) in rows {
-        equals_at(&rt, &(key, name), NameHasher::new(key).hash_one(name), wanted);
+        equals_at(
+            &rt,
+            &(key, name),
+            NameHasher::new(key).hash_one(name),
+            wanted,
+        );
     }
 }

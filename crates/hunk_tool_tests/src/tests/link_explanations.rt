@@ -5,7 +5,9 @@ use super::memory::MOST_GROWTHS;
 use super::unlinked::{AGAIN, END, FAR, NONE, ONE, OTHER};
 use hunk_link::{LinkRefusal, link};
 use hunk_test_support::{KEY, Refusing, bytes_of};
-use hunk_tool::{NameHasher, ObjectFiles, ToolFault, explain_link, read_object_files, write_link_explanation};
+use hunk_tool::{
+    NameHasher, ObjectFiles, ToolFault, explain_link, read_object_files, write_link_explanation,
+};
 use hunk_words::{Pieces, Room, Text, WriteFault};
 use std::alloc::{AllocError, Allocator, Global};
 use std::process::Abort;

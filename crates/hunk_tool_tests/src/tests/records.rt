@@ -77,7 +77,14 @@ fn writes_the_records_of_object_files(rt: HostRuntime) -> Result<(), Fail> {
     let mut inputs = [Pieces::new(bytes_of(rt.alloc(), &OBJECT, &[])?, 5, None)];
     let mut writer = Room::new(rt.alloc(), 7, ROOM, false)?;
     let form = ImageForm::SRecords;
-    let got = image_run_with(rt.alloc(), &mut inputs, &[BASE], form, NameHasher::new(KEY), &mut writer);
+    let got = image_run_with(
+        rt.alloc(),
+        &mut inputs,
+        &[BASE],
+        form,
+        NameHasher::new(KEY),
+        &mut writer,
+    );
     equals(&rt, got, Ok(()));
     equals(&rt, writer.bytes(), RECORDS.as_bytes());
     Ok(())
@@ -200,7 +207,14 @@ fn tells_what_a_writer_took_of_the_records_of_object_files(rt: HostRuntime) -> R
         let mut inputs = [Pieces::new(bytes_of(alloc, &OBJECT, &[])?, 64, None)];
         let mut writer = Room::new(alloc, 7, room, false)?;
         let form = ImageForm::SRecords;
-        let got = image_run_with(alloc, &mut inputs, &[BASE], form, NameHasher::new(KEY), &mut writer);
+        let got = image_run_with(
+            alloc,
+            &mut inputs,
+            &[BASE],
+            form,
+            NameHasher::new(KEY),
+            &mut writer,
+        );
         is_cut(&rt, room, got, &writer);
     }
     Ok(())

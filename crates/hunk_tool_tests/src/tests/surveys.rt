@@ -102,13 +102,29 @@ fn is_out_of_memory_with_each_growth_refused(rt: HostRuntime) -> Result<(), Fail
 }
 
 // Names of files, what was found of them, and the line about each.
-static LINES: [(&str, Finding, &str); 6] = [
+static LINES: [(&str, Finding, &str); 10] = [
     ("a.o", OBJECT, "a.o: object file: 1 units, 2 hunks\n"),
     ("c/Dir", LOAD, "c/Dir: load file: 2 hunks\n"),
     ("x", CUT, "x: longword 3: file ends inside a longword\n"),
     ("ls", STRANGE, "ls: longword 0: wrong first longword\n"),
     ("", Finding::Unread, ": read failed\n"),
-    ("Über", Finding::Unopened, "Über: cannot be opened\n"),
+    (
+        "Über",
+        Finding::Unopened,
+        "\"\\xc3\\x9cber\": cannot be opened\n",
+    ),
+    ("a \"b\\:c", LOAD, "a \"b\\:c: load file: 2 hunks\n"),
+    ("a: \"b\\", LOAD, "\"a: \\x22b\\x5c\": load file: 2 hunks\n"),
+    (
+        "a\n\u{1B}[2J",
+        OBJECT,
+        "\"a\\x0a\\x1b[2J\": object file: 1 units, 2 hunks\n",
+    ),
+    (
+        "~\u{7F}",
+        CUT,
+        "\"~\\x7f\": longword 3: file ends inside a longword\n",
+    ),
 ];
 
 static FINDINGS: [Finding; 6] = [

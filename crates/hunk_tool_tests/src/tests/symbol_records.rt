@@ -162,7 +162,14 @@ fn are_written(
 ) -> Result<(), Fail> {
     let mut inputs = [Pieces::new(bytes_of(alloc, &UNITS, &[])?, 5, None)];
     let mut writer = Room::new(alloc, 64, room, false)?;
-    let got = image_symbols_run(alloc, &mut inputs, bases, form, NameHasher::new(KEY), &mut writer);
+    let got = image_symbols_run(
+        alloc,
+        &mut inputs,
+        bases,
+        form,
+        NameHasher::new(KEY),
+        &mut writer,
+    );
     equals_at(rt, &room, got, wanted);
     equals_at(rt, &room, writer.bytes(), text.as_bytes());
     Ok(())
@@ -184,7 +191,14 @@ fn growths_of(rt: &impl Abort, alloc: Global, form: SymbolForm, text: &str) -> R
         let heap = Refusing::new(alloc, refused);
         let mut inputs = [Pieces::new(bytes_of(alloc, &UNITS, &[])?, 64, None)];
         let mut writer = Room::new(alloc, 64, ROOM, false)?;
-        let got = image_symbols_run(&heap, &mut inputs, &[0x1000, 0x2000], form, NameHasher::new(KEY), &mut writer);
+        let got = image_symbols_run(
+            &heap,
+            &mut inputs,
+            &[0x1000, 0x2000],
+            form,
+            NameHasher::new(KEY),
+            &mut writer,
+        );
         if is_done(rt, &heap, refused, &got, writer.bytes(), text) {
             return Ok(refused);
         }
@@ -214,12 +228,26 @@ fn tells_why_units_have_no_symbols(rt: HostRuntime) -> Result<(), Fail> {
         ];
         let mut inputs = [Pieces::new(bytes_of(alloc, &words, &[])?, 64, None)];
         let mut writer = Room::new(alloc, 64, ROOM, false)?;
-        let got = image_symbols_run(alloc, &mut inputs, &[BASE], form, NameHasher::new(KEY), &mut writer);
+        let got = image_symbols_run(
+            alloc,
+            &mut inputs,
+            &[BASE],
+            form,
+            NameHasher::new(KEY),
+            &mut writer,
+        );
         let unlinked = matches!(got, Err(ToolFault::Link(LinkRefusal::UndefinedName { .. })));
         holds(&rt, &"a name that is not defined", unlinked);
         equals(&rt, writer.bytes(), b"");
         let mut inputs = [Pieces::new(bytes_of(alloc, &UNITS, &[])?, 64, Some(0))];
-        let got = image_symbols_run(alloc, &mut inputs, &[BASE], form, NameHasher::new(KEY), &mut writer);
+        let got = image_symbols_run(
+            alloc,
+            &mut inputs,
+            &[BASE],
+            form,
+            NameHasher::new(KEY),
+            &mut writer,
+        );
         equals(&rt, got, Err(ToolFault::InputDevice { file: 0 }));
         equals(&rt, writer.bytes(), b"");
     }
