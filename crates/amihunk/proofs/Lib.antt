@@ -7,3 +7,4 @@ pub mod CommandLineUseLemmas
 pub mod CommandLineSubcommandLemmas
 pub mod CommandLineFilesLemmas
 pub mod CommandLinePlainLemmas
+pub mod SyntaxLemmas

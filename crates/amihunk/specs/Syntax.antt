@@ -1,8 +1,19 @@
 -- The command line that the program accepts, as `clap` is told of it.
-use Rattle.std.specs.Prelude.{ℕ, [], true, codes, Some}
+use Rattle.std.specs.Prelude.{◌≡◌, ⊤, ◌∷◌, ℕ, List, [], true, false, codes, Some}
 use Rattle.clap.specs.Lexer.{usize_max}
 use Rattle.clap.specs.Words.{App, Rule, Shape, Text, new_app, new_rule, with_rule, with_subcommand}
+use Rattle.clap.specs.declared.builder.arg.Arg.{Arg}
 use Rattle.clap.specs.declared.builder.action.ArgAction.TheVariants.{SetTrue}
+
+-- none of the arguments is one that the subcommands of the command have too
+abbrev pub AreLocal : List Arg → Type 0
+AreLocal [] = ⊤
+AreLocal (a ∷ rest) = (a.global ≡ false) × AreLocal rest
+
+-- the program with these arguments as well, in this order
+abbrev pub with_rules : App → List Rule → App
+with_rules app [] = app
+with_rules app (r ∷ rest) = with_rules (with_rule app r) rest
 
 -- `--NAME VALUE`
 abbrev pub option_rule : Text → Rule

@@ -1,9 +1,9 @@
 //! The command line that the program accepts, as `clap` is told of it.
-ghost use Rattle.std.specs.Prelude.{◌≡◌, IfOk, codes, false};
-ghost use Rattle.clap.specs.Words.{Shape, app_of, rule_of, shape_of, with_rule, with_subcommand};
+ghost use Rattle.std.specs.Prelude.{◌≡◌, IfOk, codes, false, map};
+ghost use Rattle.clap.specs.Words.{Shape, app_of, rule_of, shape_of, with_subcommand};
 ghost use Rattle.clap.specs.declared.builder.command.Command.TheViews.{out-Command};
-ghost use Rattle.amihunk.specs.Syntax.{bare_app, check_shape, command_line, compare_shape, copy_shape, explain_rule, file_rule, files_rule, flag_rule, given_addresses, given_flags, given_forms, given_outputs, given_shown, given_texts, image_shape, letter_s};
-ghost use Rattle.amihunk.specs.Syntax.{link_shape, load_shape, option_rule, out_rule, show_shape, survey_shape, value_rule, with_letter};
+ghost use Rattle.amihunk.specs.Syntax.{AreLocal, bare_app, check_shape, command_line, compare_shape, copy_shape, explain_rule, file_rule, files_rule, flag_rule, image_shape, letter_s};
+ghost use Rattle.amihunk.specs.Syntax.{link_shape, load_shape, option_rule, out_rule, show_shape, survey_shape, value_rule, with_letter, with_rules};
 
 use clap::{Arg, ArgAction, Command};
 use hunk_commands::VERSION;
@@ -46,45 +46,38 @@ fn with_subcommand<'a>(
     command.subcommand(subcommand?)
 }
 
+/// A command with these arguments as well, in this order, if that could be made.
+fn with_arguments<'a>(
+    command: Command<'a>,
+    arguments: Vec<Arg<'a>>,
+) -> Result<Command<'a>, AllocError>
+    requires { AreLocal arguments.items }
+    ensures shape { IfOk result (λ c. app_of c ≡ with_rules (app_of command.entry) (map rule_of arguments.entry.items)) }
+    ensures local { (out-Command command.entry).has_globals ≡ false → IfOk result (λ c. (out-Command c).has_globals ≡ false) }
+{
+    // A call of its own, so that it is proved once what they make of a command.
+    command.args(arguments)
+}
+
 /// The subcommand `link --out OUT [--map MAP] [--strip] [--short] [--trim] [--explain] FILE...`, where
 /// `-o` is `--out`, and `-s` is `--strip`.
 fn link_command<'a>(alloc: Global) -> Result<Command<'a>, AllocError>
     ensures shape { IfOk result (λ c. shape_of c ≡ link_shape) }
     ensures local { IfOk result (λ c. (out-Command c).has_globals ≡ false) }
 {
+    let arguments = vec![in alloc;
+        out_argument(alloc),
+        map_argument(alloc),
+        strip_flag(alloc),
+        short_flag(alloc),
+        trim_flag(alloc),
+        explain_flag(alloc),
+        files_argument(alloc, "Object files, in the order of linking"),
+    ]?;
     let link = Command::new(alloc, "link")
         .about("Links object files, and writes the load file")
         .after_help(help::LINK);
-    with_flags(alloc, with_outputs(alloc, link)?)?
-        .arg(explain_flag(alloc))?
-        .arg(files_argument(alloc, "Object files, in the order of linking"))
-}
-
-/// A subcommand that is given the files to write.
-fn with_outputs<'a>(alloc: Global, command: Command<'a>) -> Result<Command<'a>, AllocError>
-    ensures shape { IfOk result (λ c. app_of c ≡ given_outputs (app_of command.entry)) }
-    ensures local { (out-Command command.entry).has_globals ≡ false → IfOk result (λ c. (out-Command c).has_globals ≡ false) }
-{
-    command.arg(out_argument(alloc))?.arg(map_argument(alloc))
-}
-
-/// A subcommand that is told how to write the load file.
-fn with_flags<'a>(alloc: Global, command: Command<'a>) -> Result<Command<'a>, AllocError>
-    ensures shape { IfOk result (λ c. app_of c ≡ given_flags (app_of command.entry)) }
-    ensures local { (out-Command command.entry).has_globals ≡ false → IfOk result (λ c. (out-Command c).has_globals ≡ false) }
-{
-    command
-        .arg(strip_flag(alloc))?
-        .arg(flag(
-            alloc,
-            "short",
-            "Writes the short form, with relocations in 16-bit lists where they fit",
-        ))?
-        .arg(flag(
-            alloc,
-            "trim",
-            "Leaves out zero longwords at the end of each hunk",
-        ))
+    with_arguments(link, arguments)
 }
 
 /// The argument `--map MAP`.
@@ -125,6 +118,42 @@ fn strip_flag<'a>(alloc: Global) -> Arg<'a>
     flag(alloc, "strip", "Leaves out symbols and debug blocks").short('s')
 }
 
+/// The flag `--short`.
+fn short_flag<'a>(alloc: Global) -> Arg<'a>
+    ensures rule { rule_of result ≡ flag_rule (codes "short") }
+    ensures local { result.global ≡ false }
+{
+    let help = "Writes the short form, with relocations in 16-bit lists where they fit";
+    flag(alloc, "short", help)
+}
+
+/// The flag `--trim`.
+fn trim_flag<'a>(alloc: Global) -> Arg<'a>
+    ensures rule { rule_of result ≡ flag_rule (codes "trim") }
+    ensures local { result.global ≡ false }
+{
+    let help = "Leaves out zero longwords at the end of each hunk";
+    flag(alloc, "trim", help)
+}
+
+/// The flag `--srec`.
+fn records_flag<'a>(alloc: Global) -> Arg<'a>
+    ensures rule { rule_of result ≡ flag_rule (codes "srec") }
+    ensures local { result.global ≡ false }
+{
+    let help = "Prints Motorola S-records in place of the report";
+    flag(alloc, "srec", help)
+}
+
+/// The flag `--symbols` of `load` and `image`.
+fn symbols_flag<'a>(alloc: Global) -> Arg<'a>
+    ensures rule { rule_of result ≡ flag_rule (codes "symbols") }
+    ensures local { result.global ≡ false }
+{
+    let help = "Prints the address of each symbol in place of the report, or before the S-records";
+    flag(alloc, "symbols", help)
+}
+
 /// The flag `--explain`.
 fn explain_flag<'a>(alloc: Global) -> Arg<'a>
     ensures rule { rule_of result ≡ explain_rule }
@@ -141,12 +170,19 @@ pub fn load_command<'a>(alloc: Global) -> Result<Command<'a>, AllocError>
     ensures shape { IfOk result (λ c. shape_of c ≡ load_shape) }
     ensures local { IfOk result (λ c. (out-Command c).has_globals ≡ false) }
 {
+    let arguments = vec![in alloc;
+        list_argument(alloc),
+        addresses_argument(alloc),
+        records_flag(alloc),
+        symbols_flag(alloc),
+        explain_flag(alloc),
+        file_argument(alloc, "A load file"),
+    ]?;
     let load = Command::new(alloc, "load")
         .about("Loads a file at addresses, and prints the bytes of its hunks")
-        .after_help(help::LOAD);
-    with_texts(alloc, with_addresses(alloc, load, help::LOAD_USAGE)?)?
-        .arg(explain_flag(alloc))?
-        .arg(file_argument(alloc, "A load file"))
+        .after_help(help::LOAD)
+        .override_usage(help::LOAD_USAGE);
+    with_arguments(load, arguments)
 }
 
 /// The subcommand `image --at LIST [--srec] [--symbols] [--explain] FILE...`, or with `--at-file FILE` in
@@ -155,40 +191,19 @@ pub fn image_command<'a>(alloc: Global) -> Result<Command<'a>, AllocError>
     ensures shape { IfOk result (λ c. shape_of c ≡ image_shape) }
     ensures local { IfOk result (λ c. (out-Command c).has_globals ≡ false) }
 {
+    let arguments = vec![in alloc;
+        list_argument(alloc),
+        addresses_argument(alloc),
+        records_flag(alloc),
+        symbols_flag(alloc),
+        explain_flag(alloc),
+        files_argument(alloc, "Object files, in the order of linking"),
+    ]?;
     let image = Command::new(alloc, "image")
         .about("Links object files at addresses, and prints the bytes of their hunks")
-        .after_help(help::IMAGE);
-    with_texts(alloc, with_addresses(alloc, image, help::IMAGE_USAGE)?)?
-        .arg(explain_flag(alloc))?
-        .arg(files_argument(alloc, "Object files, in the order of linking"))
-}
-
-/// A subcommand that is given addresses, in a list or in a file.
-fn with_addresses<'a>(
-    alloc: Global,
-    command: Command<'a>,
-    usage: &'a str,
-) -> Result<Command<'a>, AllocError>
-    ensures shape { IfOk result (λ c. app_of c ≡ given_addresses (app_of command.entry)) }
-    ensures local { (out-Command command.entry).has_globals ≡ false → IfOk result (λ c. (out-Command c).has_globals ≡ false) }
-{
-    command
-        .override_usage(usage)
-        .arg(list_argument(alloc))?
-        .arg(addresses_argument(alloc))
-}
-
-/// A subcommand that is told what to print in place of the report.
-fn with_texts<'a>(alloc: Global, command: Command<'a>) -> Result<Command<'a>, AllocError>
-    ensures shape { IfOk result (λ c. app_of c ≡ given_texts (app_of command.entry)) }
-    ensures local { (out-Command command.entry).has_globals ≡ false → IfOk result (λ c. (out-Command c).has_globals ≡ false) }
-{
-    let records = "Prints Motorola S-records in place of the report";
-    let symbols =
-        "Prints the address of each symbol in place of the report, or before the S-records";
-    command
-        .arg(flag(alloc, "srec", records))?
-        .arg(flag(alloc, "symbols", symbols))
+        .after_help(help::IMAGE)
+        .override_usage(help::IMAGE_USAGE);
+    with_arguments(image, arguments)
 }
 
 /// The subcommand `check [--explain] FILE`.
@@ -196,11 +211,14 @@ fn check_command<'a>(alloc: Global) -> Result<Command<'a>, AllocError>
     ensures shape { IfOk result (λ c. shape_of c ≡ check_shape) }
     ensures local { IfOk result (λ c. (out-Command c).has_globals ≡ false) }
 {
-    Command::new(alloc, "check")
+    let arguments = vec![in alloc;
+        explain_flag(alloc),
+        file_argument(alloc, "An object file or a load file"),
+    ]?;
+    let check = Command::new(alloc, "check")
         .about("Checks a file, and prints which kind it is and how many units and hunks it has")
-        .after_help(help::CHECK)
-        .arg(explain_flag(alloc))?
-        .arg(file_argument(alloc, "An object file or a load file"))
+        .after_help(help::CHECK);
+    with_arguments(check, arguments)
 }
 
 /// The subcommand `show [--json] [--content] [--html] [--names] [--explain] FILE...`. No rule of `clap` says
@@ -210,39 +228,23 @@ pub fn show_command<'a>(alloc: Global) -> Result<Command<'a>, AllocError>
     ensures shape { IfOk result (λ c. shape_of c ≡ show_shape) }
     ensures local { IfOk result (λ c. (out-Command c).has_globals ≡ false) }
 {
+    let json = "Prints the listing as one JSON document";
+    let content = "With `--json`, tells the stored bytes of each hunk too";
+    let page = "Prints a page for a browser, which shows the file";
+    let names = "Lists the names in the files, sorted, as `nm` lists them";
+    let files = "An object file or a load file, or with `--names` object files";
+    let arguments = vec![in alloc;
+        flag(alloc, "json", json),
+        flag(alloc, "content", content),
+        flag(alloc, "html", page),
+        flag(alloc, "names", names),
+        explain_flag(alloc),
+        files_argument(alloc, files),
+    ]?;
     let show = Command::new(alloc, "show")
         .about("Prints a listing of the units and hunks of a file, and of what is in them")
         .after_help(help::SHOW);
-    with_shown(alloc, show)?
-        .arg(explain_flag(alloc))?
-        .arg(files_argument(
-            alloc,
-            "An object file or a load file, or with `--names` object files",
-        ))
-}
-
-/// A subcommand that is told what to print in place of the listing.
-fn with_shown<'a>(alloc: Global, command: Command<'a>) -> Result<Command<'a>, AllocError>
-    ensures shape { IfOk result (λ c. app_of c ≡ given_shown (app_of command.entry)) }
-    ensures local { (out-Command command.entry).has_globals ≡ false → IfOk result (λ c. (out-Command c).has_globals ≡ false) }
-{
-    command
-        .arg(flag(alloc, "json", "Prints the listing as one JSON document"))?
-        .arg(flag(
-            alloc,
-            "content",
-            "With `--json`, tells the stored bytes of each hunk too",
-        ))?
-        .arg(flag(
-            alloc,
-            "html",
-            "Prints a page for a browser, which shows the file",
-        ))?
-        .arg(flag(
-            alloc,
-            "names",
-            "Lists the names in the files, sorted, as `nm` lists them",
-        ))
+    with_arguments(show, arguments)
 }
 
 /// The subcommand `survey FILE...`.
@@ -250,10 +252,13 @@ fn survey_command<'a>(alloc: Global) -> Result<Command<'a>, AllocError>
     ensures shape { IfOk result (λ c. shape_of c ≡ survey_shape) }
     ensures local { IfOk result (λ c. (out-Command c).has_globals ≡ false) }
 {
-    Command::new(alloc, "survey")
+    let arguments = vec![in alloc;
+        files_argument(alloc, "Object files, load files and any others"),
+    ]?;
+    let survey = Command::new(alloc, "survey")
         .about("Tells of each file what it is, and how many there are of each kind")
-        .after_help(help::SURVEY)
-        .arg(files_argument(alloc, "Object files, load files and any others"))
+        .after_help(help::SURVEY);
+    with_arguments(survey, arguments)
 }
 
 /// The subcommand `copy --out OUT [--strip] [--short] [--trim] [--normal] [--explain] FILE`, where `-o` is
@@ -263,28 +268,19 @@ pub fn copy_command<'a>(alloc: Global) -> Result<Command<'a>, AllocError>
     ensures shape { IfOk result (λ c. shape_of c ≡ copy_shape) }
     ensures local { IfOk result (λ c. (out-Command c).has_globals ≡ false) }
 {
+    let arguments = vec![in alloc;
+        out_argument(alloc),
+        strip_flag(alloc),
+        short_flag(alloc),
+        trim_flag(alloc),
+        normal_flag(alloc),
+        explain_flag(alloc),
+        file_argument(alloc, "A load file"),
+    ]?;
     let copy = Command::new(alloc, "copy")
         .about("Writes a load file again, as `link` writes it, or in its normal form")
         .after_help(help::COPY);
-    with_forms(alloc, with_out(alloc, copy)?)?
-        .arg(explain_flag(alloc))?
-        .arg(file_argument(alloc, "A load file"))
-}
-
-/// A subcommand that is given the load file to write.
-fn with_out<'a>(alloc: Global, command: Command<'a>) -> Result<Command<'a>, AllocError>
-    ensures shape { IfOk result (λ c. app_of c ≡ with_rule (app_of command.entry) out_rule) }
-    ensures local { (out-Command command.entry).has_globals ≡ false → IfOk result (λ c. (out-Command c).has_globals ≡ false) }
-{
-    command.arg(out_argument(alloc))
-}
-
-/// A subcommand that is told what is written again.
-fn with_forms<'a>(alloc: Global, command: Command<'a>) -> Result<Command<'a>, AllocError>
-    ensures shape { IfOk result (λ c. app_of c ≡ given_forms (app_of command.entry)) }
-    ensures local { (out-Command command.entry).has_globals ≡ false → IfOk result (λ c. (out-Command c).has_globals ≡ false) }
-{
-    with_flags(alloc, command)?.arg(normal_flag(alloc))
+    with_arguments(copy, arguments)
 }
 
 /// The flag `--normal`.
@@ -301,13 +297,15 @@ fn compare_command<'a>(alloc: Global) -> Result<Command<'a>, AllocError>
     ensures shape { IfOk result (λ c. shape_of c ≡ compare_shape) }
     ensures local { IfOk result (λ c. (out-Command c).has_globals ≡ false) }
 {
-    let with_symbols = "Compares symbols and debug blocks too";
-    Command::new(alloc, "compare")
+    let arguments = vec![in alloc;
+        flag(alloc, "symbols", "Compares symbols and debug blocks too"),
+        value_argument(alloc, "first", "A", "A load file"),
+        value_argument(alloc, "second", "B", "Another load file"),
+    ]?;
+    let compare = Command::new(alloc, "compare")
         .about("Tells whether two load files mean the same, or where they first differ")
-        .after_help(help::COMPARE)
-        .arg(flag(alloc, "symbols", with_symbols))?
-        .arg(value_argument(alloc, "first", "A", "A load file"))?
-        .arg(value_argument(alloc, "second", "B", "Another load file"))
+        .after_help(help::COMPARE);
+    with_arguments(compare, arguments)
 }
 
 /// The argument VALUE, which is required.
