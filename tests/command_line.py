@@ -219,7 +219,7 @@ def a_file_that_has_no_addresses_alone_is_refused(program):
     write_files(program)
     program.write("loaded", load_file(["x"], []))
     for bytes_, part in (
-        (b"x", 0), (b"0 1 x 2", 2), (b"0,\n\n12345678,123456789", 2), (b"\r\n0x1\n", 0), (b"0\t1", 0), (b"0;1", 0), (b"0 -1", 1), (b"0 1\0", 1),
+        (b"x", 0), (b"0 1 x 2", 2), (b"0,\n\n12345678,123456789", 2), (b"\r\n0x1\n", 0), (b"0\x0b1", 0), (b"0;1", 0), (b"0 -1", 1), (b"0 1\0", 1),
     ):
         program.write("a list", bytes_)
         line = f"a list: part {part} is not 1 to 8 hexadecimal digits"

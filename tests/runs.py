@@ -166,6 +166,7 @@ def addresses_come_from_a_file_of_any_length(program):
     program.prints(report, "load", "--at-file", "addresses", "most")
     program.write("x", LOAD_FILE)
     program.prints(REPORT, "load", "--at-file", "/dev/stdin", "x", input=b", 00010000\r\n")
+    program.prints(REPORT, "load", "--at-file", "/dev/stdin", "x", input=b"\t10000\t")
     program.write("none", b" \n,\r")
     program.fails(REFUSED, "places: wrong number of addresses", "load", "--at-file", "none", "x")
     # They are known before FILE is opened, and their file may be FILE.

@@ -333,7 +333,7 @@ fn addresses_argument<'a>(alloc: Global) -> Arg<'a>
     ensures rule { rule_of result ≡ option_rule (codes "at-file") }
     ensures local { result.global ≡ false }
 {
-    let help = "A file with these addresses, with commas, spaces or line ends between";
+    let help = "A file with these addresses, with commas, spaces, tabs or line ends between";
     option(alloc, "at-file", "FILE", help)
 }
 

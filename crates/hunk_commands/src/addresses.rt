@@ -15,7 +15,7 @@ use std::alloc::Global;
 pub enum Addresses<'a> {
     /// A list: numbers with commas between.
     List(&'a str),
-    /// The file with this name: numbers with commas, spaces or ends of lines between.
+    /// The file with this name: numbers with commas, spaces, tabs or ends of lines between.
     File(&'a str),
 }
 

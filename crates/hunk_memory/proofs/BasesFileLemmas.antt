@@ -36,9 +36,10 @@ no_separator : (c : ℕ) → is_ascii_hexdigit c ≡ true → is_separator c ≡
 no_separator c h =
     let comma : c ≢ 44 = λ e. let no : is_ascii_hexdigit 44 ≡ true = subst (λ x. is_ascii_hexdigit x ≡ true) e h in cc in
     let space : c ≢ 32 = λ e. let no : is_ascii_hexdigit 32 ≡ true = subst (λ x. is_ascii_hexdigit x ≡ true) e h in cc in
+    let tab : c ≢ 9 = λ e. let no : is_ascii_hexdigit 9 ≡ true = subst (λ x. is_ascii_hexdigit x ≡ true) e h in cc in
     let returned : c ≢ 13 = λ e. let no : is_ascii_hexdigit 13 ≡ true = subst (λ x. is_ascii_hexdigit x ≡ true) e h in cc in
     let fed : c ≢ 10 = λ e. let no : is_ascii_hexdigit 10 ≡ true = subst (λ x. is_ascii_hexdigit x ≡ true) e h in cc in
-    rw (ne_eqb c 44 comma, ne_eqb c 32 space, ne_eqb c 13 returned, ne_eqb c 10 fed) refl
+    rw (ne_eqb c 44 comma, ne_eqb c 32 space, ne_eqb c 9 tab, ne_eqb c 13 returned, ne_eqb c 10 fed) refl
 
 plain_digits : (part : List ℕ) → list_all is_ascii_hexdigit part ≡ true → Plain part
 plain_digits [] h = tt

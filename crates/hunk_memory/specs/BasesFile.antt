@@ -9,9 +9,9 @@ use Rattle.hunk_memory.specs.declared.bases_file.BasesFileFault.TheVariants.{Ref
 use Rattle.hunk_memory.specs.declared.part_digits.PartDigits.{PartDigits}
 use Rattle.hunk_memory.specs.PartDigits.{AreDigits}
 
--- a comma (44), a space (32), a carriage return (13) or a line feed (10)
+-- a comma (44), a space (32), a tab (9), a carriage return (13) or a line feed (10)
 abbrev pub is_separator : ℕ → Bool
-is_separator byte = byte == 44 || (byte == 32 || (byte == 13 || byte == 10))
+is_separator byte = byte == 44 || (byte == 32 || (byte == 9 || (byte == 13 || byte == 10)))
 
 abbrev pub has_bytes : List ℕ → Bool
 has_bytes [] = false

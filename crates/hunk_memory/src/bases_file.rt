@@ -43,8 +43,8 @@ impl From<DeviceFault> for BasesFileFault {
 }
 
 /// Reads addresses to the end of `reader`: numbers of 1 to 8 hexadecimal digits of either case,
-/// separated by commas, spaces, carriage returns or line feeds, in any number and also before the first
-/// and after the last (own rule). No bytes have no address.
+/// separated by commas, spaces, tabs, carriage returns or line feeds, in any number and also before the
+/// first and after the last (own rule). No bytes have no address.
 ///
 /// It keeps 4 bytes for an address, and the piece that was read last. A part that is no address ends
 /// the reading: its ninth digit, or its first byte that is no digit.
@@ -155,5 +155,5 @@ impl<A: Allocator + Copy> FoundBases<A> {
 fn is_separator(byte: u8) -> bool
     ensures { result ≡ is_separator byte }
 {
-    matches!(byte, b',' | b' ' | b'\r' | b'\n')
+    matches!(byte, b',' | b' ' | b'\t' | b'\r' | b'\n')
 }

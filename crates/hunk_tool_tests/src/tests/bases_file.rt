@@ -11,13 +11,14 @@ use std::process::Abort;
 use std::test::Fail;
 
 // Files, and the addresses in them.
-static READ: [(&str, &[u32]); 8] = [
+static READ: [(&str, &[u32]); 9] = [
     ("", &[]),
     (" ,\r\n", &[]),
     ("0", &[0]),
     ("10000,FfFffff8", &[0x1_0000, 0xFFFF_FFF8]),
     ("\r\n10000\r\nabcdef\r\n", &[0x1_0000, 0x00AB_CDEF]),
     (",,1 2,\n3,", &[1, 2, 3]),
+    ("\t4\t5,\t6\r\n\t", &[4, 5, 6]),
     ("12345678\n9", &[0x1234_5678, 9]),
     ("00000001 ABCDEF01", &[1, 0xABCD_EF01]),
 ];
@@ -27,7 +28,7 @@ static REFUSED: [(&str, usize); 7] = [
     ("123456789", 0),
     ("0x10", 0),
     ("1 2\n3,,+3 zz", 3),
-    ("1\t2", 0),
+    ("1\x0b2", 0),
     (" 1,g", 1),
     ("1 2 3 4 5 000000006", 5),
     ("-", 0),
