@@ -2,6 +2,7 @@
 import os
 import random
 import resource
+import subprocess
 
 import model
 from harness import BAD_WORDS, DEVICE, NO_MEMORY, REFUSED, equals, test
@@ -158,7 +159,7 @@ def hunks_that_cannot_be_placed_are_refused(program):
 
 
 @test
-def addresses_come_from_a_file_of_any_length(program):
+def addresses_come_from_a_file(program):
     hunks = 65535
     program.write("most", words(HEADER, 0, hunks, 0, hunks - 1, *[0] * hunks) + words(CODE, 0, END) * hunks)
     program.write("addresses", b"".join(b"%x\n" % (8 * hunk) for hunk in range(hunks)))
@@ -175,6 +176,25 @@ def addresses_come_from_a_file_of_any_length(program):
     program.fails(DEVICE, "folder: read failed", "image", "--at-file", "folder", "missing")
     program.fails(BAD_WORDS, "x: part 0 is not 1 to 8 hexadecimal digits", "load", "--at-file", "x", "x")
     program.fails(DEVICE, "missing: cannot be opened", "load", "--at-file", "addresses", "missing")
+
+
+@test
+def a_file_of_addresses_has_its_limits(program):
+    program.write("x", LOAD_FILE)
+    most = 16 << 20
+    many, long = "more than 65535 addresses", "more than 16777216 bytes"
+    program.prints(REPORT, "load", "--at-file", "/dev/stdin", "x", input=b"\n" * (most - 5) + b"10000")
+    for told, input in ((many, b"8\n" * 65536), (many, b"8," * 65535 + b"8"), (long, b"\n" * (most - 4) + b"10000")):
+        program.fails(BAD_WORDS, f"/dev/stdin: {told}", "load", "--at-file", "/dev/stdin", "x", input=input)
+        program.fails(BAD_WORDS, f"/dev/stdin: {told}", "image", "--explain", "--at-file", "/dev/stdin", "missing", input=input)
+    # What never ends is refused too, in little memory.
+    for told, line in ((many, "1000"), (long, ""), (long, "\t")):
+        for command in (("load", "x"), ("image", "x.o")):
+            with subprocess.Popen(("yes", line), stdout=subprocess.PIPE) as yes:
+                try:
+                    program.fails(BAD_WORDS, f"/dev/stdin: {told}", *command, "--at-file", "/dev/stdin", stdin=yes.stdout, limit=LITTLE_MEMORY)
+                finally:
+                    yes.kill()
 
 
 @test

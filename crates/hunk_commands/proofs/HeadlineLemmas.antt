@@ -117,7 +117,7 @@ map_some_injective (x ∷ one) (y ∷ other) same =
 -- the numbers in a file that is known are those of its bytes
 file_numbers_are : (content : FileContent) (bases text : List ℕ) → content ≡ known text → OfFile content (λ input. HasNumbers input bases) → file_numbers text ≡ map Some bases
 file_numbers_are content bases text is of =
-    subst (λ bytes. file_numbers bytes ≡ map Some bases) (was_whole content of.input of.holds.0 text is of.is_reader of.holds.1) of.holds.2
+    subst (λ bytes. file_numbers bytes ≡ map Some bases) (was_whole content of.input of.holds.0 text is of.is_reader of.holds.1) of.holds.2.numbers
 
 -- both read the same numbers
 same_numbers : (contents contents_then : Contents) (origin : Origin) (bases other : List ℕ) → AreKept contents contents_then origin → HaveNumbers contents origin bases → HaveNumbers contents_then origin other → bases ≡ other

@@ -21,7 +21,7 @@ use Rattle.hunk_commands.specs.Store.{Contents, IsKnown}
 use Rattle.hunk_commands.specs.Survey.{IsCutShort}
 use Rattle.hunk_commands.specs.Text.{IsTextFailure}
 use Rattle.hunk_commands.specs.declared.failure.Failure.{Failure}
-use Rattle.hunk_commands.specs.declared.failure.Failure.TheVariants.{BadNumber, MapOverFile, Opening, Printing, Reading, SameFile, Tool, Writing}
+use Rattle.hunk_commands.specs.declared.failure.Failure.TheVariants.{BadNumber, MapOverFile, Opening, Printing, Reading, SameFile, TooLong, TooManyAddresses, Tool, Writing}
 use Rattle.hunk_commands.specs.declared.load.LoadText.{LoadText}
 use Rattle.hunk_commands.specs.declared.text.Text.{Text}
 
@@ -29,6 +29,8 @@ use Rattle.hunk_commands.specs.declared.text.Text.{Text}
 by_device : (P : Failure → Type 0) → ((file : Bor (List ℕ)) → P (Reading file)) → ((file : Bor (List ℕ)) → P (Writing file)) → P Printing
     → ((file : ℕ) → P (Tool (tool_fault.InputDevice file))) → ((written : ℕ) → P (Tool (tool_fault.Output written))) → (failure : Failure) → IsOfDevice failure → P failure
 by_device P reading writing printing device output (BadNumber addresses index) is = absurd is
+by_device P reading writing printing device output (TooManyAddresses file) is = absurd is
+by_device P reading writing printing device output (TooLong file) is = absurd is
 by_device P reading writing printing device output (Opening name reason) is = absurd is
 by_device P reading writing printing device output (Reading file) is = reading file
 by_device P reading writing printing device output (Writing file) is = writing file

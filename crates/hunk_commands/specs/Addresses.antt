@@ -2,16 +2,18 @@
 use Rattle.std.specs.Prelude.{◌≡◌, ℕ, Bool, IsTrue, List, Option, Some, map}
 use Rattle.hunk_base.specs.Streams.{HasRead}
 use Rattle.hunk_memory.specs.Bases.{IsBasesFault, numbers}
-use Rattle.hunk_memory.specs.BasesFile.{IsRejected, file_numbers}
+use Rattle.hunk_memory.specs.BasesFile.{IsFileOf, IsRejected}
 use Rattle.hunk_tool.specs.FileSystem.{MayBeMissing, OfFile}
 use Rattle.hunk_tool.specs.Inputs.{Input, WasRead}
 use Rattle.hunk_memory.specs.declared.bases.BasesFault.TheVariants as bases_fault
+use Rattle.hunk_memory.specs.declared.bases_file.BasesFileFault.{BasesFileFault}
+use Rattle.hunk_memory.specs.declared.bases_file.BasesFileFault.TheVariants as file_fault
 use Rattle.hunk_tool.specs.declared.tool_fault.ToolFault.TheVariants.{OutOfMemory}
 use Rattle.hunk_commands.specs.Store.{Contents}
 use Rattle.hunk_commands.specs.declared.addresses.Addresses.{Addresses}
 use Rattle.hunk_commands.specs.declared.addresses.Addresses.TheVariants as addresses
 use Rattle.hunk_commands.specs.declared.failure.Failure.{Failure}
-use Rattle.hunk_commands.specs.declared.failure.Failure.TheVariants.{BadNumber, Opening, Reading, Tool}
+use Rattle.hunk_commands.specs.declared.failure.Failure.TheVariants.{BadNumber, Opening, Reading, TooLong, TooManyAddresses, Tool}
 
 -- addresses are in this list, or in the file with this name
 pub data Origin : Type 0 where
@@ -27,13 +29,17 @@ abbrev pub input_of : {R : Type 0} (left : R → Option (List ℕ)) (failed ende
 input_of left failed ended old new =
     record { left = left old; left_then = left new; failed = failed new; ended = ended new }
 
--- the bytes of a reader, up to its end, are addresses with these numbers
+-- the bytes of a reader, up to its end, are a file of these addresses
 abbrev pub HasNumbers : Input → List ℕ → Type 0
-HasNumbers input bases = (bytes : List ℕ) × WasRead input bytes × (file_numbers bytes ≡ map Some bases)
+HasNumbers input bases = (bytes : List ℕ) × WasRead input bytes × IsFileOf bases bytes
+
+-- the bytes of a reader are rejected as a file of addresses
+abbrev pub IsNoFile : Input → BasesFileFault → Type 0
+IsNoFile input fault = HasRead input.left input.left_then (λ bytes. IsRejected bytes fault)
 
 -- the first part of the bytes of a reader that is no number has this index
 abbrev pub HasBadPart : Input → ℕ → Type 0
-HasBadPart input index = HasRead input.left input.left_then (λ bytes. IsRejected bytes (bases_fault.BadNumber index))
+HasBadPart input index = IsNoFile input (file_fault.Refused (bases_fault.BadNumber index))
 
 -- each part of the addresses is a number, and these are the numbers
 abbrev pub HaveNumbers : Contents → Origin → List ℕ → Type 0
@@ -59,10 +65,16 @@ AreUnopened contents origin name = (origin ≡ in_file name) × MayBeMissing (co
 abbrev pub AreUnread : Contents → Origin → (name : List ℕ) → Type 0
 AreUnread contents origin name = (origin ≡ in_file name) × OfFile (contents name) (λ input. IsTrue input.failed)
 
--- why the addresses are not known: a part of them is no number, their file cannot be opened or a read
--- of it failed, or out of memory
+-- the addresses are in the file with this name, which is rejected
+abbrev pub AreRefused : Contents → Origin → (name : List ℕ) → BasesFileFault → Type 0
+AreRefused contents origin name fault = (origin ≡ in_file name) × OfFile (contents name) (λ input. IsNoFile input fault)
+
+-- why the addresses are not known: a part of them is no number, their file has too many or is too long,
+-- cannot be opened or a read of it failed, or out of memory
 abbrev pub IsAddressesFailure : Contents → Origin → Failure → Type 0
 IsAddressesFailure contents origin (BadNumber found index) = (origin_of found ≡ origin) × HaveBadPart contents origin index
+IsAddressesFailure contents origin (TooManyAddresses name) = AreRefused contents origin name.now file_fault.TooMany
+IsAddressesFailure contents origin (TooLong name) = AreRefused contents origin name.now file_fault.TooLong
 IsAddressesFailure contents origin (Opening name reason) = AreUnopened contents origin name.now
 IsAddressesFailure contents origin (Reading name) = AreUnread contents origin name.now
 IsAddressesFailure contents origin (Tool fault) = fault ≡ OutOfMemory 0
@@ -77,6 +89,8 @@ IsListFailure list _ = ⊥
 -- why the addresses that the reader of the file with this name has are not known
 abbrev pub IsReadFailure : (name : List ℕ) → Input → Failure → Type 0
 IsReadFailure name input (BadNumber found index) = (origin_of found ≡ in_file name) × HasBadPart input index
+IsReadFailure name input (TooManyAddresses file) = (file.now ≡ name) × IsNoFile input file_fault.TooMany
+IsReadFailure name input (TooLong file) = (file.now ≡ name) × IsNoFile input file_fault.TooLong
 IsReadFailure name input (Reading file) = (file.now ≡ name) × IsTrue input.failed
 IsReadFailure name input (Tool fault) = fault ≡ OutOfMemory 0
 IsReadFailure name input _ = ⊥

@@ -9,7 +9,7 @@ use Rattle.hunk_tool.specs.FaultLine.{fault_line}
 use Rattle.hunk_tool.specs.declared.tool_fault.ToolFault.TheVariants.{Input, Output}
 use Rattle.hunk_tool.specs.ToolFault.{status}
 use Rattle.hunk_commands.specs.declared.failure.Failure.{Failure}
-use Rattle.hunk_commands.specs.declared.failure.Failure.TheVariants.{BadNumber, MapOverFile, Opening, Printing, Reading, SameFile, Tool, Writing}
+use Rattle.hunk_commands.specs.declared.failure.Failure.TheVariants.{BadNumber, MapOverFile, Opening, Printing, Reading, SameFile, TooLong, TooManyAddresses, Tool, Writing}
 use Rattle.hunk_commands.specs.Addresses.{Origin, origin_of}
 use Rattle.hunk_commands.specs.Addresses.Origin.{in_file, in_list}
 
@@ -18,6 +18,8 @@ use Rattle.hunk_commands.specs.Addresses.Origin.{in_file, in_list}
 -- status of what `hunk_tool` returned
 abbrev pub status_of : Failure → ℕ
 status_of (BadNumber addresses index) = 2
+status_of (TooManyAddresses file) = 2
+status_of (TooLong file) = 2
 status_of (Opening file reason) = 3
 status_of (Reading file) = 3
 status_of (Writing file) = 3
@@ -48,6 +50,8 @@ about_line file told = line (codes "amihunk: " ++ file ++ codes ": " ++ told)
 -- the line that reports the failure, if the files have these names
 abbrev pub failure_line : List (List ℕ) → Failure → List ℕ
 failure_line names (BadNumber addresses index) = bad_number_line (origin_of addresses) index
+failure_line names (TooManyAddresses file) = about_line file.now (codes "more than 65535 addresses")
+failure_line names (TooLong file) = about_line file.now (codes "more than 16777216 bytes")
 failure_line names (Opening file reason) = about_line file.now (codes "cannot be opened")
 failure_line names (Reading file) = about_line file.now (codes "read failed")
 failure_line names (Writing file) = about_line file.now (codes "write failed")

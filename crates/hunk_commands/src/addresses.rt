@@ -24,6 +24,8 @@ pub enum Addresses<'a> {
 /// # Errors
 ///
 /// - [`Failure::BadNumber`] with the index of the first part that is no address.
+/// - [`Failure::TooManyAddresses`] if a file of them has more than 65,535.
+/// - [`Failure::TooLong`] if a file of them has more than 16 MiB.
 /// - [`Failure::Opening`] if the file of addresses cannot be opened.
 /// - [`Failure::Reading`] if a read of it failed.
 /// - [`Failure::out_of_memory`] if an allocation failed.
@@ -64,6 +66,8 @@ fn parse_list<'a>(alloc: Global, list: &'a str) -> Result<Vec<u32>, Failure<'a>>
 /// # Errors
 ///
 /// - [`Failure::BadNumber`] with the index of the first part that is no address.
+/// - [`Failure::TooManyAddresses`] if there are more than 65,535 addresses.
+/// - [`Failure::TooLong`] if there are more than 16 MiB.
 /// - [`Failure::Reading`] if a read failed.
 /// - [`Failure::out_of_memory`] if an allocation failed.
 pub fn read_addresses<'a, R: Source>(
@@ -81,6 +85,8 @@ pub fn read_addresses<'a, R: Source>(
             Err(Failure::BadNumber { addresses, index })
         }
         Err(BasesFileFault::Refused(BasesFault::OutOfMemory)) => Err(Failure::out_of_memory()),
+        Err(BasesFileFault::TooMany) => Err(Failure::TooManyAddresses(name)),
+        Err(BasesFileFault::TooLong) => Err(Failure::TooLong(name)),
         Err(BasesFileFault::Device) => Err(Failure::Reading(name)),
     }
 }

@@ -71,6 +71,8 @@ pub fn explain_failure<S: Store, W: Sink>(
         Failure::Reading(name) => explain_unread(store, errors, name),
         Failure::Opening(_, reason) => tell_reason(errors, *reason),
         Failure::BadNumber { .. } => {}
+        Failure::TooManyAddresses(_) => {}
+        Failure::TooLong(_) => {}
         Failure::Writing(_) => {}
         Failure::SameFile(_) => {}
         Failure::MapOverFile(_) => {}

@@ -36,6 +36,10 @@ pub enum Failure<'a> {
     Opening(&'a str, OpenFault),
     /// A read of the file of addresses with this name failed.
     Reading(&'a str),
+    /// The file of addresses with this name has more of them than a load file has hunks.
+    TooManyAddresses(&'a str),
+    /// The file of addresses with this name is longer than one may be.
+    TooLong(&'a str),
     /// The file with this name, the map of a link, did not take everything that was written to it.
     Writing(&'a str),
     /// The load file of a link and its map are to be written to one file, with this name for the map.
@@ -61,8 +65,9 @@ impl<'a> Failure<'a> {
         ensures { result ≡ status_of self.now }
     {
         match self {
-            Failure::BadNumber { .. } | Failure::SameFile(_) | Failure::MapOverFile(_) =>
+            Failure::BadNumber { .. } | Failure::TooManyAddresses(_) | Failure::TooLong(_) =>
                 COMMAND_LINE,
+            Failure::SameFile(_) | Failure::MapOverFile(_) => COMMAND_LINE,
             Failure::Opening(..) | Failure::Reading(_) | Failure::Writing(_) | Failure::Printing =>
                 DEVICE,
             Failure::Tool(fault) => status_of(fault),
@@ -126,6 +131,8 @@ fn tell_failure<W: Sink>(errors: &mut W, files: &[String], failure: &Failure<'_>
         Failure::BadNumber { addresses, index } => tell_bad_number(errors, *addresses, *index),
         Failure::Opening(file, _) => tell_about(errors, file, b"cannot be opened"),
         Failure::Reading(file) => tell_about(errors, file, b"read failed"),
+        Failure::TooManyAddresses(file) => tell_about(errors, file, b"more than 65535 addresses"),
+        Failure::TooLong(file) => tell_about(errors, file, b"more than 16777216 bytes"),
         Failure::Writing(file) => tell_about(errors, file, b"write failed"),
         Failure::SameFile(file) => tell_about(errors, file, b"given for both --out and --map"),
         Failure::MapOverFile(file) => tell_about(errors, file, b"given for both --map and FILE"),

@@ -1,5 +1,5 @@
 -- The parts of a file, as its bytes come.
-use Rattle.std.proofs.Common.{◌≡◌, ◌≢◌, ◌∙◌, ◌<◌, ◌≤◌, ◌^◌, ◌+◌, ◌++◌, ℕ, Bool, true, false, cond, List, [], ◌∷◌, length, take, map, Option, Some, None, refl, sym, ap, subst, arith, append_assoc, append-nil, length-append, drop, get_or, slice_index_or}
+use Rattle.std.proofs.Common.{◌≡◌, ◌≢◌, ◌∙◌, ◌<◌, ◌≤◌, ◌^◌, ◌+◌, ◌++◌, ℕ, Bool, true, false, cond, List, [], ◌∷◌, length, take, map, Option, Some, None, refl, sym, ap, subst, arith, append_assoc, append-nil, length-append, length-take-le, drop, get_or, slice_index_or}
 use Rattle.std.specs.Prelude.{is_none, position, ⊤}
 use Rattle.std.specs.Char.{digit_value, is_ascii_hexdigit}
 use Rattle.std.specs.List.{All, filter, list_all, onto_first, slice_split}
@@ -13,10 +13,12 @@ use Rattle.std.specs.Io.KnownBytes.{Consumes}
 use Rattle.std.proofs.lemmas.List.Folds.{list_all-append}
 use Rattle.std.proofs.lemmas.List.Elements.{All-cons, All-nil}
 use Rattle.std.proofs.lemmas.List.Splits.{slice_split-cons_no, slice_split_at, slice_split_none}
+use Rattle.hunk_base.specs.Streams.{HasRead}
 use Rattle.hunk_memory.specs.Bases.{IsNumbersFault, is_number, number_of}
-use Rattle.hunk_memory.specs.BasesFile.{IsRejected, StandsFor, file_numbers, has_bytes, is_separator}
+use Rattle.hunk_memory.specs.BasesFile.{IsBasesFileFault, IsRejected, StandsFor, file_numbers, has_bytes, is_separator, most_addresses}
 use Rattle.hunk_memory.specs.PartDigits.{AreDigits, ended_number}
-use Rattle.hunk_memory.specs.declared.bases.BasesFault.{BasesFault}
+use Rattle.hunk_memory.specs.declared.bases_file.BasesFileFault.{BasesFileFault}
+use Rattle.hunk_memory.specs.declared.bases_file.BasesFileFault.TheVariants.{Refused, TooMany, TooLong, Device}
 use Rattle.hunk_memory.specs.declared.part_digits.PartDigits.{PartDigits}
 use Rattle.hunk_memory.proofs.BasesLemmas.{is_number-from_parts, position-is_none}
 
@@ -152,18 +154,62 @@ rejected bases digits bytes byte rest other stands bad =
     ∙ ap (λ x. map Some bases ++ file_numbers x) (sym (append_assoc part (byte ∷ []) rest)) ∙ ap (λ x. map Some bases ++ x) numbers in
     ap (position is_none) all ∙ position-missing bases others
 
--- so is a longer piece, whatever follows
-pub rejected-longer : (bytes piece : List ℕ) (index : ℕ) (none : ℕ) (fault : BasesFault) → index < length piece
+-- ---- more bytes
+
+-- no bytes that follow make a file of what is rejected
+pub rejected-after : (bytes more : List ℕ) (fault : BasesFileFault) → IsRejected bytes fault → IsRejected (bytes ++ more) fault
+rejected-after bytes more (Refused fault) is = λ rest.
+    subst (λ all. IsNumbersFault (file_numbers all) fault) (sym (append_assoc bytes more rest)) (is (more ++ rest))
+rejected-after bytes more TooMany is = λ rest.
+    subst (λ all. most_addresses < length (file_numbers all)) (sym (append_assoc bytes more rest)) (is (more ++ rest))
+rejected-after bytes more TooLong is = rw length-append (omega (arith, is))
+rejected-after bytes more Device is = absurd is
+
+-- so is a longer piece
+pub rejected-longer : (bytes piece : List ℕ) (index : ℕ) (none : ℕ) (fault : BasesFileFault) → index < length piece
     → IsRejected ((bytes ++ take index piece) ++ get_or piece index none ∷ []) fault → IsRejected (bytes ++ piece) fault
-rejected-longer bytes piece index none fault within rejected rest =
+rejected-longer bytes piece index none fault within rejected =
     let front = take (index + 1) piece in
     let back = drop (index + 1) piece in
-    let whole : ((bytes ++ take index piece) ++ get_or piece index none ∷ []) ++ (back ++ rest) ≡ (bytes ++ piece) ++ rest =
-    ap (λ l. l ++ (back ++ rest)) (append_assoc bytes (take index piece) (get_or piece index none ∷ []) ∙ ap (λ l. bytes ++ l) (sym (take_more piece index none within)))
-    ∙ sym (append_assoc (bytes ++ front) back rest) ∙ ap (λ l. l ++ rest) (append_assoc bytes front back ∙ ap (λ l. bytes ++ l) (take-append-drop (index + 1) piece)) in
-    subst (λ all. IsNumbersFault (file_numbers all) fault) whole (rejected (back ++ rest))
+    let read = (bytes ++ take index piece) ++ get_or piece index none ∷ [] in
+    let whole : read ++ back ≡ bytes ++ piece =
+    ap (λ l. l ++ back) (append_assoc bytes (take index piece) (get_or piece index none ∷ []) ∙ ap (λ l. bytes ++ l) (sym (take_more piece index none within)))
+    ∙ append_assoc bytes front back ∙ ap (λ l. bytes ++ l) (take-append-drop (index + 1) piece) in
+    subst (λ all. IsRejected all fault) whole (rejected-after read back fault rejected)
+
+-- ---- too many addresses
+
+-- a part that has begun has a number, or is no number
+some_number : (part rest : List ℕ) → Plain part → 0 < length part → 0 < length (file_numbers (part ++ rest))
+some_number [] rest plain some = absurd (omega (arith, some))
+some_number (x ∷ xs) rest plain some =
+    let first = first_part (x ∷ xs) rest plain in
+    let more : 0 < length (map number_of (filter has_bytes (((x ∷ xs) ++ first.0) ∷ first.1.0))) = omega arith in
+    subst (λ parts. 0 < length (map number_of (filter has_bytes parts))) (sym first.1.1) more
+
+-- a part that has begun after as many addresses as a file may have
+pub too_many : (bases : List ℕ) (digits : PartDigits) (bytes : List ℕ) → length bases ≡ most_addresses → 0 < digits.count → StandsFor bases digits bytes
+    → IsRejected bytes TooMany
+too_many bases digits bytes full some stands rest =
+    let part = stands.part in
+    let one : 0 < length part = omega (arith, some, stands.are.count_is) in
+    let more = some_number part rest (plain_digits part stands.are.hexadecimal) one in
+    let long : length (map Some bases) ≡ length bases = length-map bases Some in
+    subst (λ numbers. most_addresses < length numbers) (sym (stands.numbers rest)) (rw length-append (omega (arith, long, more, full)))
 
 -- ---- reads
+
+-- what was read of a file is rejected
+pub file_fault : (old new : Option (List ℕ)) (failed : Bool) (fault : BasesFileFault) → HasRead old new (λ bytes. IsRejected bytes fault)
+    → IsBasesFileFault old new failed fault
+file_fault old new failed (Refused fault) read = read
+file_fault old new failed TooMany read = read
+file_fault old new failed TooLong read = read
+file_fault old new failed Device read = absurd read.holds
+
+-- a read brings so many bytes
+pub more_bytes : (bytes buffer : List ℕ) (count : ℕ) → count ≤ length buffer → length (bytes ++ take count buffer) ≡ length bytes + count
+more_bytes bytes buffer count within = rw (length-append, length-take-le count buffer within) refl
 
 -- the last read brings no byte
 pub read-ended : (old between new : Option (List ℕ)) (bytes buffer : List ℕ) (count : ℕ) → count ≡ 0 → Consumes old between bytes → Consumes between new (take count buffer)

@@ -1,11 +1,10 @@
 -- What the bytes of a file of addresses mean, and why the addresses of a file are not known.
-use Rattle.std.specs.Prelude.{◌≡◌, ◌++◌, ℕ, Bool, true, false, ◌||◌, ◌==◌, IsTrue, List, [], ◌∷◌, map, Option, Some}
+use Rattle.std.specs.Prelude.{◌≡◌, ◌<◌, ◌≤◌, ◌++◌, ℕ, Bool, true, false, ◌||◌, ◌==◌, IsTrue, List, [], ◌∷◌, length, map, Option, Some}
 use Rattle.std.specs.List.{filter, slice_split}
 use Rattle.hunk_base.specs.Streams.{HasRead}
 use Rattle.hunk_memory.specs.Bases.{IsNumbersFault, number_of}
-use Rattle.hunk_memory.specs.declared.bases.BasesFault.{BasesFault}
 use Rattle.hunk_memory.specs.declared.bases_file.BasesFileFault.{BasesFileFault}
-use Rattle.hunk_memory.specs.declared.bases_file.BasesFileFault.TheVariants.{Refused, Device}
+use Rattle.hunk_memory.specs.declared.bases_file.BasesFileFault.TheVariants.{Refused, TooMany, TooLong, Device}
 use Rattle.hunk_memory.specs.declared.part_digits.PartDigits.{PartDigits}
 use Rattle.hunk_memory.specs.PartDigits.{AreDigits}
 
@@ -25,14 +24,31 @@ file_parts bytes = filter has_bytes (slice_split is_separator bytes)
 abbrev pub file_numbers : List ℕ → List (Option ℕ)
 file_numbers bytes = map number_of (file_parts bytes)
 
--- whatever bytes follow these, this is why the file is rejected
-abbrev pub IsRejected : List ℕ → BasesFault → Type 0
-IsRejected bytes fault = (rest : List ℕ) → IsNumbersFault (file_numbers (bytes ++ rest)) fault
+-- what a file has at most: as many addresses as a load file has hunks, and 16 MiB
+abbrev pub most_addresses : ℕ
+most_addresses = 65535
+
+abbrev pub most_bytes : ℕ
+most_bytes = 16777216
+
+-- these bytes are a file of these addresses: they are the numbers of its parts, and neither they nor the bytes are too many
+pub record IsFileOf (bases bytes : List ℕ) : Type 0 where
+  pub numbers : file_numbers bytes ≡ map Some bases
+  pub few : length bases ≤ most_addresses
+  pub short : length bytes ≤ most_bytes
+
+-- whatever bytes follow these, this is why the file is rejected: a part is no number, there are too many
+-- addresses or bytes, or out of memory
+abbrev pub IsRejected : List ℕ → BasesFileFault → Type 0
+IsRejected bytes (Refused fault) = (rest : List ℕ) → IsNumbersFault (file_numbers (bytes ++ rest)) fault
+IsRejected bytes TooMany = (rest : List ℕ) → most_addresses < length (file_numbers (bytes ++ rest))
+IsRejected bytes TooLong = most_bytes < length bytes
+IsRejected bytes Device = ⊥
 
 -- why the addresses that a reader has are not known: what was read of them is rejected, or a read failed
 abbrev pub IsBasesFileFault : (old new : Option (List ℕ)) (failed : Bool) → BasesFileFault → Type 0
-IsBasesFileFault old new failed (Refused fault) = HasRead old new (λ bytes. IsRejected bytes fault)
 IsBasesFileFault old new failed Device = IsTrue failed
+IsBasesFileFault old new failed fault = HasRead old new (λ bytes. IsRejected bytes fault)
 
 -- these numbers, and the digits of a last part that may go on, are those of these bytes
 pub record StandsFor (bases : List ℕ) (digits : PartDigits) (bytes : List ℕ) : Type 0 where

@@ -1,8 +1,8 @@
 //! The addresses in a file, one for each hunk.
 
-ghost use Rattle.std.specs.Prelude.{◌≡◌, ◌++◌, ℕ, List, [], ◌∷◌, map, IfOk, IfErr, IsTrue, OnOk, Some};
+ghost use Rattle.std.specs.Prelude.{◌≡◌, ◌≤◌, ◌++◌, ℕ, List, [], ◌∷◌, length, IfOk, IfErr, IsTrue, OnOk};
 ghost use Rattle.hunk_base.specs.Streams.{HasRead};
-ghost use Rattle.hunk_memory.specs.BasesFile.{file_numbers, is_separator, IsBasesFileFault, IsRejected, StandsFor};
+ghost use Rattle.hunk_memory.specs.BasesFile.{is_separator, most_bytes, IsBasesFileFault, IsFileOf, IsRejected, StandsFor};
 ghost use Rattle.hunk_memory.specs.PartDigits.{ended_number};
 ghost use Rattle.hunk_memory.specs.declared.bases_file.BasesFileFault.TheVariants as file_fault;
 
@@ -11,6 +11,15 @@ use crate::part_digits::PartDigits;
 use hunk_words::{DeviceFault, Source};
 use std::alloc::Allocator;
 use thiserror::Error;
+
+// The most addresses in a file: a load file has no more hunks.
+const MOST_ADDRESSES: usize = 65_535;
+
+// The most bytes of a file: 16 MiB.
+const MOST_BYTES: usize = 0x100_0000;
+
+// Each read but the last one brings at least a byte.
+const MOST_READS: usize = MOST_BYTES + 1;
 
 // Bytes per read.
 const PIECE: usize = 16384;
@@ -21,6 +30,12 @@ pub enum BasesFileFault {
     /// The file is rejected, or an allocation failed.
     #[error("{0}")]
     Refused(BasesFault),
+    /// There are more than 65,535 addresses, of which a load file has no use.
+    #[error("more than 65535 addresses")]
+    TooMany,
+    /// There are more than 16 MiB.
+    #[error("more than 16777216 bytes")]
+    TooLong,
     /// A read failed.
     #[error("read failed")]
     Device,
@@ -44,37 +59,44 @@ impl From<DeviceFault> for BasesFileFault {
 
 /// Reads addresses to the end of `reader`: numbers of 1 to 8 hexadecimal digits of either case,
 /// separated by commas, spaces, tabs, carriage returns or line feeds, in any number and also before the
-/// first and after the last (own rule). No bytes have no address.
+/// first and after the last (own rule). No bytes have no address. There are at most 65,535 addresses, as
+/// a load file has no more hunks, in at most 16 MiB.
 ///
 /// It keeps 4 bytes for an address, and the piece that was read last. A part that is no address ends
-/// the reading: its ninth digit, or its first byte that is no digit.
+/// the reading: its ninth digit, or its first byte that is no digit. So do the end of the 65,536th
+/// address, and the first piece that passes 16 MiB: whatever the reader has, this ends.
 ///
 /// # Errors
 ///
 /// - [`BasesFileFault::Refused`] with [`BasesFault::BadNumber`] and the index, from 0, of the first
 ///   part that is no address, whatever the bytes are that were not read.
+/// - [`BasesFileFault::TooMany`] if there are more than 65,535 addresses.
+/// - [`BasesFileFault::TooLong`] if there are more than 16 MiB.
 /// - [`BasesFileFault::Refused`] with [`BasesFault::OutOfMemory`] if an allocation failed.
 /// - [`BasesFileFault::Device`] only if a read failed.
 pub fn read_bases<R: Source, A: Allocator + Copy>(
     alloc: A,
     reader: &mut R,
 ) -> Result<Vec<u32, A>, BasesFileFault>
-    ensures numbers { IfOk result (λ bases. HasRead (R.left reader.old) (R.left reader.new)
-        (λ bytes. file_numbers bytes ≡ map Some bases.items)) }
+    ensures numbers { IfOk result (λ bases. HasRead (R.left reader.old) (R.left reader.new) (IsFileOf bases.items)) }
     ensures ended { OnOk result (IsTrue (R.ended reader.new)) }
     ensures refused { IfErr result (IsBasesFileFault (R.left reader.old) (R.left reader.new) (R.failed reader.new)) }
 {
     let mut found = FoundBases::new(alloc);
     let mut buffer = [0; PIECE];
-    'reads: for _number in 0..u64::MAX {
+    let mut room = MOST_BYTES;
+    'reads: for _number in 0..MOST_READS {
         let count = reader.read(&mut buffer)?;
         if count == 0 {
-            return Ok(found.finish()?);
+            return found.finish();
         }
+        if count > room {
+            return Err(BasesFileFault::TooLong);
+        }
+        room -= count;
         found.feed(&buffer[..count])?;
     }
-    // no reader lives to see as many reads
-    Err(BasesFileFault::Refused(BasesFault::OutOfMemory))
+    unreachable!()
 }
 
 /// The addresses that have been read, and the digits of the part that is being read.
@@ -82,6 +104,7 @@ pub fn read_bases<R: Source, A: Allocator + Copy>(
 struct FoundBases<A: Allocator + Copy> {
     bases: Vec<u32, A>,
     digits: PartDigits,
+    ghost few: { length bases.items ≤ 65535 },
 }
 
 impl<A: Allocator + Copy> FoundBases<A> {
@@ -96,7 +119,7 @@ impl<A: Allocator + Copy> FoundBases<A> {
     }
 
     /// Takes the next bytes.
-    fn feed(&mut self, piece: &[u8]) -> Result<(), BasesFault>
+    fn feed(&mut self, piece: &[u8]) -> Result<(), BasesFileFault>
         ensures stands { OnOk result ((bytes : List ℕ) → StandsFor self.old.bases.items self.old.digits bytes
             → StandsFor self.new.bases.items self.new.digits (bytes ++ piece.now)) }
         ensures rejected { IfErr result (λ fault. (bytes : List ℕ) → StandsFor self.old.bases.items self.old.digits bytes
@@ -109,7 +132,7 @@ impl<A: Allocator + Copy> FoundBases<A> {
     }
 
     /// Takes the next byte.
-    fn push(&mut self, byte: u8) -> Result<(), BasesFault>
+    fn push(&mut self, byte: u8) -> Result<(), BasesFileFault>
         ensures stands { OnOk result ((bytes : List ℕ) → StandsFor self.old.bases.items self.old.digits bytes
             → StandsFor self.new.bases.items self.new.digits (bytes ++ byte ∷ [])) }
         ensures rejected { IfErr result (λ fault. (bytes : List ℕ) → StandsFor self.old.bases.items self.old.digits bytes
@@ -119,31 +142,36 @@ impl<A: Allocator + Copy> FoundBases<A> {
             return self.end_part();
         }
         let Some(digits) = self.digits.with(byte) else {
-            return Err(BasesFault::BadNumber(self.bases.len()));
+            return Err(BasesFileFault::Refused(BasesFault::BadNumber(self.bases.len())));
         };
         self.digits = digits;
         Ok(())
     }
 
     /// Ends the part that is being read, if there is one.
-    fn end_part(&mut self) -> Result<(), BasesFault>
+    fn end_part(&mut self) -> Result<(), BasesFileFault>
         ensures none { self.new.digits.count ≡ 0 }
         ensures ends { IfOk result (λ _. self.new.bases.items ≡ self.old.bases.items ++ ended_number self.old.digits) }
-        ensures memory { IfErr result (λ fault. fault ≡ BasesFault.OutOfMemory) }
+        ensures rejected { IfErr result (λ fault. (bytes : List ℕ) → StandsFor self.old.bases.items self.old.digits bytes
+            → IsRejected bytes fault) }
     {
         if self.digits.count > 0 {
             let base = self.digits.value;
             self.digits = PartDigits::none();
+            if self.bases.len() == MOST_ADDRESSES {
+                return Err(BasesFileFault::TooMany);
+            }
             self.bases.push(base).map_err(|_| BasesFault::OutOfMemory)?;
         }
         Ok(())
     }
 
     /// The addresses, after the last byte.
-    fn finish(mut self) -> Result<Vec<u32, A>, BasesFault>
+    fn finish(mut self) -> Result<Vec<u32, A>, BasesFileFault>
         ensures numbers { IfOk result (λ bases. (bytes : List ℕ) → StandsFor self.bases.items self.digits bytes
-            → file_numbers bytes ≡ map Some bases.items) }
-        ensures memory { IfErr result (λ fault. fault ≡ BasesFault.OutOfMemory) }
+            → length bytes ≤ most_bytes → IsFileOf bases.items bytes) }
+        ensures rejected { IfErr result (λ fault. (bytes : List ℕ) → StandsFor self.bases.items self.digits bytes
+            → IsRejected bytes fault) }
     {
         self.end_part()?;
         let FoundBases { bases, digits: _ } = self;

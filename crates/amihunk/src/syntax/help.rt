@@ -40,7 +40,7 @@ and `amihunk load --at 10000 --srec FILE` the same bytes as S-records
   S309000100004E754E7173
   S70500000000FA
 An address is the number of a byte, from 0 to FFFFFFFF. With `--at-file`, the addresses are read from a
-file, which may have any length: `amihunk load --at-file addresses FILE`.
+file of at most 16 MiB: `amihunk load --at-file addresses FILE`.
 
 With `--symbols` it prints a line for each symbol of FILE, in file order, with the symbol's address,
 the number of its hunk, and its name. The address is that of the hunk plus the symbol's value, modulo
@@ -70,7 +70,7 @@ in the order of linking: the files in the order given, the units in the order of
 in the order of a unit. An address is the number of a byte, from 0 to FFFFFFFF. For example, this
 prints two hunks, the first of them at the address 10000:
   amihunk image --at 10000,20000 startup.o main.o
-With `--at-file`, the addresses are read from a file, which may have any length.
+With `--at-file`, the addresses are read from a file of at most 16 MiB.
 
 With `--symbols`, that load file has the symbols and debug blocks of the object files, and the addresses
 of its symbols are printed, in lines or, with `--srec` too, before the S-records. For example:

@@ -119,6 +119,18 @@ fn reads_the_addresses_in_a_file(rt: HostRuntime) {
 }
 
 #[test]
+fn tells_that_a_file_has_too_many_addresses(rt: HostRuntime) -> Result<(), Fail> {
+    let alloc = rt.alloc();
+    let mut many = Vec::new(alloc);
+    for _address in 0..65_536 {
+        many.extend_from_slice(b"1 ")?;
+    }
+    let refused = read_addresses(alloc, "x", &mut Watched::new(many.as_slice()));
+    equals(&rt, refused.err(), Some(Failure::TooManyAddresses("x")));
+    Ok(())
+}
+
+#[test]
 fn a_read_that_fails_is_no_end_of_the_addresses(rt: HostRuntime) {
     let alloc = rt.alloc();
     let mut reader = Watched::new(b"1 2 ".as_slice().chain(Broken));

@@ -64,6 +64,10 @@ fn names_the_file_that_failed(rt: HostRuntime) -> Result<(), Fail> {
     }
     let reading = "amihunk: y: read failed\n";
     is_told(&rt, alloc, &Failure::Reading("y"), reading, 3)?;
+    let many = "amihunk: y: more than 65535 addresses\n";
+    is_told(&rt, alloc, &Failure::TooManyAddresses("y"), many, 2)?;
+    let long = "amihunk: y: more than 16777216 bytes\n";
+    is_told(&rt, alloc, &Failure::TooLong("y"), long, 2)?;
     let writing = "amihunk: y: write failed\n";
     is_told(&rt, alloc, &Failure::Writing("y"), writing, 3)?;
     let one_file = "amihunk: y: given for both --out and --map\n";

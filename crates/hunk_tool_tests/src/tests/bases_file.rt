@@ -6,7 +6,7 @@ use super::memory::MOST_GROWTHS;
 use hunk_test_support::Refusing;
 use hunk_tool::{BasesFault, BasesFileFault, read_bases};
 use hunk_words::Pieces;
-use std::alloc::Global;
+use std::alloc::{AllocError, Global};
 use std::process::Abort;
 use std::test::Fail;
 
@@ -127,15 +127,75 @@ fn stops_at_a_part_that_never_ends(rt: HostRuntime) {
     }
 }
 
+// A file with this line for each of 65,535 hunks, and these bytes after it.
+fn file_of_most(alloc: Global, line: &[u8], after: &[u8]) -> Result<Vec<u8>, AllocError> {
+    let mut text = Vec::new(alloc);
+    for _hunk in 0..65_535 {
+        text.extend_from_slice(line)?;
+    }
+    text.extend_from_slice(after)?;
+    Ok(text)
+}
+
 #[test]
 fn reads_an_address_for_each_of_65_535_hunks(rt: HostRuntime) -> Result<(), Fail> {
-    let mut text = Vec::new(rt.alloc());
-    for _hunk in 0..65_535 {
-        text.extend_from_slice(b"89abcdef\n")?;
-    }
+    let text = file_of_most(rt.alloc(), b"89abcdef\n", b"\n, \t")?;
     let mut reader = Pieces::new(text, 4_096, None);
     let got = read_bases(rt.alloc(), &mut reader)?;
     equals(&rt, got.len(), 65_535);
     holds(&rt, &"all", got.iter().all(|base| *base == 0x89AB_CDEF));
+    Ok(())
+}
+
+// The address after the last one that a file may have, each with what is wrong with the file: it is there
+// once it ends, with a separator or with the file.
+#[test]
+fn tells_that_there_are_more_addresses_than_hunks(rt: HostRuntime) -> Result<(), Fail> {
+    let bad = BasesFileFault::Refused(BasesFault::BadNumber(65_535));
+    for (after, fault) in [
+        ("0", BasesFileFault::TooMany),
+        ("0\n", BasesFileFault::TooMany),
+        ("0 x", BasesFileFault::TooMany),
+        ("x", bad),
+        ("123456789 0", bad),
+    ] {
+        let text = file_of_most(rt.alloc(), b"1 ", after.as_bytes())?;
+        let mut reader = Pieces::new(text, 4_096, None);
+        let got = read_bases(rt.alloc(), &mut reader);
+        equals_at(&rt, &after, got.err(), Some(fault));
+    }
+    Ok(())
+}
+
+// Spaces and one address, in 16 MiB and in a byte more.
+#[test]
+fn reads_16_mib_and_no_more(rt: HostRuntime) -> Result<(), Fail> {
+    let alloc = rt.alloc();
+    for (spaces, wanted) in [
+        (16_777_215, Ok([10].as_slice())),
+        (16_777_216, Err(BasesFileFault::TooLong)),
+    ] {
+        let mut text = vec![in alloc; b' '; spaces]?;
+        text.push(b'a')?;
+        let mut reader = Pieces::new(text, 65_536, None);
+        let got = read_bases(alloc, &mut reader);
+        let got = got.as_deref().map_err(|fault| *fault);
+        equals_at(&rt, &spaces, got, wanted);
+    }
+    Ok(())
+}
+
+// An address more than a file may have, and ends of lines without end after it; and spaces alone.
+#[test]
+fn stops_at_addresses_that_never_end(rt: HostRuntime) -> Result<(), Fail> {
+    let text = file_of_most(rt.alloc(), b"1 ", b"0\n")?;
+    for (front, after, fault) in [
+        (text.as_slice(), b'\n', BasesFileFault::TooMany),
+        (b"".as_slice(), b' ', BasesFileFault::TooLong),
+    ] {
+        let mut reader = Endless { front, after };
+        let got = read_bases(rt.alloc(), &mut reader);
+        equals_at(&rt, &after, got.err(), Some(fault));
+    }
     Ok(())
 }

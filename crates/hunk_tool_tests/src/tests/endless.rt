@@ -1,4 +1,4 @@
-//! A reader that never ends.
+//! Readers that never end.
 
 use super::asserts::equals;
 use hunk_test_support::{BASE, FILE, bytes_of};

@@ -12,6 +12,12 @@ returns-then-failed-clause-told g c =
 pub returns-in-BadNumber-clause-told : goal.returns-in-BadNumber-clause-told
 returns-in-BadNumber-clause-told g c = rw c.in-BadNumber.is (tells_none g.W.Sink.taken g.W.Sink.failed c.args.errors.now)
 
+pub returns-in-TooManyAddresses-clause-told : goal.returns-in-TooManyAddresses-clause-told
+returns-in-TooManyAddresses-clause-told g c = rw c.in-TooManyAddresses.is (tells_none g.W.Sink.taken g.W.Sink.failed c.args.errors.now)
+
+pub returns-in-TooLong-clause-told : goal.returns-in-TooLong-clause-told
+returns-in-TooLong-clause-told g c = rw c.in-TooLong.is (tells_none g.W.Sink.taken g.W.Sink.failed c.args.errors.now)
+
 pub returns-in-Writing-clause-told : goal.returns-in-Writing-clause-told
 returns-in-Writing-clause-told g c = rw c.in-Writing.is (tells_none g.W.Sink.taken g.W.Sink.failed c.args.errors.now)
 

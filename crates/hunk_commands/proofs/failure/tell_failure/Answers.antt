@@ -1,4 +1,4 @@
--- One name was given for both files, or the output did not take everything.
+-- One name was given for both files, a file of addresses is too large, or the output did not take everything.
 use Rattle.std.proofs.Common.{map, subst, sym}
 use Rattle.std.specs.String.{string_bytes}
 use Rattle.hunk_commands.specs.Failure.{failure_line, TellsLine}
@@ -8,6 +8,16 @@ pub returns-in-SameFile : goal.returns-in-SameFile
 returns-in-SameFile g c =
     subst (λ failure. TellsLine g.W.Sink.taken g.W.Sink.failed c.args.errors.now c.tell_about-in-SameFile.new.errors (failure_line (map string_bytes c.args.files.now) failure)) (sym c.in-SameFile.is)
     c.tell_about-in-SameFile.ensures
+
+pub returns-in-TooManyAddresses : goal.returns-in-TooManyAddresses
+returns-in-TooManyAddresses g c =
+    subst (λ failure. TellsLine g.W.Sink.taken g.W.Sink.failed c.args.errors.now c.tell_about-in-TooManyAddresses.new.errors (failure_line (map string_bytes c.args.files.now) failure)) (sym c.in-TooManyAddresses.is)
+    c.tell_about-in-TooManyAddresses.ensures
+
+pub returns-in-TooLong : goal.returns-in-TooLong
+returns-in-TooLong g c =
+    subst (λ failure. TellsLine g.W.Sink.taken g.W.Sink.failed c.args.errors.now c.tell_about-in-TooLong.new.errors (failure_line (map string_bytes c.args.files.now) failure)) (sym c.in-TooLong.is)
+    c.tell_about-in-TooLong.ensures
 
 pub returns-in-Printing : goal.returns-in-Printing
 returns-in-Printing g c =

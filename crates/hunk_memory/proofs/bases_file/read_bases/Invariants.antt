@@ -1,7 +1,7 @@
--- What has been read so far, of which the numbers are known.
-use Rattle.std.proofs.Common.{ℕ, List}
+-- What has been read so far, of which the numbers are known: at least a byte by each read, and no more than a file may have.
+use Rattle.std.proofs.Common.{◌≡◌, ◌≤◌, ◌+◌, ℕ, List, length}
 use Rattle.std.specs.Io.KnownBytes.{Consumes}
-use Rattle.hunk_memory.specs.BasesFile.{StandsFor}
+use Rattle.hunk_memory.specs.BasesFile.{StandsFor, most_bytes}
 use Rattle.hunk_memory.proofs.bases_file.read_bases.Given as goal
 
 abbrev pub invariant-reads : goal.invariant-reads
@@ -9,4 +9,6 @@ invariant-reads g l = record {
   bytes : List ℕ;
   consumed : Consumes (g.R.Source.left l.fn.reader) (g.R.Source.left l.reader) bytes;
   stands : StandsFor l.found.bases.items l.found.digits bytes;
+  room_is : length bytes + l.room ≡ most_bytes;
+  many : l._number ≤ length bytes;
 }
