@@ -1,1 +1,2 @@
+mod HeapSteps
 mod RefusingSteps

@@ -1,12 +1,20 @@
--- The state of an allocator that fails one allocation.
-use Rattle.std.specs.Prelude.{◌≡◌, ℕ}
+-- The state of an allocator that fails one allocation, or each from one on.
+pub use Rattle.std.specs.Prelude.{true, false}
+use Rattle.std.specs.Prelude.{◌≡◌, ℕ, Bool}
+use mir.Syntax.{Ty}
+use base.Fml.{Fml}
+use denote.RawPtr.{Ptr}
+use Rattle.std.specs.declared.alloc.Global.{Global}
+use Rattle.std.specs.contracts.impls.GlobalAllocator.TheImpl.{ghosts}
 use Rattle.hunk_test_support.specs.declared.refusing.Refusing.{Refusing}
 
--- the allocator inside
-abbrev pub inner_of : {B : Type 0} → Refusing B → B
-inner_of heap = heap.inner
+-- What lets a block go back: it is a block of the heap inside.
+abbrev pub heap_token : Refusing → Ty → Ptr → Fml
+heap_token heap = ghosts.dealloc_token heap.inner
 
--- It passes allocations on to that allocator, except the one with that number.
-pub record RefusesOne {B : Type 0} (heap : Refusing B) (inner : B) (number : ℕ) : Type 0 where
-  pub passes_on : inner_of heap ≡ inner
+-- It passes allocations on to that heap, except the one with that number, and the later ones where it
+-- fails those too.
+pub record Refuses (heap : Refusing) (inner : Global) (number : ℕ) (later : Bool) : Type 0 where
+  pub passes_on : heap.inner ≡ inner
   pub refuses : heap.growths.refused ≡ number
+  pub refuses_later : heap.growths.later ≡ later

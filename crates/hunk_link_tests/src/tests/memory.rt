@@ -67,23 +67,20 @@ fn is_done<A: Allocator + Copy>(
     Ok(done)
 }
 
-// Whether the job was done with allocation number `refused` failing, and each one after it: the next
-// two fail too, and no more are asked for.
+// Whether the job was done with allocation number `refused` failing, and each one after it: at most
+// two more are asked for.
 fn is_done_from_there(
     rt: &impl Abort,
     alloc: Global,
     refused: u64,
     job: Job<'_>,
 ) -> Result<bool, Fail> {
-    // Each passes on what it does not fail, and so counts one less than the one that passes it on.
-    let third = Refusing::new(alloc, refused);
-    let second = Refusing::new(&third, refused);
-    let first = Refusing::new(&second, refused);
-    let done = is_done(rt, alloc, &first, job)?;
+    let heap = Refusing::all_from(alloc, refused);
+    let done = is_done(rt, alloc, &heap, job)?;
     holds(
         rt,
         &("growth", refused),
-        first.asked() <= refused.saturating_add(3),
+        heap.asked() <= refused.saturating_add(3),
     );
     Ok(done)
 }

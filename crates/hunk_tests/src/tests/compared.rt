@@ -267,11 +267,7 @@ fn tells_the_first_symbol_or_debug_block(rt: HostRuntime) -> Result<(), Fail> {
 }
 
 // Leaves out of the file what means nothing, at an allocator that counts in `heap`.
-fn leaves_out<A: Allocator + Copy>(
-    rt: &impl Abort,
-    heap: &Refusing<Global>,
-    alloc: A,
-) -> Result<(), Fail> {
+fn leaves_out<A: Allocator + Copy>(rt: &impl Abort, heap: &Refusing, alloc: A) -> Result<(), Fail> {
     let (stripped, normal) = (
         file_with(alloc, &[(A, 2)], &[&[7, 0]])?,
         file_with(alloc, &[(A, 2)], &[&[7, 0]])?,

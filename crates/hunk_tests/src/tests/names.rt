@@ -3,7 +3,7 @@
 use super::asserts::{equals, holds};
 use hunk_test_support::Refusing;
 use hunk_words::{Name, OpenName};
-use std::alloc::{Allocator, Global};
+use std::alloc::Allocator;
 use std::collections::{BTreeSet, HashSet};
 use std::process::Abort;
 use std::test::Fail;
@@ -69,11 +69,7 @@ fn takes_longwords_at_once_and_one_by_one(rt: HostRuntime) -> Result<(), Fail> {
 }
 
 // Opens a name at an allocator that counts in `heap`.
-fn opens_once<A: Allocator + Copy>(
-    rt: &impl Abort,
-    heap: &Refusing<Global>,
-    alloc: A,
-) -> Result<(), Fail> {
+fn opens_once<A: Allocator + Copy>(rt: &impl Abort, heap: &Refusing, alloc: A) -> Result<(), Fail> {
     let mut name = OpenName::new(alloc);
     name.push_bytes(b"_start_of_")?;
     equals(rt, heap.asked(), 1);

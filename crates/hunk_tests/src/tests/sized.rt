@@ -262,7 +262,7 @@ fn rooms_of<A: Allocator + Copy>(
 // Loads the rest of `TWO_HUNKS` in these rooms, and returns how many allocations that takes.
 fn allocations<A: Allocator + Copy>(
     rt: &impl Abort,
-    heap: &Refusing<Global>,
+    heap: &Refusing,
     header: &HeaderLoader<A>,
     rest: &[u8],
     rooms: Vec<Vec<u8, A>, A>,
@@ -279,7 +279,7 @@ fn allocations<A: Allocator + Copy>(
 // Loads `TWO_HUNKS` without rooms and with them, at an allocator that counts in `heap`.
 fn loads_in_rooms<A: Allocator + Copy>(
     rt: &impl Abort,
-    heap: &Refusing<Global>,
+    heap: &Refusing,
     alloc: A,
     bytes: &[u8],
 ) -> Result<(), Fail> {

@@ -263,7 +263,7 @@ fn relocates_zeros_that_stay_and_zeros_that_do_not(rt: HostRuntime) -> Result<()
 // Trims the file of the rows, at an allocator that counts in `heap`.
 fn trims_in_place<A: Allocator + Copy>(
     rt: &impl Abort,
-    heap: &Refusing<Global>,
+    heap: &Refusing,
     alloc: A,
     rows: &[Row],
 ) -> Result<(), Fail> {

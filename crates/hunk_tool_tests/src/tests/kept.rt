@@ -58,7 +58,7 @@ fn is_taken<J: Judge>(rt: &impl Abort, begun: J, bytes: &[u8]) -> bool {
 }
 
 // The same for a loader, which may already fail to allocate its bases.
-fn is_loaded(rt: &impl Abort, heap: &Refusing<Global>, bases: &[u32], bytes: &[u8]) -> bool {
+fn is_loaded(rt: &impl Abort, heap: &Refusing, bases: &[u32], bytes: &[u8]) -> bool {
     match ImageLoader::new(heap, bases) {
         Ok(loader) => is_taken(rt, loader, bytes),
         Err(_) => false,

@@ -16,7 +16,7 @@ pub(crate) const MOST_GROWTHS: u64 = 64;
 /// ran out, and nothing was written.
 pub(crate) fn is_done<A: Allocator + Copy>(
     rt: &impl Abort,
-    heap: &Refusing<Global>,
+    heap: &Refusing,
     refused: u64,
     got: &Result<(), ToolFault<A>>,
     written: &[u8],
