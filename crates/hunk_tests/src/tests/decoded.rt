@@ -7,17 +7,17 @@ use hunk_test_support::load_words::{THREE_HUNKS, TWO_HUNKS, ZEROS};
 use hunk_test_support::words::{SCATTERED, SHORT, WRITTEN};
 use hunk_test_support::{CHUNKS, FILE, bytes_of};
 use hunk_words::{Pieces, Refusal};
-use std::alloc::{AllocError, Global};
+use std::alloc::{AllocError, Allocator, Global};
 use std::process::Abort;
 use std::test::Fail;
 
 /// The load file of these bytes, which are fed in pieces of this size.
-pub(crate) fn fed(
+pub(crate) fn fed<A: Allocator + Copy>(
     rt: &impl Abort,
-    alloc: Global,
+    alloc: A,
     bytes: &[u8],
     chunk: usize,
-) -> Result<LoadFile, Refusal> {
+) -> Result<LoadFile<A>, Refusal> {
     assert!(rt; 1 <= chunk);
     let mut decoder = LoadDecoder::new(alloc);
     for piece in bytes.chunks(chunk) {

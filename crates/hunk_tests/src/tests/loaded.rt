@@ -38,13 +38,13 @@ pub(crate) fn has_bytes<A: Allocator + Copy>(
 }
 
 // The image by `ImageLoader`.
-fn streamed(
+fn streamed<A: Allocator + Copy>(
     rt: &impl Abort,
-    alloc: Global,
+    alloc: A,
     bytes: &[u8],
     bases: &[u32],
     chunk: usize,
-) -> Result<Image, Fail> {
+) -> Result<Image<A>, Fail> {
     let mut loader = ImageLoader::new(alloc, bases)?;
     assert!(rt; 1 <= chunk);
     for piece in bytes.chunks(chunk) {

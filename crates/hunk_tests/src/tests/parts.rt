@@ -1,13 +1,15 @@
 //! Each part of a load file, as it is written.
 
 use super::asserts::{equals, equals_at};
+use super::made::file_of_parts;
 use hunk_loadfile::{
     HunkKind, LoadFile, LoadForm, LoadHunk, Memory, write_load, write_load_with, written_bytes,
     written_length,
 };
 use hunk_test_support::bytes_of;
 use hunk_words::{Name, Room, Sites, Watched, WriteFault};
-use std::alloc::Global;
+use std::alloc::{Allocator, Global};
+use std::process::Abort;
 use std::test::Fail;
 
 // The longwords of the file of two hunks below: the header, the first hunk's data, its sites
@@ -30,15 +32,23 @@ const FILE: [&[u32]; 12] = [
 // The first hunk's sites in 16-bit words.
 const SHORT_SITES: [u32; 5] = [1020, 0x0001_0000, 0x0008_0002, 0x0001_0000, 0x0004_0000];
 
-fn symbol(alloc: Global, words: &[u32], value: u32) -> Result<(Name, u32), Fail> {
+fn symbol<A: Allocator + Copy>(
+    alloc: A,
+    words: &[u32],
+    value: u32,
+) -> Result<(Name<A>, u32), Fail> {
     Ok((Name::from_words(alloc, words)?, value))
 }
 
-fn file(alloc: Global) -> Result<LoadFile, Fail> {
+fn sites<A: Allocator + Copy>(alloc: A) -> Result<Sites<u32, A>, Fail> {
     let mut sites = Sites::new(alloc, 12);
     for (offset, target) in [(4, 1), (8, 0), (0, 1)] {
         sites.try_add(offset, target)?;
     }
+    Ok(sites)
+}
+
+fn file<A: Allocator + Copy>(alloc: A) -> Result<LoadFile<A>, Fail> {
     let mut symbols = Vec::new(alloc);
     symbols.push(symbol(alloc, &[0x4100_0000], 4)?)?;
     symbols.push(symbol(alloc, &[], 8)?)?;
@@ -54,7 +64,7 @@ fn file(alloc: Global) -> Result<LoadFile, Fail> {
         memory: Memory::Fast,
         size: 3,
         content: Vec::from_slice(alloc, &content)?,
-        sites,
+        sites: sites(alloc)?,
         symbols,
         debugs,
     })?;
@@ -67,7 +77,7 @@ fn file(alloc: Global) -> Result<LoadFile, Fail> {
         symbols: Vec::new(alloc),
         debugs: Vec::new(alloc),
     })?;
-    Ok(LoadFile::new(hunks)?)
+    file_of_parts(hunks)
 }
 
 fn bytes(alloc: Global, form: LoadForm) -> Result<Vec<u8>, Fail> {
@@ -107,22 +117,35 @@ fn writes_a_file_into_memory_that_holds_it_exactly(rt: HostRuntime) -> Result<()
     Ok(())
 }
 
+// A device that takes fewer bytes than this text, the file's in this form, took as many as it has
+// room for.
+fn tells_how_much_was_taken(
+    rt: &impl Abort,
+    alloc: Global,
+    file: &LoadFile,
+    form: LoadForm,
+    text: &[u8],
+) -> Result<(), Fail> {
+    for zero in [false, true] {
+        for room in 0..text.len() {
+            let mut writer = Room::new(alloc, 3, room, zero)?;
+            let fault = WriteFault::Device {
+                written: room as u64,
+            };
+            let got = write_load_with(alloc, file, form, &mut writer);
+            equals_at(rt, &form, got, Err(fault));
+            equals_at(rt, &form, writer.bytes(), &text[..room]);
+        }
+    }
+    Ok(())
+}
+
 #[test]
 fn tells_how_much_a_device_took(rt: HostRuntime) -> Result<(), Fail> {
     let file = file(rt.alloc())?;
     for form in FORMS {
-        let want = bytes(rt.alloc(), form)?;
-        for zero in [false, true] {
-            for room in 0..want.len() {
-                let mut writer = Room::new(rt.alloc(), 3, room, zero)?;
-                let fault = WriteFault::Device {
-                    written: room as u64,
-                };
-                let got = write_load_with(rt.alloc(), &file, form, &mut writer);
-                equals_at(&rt, &form, got, Err(fault));
-                equals_at(&rt, &form, writer.bytes(), &want[..room]);
-            }
-        }
+        let text = bytes(rt.alloc(), form)?;
+        tells_how_much_was_taken(&rt, rt.alloc(), &file, form, &text)?;
     }
     Ok(())
 }

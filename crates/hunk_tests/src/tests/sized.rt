@@ -10,34 +10,8 @@ use std::alloc::{Allocator, Global};
 use std::process::Abort;
 use std::test::Fail;
 
-// The calls that the tests make of a header at the global allocator, each in a function of its own.
-// A method of a type with type parameters is tied to it anew in each function that calls it, which is
-// most of the time that these tests take to be proved.
-
-fn new_header(alloc: Global) -> HeaderLoader {
-    HeaderLoader::new(alloc)
-}
-
-fn feed(header: &mut HeaderLoader, bytes: &[u8]) -> Result<usize, LoadRefusal> {
-    header.feed(bytes)
-}
-
-fn feed_in_pieces(
-    rt: &impl Abort,
-    header: &mut HeaderLoader,
-    bytes: &[u8],
-    chunk: usize,
-) -> Result<usize, LoadRefusal> {
-    feed_header(rt, header, bytes, chunk)
-}
-
-fn refusal_of(header: &HeaderLoader, bases: &[u32]) -> Option<PlaceRefusal> {
-    header.place(bases).err()
-}
-
-fn hunks_of(header: &HeaderLoader) -> Option<&[HeaderHunk]> {
-    header.hunks()
-}
+// The tests of a header are generic in its allocator: a call of its methods takes a fifth of the proof there that
+// it takes at the global allocator.
 
 // Feeds these bytes in pieces of this size, and returns how many were taken.
 fn feed_header<A: Allocator + Copy>(
@@ -138,6 +112,17 @@ fn refuses_a_file_that_ends_anywhere(rt: HostRuntime) -> Result<(), Fail> {
     Ok(())
 }
 
+// In any pieces, these bytes, of which the header takes 32, tell these sizes and memory.
+fn tells<A: Allocator + Copy>(rt: &impl Abort, alloc: A, bytes: &[u8], wants: &[HeaderHunk]) {
+    for chunk in CHUNKS {
+        let mut header = HeaderLoader::new(alloc);
+        let taken = feed_header(rt, &mut header, bytes, chunk);
+        equals(rt, taken, Ok(32));
+        equals(rt, header.hunks(), Some(wants));
+        equals(rt, header.feed(bytes), Ok(0));
+    }
+}
+
 #[test]
 fn tells_sizes_and_memory(rt: HostRuntime) -> Result<(), Fail> {
     let words = [0x3F3, 0, 3, 0, 2, 5, 0x4000_0000, 0x80FF_FFFB, 0x3E9];
@@ -156,47 +141,38 @@ fn tells_sizes_and_memory(rt: HostRuntime) -> Result<(), Fail> {
             memory: Memory::Fast,
         },
     ];
-    for chunk in CHUNKS {
-        let mut header = new_header(rt.alloc());
-        let taken = feed_in_pieces(&rt, &mut header, &bytes, chunk);
-        equals(&rt, taken, Ok(32));
-        equals(&rt, hunks_of(&header), Some(wants.as_slice()));
-        equals(&rt, feed(&mut header, &bytes), Ok(0));
-    }
+    tells(&rt, rt.alloc(), &bytes, &wants);
     Ok(())
 }
 
+// After this error, every later call of the header returns the same error.
+fn answers_again<A: Allocator + Copy>(rt: &impl Abort, alloc: A, refusal: LoadRefusal) {
+    let mut header = HeaderLoader::new(alloc);
+    equals(rt, header.feed(&[0, 0, 3, 0xE7, 0]), Err(refusal));
+    equals(rt, header.feed(&[]), Err(refusal));
+    equals(rt, header.hunks(), None);
+    let placed = header.place(&[0x1000]).err();
+    equals(rt, placed, Some(PlaceRefusal::HeaderIncomplete));
+    equals(rt, header.finish(), refusal);
+}
+
 #[test]
-fn answers_a_refused_header_again(rt: HostRuntime) -> Result<(), Fail> {
+fn answers_a_refused_header_again(rt: HostRuntime) {
     let refusal = LoadRefusal::File(Fault {
         place: 0,
         reason: Reason::WrongStart,
     });
-    let mut header = new_header(rt.alloc());
-    equals(&rt, feed(&mut header, &[0, 0, 3, 0xE7, 0]), Err(refusal));
-    equals(&rt, feed(&mut header, &[]), Err(refusal));
-    equals(&rt, hunks_of(&header), None);
-    equals(
-        &rt,
-        refusal_of(&header, &[0x1000]),
-        Some(PlaceRefusal::HeaderIncomplete),
-    );
-    equals(&rt, header.finish(), refusal);
-    Ok(())
+    answers_again(&rt, rt.alloc(), refusal);
 }
 
-#[test]
-fn places_a_whole_header_alone(rt: HostRuntime) -> Result<(), Fail> {
-    let bytes = bytes_of(rt.alloc(), &TWO_HUNKS, &[])?;
-    let mut header = new_header(rt.alloc());
-    for byte in &bytes[..28] {
-        equals(&rt, hunks_of(&header), None);
-        equals(
-            &rt,
-            refusal_of(&header, &[0x1000, 0x2000]),
-            Some(PlaceRefusal::HeaderIncomplete),
-        );
-        equals(&rt, feed(&mut header, &[*byte]), Ok(1));
+// These bytes are a header of two hunks, which is placed once it is whole, at bases that hold them.
+fn is_placed_whole<A: Allocator + Copy>(rt: &impl Abort, alloc: A, bytes: &[u8]) {
+    let mut header = HeaderLoader::new(alloc);
+    for byte in bytes {
+        equals(rt, header.hunks(), None);
+        let placed = header.place(&[0x1000, 0x2000]).err();
+        equals(rt, placed, Some(PlaceRefusal::HeaderIncomplete));
+        equals(rt, header.feed(&[*byte]), Ok(1));
     }
     let rows: [(&[u32], PlaceFault); 4] = [
         (&[], PlaceFault::WrongCount),
@@ -205,12 +181,15 @@ fn places_a_whole_header_alone(rt: HostRuntime) -> Result<(), Fail> {
         (&[0x1000, 0x100C], PlaceFault::Overlap(0, 1)),
     ];
     for (bases, fault) in rows {
-        equals(
-            &rt,
-            refusal_of(&header, bases),
-            Some(PlaceRefusal::Place(fault)),
-        );
+        let placed = header.place(bases).err();
+        equals(rt, placed, Some(PlaceRefusal::Place(fault)));
     }
+}
+
+#[test]
+fn places_a_whole_header_alone(rt: HostRuntime) -> Result<(), Fail> {
+    let bytes = bytes_of(rt.alloc(), &TWO_HUNKS, &[])?;
+    is_placed_whole(&rt, rt.alloc(), &bytes[..28]);
     Ok(())
 }
 
@@ -223,11 +202,14 @@ fn is_at<A: Allocator + Copy>(rt: &impl Abort, image: &Image<A>, base: u32, want
     }
 }
 
-#[test]
-fn loads_a_file_twice(rt: HostRuntime) -> Result<(), Fail> {
-    let bytes = bytes_of(rt.alloc(), &TWO_HUNKS, &[])?;
-    let mut header = new_header(rt.alloc());
-    let taken = feed(&mut header, &bytes)?;
+// Loads the file of these bytes twice, at other bases.
+fn is_loaded_twice<A: Allocator + Copy>(
+    rt: &impl Abort,
+    alloc: A,
+    bytes: &[u8],
+) -> Result<(), Fail> {
+    let mut header = HeaderLoader::new(alloc);
+    let taken = header.feed(bytes)?;
     let rest = bytes.get(taken..).ok_or("no rest")?;
     let rows = [
         (0x1000, 0x0002_0000, [0, 2, 0, 0]),
@@ -237,12 +219,18 @@ fn loads_a_file_twice(rt: HostRuntime) -> Result<(), Fail> {
         match header.place(&[first, second]) {
             Ok(mut loader) => {
                 loader.feed(rest)?;
-                is_at(&rt, &loader.finish()?, first, wanted);
+                is_at(rt, &loader.finish()?, first, wanted);
             }
-            Err(refusal) => holds(&rt, &refusal, false),
+            Err(refusal) => holds(rt, &refusal, false),
         }
     }
     Ok(())
+}
+
+#[test]
+fn loads_a_file_twice(rt: HostRuntime) -> Result<(), Fail> {
+    let bytes = bytes_of(rt.alloc(), &TWO_HUNKS, &[])?;
+    is_loaded_twice(&rt, rt.alloc(), &bytes)
 }
 
 // Rooms for these hunks, with bytes that are to be forgotten.

@@ -2,7 +2,7 @@
 
 use super::asserts::{equals, equals_at, holds};
 use super::unit_values::{EMPTY, Hunk, Unit, are_units, is_copied};
-use hunk_objects::{Adds, Definition, HunkKind, Memory, ObjectDecoder, read_object};
+use hunk_objects::{Adds, Definition, HunkKind, Memory, ObjectDecoder, UnitHunk, read_object};
 use hunk_test_support::words::{
     ADDRESS, ASSEMBLED, CHIP, DEFINES, DEFINES_LONGER, REFERS, TWO_NAMES,
 };
@@ -166,14 +166,9 @@ fn is_decoded_by(
     chunk: usize,
     wanted: &[Unit<'_>],
 ) -> Result<(), Fail> {
-    let mut decoder = ObjectDecoder::new(alloc);
-    assert!(rt; 1 <= chunk);
-    for piece in bytes.chunks(chunk) {
-        equals(rt, decoder.feed(piece), Ok(()));
-    }
-    are_units(rt, &decoder.finish()?, wanted);
-    let mut reader = Pieces::new(bytes.to_vec(alloc)?, chunk, None);
-    are_units(rt, &read_object(alloc, &mut reader)?, wanted);
+    equals(rt, is_taken(rt, alloc, bytes, chunk, wanted)?, true);
+    let read = is_read(rt, alloc, bytes.to_vec(alloc)?, chunk, wanted);
+    equals(rt, read, true);
     Ok(())
 }
 
@@ -240,6 +235,22 @@ fn decodes_units_in_order(rt: HostRuntime) -> Result<(), Fail> {
     )
 }
 
+// What these hunks copy for a debugger is this.
+fn are_copied<A: Allocator + Copy>(
+    rt: &impl Abort,
+    alloc: A,
+    hunks: &[UnitHunk<A>],
+    wanted: &[Hunk<'_>],
+) -> Result<(), Fail> {
+    equals(rt, hunks.len(), wanted.len());
+    for (hunk, want) in hunks.iter().zip(wanted) {
+        let symbols = hunk.copy_symbols(alloc)?;
+        let debugs = hunk.copy_debugs(alloc)?;
+        is_copied(rt, &symbols, &debugs, want);
+    }
+    Ok(())
+}
+
 #[test]
 fn copies_symbols_and_debug_blocks(rt: HostRuntime) -> Result<(), Fail> {
     let bytes = bytes_of(rt.alloc(), &ASSEMBLED, &[])?;
@@ -247,13 +258,7 @@ fn copies_symbols_and_debug_blocks(rt: HostRuntime) -> Result<(), Fail> {
     let units = read_object(rt.alloc(), &mut reader)?;
     equals(&rt, units.len(), 1);
     for unit in &units {
-        equals(&rt, unit.hunks().len(), ASSEMBLED_HUNKS.len());
-        for (index, wanted) in ASSEMBLED_HUNKS.iter().enumerate() {
-            let hunk = unit.hunks().get(index).ok_or("no such hunk")?;
-            let symbols = hunk.copy_symbols(rt.alloc())?;
-            let debugs = hunk.copy_debugs(rt.alloc())?;
-            is_copied(&rt, &symbols, &debugs, wanted);
-        }
+        are_copied(&rt, rt.alloc(), unit.hunks(), &ASSEMBLED_HUNKS)?;
     }
     Ok(())
 }
@@ -267,15 +272,18 @@ fn answers_again<A: Allocator + Copy>(rt: &impl Abort, begun: ObjectDecoder<A>, 
     equals(rt, decoder.finish().err(), Some(refusal));
 }
 
-// Whether a decoder took the file with an allocation failing. If not, it returns that error again.
+// Whether a decoder took the file in pieces of this size. If not, memory ran out, and it returns that
+// error again.
 fn is_taken<A: Allocator + Copy>(
     rt: &impl Abort,
     alloc: A,
     bytes: &[u8],
+    chunk: usize,
     wanted: &[Unit<'_>],
 ) -> Result<bool, Fail> {
     let mut decoder = ObjectDecoder::new(alloc);
-    for piece in bytes.chunks(5) {
+    assert!(rt; 1 <= chunk);
+    for piece in bytes.chunks(chunk) {
         match decoder.feed(piece) {
             Ok(()) => {}
             Err(refusal) => {
@@ -289,14 +297,16 @@ fn is_taken<A: Allocator + Copy>(
     Ok(true)
 }
 
-// The same for a reader.
+// Whether they were read from a reader, at most `most` bytes a read. If not, memory ran out.
 fn is_read<A: Allocator + Copy>(
     rt: &impl Abort,
     alloc: A,
     bytes: Vec<u8>,
+    most: usize,
     wanted: &[Unit<'_>],
 ) -> bool {
-    let mut reader = Pieces::new(bytes, ROOM, None);
+    assert!(rt; 1 <= most);
+    let mut reader = Pieces::new(bytes, most, None);
     match read_object(alloc, &mut reader) {
         Ok(units) => {
             are_units(rt, &units, wanted);
@@ -321,11 +331,11 @@ fn refuses_each_growth_of(
     let mut ended = [false, false];
     for number in 0..MOST_GROWTHS {
         let heap = Refusing::new(alloc, number);
-        let taken = is_taken(rt, &heap, &bytes, wanted)?;
+        let taken = is_taken(rt, &heap, &bytes, 5, wanted)?;
         equals_at(rt, &("growth", number), taken, heap.asked() <= number);
         holds(rt, &("growths", number), !taken || least <= number);
         let heap = Refusing::new(alloc, number);
-        let read = is_read(rt, &heap, bytes.clone()?, wanted);
+        let read = is_read(rt, &heap, bytes.clone()?, ROOM, wanted);
         equals_at(rt, &("growth", number), read, heap.asked() <= number);
         ended = [taken, read];
     }
