@@ -8,12 +8,40 @@ use hunk_test_support::words::{PAST_CONTENT, SCATTERED};
 use hunk_test_support::{BASE, FILE, Refusing, bytes_of};
 use hunk_tool::{LoadCounter, ObjectCounter};
 use hunk_words::{Core, CoreState, Decoder, Fault, Feed, Reason, Refusal, Splitter};
-use std::alloc::Global;
+use std::alloc::{Allocator, Global};
 use std::process::Abort;
 use std::test::Fail;
 
 // More allocations than a file of the tests needs.
 const MOST_GROWTHS: u64 = 128;
+
+// The decoder of an object file that refuses these bytes returns this error again.
+fn answers_for_an_object<A: Allocator + Copy>(
+    rt: &impl Abort,
+    alloc: A,
+    bytes: &[u8],
+    refusal: LoadRefusal,
+) {
+    let mut decoder = Decoder::new(ObjectCounter::new(alloc));
+    equals(rt, decoder.judge(bytes), Err(refusal));
+    answers_again(rt, decoder, refusal);
+}
+
+// The same for the decoder and the loader of a load file.
+fn answers_for_a_load<A: Allocator + Copy>(
+    rt: &impl Abort,
+    alloc: A,
+    bytes: &[u8],
+    refusal: LoadRefusal,
+) -> Result<(), Fail> {
+    let mut decoder = LoadDecoder::new(alloc);
+    equals(rt, decoder.judge(bytes), Err(refusal));
+    answers_again(rt, decoder, refusal);
+    let mut loader = ImageLoader::new(alloc, &[BASE])?;
+    equals(rt, loader.judge(bytes), Err(refusal));
+    answers_again(rt, loader, refusal);
+    Ok(())
+}
 
 #[test]
 fn answers_a_refusal_again(rt: HostRuntime) -> Result<(), Fail> {
@@ -22,22 +50,14 @@ fn answers_a_refusal_again(rt: HostRuntime) -> Result<(), Fail> {
         place: 9,
         reason: Reason::SiteOutside(5),
     });
-    let mut decoder = Decoder::new(ObjectCounter::new(rt.alloc()));
-    equals(&rt, decoder.judge(&bytes), Err(refusal));
-    answers_again(&rt, decoder, refusal);
+    answers_for_an_object(&rt, rt.alloc(), &bytes, refusal);
 
     let bytes = bytes_of(rt.alloc(), &FILE, &[0, 0, 3, 0xF5])?;
     let refusal = LoadRefusal::File(Fault {
         place: 10,
         reason: Reason::UnsupportedBlock(1013),
     });
-    let mut decoder = LoadDecoder::new(rt.alloc());
-    equals(&rt, decoder.judge(&bytes), Err(refusal));
-    answers_again(&rt, decoder, refusal);
-    let mut loader = ImageLoader::new(rt.alloc(), &[BASE])?;
-    equals(&rt, loader.judge(&bytes), Err(refusal));
-    answers_again(&rt, loader, refusal);
-    Ok(())
+    answers_for_a_load(&rt, rt.alloc(), &bytes, refusal)
 }
 
 // Whether a file was taken with an allocation failing. If not, the error is returned again.
@@ -57,9 +77,22 @@ fn is_taken<J: Judge>(rt: &impl Abort, begun: J, bytes: &[u8]) -> bool {
     true
 }
 
+// The same for each decoder.
+fn is_object_counted<A: Allocator + Copy>(rt: &impl Abort, alloc: A, bytes: &[u8]) -> bool {
+    is_taken(rt, Decoder::new(ObjectCounter::new(alloc)), bytes)
+}
+
+fn is_load_counted<A: Allocator + Copy>(rt: &impl Abort, alloc: A, bytes: &[u8]) -> bool {
+    is_taken(rt, Decoder::new(LoadCounter::new(alloc)), bytes)
+}
+
+fn is_load_decoded<A: Allocator + Copy>(rt: &impl Abort, alloc: A, bytes: &[u8]) -> bool {
+    is_taken(rt, LoadDecoder::new(alloc), bytes)
+}
+
 // The same for a loader, which may already fail to allocate its bases.
-fn is_loaded(rt: &impl Abort, heap: &Refusing, bases: &[u32], bytes: &[u8]) -> bool {
-    match ImageLoader::new(heap, bases) {
+fn is_loaded<A: Allocator + Copy>(rt: &impl Abort, alloc: A, bases: &[u32], bytes: &[u8]) -> bool {
+    match ImageLoader::new(alloc, bases) {
         Ok(loader) => is_taken(rt, loader, bytes),
         Err(_) => false,
     }
@@ -88,11 +121,11 @@ fn refuses_each_growth(rt: HostRuntime) -> Result<(), Fail> {
     let mut ended = [false, false];
     for number in 0..MOST_GROWTHS {
         let heap = Refusing::new(rt.alloc(), number);
-        let taken = is_taken(&rt, Decoder::new(ObjectCounter::new(&heap)), &object);
+        let taken = is_object_counted(&rt, &heap, &object);
         equals_at(&rt, &("growth", number), taken, heap.asked() <= number);
         holds(&rt, &"the sites grow", !taken || 1 <= number);
         let heap = Refusing::new(rt.alloc(), number);
-        let also = is_taken(&rt, Decoder::new(LoadCounter::new(&heap)), &load);
+        let also = is_load_counted(&rt, &heap, &load);
         equals_at(&rt, &("growth", number), also, heap.asked() <= number);
         holds(&rt, &"the sizes and the sites grow", !also || 2 <= number);
         ended = [taken, also];
@@ -112,7 +145,7 @@ fn is_judged_with_each_growth_refused(
     let mut ended = [false, false];
     for number in 0..MOST_GROWTHS {
         let heap = Refusing::new(alloc, number);
-        let decoded = is_taken(rt, LoadDecoder::new(&heap), bytes);
+        let decoded = is_load_decoded(rt, &heap, bytes);
         equals_at(rt, &("growth", number), decoded, heap.asked() <= number);
         holds(rt, &("growths", number), !decoded || least <= number);
         let heap = Refusing::new(alloc, number);

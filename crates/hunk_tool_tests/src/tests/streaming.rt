@@ -7,14 +7,28 @@ use hunk_loadfile::LoadDecoder;
 use hunk_test_support::{BASE, CHUNKS, FILE, REPORT, ROOM, Refusing, bytes_of};
 use hunk_tool::load_run;
 use hunk_words::{Fault, Pieces, Reason, Room};
-use std::alloc::Global;
+use std::alloc::{Allocator, Global};
 use std::process::Abort;
 use std::test::Fail;
 
 // The longwords of a long debug block.
 const DEBUG_LONGWORDS: u32 = 100_000;
 
-// The number of allocations to load the bytes at these addresses, with this result.
+// The bytes are loaded at these addresses, with this result.
+fn is_loaded_so<A: Allocator + Copy>(
+    rt: &impl Abort,
+    alloc: A,
+    bytes: &[u8],
+    bases: &[u32],
+    answer: Result<(), LoadRefusal>,
+) -> Result<(), Fail> {
+    let mut loader = ImageLoader::new(alloc, bases)?;
+    equals(rt, loader.judge(bytes), Ok(()));
+    equals_at(rt, &bases, loader.close(), answer);
+    Ok(())
+}
+
+// The number of allocations of that.
 fn growths(
     rt: &impl Abort,
     alloc: Global,
@@ -23,9 +37,7 @@ fn growths(
     answer: Result<(), LoadRefusal>,
 ) -> Result<u64, Fail> {
     let heap = Refusing::new(alloc, u64::MAX);
-    let mut loader = ImageLoader::new(&heap, bases)?;
-    equals(rt, loader.judge(bytes), Ok(()));
-    equals_at(rt, &bases, loader.close(), answer);
+    is_loaded_so(rt, &heap, bytes, bases, answer)?;
     Ok(heap.asked())
 }
 
@@ -91,9 +103,9 @@ fn keeps_no_debug_block(rt: HostRuntime) -> Result<(), Fail> {
 
 // In pieces of this size, the addresses are rejected for this reason by `ImageLoader`, and by
 // decoding the whole file and then loading it.
-fn is_refused(
+fn is_refused<A: Allocator + Copy>(
     rt: &impl Abort,
-    alloc: Global,
+    alloc: A,
     bytes: &[u8],
     chunk: usize,
     bases: &[u32],
