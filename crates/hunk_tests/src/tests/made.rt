@@ -3,7 +3,7 @@
 use super::values::Hunk;
 use hunk_loadfile::{LoadFile, LoadHunk};
 use hunk_words::{Name, SiteRefusal, Sites};
-use std::alloc::Allocator;
+use std::alloc::{AllocError, Allocator};
 use std::test::Fail;
 
 // The sites of a hunk.
@@ -15,17 +15,28 @@ fn sites_of<A: Allocator + Copy>(alloc: A, hunk: &Hunk<'_>) -> Result<Sites<u32,
     Ok(sites)
 }
 
-// The hunk of these fields, without symbols and debug blocks.
-fn hunk_of<A: Allocator + Copy>(alloc: A, hunk: &Hunk<'_>) -> Result<LoadHunk<A>, Fail> {
-    Ok(LoadHunk {
-        kind: hunk.kind,
-        memory: hunk.memory,
-        size: hunk.size,
-        content: Vec::from_slice(alloc, hunk.content)?,
-        sites: sites_of(alloc, hunk)?,
-        symbols: Vec::new(alloc),
-        debugs: Vec::new(alloc),
-    })
+// These symbols, each a name of one longword and a value.
+fn symbols_of<A: Allocator + Copy>(
+    alloc: A,
+    rows: &[(u32, u32)],
+) -> Result<Vec<(Name<A>, u32), A>, Fail> {
+    let mut symbols = Vec::new(alloc);
+    for (name, value) in rows {
+        symbols.push((Name::from_words(alloc, &[*name])?, *value))?;
+    }
+    Ok(symbols)
+}
+
+// These debug blocks.
+fn debugs_of<A: Allocator + Copy>(
+    alloc: A,
+    rows: &[&[u32]],
+) -> Result<Vec<Vec<u32, A>, A>, AllocError> {
+    let mut debugs = Vec::new(alloc);
+    for row in rows {
+        debugs.push(Vec::from_slice(alloc, row)?)?;
+    }
+    Ok(debugs)
 }
 
 /// The hunk of these fields, with these symbols, each a name of one longword and a value, and these
@@ -36,22 +47,22 @@ pub(crate) fn hunk_with<A: Allocator + Copy>(
     symbols: &[(u32, u32)],
     debugs: &[&[u32]],
 ) -> Result<LoadHunk<A>, Fail> {
-    let mut hunk = hunk_of(alloc, row)?;
-    for (name, value) in symbols {
-        hunk.symbols
-            .push((Name::from_words(alloc, &[*name])?, *value))?;
-    }
-    for debug in debugs {
-        hunk.debugs.push(Vec::from_slice(alloc, debug)?)?;
-    }
-    Ok(hunk)
+    Ok(LoadHunk {
+        kind: row.kind,
+        memory: row.memory,
+        size: row.size,
+        content: Vec::from_slice(alloc, row.content)?,
+        sites: sites_of(alloc, row)?,
+        symbols: symbols_of(alloc, symbols)?,
+        debugs: debugs_of(alloc, debugs)?,
+    })
 }
 
 // The hunks of these fields, without symbols and debug blocks.
 fn hunks_of<A: Allocator + Copy>(alloc: A, rows: &[Hunk<'_>]) -> Result<Vec<LoadHunk<A>, A>, Fail> {
     let mut hunks = Vec::new(alloc);
     for row in rows {
-        hunks.push(hunk_of(alloc, row)?)?;
+        hunks.push(hunk_with(alloc, row, &[], &[])?)?;
     }
     Ok(hunks)
 }

@@ -8,7 +8,7 @@ use hunk_loadfile::{
 };
 use hunk_test_support::bytes_of;
 use hunk_words::{Name, Room, Sites, Watched, WriteFault};
-use std::alloc::{Allocator, Global};
+use std::alloc::{AllocError, Allocator, Global};
 use std::process::Abort;
 use std::test::Fail;
 
@@ -32,12 +32,25 @@ const FILE: [&[u32]; 12] = [
 // The first hunk's sites in 16-bit words.
 const SHORT_SITES: [u32; 5] = [1020, 0x0001_0000, 0x0008_0002, 0x0001_0000, 0x0004_0000];
 
-fn symbol<A: Allocator + Copy>(
-    alloc: A,
-    words: &[u32],
-    value: u32,
-) -> Result<(Name<A>, u32), Fail> {
-    Ok((Name::from_words(alloc, words)?, value))
+fn symbols<A: Allocator + Copy>(alloc: A) -> Result<Vec<(Name<A>, u32), A>, Fail> {
+    let rows: [(&[u32], u32); 4] = [
+        (&[0x4100_0000], 4),
+        (&[], 8),
+        (&[0x6D61_696E, 0x5F31_0000], 12),
+        (&[0x666F_6F64], 0),
+    ];
+    let mut symbols = Vec::new(alloc);
+    for (words, value) in rows {
+        symbols.push((Name::from_words(alloc, words)?, value))?;
+    }
+    Ok(symbols)
+}
+
+fn debugs<A: Allocator + Copy>(alloc: A) -> Result<Vec<Vec<u32, A>, A>, AllocError> {
+    let mut debugs = Vec::new(alloc);
+    debugs.push(Vec::from_slice(alloc, &[0xDEAD_BEEF, 7])?)?;
+    debugs.push(Vec::new(alloc))?;
+    Ok(debugs)
 }
 
 fn sites<A: Allocator + Copy>(alloc: A) -> Result<Sites<u32, A>, Fail> {
@@ -49,14 +62,6 @@ fn sites<A: Allocator + Copy>(alloc: A) -> Result<Sites<u32, A>, Fail> {
 }
 
 fn file<A: Allocator + Copy>(alloc: A) -> Result<LoadFile<A>, Fail> {
-    let mut symbols = Vec::new(alloc);
-    symbols.push(symbol(alloc, &[0x4100_0000], 4)?)?;
-    symbols.push(symbol(alloc, &[], 8)?)?;
-    symbols.push(symbol(alloc, &[0x6D61_696E, 0x5F31_0000], 12)?)?;
-    symbols.push(symbol(alloc, &[0x666F_6F64], 0)?)?;
-    let mut debugs = Vec::new(alloc);
-    debugs.push(Vec::from_slice(alloc, &[0xDEAD_BEEF, 7])?)?;
-    debugs.push(Vec::new(alloc))?;
     let content = [0x4E, 0x71, 0, 0, 0, 0, 0, 1, 0, 0, 0x4E, 0x75];
     let mut hunks = Vec::new(alloc);
     hunks.push(LoadHunk {
@@ -65,8 +70,8 @@ fn file<A: Allocator + Copy>(alloc: A) -> Result<LoadFile<A>, Fail> {
         size: 3,
         content: Vec::from_slice(alloc, &content)?,
         sites: sites(alloc)?,
-        symbols,
-        debugs,
+        symbols: symbols(alloc)?,
+        debugs: debugs(alloc)?,
     })?;
     hunks.push(LoadHunk {
         kind: HunkKind::Bss,
