@@ -8,6 +8,8 @@ another.
 `symbols` is COUNT files of one hunk each. A file defines 2,000 names and refers to 2,000 of others.
 `big` is a file of one hunk of DATA with COUNT longwords and a relocation for every 62 bytes, and a small file
 that refers to it.
+`named` is two files of one hunk each, to be linked apart. The first defines COUNT names, which are lines of the
+standard input, and the second as many ordinary names of the same length. They differ in nothing else.
 
 The files are FOLDER/00000.o and so on. Their contents repeat in no short pattern, and sites stand at any offset.
 The same arguments make the same files.
@@ -119,9 +121,20 @@ def big(dice, count):
     ])
 
 
+def named(dice, count):
+    names = sys.stdin.read().split()[:count]
+    data = dice.randbytes(4 * count)
+    for listed in names, ["n%0*d" % (len(name) - 1, place) for place, name in enumerate(names)]:
+        definitions = [(name, 4 * place) for place, name in enumerate(listed)]
+        yield b"".join([
+            titled(UNIT, "named.o"),
+            content(CODE, data), externals(definitions, {}), longwords([END]),
+        ])
+
+
 def main():
     folder, kind, count = sys.argv[1:]
-    makers = {"many": many, "small": small, "symbols": symbols, "big": big}
+    makers = {"many": many, "small": small, "symbols": symbols, "big": big, "named": named}
     path = pathlib.Path(folder)
     path.mkdir(parents=True)
     for number, file in enumerate(makers[kind](random.Random(7), int(count))):
