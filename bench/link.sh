@@ -1,9 +1,10 @@
 #!/usr/bin/env bash
 # Measures linking: its time compared with `cat` and with that of half the work, and its memory compared with the
 # size of its inputs; and the report of `amihunk image`, compared with `xxd`. It makes its own inputs: a program
-# of many files, one of many names, and one of 60 MB. It prints for each figure what is allowed and what was
-# reached. Times are the best of five runs. It ends with status 1 where a figure is missed. It needs the
-# toolchain, python3 and xxd on the PATH, and 2 GB for temporary files.
+# of many files, one of many names, one of 60 MB, and object files of names that are made to collide. It prints
+# for each figure what is allowed and what was reached. Times are the best of five runs, and those of colliding
+# names the best of 20. It ends with status 1 where a figure is missed. It needs the toolchain, a C compiler
+# ($CC, or cc), python3 and xxd on the PATH, and 2 GB for temporary files.
 set -eu
 . "$(dirname "$0")/common.sh"
 
@@ -13,6 +14,10 @@ make_program() { # NAME KIND COUNT
 
 bytes_in() { # of the files in FOLDER
     cat "$1"/* | wc -c
+}
+
+least() { # of the numbers in FILE
+    sort -n "$1" | sed -n 1p
 }
 
 cd "$folder"
@@ -43,4 +48,18 @@ image="$(best out "$amihunk" image --at 10000000,100 big/*)"
 xxd="$(best out xxd -c 16 big.linked)"
 rm out
 figure "amihunk image ($image us) by xxd -c 16 ($xxd us)" 0.3 "$(ratio "$image" "$xxd")" times
+
+# Names that collide by the hash of a known seed, each link after one of the others.
+"${CC:-cc}" -std=c11 -O2 "$benches/collide.c" -o collide
+for count in 32768 131072; do
+    ./collide "$count" | make_program named named "$count"
+    for _ in {1..20}; do
+        took /dev/null "$amihunk" link --out named.linked named/00001.o >> ordinary
+        took /dev/null "$amihunk" link --out named.linked named/00000.o >> colliding
+    done
+    link="$(least colliding)"
+    others="$(least ordinary)"
+    figure "link of $count colliding names ($link us) by others ($others us)" 1.5 "$(ratio "$link" "$others")" times
+    rm -r named named.linked colliding ordinary
+done
 exit "$missed"

@@ -207,7 +207,8 @@ def check_tests(where, paragraph, known):
         for name in quoted(names) if is_there("tests", file) else ():
             check(name in sources.python_tests(file), f"{where}: no test tests/{file} `{name}`")
     for file, names in re.findall(r"(?<![\w/])(\w+\.(?:cpp|c))\b((?:,? `\w+`)*)", paragraph):
-        check(is_there("capi", "tests", file), f"{where}: no capi/tests/{file}")
+        in_bench = where.startswith(BENCHES) and is_there("bench", file)
+        check(in_bench or is_there("capi", "tests", file), f"{where}: no capi/tests/{file}")
         for name in quoted(names) if is_there("capi", "tests", file) else ():
             check(name in sources.c_tests(file), f"{where}: no test {file} `{name}`")
 
