@@ -5,7 +5,8 @@
 //! - `limits`: how much units may have that are linked.
 //! - `ranked_hunk`: a hunk with its place in the order of linking.
 //! - `own_hunks`: whether sites name hunks of their own unit.
-//! - `symbol_table`: what each name stands for; `name_hasher`: how names are hashed with a key.
+//! - `symbol_table`: what each name stands for; `name_key`: the bytes of a name, by which it is looked up; `name_hasher`: how names are
+//!   hashed with a key.
 //! - `addend`: what the linker knows of what is added at a site.
 //! - `references`: what the references of hunks add.
 //! - `carried`: the hunks of the load file.

@@ -15,7 +15,8 @@ use Rattle.std.proofs.lemmas.List.Elements.{All-cons, All-nil}
 use Rattle.std.proofs.lemmas.List.Splits.{slice_split-cons_no, slice_split_at, slice_split_none}
 use Rattle.hunk_base.specs.Streams.{HasRead}
 use Rattle.hunk_memory.specs.Bases.{IsNumbersFault, is_number, number_of}
-use Rattle.hunk_memory.specs.BasesFile.{IsBasesFileFault, IsRejected, StandsFor, file_numbers, has_bytes, is_separator, most_addresses}
+use Rattle.hunk_loadfile.specs.Rules.{most_hunks}
+use Rattle.hunk_memory.specs.BasesFile.{IsBasesFileFault, IsRejected, StandsFor, file_numbers, has_bytes, is_separator}
 use Rattle.hunk_memory.specs.PartDigits.{AreDigits, ended_number}
 use Rattle.hunk_memory.specs.declared.bases_file.BasesFileFault.{BasesFileFault}
 use Rattle.hunk_memory.specs.declared.bases_file.BasesFileFault.TheVariants.{Refused, TooMany, TooLong, Device}
@@ -161,7 +162,7 @@ pub rejected-after : (bytes more : List ℕ) (fault : BasesFileFault) → IsReje
 rejected-after bytes more (Refused fault) is = λ rest.
     subst (λ all. IsNumbersFault (file_numbers all) fault) (sym (append_assoc bytes more rest)) (is (more ++ rest))
 rejected-after bytes more TooMany is = λ rest.
-    subst (λ all. most_addresses < length (file_numbers all)) (sym (append_assoc bytes more rest)) (is (more ++ rest))
+    subst (λ all. most_hunks < length (file_numbers all)) (sym (append_assoc bytes more rest)) (is (more ++ rest))
 rejected-after bytes more TooLong is = rw length-append (omega (arith, is))
 rejected-after bytes more Device is = absurd is
 
@@ -188,14 +189,14 @@ some_number (x ∷ xs) rest plain some =
     subst (λ parts. 0 < length (map number_of (filter has_bytes parts))) (sym first.1.1) more
 
 -- a part that has begun after as many addresses as a file may have
-pub too_many : (bases : List ℕ) (digits : PartDigits) (bytes : List ℕ) → length bases ≡ most_addresses → 0 < digits.count → StandsFor bases digits bytes
+pub too_many : (bases : List ℕ) (digits : PartDigits) (bytes : List ℕ) → length bases ≡ most_hunks → 0 < digits.count → StandsFor bases digits bytes
     → IsRejected bytes TooMany
 too_many bases digits bytes full some stands rest =
     let part = stands.part in
     let one : 0 < length part = omega (arith, some, stands.are.count_is) in
     let more = some_number part rest (plain_digits part stands.are.hexadecimal) one in
     let long : length (map Some bases) ≡ length bases = length-map bases Some in
-    subst (λ numbers. most_addresses < length numbers) (sym (stands.numbers rest)) (rw length-append (omega (arith, long, more, full)))
+    subst (λ numbers. most_hunks < length numbers) (sym (stands.numbers rest)) (rw length-append (omega (arith, long, more, full)))
 
 -- ---- reads
 

@@ -2,6 +2,7 @@
 use Rattle.std.specs.Prelude.{◌≡◌, ◌<◌, ◌≤◌, ◌++◌, ℕ, Bool, true, false, ◌||◌, ◌==◌, IsTrue, List, [], ◌∷◌, length, map, Option, Some}
 use Rattle.std.specs.List.{filter, slice_split}
 use Rattle.hunk_base.specs.Streams.{HasRead}
+use Rattle.hunk_loadfile.specs.Rules.{most_hunks}
 use Rattle.hunk_memory.specs.Bases.{IsNumbersFault, number_of}
 use Rattle.hunk_memory.specs.declared.bases_file.BasesFileFault.{BasesFileFault}
 use Rattle.hunk_memory.specs.declared.bases_file.BasesFileFault.TheVariants.{Refused, TooMany, TooLong, Device}
@@ -24,24 +25,21 @@ file_parts bytes = filter has_bytes (slice_split is_separator bytes)
 abbrev pub file_numbers : List ℕ → List (Option ℕ)
 file_numbers bytes = map number_of (file_parts bytes)
 
--- what a file has at most: as many addresses as a load file has hunks, and 16 MiB
-abbrev pub most_addresses : ℕ
-most_addresses = 65535
-
+-- a file has at most 16 MiB, and as many addresses as a load file has hunks
 abbrev pub most_bytes : ℕ
 most_bytes = 16777216
 
 -- these bytes are a file of these addresses: they are the numbers of its parts, and neither they nor the bytes are too many
 pub record IsFileOf (bases bytes : List ℕ) : Type 0 where
   pub numbers : file_numbers bytes ≡ map Some bases
-  pub few : length bases ≤ most_addresses
+  pub few : length bases ≤ most_hunks
   pub short : length bytes ≤ most_bytes
 
 -- whatever bytes follow these, this is why the file is rejected: a part is no number, there are too many
 -- addresses or bytes, or out of memory
 abbrev pub IsRejected : List ℕ → BasesFileFault → Type 0
 IsRejected bytes (Refused fault) = (rest : List ℕ) → IsNumbersFault (file_numbers (bytes ++ rest)) fault
-IsRejected bytes TooMany = (rest : List ℕ) → most_addresses < length (file_numbers (bytes ++ rest))
+IsRejected bytes TooMany = (rest : List ℕ) → most_hunks < length (file_numbers (bytes ++ rest))
 IsRejected bytes TooLong = most_bytes < length bytes
 IsRejected bytes Device = ⊥
 

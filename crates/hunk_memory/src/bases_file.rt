@@ -2,18 +2,17 @@
 
 ghost use Rattle.std.specs.Prelude.{◌≡◌, ◌≤◌, ◌++◌, ℕ, List, [], ◌∷◌, length, IfOk, IfErr, IsTrue, OnOk};
 ghost use Rattle.hunk_base.specs.Streams.{HasRead};
+ghost use Rattle.hunk_loadfile.specs.Rules.{most_hunks};
 ghost use Rattle.hunk_memory.specs.BasesFile.{is_separator, most_bytes, IsBasesFileFault, IsFileOf, IsRejected, StandsFor};
 ghost use Rattle.hunk_memory.specs.PartDigits.{ended_number};
 ghost use Rattle.hunk_memory.specs.declared.bases_file.BasesFileFault.TheVariants as file_fault;
 
 use crate::bases::BasesFault;
 use crate::part_digits::PartDigits;
+use hunk_loadfile::rules::MOST_HUNKS;
 use hunk_words::{DeviceFault, Source};
 use std::alloc::Allocator;
 use thiserror::Error;
-
-// The most addresses in a file: a load file has no more hunks.
-const MOST_ADDRESSES: usize = 65_535;
 
 // The most bytes of a file: 16 MiB.
 const MOST_BYTES: usize = 0x100_0000;
@@ -104,7 +103,7 @@ pub fn read_bases<R: Source, A: Allocator + Copy>(
 struct FoundBases<A: Allocator + Copy> {
     bases: Vec<u32, A>,
     digits: PartDigits,
-    ghost few: { length bases.items ≤ 65535 },
+    ghost few: { length bases.items ≤ most_hunks },
 }
 
 impl<A: Allocator + Copy> FoundBases<A> {
@@ -158,7 +157,7 @@ impl<A: Allocator + Copy> FoundBases<A> {
         if self.digits.count > 0 {
             let base = self.digits.value;
             self.digits = PartDigits::none();
-            if self.bases.len() == MOST_ADDRESSES {
+            if self.bases.len() == MOST_HUNKS {
                 return Err(BasesFileFault::TooMany);
             }
             self.bases.push(base).map_err(|_| BasesFault::OutOfMemory)?;
