@@ -18,7 +18,8 @@ _amihunk() {
 
     case "$command $before" in
         'load --at' | 'image --at') return ;; # a list of addresses
-        'link --out' | 'link -o' | 'link --map' | 'copy --out' | 'copy -o' | 'load --at-file' | 'image --at-file')
+        'link --out' | 'link -o' | 'link --map' | 'copy --out' | 'copy -o' | 'load --at-file' | 'image --at-file' | \
+            'link --files-from' | 'survey --files-from')
             mapfile -t COMPREPLY < <(compgen -f -- "$word")
             return
             ;;
@@ -27,11 +28,11 @@ _amihunk() {
     local options
     case "$command" in
         '') options='-h --help -V --version' ;;
-        link) options='-o --out --map -s --strip --short --trim --explain -h --help' ;;
+        link) options='-o --out --map -s --strip --short --trim --explain --files-from --lines -h --help' ;;
         load | image) options='--at --at-file --srec --symbols --explain -h --help' ;;
         show) options='--json --content --html --names --explain -h --help' ;;
         check) options='--explain -h --help' ;;
-        survey) options='-h --help' ;;
+        survey) options='--json --digest --wait --files-from --lines -h --help' ;;
         copy) options='-o --out -s --strip --short --trim --normal --explain -h --help' ;;
         compare) options='--symbols -h --help' ;;
         *) return ;;

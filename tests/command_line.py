@@ -4,7 +4,7 @@ import os
 import re
 
 import model
-from harness import BAD_WORDS, equals, test
+from harness import BAD_WORDS, DEVICE, DONE, REFUSED, equals, test
 from model import CODE, END, HEADER, RELOC32, RELOC32SHORT, SYMBOL, Hunk, words
 
 HERE = os.path.dirname(os.path.abspath(__file__))
@@ -183,10 +183,60 @@ def lines_of(name):
 def what_is_no_command_line_is_refused(program):
     for line, text in lines_of("refused.txt"):
         equals(program.run(*line), (BAD_WORDS, "", text), line)
-    # A word that is not UTF-8.
-    status, out, errors = program.run(b"check", b"\xff")
-    equals((status, out), (BAD_WORDS, ""))
-    assert "invalid UTF-8 was detected in one or more arguments" in errors, errors
+
+
+@test
+def words_that_are_no_text_are_refused(program):
+    write_files(program)
+    program.write("list", b"x\0")
+    for words_ in (
+        [b"check", b"\xff"], [b"show", b"--names", b"x", b"caf\xe9"], [b"link", b"--out", b"caf\xe9", b"x"], [b"image", b"--at", b"\x80", b"x"],
+        [b"survey", b"--files-from", b"caf\xe9"], [b"survey", b"--files-from=caf\xe9"], [b"survey", b"--j\xe9"], [b"survey", b"x", b"--", b"-\xff"],
+        [b"survey", b"--lines", b"\xff"], [b"survey", b"--help", b"\xff"], [b"--version", b"\xff"], [b"s\xff", b"x"], [b"\xff"],
+    ):
+        status, out, errors = program.run(*words_)
+        equals((status, out), (BAD_WORDS, ""), words_)
+        assert "invalid UTF-8 was detected in one or more arguments" in errors, errors
+
+
+@test
+def words_that_are_no_text_are_files_of_a_survey(program):
+    write_files(program)
+    program.write("list", b"z\0")
+    names = [b"caf\xe9", b"x", b"\xff", b"\xc3\xa9", b"caf\xe9", *(b"\xff%d" % number for number in range(20)), b"y"]
+    found = "object file: 1 units, 1 hunks"
+    lines = [f"{model.shown(name)}: {found if name in (b'x', b'y', b'z') else 'cannot be opened'}" for name in [*names, b"z"]]
+    for options in ([b"--files-from", b"list"], [b"--files-from=list", b"--"]):
+        status, out, errors = program.run(b"survey", *options, *names)
+        equals((status, out.splitlines()[: len(lines)], errors), (DEVICE, lines, ""), options)
+
+
+@test
+def a_hyphen_is_standard_input(program):
+    write_files(program)
+    program.write("x.load", load_file(["x"], []))
+    program.write("-", b"no hunk file")
+    given = program.read("x")
+    for line in ("show x", "show --json --content x", "show --names x", "check x", "image --at 0 x", "image --at 0,100 y x"):
+        wanted = program.run(*line.split())
+        equals(wanted[0], DONE, line)
+        equals(program.run(*line.removesuffix("x").split(), "-", input=given), wanted, line)
+        equals(program.run(*line.removesuffix("x").split(), "--", "-", input=given), wanted, line)
+    loaded = program.run("load", "--at", "10000", "x.load")
+    equals(program.run("load", "--at", "10000", "-", input=program.read("x.load")), loaded)
+    equals(program.run("load", "--at-file", "-", "x.load", input=b"10000\n"), loaded)
+    equals(program.run("load", "--at-file=-", "x.load", input=b"10000"), loaded)
+    program.prints("", "compare", "-", "x.load", input=program.read("x.load"))
+    program.prints("", "compare", "x.load", "-", input=program.read("x.load"))
+    program.prints("", "copy", "-oo", "--strip", "-", input=program.read("x.load"))
+    equals(program.read("o"), load_file(["x"], ["strip"]))
+    program.prints("", "link", "-oo", "y", "-", "z", input=given)
+    equals(program.read("o"), load_file(["y", "x", "z"], []))
+    program.prints("", "link", "-oo", "--files-from", "-", "--lines", "y", input=b"x\nz")
+    equals(program.read("o"), load_file(["y", "x", "z"], []))
+    equals(program.run("survey", "-", input=given)[1].splitlines()[0], "/dev/stdin: object file: 1 units, 1 hunks")
+    equals(program.run("survey", "--files-from", "-", input=b"x\0y\0")[1].splitlines()[:2], [f"{it}: object file: 1 units, 1 hunks" for it in "xy"])
+    program.fails(REFUSED, "./-: longword 0: wrong first longword", "check", "./-")
 
 
 @test

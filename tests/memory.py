@@ -5,7 +5,7 @@ import resource
 import subprocess
 
 import model
-from harness import DONE, NO_MEMORY, REFUSED, as_nobody, equals, test
+from harness import DEVICE, DONE, NO_MEMORY, REFUSED, as_nobody, equals, test
 from model import CODE, DEF, END, HEADER, RELOC32, SYMBOL, Hunk, words
 from runs import LOAD_FILE, OBJECT_FILE, RECORDS, REPORT
 
@@ -100,7 +100,7 @@ def with_little_memory_a_text_is_printed_or_none_is(program):
                 '"kind":"load file"}\n')
     with_content = document.replace('"symbols"', '"content":"TnVOcQ==","symbols"')
     survey = ["one.o: object file: 1 units, 1 hunks\n", "x: load file: 1 hunks\n",
-              "2 files: 1 object files, 1 load files, 0 refused, 0 unreadable\n"]
+              "2 files: 1 object files, 1 load files, 0 refused, 0 unreadable\n0 refused, of which 0 are no hunk files\n"]
     # A survey prints what it knows of a file before it opens the next.
     parts_of_survey = [(NO_MEMORY, "".join(survey[:lines]), TOLD) for lines in range(1, 3)]
     named = f"$$ amihunk\n  loop $00010002\n$$ \n{RECORDS}"
@@ -221,3 +221,14 @@ def with_little_memory_nothing_is_written_in_place(program):
         out_is_old_or_new(program, LARGE_STEPS, new, map_, "x.o", before=as_nobody)
     finally:
         os.chmod(program.folder, 0o755)
+
+
+@test
+def with_little_memory_names_that_are_no_text_are_surveyed(program):
+    write_files(program)
+    words_ = ("survey", b"\xff", b"caf\xe9", "x")
+    wanted = program.run(*words_)
+    lines = wanted[1].splitlines(True)
+    equals((wanted[0], len(lines) > 3, wanted[2]), (DEVICE, True, ""))
+    also = [(NO_MEMORY, "".join(lines[:number]), TOLD) for number in range(1, 4)]
+    falls(program, least_pages(program), STEPS, wanted, words_, also)

@@ -13,6 +13,7 @@ import traceback
 
 sys.dont_write_bytecode = True
 import command_line  # (the tests of a module register themselves)
+import completions
 import comparisons
 import copies
 import explanations
@@ -25,6 +26,8 @@ import outputs
 import quotations
 import readme
 import runs
+import streams
+import surveys
 import symbol_records
 from harness import TESTS, Program
 

@@ -49,8 +49,8 @@ def recorded(program):
     return [line.rstrip(" ") for line in lines]
 
 
-def surveyed(program):
-    return printed(program, "survey disk/main.o disk/program disk/readme", REFUSED)
+def surveyed(program, options=""):
+    return printed(program, f"survey {options}disk/main.o disk/program disk/readme", REFUSED)
 
 
 def one(*rows):
@@ -92,15 +92,19 @@ def the_manual_quotes_what_is_printed(program):
     # Documents are quoted on several lines, and of one a hunk alone.
     for block in (quoted[4], quoted[5]):
         block[:] = ["".join(block)]
-    content, command = quoted.pop(6), quoted.pop(6)
+    commands = [block for block in quoted if re.match(r"(find|amihunk [a-z]+) ", block[0])]
+    equals(commands, [["amihunk show --html hello > hello.html"], ["find disk -type f -print0 | amihunk survey --files-from -"],
+                      ["amihunk link --out - main.o library.o | amihunk check -"]])
+    quoted = [block for block in quoted if block not in commands]
+    content = quoted.pop(6)
     [document] = printed(program, "show --json --content linked")
     assert len(content) == 1 and document.startswith('{"hunks":[' + content[0]), content
-    equals(command, ["amihunk show --html hello > hello.html"])
     equals(quoted, [
         printed(program, "show main.o"), printed(program, "show linked"),
         printed(program, "show --names call.o"), printed(program, "show --names call.o put.o"),
         printed(program, "show --json main.o"), printed(program, "show --json linked"),
-        surveyed(program), program.read("map").decode().splitlines(),
+        surveyed(program), printed(program, "survey --digest disk/program")[:1], surveyed(program, "--json "),
+        program.read("map").decode().splitlines(),
         printed(program, "load --at 10000 rts"), printed(program, "load --at 10000 --srec rts"),
         printed(program, "load --at 10000,20000 --symbols linked"), recorded(program),
         compared(program, "hunk 1 offset 00000012: 4e and 4f", "hunk 1 site 00000008: hunk 1 and none",
@@ -155,14 +159,15 @@ def the_help_quotes_what_is_printed(program):
     write_examples(program)
     [document] = printed(program, "show --json half")
     wanted = {
-        "link": [*program.read("map").decode().splitlines()[:2], "amihunk link --out program --strip --short --trim startup.o main.o"],
+        "link": [*program.read("map").decode().splitlines()[:2], "amihunk link --out program --strip --short --trim startup.o main.o",
+                 "amihunk link --out program --files-from names --lines startup.o"],
         "load": printed(program, "load --at 10000 rts") + printed(program, "load --at 10000 --srec rts")
         + printed(program, "load --at 10000 --symbols next") + recorded(program),
         "image": [f"amihunk image --at 10000,20000 {flags}startup.o main.o" for flags in ("", "--srec --symbols ")],
         "check": printed(program, "check main.o") + printed(program, "check linked"),
         "show": [*printed(program, "show main.o"), *printed(program, "show half"), document, "amihunk show --html program > program.html",
                  *printed(program, "show --names call.o")],
-        "survey": surveyed(program),
+        "survey": surveyed(program) + printed(program, "survey --json disk/main.o") + ["find disk -type f -print0 | amihunk survey --files-from -"],
         "copy": ["amihunk copy --out program --strip --short --trim program"],
         "compare": compared(program, *list(PAIRS)[:6], *list(PAIRS)[7:]),
     }

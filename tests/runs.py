@@ -105,21 +105,22 @@ def a_survey_tells_what_each_file_is(program):
     program.write("cut", LOAD_FILE[:-1])
     os.mkdir(program.at("folder"))
     hunks = "a.o: object file: 1 units, 1 hunks\na: load file: 1 hunks\n"
-    totals = "2 files: 1 object files, 1 load files, 0 refused, 0 unreadable\n"
-    program.prints(hunks + totals, "survey", "a.o", "a")
+    none = "0 refused, of which 0 are no hunk files\n"
+    program.prints(f"{hunks}2 files: 1 object files, 1 load files, 0 refused, 0 unreadable\n{none}", "survey", "a.o", "a")
     refused = "text: longword 0: wrong first longword\ncut: longword 9: file ends inside a longword\n"
-    totals = "4 files: 1 object files, 1 load files, 2 refused, 0 unreadable\n"
+    strangers = "2 refused, of which 1 are no hunk files\n"
+    totals = f"4 files: 1 object files, 1 load files, 2 refused, 0 unreadable\n{strangers}"
     equals(program.run("survey", "text", "cut", "a.o", "a"), (REFUSED, refused + hunks + totals, ""))
-    unread = "folder: read failed\nmissing: cannot be opened\n"
-    totals = "6 files: 1 object files, 1 load files, 2 refused, 2 unreadable\n"
-    words_ = ("survey", "folder", "missing", "text", "cut", "a.o", "--", "a")
+    unread = "folder: is a directory\nmissing: cannot be opened\n/dev/null: not a regular file\n"
+    totals = f"7 files: 1 object files, 1 load files, 2 refused, 3 unreadable\n{strangers}"
+    words_ = ("survey", "folder", "missing", "/dev/null", "text", "cut", "a.o", "--", "a")
     equals(program.run(*words_), (DEVICE, unread + refused + hunks + totals, ""))
     for name, shown in (("a\nb: load file", '"a\\x0ab: load file"'), ("caf\xe9", '"caf\\xc3\\xa9"'), ('"a:b" \\', '"a:b" \\'), ("\x1b[2J", '"\\x1b[2J"')):
         program.write(name, LOAD_FILE)
-        totals = "1 files: 0 object files, 1 load files, 0 refused, 0 unreadable\n"
+        totals = f"1 files: 0 object files, 1 load files, 0 refused, 0 unreadable\n{none}"
         program.prints(f"{shown}: load file: 1 hunks\n{totals}", "survey", name)
     files, limit = ["a"] * 200, (resource.RLIMIT_NOFILE, 16)
-    totals = "200 files: 0 object files, 200 load files, 0 refused, 0 unreadable\n"
+    totals = f"200 files: 0 object files, 200 load files, 0 refused, 0 unreadable\n{none}"
     program.prints("a: load file: 1 hunks\n" * 200 + totals, "survey", *files, limit=limit)
 
 

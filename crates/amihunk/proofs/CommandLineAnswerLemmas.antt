@@ -10,9 +10,10 @@ use Rattle.clap.specs.declared.error.ErrorKind.TheVariants as error
 use Rattle.hunk_commands.specs.declared.request.Request.{Request}
 use Rattle.hunk_commands.specs.declared.request.Request.TheVariants.{Check, Compare, Copy, Help, Image, Link, Load, Names, OutOfMemory, Refused, Show, Survey, Version}
 use Rattle.amihunk.specs.Syntax.{command_line}
-use Rattle.amihunk.specs.CommandLine.{AreRefused, Asks, Call, Calls, IsAnswer, IsAskedBy, IsFound, IsMeant, IsOrNothing, IsVersionWord, Meaning, Means, Met, Says, call_of, meaning, version_line}
-use Rattle.amihunk.specs.CommandLine.Call.{conflict}
-use Rattle.amihunk.specs.CommandLine.Meaning.{calls, help, nothing, rejection, version}
+use Rattle.amihunk.specs.Call.{Asks, Call, IsFound, IsOrNothing, Meaning, Means, meaning}
+use Rattle.amihunk.specs.CommandLine.{AreRefused, Calls, IsAnswer, IsAskedBy, IsMeant, IsVersionWord, Met, Says, call_of, version_line}
+use Rattle.amihunk.specs.Call.Call.{conflict}
+use Rattle.amihunk.specs.Call.Meaning.{calls, help, nothing, rejection, version}
 use Rattle.amihunk.proofs.CommandLineLemmas.{whole_where_faultless}
 
 -- what one of the kinds of error asks for is what the arguments ask for
@@ -31,7 +32,7 @@ asked_by_kind words nothing k has answers = tt
 calls_met : (words : List Text) (met : Met) (call : Call) → fault_of command_line words ≡ [] → met ≡ subcommand_of command_line words → call_of met ≡ Some call → Calls words call
 calls_met words met call quiet is found = record { quiet = quiet; whole = whole_where_faultless words quiet; call_is = ap call_of (sym is) ∙ found }
 
-asked_by_met : (words : List Text) (met : Met) (m : Meaning) → fault_of command_line words ≡ [] → met ≡ subcommand_of command_line words → IsFound met m → IsMeant words m
+asked_by_met : (words : List Text) (met : Met) (m : Meaning) → fault_of command_line words ≡ [] → met ≡ subcommand_of command_line words → IsFound (call_of met) m → IsMeant words m
 asked_by_met words met (calls call) quiet is found = calls_met words met call quiet is found
 asked_by_met words met version quiet is found = absurd found
 asked_by_met words met help quiet is found = absurd found
@@ -103,13 +104,13 @@ refuses_fault words kind only no_help no_version nothing asked = tt
 
 -- no request means a call that cannot be made
 means_no_conflict : (request : Request) (call : Call) → meaning request ≡ calls call → call ≡ conflict → ⊥
-means_no_conflict (Link out map options explain files) call is none = cc
+means_no_conflict (Link out map options explain files list) call is none = cc
 means_no_conflict (Load addresses text explain file) call is none = cc
 means_no_conflict (Image addresses form explain files) call is none = cc
 means_no_conflict (Check explain file) call is none = cc
 means_no_conflict (Show text explain file) call is none = cc
 means_no_conflict (Names files) call is none = cc
-means_no_conflict (Survey files) call is none = cc
+means_no_conflict (Survey options files list) call is none = cc
 means_no_conflict (Copy out form explain file) call is none = cc
 means_no_conflict (Compare with_symbols first second) call is none = cc
 means_no_conflict Version call is none = cc

@@ -1,5 +1,5 @@
 -- The walk over FILE or FILE..., and a subcommand whose words end with them.
-use Rattle.std.proofs.Common.{◌≡◌, ◌∙◌, ◌≤◌, ◌<◌, All, ap, append-nil, append_assoc, arith, refl, subst, sym, false, Bool, ℕ, List, [], ◌∷◌, ◌++◌, codes, le-ltb, length, Option, Some, suc}
+use Rattle.std.proofs.Common.{◌≡◌, ◌∙◌, ◌≤◌, ◌<◌, All, ap, append-nil, append_assoc, arith, refl, subst, sym, true, false, Bool, ℕ, List, [], ◌∷◌, ◌++◌, codes, le-ltb, length, Option, Some, suc}
 use Rattle.std.specs.Prelude.{◌==◌, ◌+◌, min, nat_lt}
 use Rattle.std.specs.Option.{option_map_or}
 use Rattle.std.proofs.lemmas.Bool.{ne_eqb}
@@ -13,8 +13,10 @@ use Rattle.clap.specs.Faults.{settle_fault, turn_fault, use_fault, values_fault}
 use Rattle.clap.specs.Kinds.{or_else, range_kinds}
 use Rattle.amihunk.proofs.CommandLineSubcommandLemmas.{IsSubcommand, calls-line}
 use Rattle.amihunk.proofs.CommandLineWalkLemmas.{Passes, end_fault, late_fault, passes-append, passes-cons, passes-nil}
-use Rattle.amihunk.specs.Syntax.{file_rule, files_rule, value_rule}
-use Rattle.amihunk.specs.CommandLine.{Call, Calls, IsNoFlag, call_of}
+use Rattle.amihunk.specs.Syntax.{file_rule, files_rule_if, value_rule}
+use Rattle.amihunk.specs.Call.{Call}
+use Rattle.amihunk.specs.StandardInput.{inputs_of}
+use Rattle.amihunk.specs.CommandLine.{Calls, IsNoFlag, written_call}
 
 -- ---- FILE
 
@@ -48,18 +50,18 @@ file_rows s held file = finished s.rules (after_file (settled s.rules held) file
 
 -- and what they ask for with each file
 abbrev pub TakesFile : Shape → Held → (Text → Call) → Type 0
-TakesFile s held call = AwaitsFile s held × ((file : Text) → call_of (Some (s.name, file_rows s held file)) ≡ Some (call file))
+TakesFile s held call = AwaitsFile s held × ((file : Text) → written_call (Some (s.name, file_rows s held file)) ≡ Some (call file))
 
 -- words that take a FILE, and the FILE, are this call
 pub calls-file : (program : Text) (s : Shape) (words : List Text) (held : Held) (call : Text → Call) → IsSubcommand s
     → Passes s (walk_from nothing_held) words (walk_from held) → TakesFile s held call
-    → (file : Text) → IsNoFlag file → Calls (program ∷ s.name ∷ (words ++ file ∷ [])) (call file)
-calls-file program s words held call is front takes file plain =
+    → (file : Text) → IsNoFlag file → All IsNoFlag (inputs_of (call file)) → Calls (program ∷ s.name ∷ (words ++ file ∷ [])) (call file)
+calls-file program s words held call is front takes file plain inputs =
     let end = after_file (settled s.rules held) file in
     calls-line program s (words ++ file ∷ []) end (call file) is
     (passes-append s (walk_from nothing_held) (walk_from held) end words (file ∷ []) front
     (passes-cons s (walk_from held) end end file [] (walked-file s held file takes.0 plain) (turn_fault-file s held file takes.0 plain) (passes-nil s end)))
-    (takes.0.late file) (takes.1 file)
+    (takes.0.late file) (takes.1 file) inputs
 
 -- ---- two arguments, one after the other
 
@@ -104,13 +106,13 @@ pub record TakesTwo (s : Shape) (held : Held) (one other : Text) (call : Text �
   pub first : AwaitsValue s held 1 one
   pub second : (value : Text) → AwaitsValue s (with_value s held one value) 2 other
   pub late : (first second : Text) → end_fault s (with_both s held one other first second) ≡ []
-  pub call_is : (first second : Text) → call_of (Some (s.name, finished s.rules (with_both s held one other first second))) ≡ Some (call first second)
+  pub call_is : (first second : Text) → written_call (Some (s.name, finished s.rules (with_both s held one other first second))) ≡ Some (call first second)
 
 -- words that take two values, and the values, are this call
 pub calls-two : (program : Text) (s : Shape) (words : List Text) (held : Held) (one other : Text) (call : Text → Text → Call) → IsSubcommand s
     → Passes s (walk_from nothing_held) words (walk_from held) → TakesTwo s held one other call
-    → (first second : Text) → IsNoFlag first → IsNoFlag second → Calls (program ∷ s.name ∷ (words ++ first ∷ second ∷ [])) (call first second)
-calls-two program s words held one other call is front takes first second plain_first plain_second =
+    → (first second : Text) → IsNoFlag first → IsNoFlag second → All IsNoFlag (inputs_of (call first second)) → Calls (program ∷ s.name ∷ (words ++ first ∷ second ∷ [])) (call first second)
+calls-two program s words held one other call is front takes first second plain_first plain_second inputs =
     let between = with_value s held one first in
     let end = at_place 3 (with_both s held one other first second) in
     calls-line program s (words ++ first ∷ second ∷ []) end (call first second) is
@@ -118,24 +120,25 @@ calls-two program s words held one other call is front takes first second plain_
     (passes-cons s (walk_from held) (at_place 2 between) end first (second ∷ []) (walked-value s held 1 one first takes.first plain_first) (turn_fault-value s held 1 one first takes.first plain_first)
     (passes-cons s (at_place 2 between) end end second [] (walked-value s between 2 other second (takes.second first) plain_second)
     (turn_fault-value s between 2 other second (takes.second first) plain_second) (passes-nil s end))))
-    (takes.late first second) (takes.call_is first second)
+    (takes.late first second) (takes.call_is first second) inputs
 
 -- ---- FILE...
 
--- the argument as `clap` builds it
-abbrev pub built_files : Rule
-built_files = with_index 1 (filled files_rule)
+-- the argument as `clap` builds it, which may be required
+abbrev pub built_files : Bool → Rule
+built_files needed = with_index 1 (filled (files_rule_if needed))
 
 -- FILE... is the first positional of these arguments
 pub record HasFiles (c : List Rule) : Type 0 where
-  pub by_index : arg_by_index c 1 ≡ Some built_files
-  pub by_id : arg_by_id c (codes "file") ≡ Some built_files
+  pub needed : Bool
+  pub by_index : arg_by_index c 1 ≡ Some (built_files needed)
+  pub by_id : arg_by_id c (codes "file") ≡ Some (built_files needed)
 
 -- the walk after these files
 abbrev pub after_files : Held → List Text → Walk
 after_files h files = record (walk_from (record h { pending = Some (codes "file", files) })) { waiting = positional }
 
-walked-first : (c : List Rule) (h : Held) (file : Text) → HasFiles c → is_pending built_files h.pending ≡ false → IsNoFlag file
+walked-first : (c : List Rule) (h : Held) (file : Text) → HasFiles c → is_pending (built_files true) h.pending ≡ false → IsNoFlag file
     → walked c [] (walk_from h) file ≡ after_files (settled c h) (file ∷ [])
 unfolding walked
 walked-first c h [] has other plain = rw (has.by_index, other) refl
@@ -150,7 +153,7 @@ walked-more c h seen (x ∷ rest) has plain = rw (ne_eqb x 45 plain, ne_eqb x 45
 first_plain : (file : Text) (rest : List Text) → All IsNoFlag (file ∷ rest) → IsNoFlag file
 first_plain file rest plain = plain 0 file (omega arith)
 
-turn_fault-first : (s : Shape) (h : Held) (file : Text) → HasFiles s.rules → is_pending built_files h.pending ≡ false
+turn_fault-first : (s : Shape) (h : Held) (file : Text) → HasFiles s.rules → is_pending (built_files true) h.pending ≡ false
     → settle_fault s.rules s.args_override_self h ≡ [] → IsNoFlag file → turn_fault s [] (walk_from h) file ≡ []
 turn_fault-first s h [] has other quiet plain = rw (has.by_index, other, quiet) refl
 turn_fault-first s h (x ∷ rest) has other quiet plain = rw (ne_eqb x 45 plain, ne_eqb x 45 plain, has.by_index, other, quiet) refl
@@ -177,25 +180,25 @@ range_kinds-files n fits =
     rw (some, least, most) refl
 
 -- each file passes, as any text does
-values_fault-files : (files : List Text) → values_fault built_files files ≡ []
-values_fault-files [] = refl
-values_fault-files (file ∷ rest) = values_fault-files rest
+values_fault-files : (needed : Bool) (files : List Text) → values_fault (built_files needed) files ≡ []
+values_fault-files needed [] = refl
+values_fault-files needed (file ∷ rest) = values_fault-files needed rest
 
-use_fault-files : (again : Bool) (file : Text) (rest : List Text) (rows : List Row) → length (file ∷ rest) ≤ usize_max
-    → use_fault again built_files (file ∷ rest) rows ≡ []
-use_fault-files again file rest rows fits =
-    ap (λ kinds. or_else kinds (values_fault built_files (file ∷ rest))) (range_kinds-files (length rest) fits) ∙ values_fault-files (file ∷ rest)
+use_fault-files : (needed again : Bool) (file : Text) (rest : List Text) (rows : List Row) → length (file ∷ rest) ≤ usize_max
+    → use_fault again (built_files needed) (file ∷ rest) rows ≡ []
+use_fault-files needed again file rest rows fits =
+    ap (λ kinds. or_else kinds (values_fault (built_files needed) (file ∷ rest))) (range_kinds-files (length rest) fits) ∙ values_fault-files needed (file ∷ rest)
 
 end_fault-files : (s : Shape) (h : Held) (file : Text) (rest : List Text) → HasFiles s.rules → length (file ∷ rest) ≤ usize_max
     → late_fault s (after_files h (file ∷ rest)).held ≡ [] → end_fault s (after_files h (file ∷ rest)).held ≡ []
 end_fault-files s h file rest has fits quiet =
     ap (λ kinds. or_else kinds (late_fault s (after_files h (file ∷ rest)).held))
     (ap (λ (o : Option Rule). option_map_or (λ a. use_fault s.args_override_self a (file ∷ rest) h.rows) o []) has.by_id
-    ∙ use_fault-files s.args_override_self file rest h.rows fits) ∙ quiet
+    ∙ use_fault-files has.needed s.args_override_self file rest h.rows fits) ∙ quiet
 
 -- FILE... may come after what is held
 pub record AwaitsFiles (s : Shape) (held : Held) : Type 0 where
-  pub other : is_pending built_files held.pending ≡ false
+  pub other : is_pending (built_files true) held.pending ≡ false
   pub quiet : settle_fault s.rules s.args_override_self held ≡ []
   pub late : (file : Text) (rest : List Text) → late_fault s (after_files (settled s.rules held) (file ∷ rest)).held ≡ []
 
@@ -205,14 +208,14 @@ files_rows s held files = finished s.rules (after_files (settled s.rules held) f
 
 -- and what they ask for with all files
 abbrev pub TakesFiles : Shape → Held → (List Text → Call) → Type 0
-TakesFiles s held call = AwaitsFiles s held × ((file : Text) (rest : List Text) → call_of (Some (s.name, files_rows s held (file ∷ rest))) ≡ Some (call (file ∷ rest)))
+TakesFiles s held call = AwaitsFiles s held × ((file : Text) (rest : List Text) → written_call (Some (s.name, files_rows s held (file ∷ rest))) ≡ Some (call (file ∷ rest)))
 
 -- words that take FILE..., and at least one file, are this call; there are at most 2 ^ 64 - 1 words
 pub calls-files : (program : Text) (s : Shape) (words : List Text) (held : Held) (call : List Text → Call) → IsSubcommand s → HasFiles s.rules
     → Passes s (walk_from nothing_held) words (walk_from held) → TakesFiles s held call
-    → (files : List Text) → 0 < length files → All IsNoFlag files → length (words ++ files) ≤ usize_max → Calls (program ∷ s.name ∷ (words ++ files)) (call files)
-calls-files program s words held call is has front takes [] some plain fits = absurd (omega arith)
-calls-files program s words held call is has front takes (file ∷ rest) some plain fits =
+    → (files : List Text) → 0 < length files → All IsNoFlag files → All IsNoFlag (inputs_of (call files)) → length (words ++ files) ≤ usize_max → Calls (program ∷ s.name ∷ (words ++ files)) (call files)
+calls-files program s words held call is has front takes [] some plain inputs fits = absurd (omega arith)
+calls-files program s words held call is has front takes (file ∷ rest) some plain inputs fits =
     let awaits = takes.0 in
     let first = first_plain file rest plain in
     let few : length (file ∷ rest) ≤ usize_max = omega (arith, fits, length-append words (file ∷ rest)) in
@@ -224,4 +227,4 @@ calls-files program s words held call is has front takes (file ∷ rest) some pl
     (turn_fault-first s held file has awaits.other awaits.quiet first)
     (passes-more s start (file ∷ []) rest has (All-tail IsNoFlag file rest plain))))
     (end_fault-files s start file rest has few (awaits.late file rest))
-    (takes.1 file rest)
+    (takes.1 file rest) inputs

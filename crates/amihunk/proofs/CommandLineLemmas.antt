@@ -88,8 +88,12 @@ check_regular = (flag_regular None (codes "explain") refl, (is_valued (inl refl)
 files_regular : AllRegular false (drop 4 (built_below image_shape).rules)
 files_regular = (flag_regular None (codes "explain") refl, (is_valued (inr refl) (omega arith) refl refl, (asks_help refl refl refl, tt)))
 
+-- and these with `[--files-from LIST] [--lines] [FILE...]`
+listed_regular : AllRegular false (drop 3 (built_below survey_shape).rules)
+listed_regular = (option_regular (codes "files-from") refl, (flag_regular None (codes "lines") refl, (is_valued (inr refl) (omega arith) refl refl, (asks_help refl refl refl, tt))))
+
 link_flags : AllRegular false (drop 2 (built_below link_shape).rules)
-link_flags = (flag_regular (Some letter_s) (codes "strip") refl, (flag_regular None (codes "short") refl, (flag_regular None (codes "trim") refl, files_regular)))
+link_flags = (flag_regular (Some letter_s) (codes "strip") refl, (flag_regular None (codes "short") refl, (flag_regular None (codes "trim") refl, (flag_regular None (codes "explain") refl, listed_regular))))
 
 link_regular : AllRegular false (built_below link_shape).rules
 link_regular = (is_valued (inl refl) (omega arith) refl refl, (option_regular (codes "map") refl, link_flags))
@@ -107,7 +111,7 @@ show_regular : AllRegular false (built_below show_shape).rules
 show_regular = (flag_regular None (codes "json") refl, (flag_regular None (codes "content") refl, (flag_regular None (codes "html") refl, (flag_regular None (codes "names") refl, files_regular))))
 
 survey_regular : AllRegular false (built_below survey_shape).rules
-survey_regular = (is_valued (inr refl) (omega arith) refl refl, (asks_help refl refl refl, tt))
+survey_regular = (flag_regular None (codes "json") refl, (flag_regular None (codes "digest") refl, (flag_regular None (codes "wait") refl, listed_regular)))
 
 copy_flags : AllRegular false (drop 1 (built_below copy_shape).rules)
 copy_flags = (flag_regular (Some letter_s) (codes "strip") refl, (flag_regular None (codes "short") refl, (flag_regular None (codes "trim") refl, (flag_regular None (codes "normal") refl, check_regular))))

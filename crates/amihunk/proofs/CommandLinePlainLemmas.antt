@@ -6,7 +6,9 @@ use Rattle.clap.specs.Words.{Shape, Text}
 use Rattle.clap.specs.Walk.{Held, nothing_held, walk_from}
 use Rattle.clap.proofs.OnLiterals.{clap_on_literals}
 use Rattle.hunk_memory.specs.declared.image_form.ImageForm.TheVariants.{Report, SRecords}
+use Rattle.hunk_tool.specs.declared.copy.CopyForm.{CopyForm}
 use Rattle.hunk_tool.specs.declared.copy.CopyForm.TheVariants.{Normal, Written}
+use Rattle.amihunk.specs.StandardInput.{inputs_of, origin_inputs}
 use Rattle.hunk_tool.specs.declared.link_options.LinkOptions.{LinkOptions}
 use Rattle.hunk_commands.specs.Addresses.{Origin}
 use Rattle.hunk_commands.specs.Addresses.Origin.{in_file, in_list}
@@ -20,11 +22,11 @@ use Rattle.amihunk.proofs.CommandLineFilesLemmas.{TakesFile, TakesFiles, TakesTw
 use Rattle.amihunk.proofs.CommandLineSubcommandLemmas.{IsSubcommand}
 use Rattle.amihunk.proofs.CommandLineWalkLemmas.{IsOption, Passes, passes-nil, passes-option, value_held, walk_on}
 use Rattle.amihunk.specs.Syntax.{check_shape, compare_shape, copy_shape, image_shape, letter_o, link_shape, load_shape, show_shape, survey_shape}
-use Rattle.amihunk.specs.CommandLine.{Call, Calls, IsNoFlag, IsNoFlagIn, brief_link_line, brief_words, compare_line, copy_line, file_line, image_line, link_line, load_line, map_words}
+use Rattle.amihunk.specs.CommandLine.{Calls, IsNoFlag, IsNoFlagIn, brief_link_line, brief_words, compare_line, copy_line, file_line, image_line, link_line, load_line, map_words, no_survey_options}
 use Rattle.amihunk.specs.CommandLine.{names_line, normal_line, option_name, option_word, option_words, show_call, show_line, show_words, survey_line, text_in, text_words, word_if}
 use Rattle.amihunk.specs.declared.choices.Shown.{Shown}
 use Rattle.amihunk.specs.declared.choices.Shown.TheVariants as shown
-use Rattle.amihunk.specs.CommandLine.Call.{to_check, to_compare, to_copy, to_image, to_link, to_load, to_names, to_show, to_survey}
+use Rattle.amihunk.specs.Call.Call.{to_check, to_compare, to_copy, to_image, to_link, to_load, to_names, to_show, to_survey}
 
 -- ---- `link`
 
@@ -64,7 +66,7 @@ link_held out map options = (walk_on built_link (walk_from (map_held out map)) (
 abbrev IsPlainLink : Text → Option Text → LinkOptions → Type 0
 IsPlainLink out map options = Passes built_link (walk_from (map_held out map)) (option_words options) (walk_from (link_held out map options))
     × Passes built_link (walk_from (map_held out map)) (brief_words options) (walk_from (link_held out map options))
-    × TakesFiles built_link (link_held out map options) (to_link out map options false)
+    × TakesFiles built_link (link_held out map options) (λ files. to_link out map options false files None)
 
 abbrev choice : Bool → Bool → Bool → LinkOptions
 choice strip short trim = record { strip = strip; short = short; trim = trim }
@@ -103,17 +105,17 @@ module _ (program : Text) (options : LinkOptions) (out : Text) (map : Option Tex
   calls-words : (word : Text) (words : List Text) → IsOption built_link nothing_held word (codes "out")
       → Passes built_link (walk_from (map_held out map)) words (walk_from (link_held out map options))
       → length ((word ∷ out ∷ (map_words map ++ words)) ++ files) ≤ usize_max
-      → Calls (program ∷ codes "link" ∷ ((word ∷ out ∷ (map_words map ++ words)) ++ files)) (to_link out map options false files)
+      → Calls (program ∷ codes "link" ∷ ((word ∷ out ∷ (map_words map ++ words)) ++ files)) (to_link out map options false files None)
   calls-words word words is passes =
-      calls-files program built_link (word ∷ out ∷ (map_words map ++ words)) (link_held out map options) (to_link out map options false) is_link (record { by_index = refl; by_id = refl })
+      calls-files program built_link (word ∷ out ∷ (map_words map ++ words)) (link_held out map options) (λ files. to_link out map options false files None) is_link (record { needed = false; by_index = refl; by_id = refl })
       (passes-option built_link nothing_held word (codes "out") out (map_words map ++ words) (walk_from (link_held out map options)) is plain_out
       (passes-map out map words (link_held out map options) plain_map passes))
-      (plain-link out map options).2 files some plain_files
+      (plain-link out map options).2 files some plain_files plain_files
 
-  pub calls-link : length (link_line program options out map files) ≤ usize_max → Calls (link_line program options out map files) (to_link out map options false files)
+  pub calls-link : length (link_line program options out map files) ≤ usize_max → Calls (link_line program options out map files) (to_link out map options false files None)
   calls-link fits = calls-words (codes "--out") (option_words options) is_out (plain-link out map options).0 (omega (arith, fits))
 
-  pub calls-brief : length (brief_link_line program options out map files) ≤ usize_max → Calls (brief_link_line program options out map files) (to_link out map options false files)
+  pub calls-brief : length (brief_link_line program options out map files) ≤ usize_max → Calls (brief_link_line program options out map files) (to_link out map options false files None)
   calls-brief fits = calls-words (codes "-o") (brief_words options) is_brief_out (plain-link out map options).1 (omega (arith, fits))
 
 -- ---- `load`
@@ -154,13 +156,18 @@ plain-load (in_file name) (Image SRecords) = ((refl, refl), (record { by_index =
 plain-load (in_file name) (Symbols Lines) = ((refl, refl), (record { by_index = refl; other = refl; quiet = refl; late = λ file. refl }, λ file. refl))
 plain-load (in_file name) (Symbols Records) = ((refl, refl), (record { by_index = refl; other = refl; quiet = refl; late = λ file. refl }, λ file. refl))
 
+-- the files to read do not begin with a hyphen, and neither does that with the addresses
+plain_origin : (origin : Origin) (files : List Text) → IsNoFlag (text_in origin) → All IsNoFlag files → All IsNoFlag (origin_inputs origin ++ files)
+plain_origin (in_list list) files plain rest = rest
+plain_origin (in_file name) files plain rest = All-cons IsNoFlag name files plain rest
+
 pub calls-load : (program : Text) (origin : Origin) (text : LoadText) (file : Text) → IsNoFlag (text_in origin) → IsNoFlag file
     → Calls (load_line program origin text file) (to_load origin text false file)
-calls-load program origin text file plain_value =
+calls-load program origin text file plain_value plain_file =
     let plain = plain-load origin text in
     calls-file program built_load (option_word origin ∷ text_in origin ∷ text_words text) (load_held origin text) (to_load origin text false) is_load
     (passes-option built_load nothing_held (option_word origin) (option_name origin) (text_in origin) (text_words text) (walk_from (load_held origin text)) (is_load_option origin) plain_value plain.0)
-    plain.1 file
+    plain.1 file plain_file (plain_origin origin (file ∷ []) plain_value (All-cons IsNoFlag file [] plain_file (All-nil IsNoFlag)))
 
 -- ---- `image`
 
@@ -200,9 +207,9 @@ pub calls-image : (program : Text) (origin : Origin) (text : LoadText) (files : 
     → length (image_line program origin text files) ≤ usize_max → Calls (image_line program origin text files) (to_image origin text false files)
 calls-image program origin text files plain_value some plain_files fits =
     let plain = plain-image origin text in
-    calls-files program built_image (option_word origin ∷ text_in origin ∷ text_words text) (image_held origin text) (to_image origin text false) is_image (record { by_index = refl; by_id = refl })
+    calls-files program built_image (option_word origin ∷ text_in origin ∷ text_words text) (image_held origin text) (to_image origin text false) is_image (record { needed = true; by_index = refl; by_id = refl })
     (passes-option built_image nothing_held (option_word origin) (option_name origin) (text_in origin) (text_words text) (walk_from (image_held origin text)) (is_image_option origin) plain_value plain.0)
-    plain.1 files some plain_files (omega (arith, fits))
+    plain.1 files some plain_files (plain_origin origin files plain_value plain_files) (omega (arith, fits))
 
 -- ---- `check`, `show` and `survey`
 
@@ -215,7 +222,9 @@ unfolding clap_on_literals
 takes-check = (record { by_index = refl; other = refl; quiet = refl; late = λ file. refl }, λ file. refl)
 
 pub calls-check : (program file : Text) → IsNoFlag file → Calls (file_line program (codes "check") file) (to_check false file)
-calls-check program = calls-file program (built_below check_shape) [] nothing_held (to_check false) is_check (passes-nil (built_below check_shape) (walk_from nothing_held)) takes-check
+calls-check program file plain =
+    calls-file program (built_below check_shape) [] nothing_held (to_check false) is_check (passes-nil (built_below check_shape) (walk_from nothing_held)) takes-check file plain
+    (All-cons IsNoFlag file [] plain (All-nil IsNoFlag))
 
 is_show : IsSubcommand (built_below show_shape)
 unfolding clap_on_literals
@@ -242,28 +251,31 @@ unfolding clap_on_literals
 plain-names = ((refl, refl), (record { other = refl; quiet = refl; late = λ file rest. refl }, λ file rest. refl))
 
 calls-shown : (program : Text) (words : List Text) (asked : Shown) → IsPlainShown words asked → (files : List Text) → 0 < length files → All IsNoFlag files
+    → All IsNoFlag (inputs_of (show_call (Some asked) false files))
     → length (words ++ files) ≤ usize_max → Calls (program ∷ codes "show" ∷ (words ++ files)) (show_call (Some asked) false files)
-calls-shown program words asked plain files some plain_files fits =
-    calls-files program (built_below show_shape) words (shown_held words) (show_call (Some asked) false) is_show (record { by_index = refl; by_id = refl }) plain.0 plain.1 files some plain_files fits
+calls-shown program words asked plain files some plain_files inputs fits =
+    calls-files program (built_below show_shape) words (shown_held words) (show_call (Some asked) false) is_show (record { needed = true; by_index = refl; by_id = refl }) plain.0 plain.1 files some plain_files inputs fits
 
 pub calls-show : (program : Text) (text : ShowText) (file : Text) → IsNoFlag file → length (show_line program text file) ≤ usize_max → Calls (show_line program text file) (to_show text false file)
-calls-show program text file plain fits = calls-shown program (show_words text) (shown.Text text) (plain-show text) (file ∷ []) (omega arith) (All-cons IsNoFlag file [] plain (All-nil IsNoFlag)) (omega (arith, fits))
+calls-show program text file plain fits =
+    let one = All-cons IsNoFlag file [] plain (All-nil IsNoFlag) in
+    calls-shown program (show_words text) (shown.Text text) (plain-show text) (file ∷ []) (omega arith) one one (omega (arith, fits))
 
 pub calls-names : (program : Text) (files : List Text) → 0 < length files → All IsNoFlag files → length (names_line program files) ≤ usize_max → Calls (names_line program files) (to_names files)
-calls-names program files some plain fits = calls-shown program (codes "--names" ∷ []) shown.Names plain-names files some plain (omega (arith, fits))
+calls-names program files some plain fits = calls-shown program (codes "--names" ∷ []) shown.Names plain-names files some plain plain (omega (arith, fits))
 
 is_survey : IsSubcommand (built_below survey_shape)
 unfolding clap_on_literals
 is_survey = record { met = refl; quiet = refl; found = refl }
 
-takes-survey : TakesFiles (built_below survey_shape) nothing_held to_survey
+takes-survey : TakesFiles (built_below survey_shape) nothing_held (λ files. to_survey no_survey_options files None)
 unfolding clap_on_literals
 takes-survey = (record { other = refl; quiet = refl; late = λ file rest. refl }, λ file rest. refl)
 
-pub calls-survey : (program : Text) (files : List Text) → 0 < length files → All IsNoFlag files → length (survey_line program files) ≤ usize_max → Calls (survey_line program files) (to_survey files)
+pub calls-survey : (program : Text) (files : List Text) → 0 < length files → All IsNoFlag files → length (survey_line program files) ≤ usize_max → Calls (survey_line program files) (to_survey no_survey_options files None)
 calls-survey program files some plain fits =
-    calls-files program (built_below survey_shape) [] nothing_held to_survey is_survey (record { by_index = refl; by_id = refl }) (passes-nil (built_below survey_shape) (walk_from nothing_held)) takes-survey files some plain
-    (omega (arith, fits))
+    calls-files program (built_below survey_shape) [] nothing_held (λ names. to_survey no_survey_options names None) is_survey (record { needed = false; by_index = refl; by_id = refl })
+    (passes-nil (built_below survey_shape) (walk_from nothing_held)) takes-survey files some plain plain (omega (arith, fits))
 
 -- ---- `copy`
 
@@ -287,10 +299,11 @@ abbrev copy_held : Text → List Text → Held
 copy_held out words = (walk_on built_copy (walk_from (copy_out_held out)) words).held
 
 -- the words for the flags pass, and FILE may come after them, for this call
-abbrev IsPlainCopy : Text → List Text → (Text → Call) → Type 0
-IsPlainCopy out words call = Passes built_copy (walk_from (copy_out_held out)) words (walk_from (copy_held out words)) × TakesFile built_copy (copy_held out words) call
+abbrev IsPlainCopy : Text → List Text → CopyForm → Type 0
+IsPlainCopy out words form =
+    Passes built_copy (walk_from (copy_out_held out)) words (walk_from (copy_held out words)) × TakesFile built_copy (copy_held out words) (to_copy out form false)
 
-plain-copy-choice : (out : Text) (strip short trim : Bool) → IsPlainCopy out (option_words (choice strip short trim)) (to_copy out (Written (choice strip short trim)) false)
+plain-copy-choice : (out : Text) (strip short trim : Bool) → IsPlainCopy out (option_words (choice strip short trim)) (Written (choice strip short trim))
 unfolding clap_on_literals
 plain-copy-choice out true true true = ((refl, refl), (record { by_index = refl; other = refl; quiet = refl; late = λ file. refl }, λ file. refl))
 plain-copy-choice out true true false = ((refl, refl), (record { by_index = refl; other = refl; quiet = refl; late = λ file. refl }, λ file. refl))
@@ -301,24 +314,24 @@ plain-copy-choice out false true false = ((refl, refl), (record { by_index = ref
 plain-copy-choice out false false true = ((refl, refl), (record { by_index = refl; other = refl; quiet = refl; late = λ file. refl }, λ file. refl))
 plain-copy-choice out false false false = ((refl, refl), (record { by_index = refl; other = refl; quiet = refl; late = λ file. refl }, λ file. refl))
 
-plain-normal : (out : Text) → IsPlainCopy out (codes "--normal" ∷ []) (to_copy out Normal false)
+plain-normal : (out : Text) → IsPlainCopy out (codes "--normal" ∷ []) Normal
 unfolding clap_on_literals
 plain-normal out = ((refl, refl), (record { by_index = refl; other = refl; quiet = refl; late = λ file. refl }, λ file. refl))
 
 module _ (program out file : Text) (plain_out : IsNoFlag out) (plain_file : IsNoFlag file) where
-  calls-copy-words : (words : List Text) (call : Text → Call) → IsPlainCopy out words call → Calls (program ∷ codes "copy" ∷ ((codes "--out" ∷ out ∷ words) ++ file ∷ [])) (call file)
-  calls-copy-words words call is =
-      calls-file program built_copy (codes "--out" ∷ out ∷ words) (copy_held out words) call is_copy
+  calls-copy-words : (words : List Text) (form : CopyForm) → IsPlainCopy out words form → Calls (program ∷ codes "copy" ∷ ((codes "--out" ∷ out ∷ words) ++ file ∷ [])) (to_copy out form false file)
+  calls-copy-words words form is =
+      calls-file program built_copy (codes "--out" ∷ out ∷ words) (copy_held out words) (to_copy out form false) is_copy
       (passes-option built_copy nothing_held (codes "--out") (codes "out") out words (walk_from (copy_held out words)) is_copy_out plain_out is.0)
-      is.1 file plain_file
+      is.1 file plain_file (All-cons IsNoFlag file [] plain_file (All-nil IsNoFlag))
 
 pub calls-copy : (program : Text) (options : LinkOptions) (out file : Text) → IsNoFlag out → IsNoFlag file → Calls (copy_line program options out file) (to_copy out (Written options) false file)
 calls-copy program options out file plain_out plain =
-    calls-copy-words program out file plain_out plain (option_words options) (to_copy out (Written options) false) (plain-copy-choice out options.strip options.short options.trim)
+    calls-copy-words program out file plain_out plain (option_words options) (Written options) (plain-copy-choice out options.strip options.short options.trim)
 
 pub calls-normal : (program out file : Text) → IsNoFlag out → IsNoFlag file → Calls (normal_line program out file) (to_copy out Normal false file)
 calls-normal program out file plain_out plain =
-    calls-copy-words program out file plain_out plain (codes "--normal" ∷ []) (to_copy out Normal false) (plain-normal out)
+    calls-copy-words program out file plain_out plain (codes "--normal" ∷ []) Normal (plain-normal out)
 
 -- ---- `compare`
 
@@ -353,6 +366,7 @@ takes-compare false = record {
 
 pub calls-compare : (program : Text) (with_symbols : Bool) (first second : Text) → IsNoFlag first → IsNoFlag second
     → Calls (compare_line program with_symbols first second) (to_compare with_symbols first second)
-calls-compare program with_symbols =
+calls-compare program with_symbols first second plain_first plain_second =
     calls-two program (built_below compare_shape) (word_if with_symbols (codes "--symbols")) (compare_held with_symbols) (codes "first") (codes "second") (to_compare with_symbols) is_compare
-    (passes-symbols with_symbols) (takes-compare with_symbols)
+    (passes-symbols with_symbols) (takes-compare with_symbols) first second plain_first plain_second
+    (All-cons IsNoFlag first (second ∷ []) plain_first (All-cons IsNoFlag second [] plain_second (All-nil IsNoFlag)))

@@ -1,6 +1,6 @@
 -- The program's own level, where the first word names a subcommand and the words after it are left
 -- to that.
-use Rattle.std.proofs.Common.{◌≡◌, ◌∙◌, ap, ap₂, refl, sym, false, List, [], ◌∷◌, ◌++◌, is_some, Some}
+use Rattle.std.proofs.Common.{All, ◌≡◌, ◌∙◌, ap, ap₂, refl, sym, false, List, [], ◌∷◌, ◌++◌, is_some, Some}
 use Rattle.std.specs.Prelude.{find, fold, option_map}
 use Rattle.clap.specs.Words.{Kinds, Shape, Text, fault_of, subcommand_of}
 use Rattle.clap.specs.Walk.{Names, Walk, answers_to, finished, nothing_held, rows_after, settled, walk, walk_from, walked}
@@ -12,7 +12,10 @@ use Rattle.clap.proofs.WalkLemmas.{walk_stopped}
 use Rattle.amihunk.proofs.CommandLineLemmas.{line, whole_where_faultless}
 use Rattle.amihunk.proofs.CommandLineWalkLemmas.{Passes, end_fault, level_fault-nil, walk_fault-cons}
 use Rattle.amihunk.specs.Syntax.{command_line}
-use Rattle.amihunk.specs.CommandLine.{Call, Calls, call_of}
+use Rattle.amihunk.specs.Call.{Call}
+use Rattle.amihunk.specs.CommandLine.{Calls, IsNoFlag, call_of, written_call}
+use Rattle.amihunk.specs.StandardInput.{inputs_of, made_call}
+use Rattle.amihunk.proofs.StandardInputLemmas.{made_plain}
 
 -- the walk that has met a subcommand, and these words after it
 abbrev at_name : Text → List Text → Walk
@@ -64,15 +67,16 @@ subcommand_of-line : (program : Text) (s : Shape) (words : List Text) → IsSubc
 subcommand_of-line program s words is =
     ap (λ (w : Walk). entered line w.stopped) (walk-line s words is) ∙ ap (option_map (λ x. rows_at x words)) is.found
 
--- a subcommand over whose words the walk ends here, with nothing wrong, is this call if what was found then is
+-- a subcommand over whose words the walk ends here, with nothing wrong, is this call if what was found then is, and none
+-- of the files to read is named by what begins with a hyphen
 pub calls-line : (program : Text) (s : Shape) (words : List Text) (end : Walk) (call : Call) → IsSubcommand s
     → Passes s (walk_from nothing_held) words end → end_fault s end.held ≡ []
-    → call_of (Some (s.name, finished s.rules end.held)) ≡ Some call → Calls (program ∷ s.name ∷ words) call
-calls-line program s words end call is passes ended call_is =
+    → written_call (Some (s.name, finished s.rules end.held)) ≡ Some call → All IsNoFlag (inputs_of call) → Calls (program ∷ s.name ∷ words) call
+calls-line program s words end call is passes ended call_is inputs =
     let quiet = fault_of-line program s words is (level_fault-nil s words end passes ended) in
     let rows : rows_after s.rules [] words ≡ finished s.rules end.held = ap (λ (w : Walk). finished s.rules w.held) passes.0 in
     record {
       quiet = quiet;
       whole = whole_where_faultless (program ∷ s.name ∷ words) quiet;
-      call_is = ap call_of (subcommand_of-line program s words is ∙ ap (λ x. Some (s.name, x)) rows) ∙ call_is;
+      call_is = ap call_of (subcommand_of-line program s words is ∙ ap (λ x. Some (s.name, x)) rows) ∙ ap (option_map made_call) call_is ∙ ap Some (made_plain call inputs);
     }

@@ -1,7 +1,7 @@
 -- A use of an argument with which nothing is wrong, and a default, leave a value in each row.
 use Rattle.std.proofs.Common.{◌≡◌, ◌∙◌, ◌⊎◌, ◌≤◌, ◌&&◌, ◌||◌, ◌==◌, ℕ, zero, suc, Bool, true, false, cond, ap, append-nil, refl, subst, sym, inl, inr, arith, List, [], ◌∷◌, ◌++◌, codes, length, length-append, lt-ltb, Option, Some, None, is_some}
 use Rattle.std.specs.Prelude.{⊤, find, fold, if◌then◌else◌, slice_get}
-use Rattle.std.specs.Option.{option_and_then, option_map, option_map_or}
+use Rattle.std.specs.Option.{option_and_then, option_map_or}
 use Rattle.std.specs.Str.{bytes_eq}
 use Rattle.std.proofs.lemmas.Bool.{ne_eqb}
 use Rattle.std.proofs.lemmas.List.Folds.{list_any-append}
@@ -9,7 +9,7 @@ use Rattle.std.proofs.lemmas.Slice.Eq.{bytes_eq-Decides}
 use Rattle.clap.specs.Facts.{explicit_source, unwrap_or_range}
 use Rattle.clap.specs.Kinds.{Kinds, or_else, range_kinds}
 use Rattle.clap.specs.Values.{bool_text}
-use Rattle.clap.specs.Walk.{Row, Rule, Text, action_of, all_of, at_row, default_rows, has_row, is_empty, more_values, most_values, reading_by, row_text, used, values_or_missing, with_default, with_values, without}
+use Rattle.clap.specs.Walk.{Row, Rule, Text, action_of, at_row, default_rows, has_row, is_empty, more_values, most_values, reading_by, row_text, used, values_or_missing, with_default, with_values, without}
 use Rattle.clap.specs.Takes.{is_given}
 use Rattle.clap.specs.Words.{one_text, rows_of}
 use Rattle.clap.specs.declared.parser.matches.Found.{Found}
@@ -32,7 +32,7 @@ pub record IsFlagRow (r : Row) (given : Bool) : Type 0 where
 
 -- the names of the flags
 abbrev pub is_flag : Text → Bool
-is_flag id = bytes_eq id (codes "strip") || (bytes_eq id (codes "short") || (bytes_eq id (codes "trim") || (bytes_eq id (codes "srec") || (bytes_eq id (codes "symbols") || (bytes_eq id (codes "json") || (bytes_eq id (codes "content") || (bytes_eq id (codes "html") || (bytes_eq id (codes "names") || (bytes_eq id (codes "normal") || bytes_eq id (codes "explain"))))))))))
+is_flag id = bytes_eq id (codes "strip") || (bytes_eq id (codes "short") || (bytes_eq id (codes "trim") || (bytes_eq id (codes "srec") || (bytes_eq id (codes "symbols") || (bytes_eq id (codes "json") || (bytes_eq id (codes "content") || (bytes_eq id (codes "html") || (bytes_eq id (codes "names") || (bytes_eq id (codes "normal") || (bytes_eq id (codes "lines") || (bytes_eq id (codes "digest") || (bytes_eq id (codes "wait") || bytes_eq id (codes "explain")))))))))))))
 
 -- the row has a value, and if it is that of a flag, it is the row of one
 abbrev pub IsFilledRow : Row → Type 0
@@ -259,14 +259,6 @@ value_given id rows h = go (find (λ x. bytes_eq x.id id) rows) (find-filled id 
         → is_some (option_and_then (λ (r : Row). slice_get r.values 0) o) ≡ true
     go None found given = cc
     go (Some r) found given = first_given r.values found.0.0
-
--- an argument that has a value has values
-pub files_given : (id : Text) (rows : List Row) → HasValue rows id → all_of id rows ≡ None → ⊥
-files_given id rows = go (find (λ x. bytes_eq x.id id) rows)
-  where
-    go : (o : Option Row) → is_some (option_and_then (λ (r : Row). slice_get r.values 0) o) ≡ true → option_map (λ (r : Row). r.values) o ≡ None → ⊥
-    go None has none = cc
-    go (Some r) has none = cc
 
 -- what is read of a flag says whether it was given
 pub flag_read : (name : Text) (rows : List Row) → is_flag name ≡ true → Filled rows → has_row name rows ≡ true → IsFlag rows name

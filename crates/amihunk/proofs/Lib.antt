@@ -8,3 +8,6 @@ pub mod CommandLineSubcommandLemmas
 pub mod CommandLineFilesLemmas
 pub mod CommandLinePlainLemmas
 pub mod SyntaxLemmas
+pub mod RequestLemmas
+pub mod ArgumentsLemmas
+pub mod StandardInputLemmas

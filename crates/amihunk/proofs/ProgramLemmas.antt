@@ -1,8 +1,8 @@
 -- The status after the plain forms, and where memory ran out.
-use Rattle.std.proofs.Common.{◌∷◌, [], Bool, inl, inr, List, Option, refl, subst, ℕ, arith}
+use Rattle.std.proofs.Common.{◌∷◌, [], Bool, inl, inr, List, None, Option, Some, refl, subst, ℕ, arith}
 use Rattle.std.proofs.KnownBytes.{Appends-kept, Appends-nil}
 use Rattle.std.proofs.lemmas.List.Elements.{All-nil}
-use Rattle.hunk_tool.specs.Survey.{AreFoundFirst, IsOfFile}
+use Rattle.hunk_survey.specs.Finding.{IsOfFile, content_of}
 use Rattle.std.specs.Prelude.{⊤}
 use Rattle.std.specs.String.{string_bytes}
 use Rattle.hunk_commands.specs.Request.{Ends, EndsCompare, EndsCopy, EndsImage, EndsLink, EndsLoad, EndsNames, EndsSurvey, EndsText, EndsVersion, NoMore, OrExhausted, OrUntouched, Reads, Replaces, Run}
@@ -17,7 +17,9 @@ use Rattle.hunk_commands.specs.Names.{IsNamesFailure}
 use Rattle.hunk_commands.specs.Text.{IsTextFailure}
 use Rattle.hunk_commands.specs.Output.{IsNothing, IsUnprinted, Printed}
 use Rattle.hunk_commands.specs.Store.{AreUnchanged, Contents}
-use Rattle.hunk_commands.specs.Survey.{IsCutShort}
+use Rattle.hunk_commands.specs.FileList.{IsListFailure}
+use Rattle.hunk_commands.specs.Survey.{AreToldFirst, IsSurveyFailure, plan_of}
+use Rattle.hunk_commands.specs.declared.survey.SurveyOptions.{SurveyOptions}
 use Rattle.hunk_tool.specs.declared.tool_fault.ToolFault.TheVariants as tool_fault
 use Rattle.hunk_commands.specs.declared.failure.Failure.TheVariants.{Tool}
 use Rattle.hunk_commands.specs.declared.text.Text.{Text}
@@ -26,36 +28,35 @@ use Rattle.hunk_commands.specs.declared.request.Request.{Request}
 use Rattle.hunk_commands.specs.declared.request.Request.TheVariants.{Load, Link, Image, Check, Show, Names, Survey, Copy, Compare, Version, Help, Refused, OutOfMemory}
 use Rattle.hunk_commands.proofs.ExplainLemmas.{none_asked}
 use Rattle.hunk_commands.proofs.RequestLemmas.{fails_with, not_begun}
-use Rattle.amihunk.specs.CommandLine.{Call, Meaning, Means}
+use Rattle.amihunk.specs.Call.{Call, Meaning, Means}
 use Rattle.amihunk.specs.Program.{IsRejected}
-use Rattle.amihunk.specs.CommandLine.Meaning.{calls, help, nothing, rejection, version}
-use Rattle.amihunk.specs.CommandLine.Call.{conflict, to_check, to_compare, to_copy, to_image, to_link, to_load, to_names, to_show, to_survey}
+use Rattle.amihunk.specs.Call.Meaning.{calls, help, nothing, rejection, version}
+use Rattle.amihunk.specs.Call.Call.{conflict, to_check, to_compare, to_copy, to_image, to_link, to_load, to_names, to_show, to_survey}
 
--- of no file anything was found, and nothing was printed
-none_found : (contents : Contents) (names : List (List ℕ)) (printed : Printed) → IsNothing printed → AreFoundFirst contents names printed.old printed.new
-none_found contents [] printed kept = record {
+-- nothing was told of any file
+none_told : (options : SurveyOptions) (files : List (List ℕ)) (contents : Contents) (names : List (List ℕ)) (printed : Printed) → IsNothing printed
+    → AreToldFirst (plan_of options files None) contents names printed.old printed.new
+none_told options files contents [] printed kept = record {
   findings = [];
-  few = omega arith;
-  of_files = All-nil (λ about. IsOfFile (contents about.0) about.1);
+  are_first = record { few = omega arith; of_files = All-nil (λ about. IsOfFile (plan_of options files None).find (content_of contents about.0) about.1) };
   written = Appends-kept printed.old printed.old printed.new [] (Appends-nil printed.old) kept;
 }
-none_found contents (name ∷ names) printed kept = record {
+none_told options files contents (name ∷ names) printed kept = record {
   findings = [];
-  few = omega arith;
-  of_files = All-nil (λ about. IsOfFile (contents about.0) about.1);
+  are_first = record { few = omega arith; of_files = All-nil (λ about. IsOfFile (plan_of options files None).find (content_of contents about.0) about.1) };
   written = Appends-kept printed.old printed.old printed.new [] (Appends-nil printed.old) kept;
 }
 
 module _ {W : Type 0} (run : Run) (taken : W → Option (List ℕ)) (failed : W → Bool) (old new : W) where
   -- the status after a call; a conflict has none
   abbrev pub EndsCall : Call → ℕ → Type 0
-  EndsCall (to_link out map options explain files) status = Replaces run (λ contents contents_then. EndsLink contents contents_then taken failed old new out map options explain files status)
+  EndsCall (to_link out map options explain files list) status = Replaces run (λ contents contents_then. EndsLink contents contents_then taken failed old new out map options explain files list status)
   EndsCall (to_load origin text explain file) status = Reads run (λ contents printed. EndsLoad contents printed taken failed old new origin text explain file status)
   EndsCall (to_image origin form explain files) status = Reads run (λ contents printed. EndsImage contents printed taken failed old new origin form explain files status)
   EndsCall (to_check explain file) status = Reads run (λ contents printed. EndsText contents printed taken failed old new Line explain file status)
   EndsCall (to_show text explain file) status = Reads run (λ contents printed. EndsText contents printed taken failed old new (Shown text) explain file status)
   EndsCall (to_names files) status = Reads run (λ contents printed. EndsNames contents printed taken failed old new files status)
-  EndsCall (to_survey files) status = Reads run (λ contents printed. EndsSurvey contents printed taken failed old new files status)
+  EndsCall (to_survey options files list) status = Reads run (λ contents printed. EndsSurvey options contents printed taken failed old new files list status)
   EndsCall (to_copy out form explain file) status = Replaces run (λ contents contents_then. EndsCopy contents contents_then taken failed old new out form explain file status)
   EndsCall (to_compare with_symbols first second) status = Reads run (λ contents printed. EndsCompare contents printed taken failed old new with_symbols first second status)
   EndsCall conflict status = Ends run taken failed old new OutOfMemory status
@@ -67,9 +68,14 @@ module _ {W : Type 0} (run : Run) (taken : W → Option (List ℕ)) (failed : W 
       (inr (not_begun taken failed (OrExhausted run.printed (IsTextFailure text run.contents file run.printed)) (IfAsked explain (AreTextLines run.contents (file ∷ []))) (file ∷ []) status old new (inl (refl, ends.2)) (none_asked explain (AreTextLines run.contents (file ∷ [])) (Tool (tool_fault.OutOfMemory 0)) refl) ends.0), ends.1)
 
   ends_memory : (call : Call) (status : ℕ) → Ends run taken failed old new OutOfMemory status → EndsCall call status
-  ends_memory (to_link out map options explain files) status ends = (
+  ends_memory (to_link out map options explain files None) status ends = (
     inr (not_begun taken failed (OrUntouched run.contents run.contents_then (IsUndone options run.contents files out map run.contents_then)) (IfAsked explain (AreLinkLines run.contents_then files)) files status old new
         (inl (refl, ends.1)) (none_asked explain (AreLinkLines run.contents_then files) (Tool (tool_fault.OutOfMemory 0)) refl) ends.0),
+    ends.2,
+  )
+  ends_memory (to_link out map options explain files (Some list)) status ends = (
+    inr (not_begun taken failed (λ failure. IsListFailure run.contents list failure × AreUnchanged run.contents run.contents_then) (IfAsked explain (AreLinkLines run.contents_then [])) [] status old new
+        (refl, ends.1) (none_asked explain (AreLinkLines run.contents_then []) (Tool (tool_fault.OutOfMemory 0)) refl) ends.0),
     ends.2,
   )
   ends_memory (to_load origin text explain file) status ends = (
@@ -86,8 +92,13 @@ module _ {W : Type 0} (run : Run) (taken : W → Option (List ℕ)) (failed : W 
   ends_memory (to_show text explain file) status ends = ends_text (Shown text) explain file status ends
   ends_memory (to_names files) status ends =
       (inr (not_begun taken failed (OrExhausted run.printed (IsNamesFailure run.contents files run.printed)) NoMore files status old new (inl (refl, ends.2)) refl ends.0), ends.1)
-  ends_memory (to_survey files) status ends =
-      (inr (not_begun taken failed (IsCutShort run.contents files run.printed) NoMore [] status old new (none_found run.contents files run.printed ends.2, refl) refl ends.0), ends.1)
+  ends_memory (to_survey options files None) status ends = (
+    inr (not_begun taken failed (IsSurveyFailure options run.contents files None run.printed) NoMore [] status old new
+        (inr (files, refl, (none_told options files run.contents files run.printed ends.2, refl))) refl ends.0),
+    ends.1,
+  )
+  ends_memory (to_survey options files (Some list)) status ends =
+      (inr (not_begun taken failed (IsSurveyFailure options run.contents files (Some list) run.printed) NoMore [] status old new (inl (refl, ends.2)) refl ends.0), ends.1)
   ends_memory (to_copy out form explain file) status ends = (
     inr (not_begun taken failed (OrUntouched run.contents run.contents_then (λ failure. IsCopyFailure form run.contents file out failure × AreUnchanged run.contents run.contents_then))
         (IfAsked explain (AreLoadFileLines run.contents_then (file ∷ []))) (file ∷ []) status old new (inl (refl, ends.1))
@@ -116,13 +127,13 @@ module _ {W : Type 0} (run : Run) (taken : W → Option (List ℕ)) (failed : W 
   ends_nothing nothing status ends = tt
 
   pub ends_asked : (m : Meaning) (request : Request) (status : ℕ) → Means m request → Ends run taken failed old new request status → EndsAsked m status
-  ends_asked m (Link out map options explain files) status asks ends = subst (λ x. EndsAsked x status) asks ends
+  ends_asked m (Link out map options explain files list) status asks ends = subst (λ x. EndsAsked x status) asks ends
   ends_asked m (Load addresses text explain file) status asks ends = subst (λ x. EndsAsked x status) asks ends
   ends_asked m (Image addresses form explain files) status asks ends = subst (λ x. EndsAsked x status) asks ends
   ends_asked m (Check explain file) status asks ends = subst (λ x. EndsAsked x status) asks ends
   ends_asked m (Names files) status asks ends = subst (λ x. EndsAsked x status) asks ends
   ends_asked m (Show text explain file) status asks ends = subst (λ x. EndsAsked x status) asks ends
-  ends_asked m (Survey files) status asks ends = subst (λ x. EndsAsked x status) asks ends
+  ends_asked m (Survey options files list) status asks ends = subst (λ x. EndsAsked x status) asks ends
   ends_asked m (Copy out form explain file) status asks ends = subst (λ x. EndsAsked x status) asks ends
   ends_asked m (Compare with_symbols first second) status asks ends = subst (λ x. EndsAsked x status) asks ends
   ends_asked m Version status asks ends = subst (λ x. EndsAsked x status) asks ends

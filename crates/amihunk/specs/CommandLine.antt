@@ -4,7 +4,7 @@ use Rattle.std.specs.Str.{bytes_eq}
 use Rattle.clap.specs.Takes.{is_given}
 use Rattle.clap.specs.Simple.{built}
 use Rattle.clap.specs.Values.{bool_text}
-use Rattle.clap.specs.Walk.{action_of, texts}
+use Rattle.clap.specs.Walk.{action_of}
 use Rattle.clap.specs.Words.{IsAmong, Kinds, Row, Rule, Shape, Text, all_of, fault_of, first_of, one_of, subcommand_of}
 use Rattle.clap.specs.declared.builder.action.ArgAction.{ArgAction}
 use Rattle.clap.specs.declared.builder.action.ArgAction.TheVariants.{SetTrue}
@@ -15,20 +15,25 @@ use Rattle.hunk_tool.specs.declared.copy.CopyForm.{CopyForm}
 use Rattle.hunk_tool.specs.declared.copy.CopyForm.TheVariants.{Normal, Written}
 use Rattle.hunk_tool.specs.declared.link_options.LinkOptions.{LinkOptions}
 use Rattle.hunk_tool.specs.declared.symbol_form.SymbolForm.TheVariants.{Lines, Records}
-use Rattle.hunk_commands.specs.Addresses.{Origin, origin_of}
+use Rattle.hunk_commands.specs.Addresses.{Origin}
 use Rattle.hunk_commands.specs.Addresses.Origin.{in_file, in_list}
-use Rattle.hunk_commands.specs.Request.{given_text}
+use Rattle.hunk_commands.specs.FileList.{NamedList}
+use Rattle.hunk_commands.specs.declared.file_list.NameEnd.TheVariants.{Line, Zero}
 use Rattle.hunk_commands.specs.declared.load.LoadText.{LoadText}
 use Rattle.hunk_commands.specs.declared.load.LoadText.TheVariants as load_text
+use Rattle.hunk_commands.specs.declared.survey.SurveyOptions.{SurveyOptions}
 use Rattle.hunk_commands.specs.declared.text.ShowText.{ShowText}
 use Rattle.hunk_commands.specs.declared.text.ShowText.TheVariants as show_text
 use Rattle.hunk_commands.specs.declared.request.Request.{Request}
-use Rattle.hunk_commands.specs.declared.request.Request.TheVariants.{Link, Load, Image, Check, Show, Names, Survey, Copy, Compare, Version, Help, Refused, OutOfMemory}
+use Rattle.amihunk.specs.Call.{Call, IsFound, Meaning, meaning}
+use Rattle.amihunk.specs.Call.Call.{conflict, to_check, to_compare, to_copy, to_image, to_link, to_load, to_names, to_show, to_survey}
+use Rattle.amihunk.specs.Call.Meaning.{calls, help, nothing, rejection, version}
+use Rattle.amihunk.specs.StandardInput.{made_call}
 use Rattle.amihunk.specs.Syntax.{command_line}
 use Rattle.amihunk.specs.declared.choices.Shown.{Shown}
 use Rattle.amihunk.specs.declared.choices.Shown.TheVariants as shown
 use Rattle.amihunk.specs.declared.conflict.Conflict.{Conflict}
-use Rattle.amihunk.specs.declared.conflict.Conflict.TheVariants.{TwoAddresses, NoAddresses, NormalAndExplain, NormalAndShort, NormalAndStrip, NormalAndTrim, JsonAndHtml, ContentAlone, ContentAndHtml, NamesAndJson, NamesAndContent, NamesAndHtml, NamesAndExplain}
+use Rattle.amihunk.specs.declared.conflict.Conflict.TheVariants.{TwoAddresses, NoAddresses, NormalAndExplain, NormalAndShort, NormalAndStrip, NormalAndTrim, JsonAndHtml, ContentAlone, ContentAndHtml, NamesAndJson, NamesAndContent, NamesAndHtml, NamesAndExplain, NoFiles, LinesAlone, InputTwice}
 
 -- ---- what was found for the arguments of a subcommand
 
@@ -69,20 +74,6 @@ IsWhole (Some (name, rows)) = AreWholeFor (find (λ s. bytes_eq s.name name) (bu
 
 -- ---- what a subcommand asks for
 
--- a call of a subcommand, with what its arguments say; a conflict is one where arguments exclude each
--- other, where there are no addresses, or contents without a document
-pub data Call : Type 0 where
-  to_link : (out : Text) (map : Option Text) (options : LinkOptions) (explain : Bool) (files : List Text) → Call
-  to_load : (origin : Origin) (text : LoadText) (explain : Bool) (file : Text) → Call
-  to_image : (origin : Origin) (text : LoadText) (explain : Bool) (files : List Text) → Call
-  to_check : (explain : Bool) (file : Text) → Call
-  to_show : (text : ShowText) (explain : Bool) (file : Text) → Call
-  to_names : (files : List Text) → Call
-  to_survey : (files : List Text) → Call
-  to_copy : (out : Text) (form : CopyForm) (explain : Bool) (file : Text) → Call
-  to_compare : (with_symbols : Bool) (first second : Text) → Call
-  conflict : Call
-
 -- the value of an argument that has one, and the files
 abbrev pub value_in : Text → List Row → Text
 value_in name rows = unwrap_or (first_of name rows) []
@@ -95,6 +86,21 @@ abbrev pub origin_by : Option Text → Option Text → Option Origin
 origin_by (Some list) None = Some (in_list list)
 origin_by None (Some name) = Some (in_file name)
 origin_by _ _ = None
+
+-- there is one at least
+abbrev pub has_some : List Text → Bool
+has_some [] = false
+has_some (file ∷ rest) = true
+
+-- the list of files that is asked for, by `--files-from` and `--lines`, which goes with it, and by whether there is
+-- a FILE: without a list there must be one
+abbrev pub list_by : (list : Option Text) (lines has_files : Bool) → Option (Option NamedList)
+list_by (Some file) lines has_files = Some (Some (record { file = file; end = if lines then Line else Zero }))
+list_by None false true = Some None
+list_by None _ _ = None
+
+abbrev pub list_in : List Row → Option (Option NamedList)
+list_in rows = list_by (first_of (codes "files-from") rows) (is_given (codes "lines") rows) (has_some (files_in rows))
 
 -- the text that is asked for, by `--srec` and `--symbols`
 abbrev pub text_by : (srec symbols : Bool) → LoadText
@@ -119,8 +125,13 @@ origin_in rows = origin_by (first_of (codes "at") rows) (first_of (codes "at-fil
 abbrev pub options_in : List Row → LinkOptions
 options_in rows = record { strip = is_given (codes "strip") rows; short = is_given (codes "short") rows; trim = is_given (codes "trim") rows }
 
+abbrev pub link_call : Text → Option Text → LinkOptions → Bool → List Text → Option (Option NamedList) → Call
+link_call out map options explain files (Some list) = to_link out map options explain files list
+link_call out map options explain files None = conflict
+
 abbrev pub link_in : List Row → Call
-link_in rows = to_link (value_in (codes "out") rows) (first_of (codes "map") rows) (options_in rows) (is_given (codes "explain") rows) (files_in rows)
+link_in rows = link_call (value_in (codes "out") rows) (first_of (codes "map") rows) (options_in rows) (is_given (codes "explain") rows)
+    (files_in rows) (list_in rows)
 
 -- one of the options is chosen
 abbrev pub is_chosen : LinkOptions → Bool
@@ -175,40 +186,45 @@ abbrev pub show_in : List Row → Call
 show_in rows = show_call (shown_by (is_given (codes "names") rows) (is_given (codes "json") rows) (is_given (codes "content") rows)
     (is_given (codes "html") rows) (is_given (codes "explain") rows)) (is_given (codes "explain") rows) (files_in rows)
 
+-- what is asked of a survey
+abbrev pub survey_options_in : List Row → SurveyOptions
+survey_options_in rows = record { json = is_given (codes "json") rows; digest = is_given (codes "digest") rows; wait = is_given (codes "wait") rows }
+
+-- nothing but its lines
+abbrev pub no_survey_options : SurveyOptions
+no_survey_options = record { json = false; digest = false; wait = false }
+
+abbrev pub survey_call : SurveyOptions → List Text → Option (Option NamedList) → Call
+survey_call options files (Some list) = to_survey options files list
+survey_call options files None = conflict
+
+abbrev pub survey_in : List Row → Call
+survey_in rows = survey_call (survey_options_in rows) (files_in rows) (list_in rows)
+
 -- the names of the subcommands, and what each asks for by what was found for its arguments
 abbrev pub subcommands : List (Text × (List Row → Call))
 subcommands = (codes "link", link_in) ∷ (codes "load", load_in) ∷ (codes "image", image_in)
     ∷ (codes "check", λ rows. to_check (is_given (codes "explain") rows) (value_in (codes "file") rows))
-    ∷ (codes "show", show_in) ∷ (codes "survey", λ rows. to_survey (files_in rows))
+    ∷ (codes "show", show_in) ∷ (codes "survey", survey_in)
     ∷ (codes "copy", copy_in) ∷ (codes "compare", compare_in) ∷ []
 
+-- the call as its arguments are written
+abbrev pub written_call : Met → Option Call
+written_call = option_and_then (λ met. option_map (λ s. s.1 met.1) (find (λ s. bytes_eq s.0 met.0) subcommands))
+
+-- and as it is made, where `-` is standard input
 abbrev pub call_of : Met → Option Call
-call_of = option_and_then (λ met. option_map (λ s. s.1 met.1) (find (λ s. bytes_eq s.0 met.0) subcommands))
+call_of met = option_map made_call (written_call met)
 
 -- ---- what a request is made of
 
--- what a request asks for: a call, the version, help or a rejection; or nothing, as memory ran out
-pub data Meaning : Type 0 where
-  calls : Call → Meaning
-  version : Meaning
-  help : Meaning
-  rejection : Meaning
-  nothing : Meaning
+-- the request is the call as it is written, or rejects a conflict; nothing is said if memory runs out
+abbrev pub IsWritten : Met → Request → Type 0
+IsWritten met request = IsFound (written_call met) (meaning request)
 
-abbrev pub meaning : Request → Meaning
-meaning (Link out map options explain files) = calls (to_link out.now (given_text map) options explain (texts files.items))
-meaning (Load addresses text explain file) = calls (to_load (origin_of addresses) text explain file.now)
-meaning (Image addresses text explain files) = calls (to_image (origin_of addresses) text explain (texts files.items))
-meaning (Check explain file) = calls (to_check explain file.now)
-meaning (Show text explain file) = calls (to_show text explain file.now)
-meaning (Names files) = calls (to_names (texts files.items))
-meaning (Survey files) = calls (to_survey (texts files.items))
-meaning (Copy out form explain file) = calls (to_copy out.now form explain file.now)
-meaning (Compare with_symbols first second) = calls (to_compare with_symbols first.now second.now)
-meaning Version = version
-meaning (Help text) = help
-meaning (Refused text) = rejection
-meaning OutOfMemory = nothing
+-- and the same of the call as it is made
+abbrev pub Says : Met → Request → Type 0
+Says met request = IsFound (call_of met) (meaning request)
 
 -- the kind of error with which `clap` rejects a conflict
 abbrev pub conflict_kind : Conflict → ErrorKind
@@ -225,16 +241,9 @@ conflict_kind NamesAndHtml = error.ArgumentConflict
 conflict_kind NamesAndExplain = error.ArgumentConflict
 conflict_kind NoAddresses = error.MissingRequiredArgument
 conflict_kind ContentAlone = error.MissingRequiredArgument
-
--- the request is the call that was found, or rejects a conflict; nothing is said if memory runs out
-abbrev pub IsFound : Met → Meaning → Type 0
-IsFound met (calls call) = call_of met ≡ Some call
-IsFound met rejection = call_of met ≡ Some conflict
-IsFound met nothing = ⊤
-IsFound met _ = ⊥
-
-abbrev pub Says : Met → Request → Type 0
-Says met request = IsFound met (meaning request)
+conflict_kind NoFiles = error.MissingRequiredArgument
+conflict_kind LinesAlone = error.MissingRequiredArgument
+conflict_kind InputTwice = error.ArgumentConflict
 
 -- the request for arguments that `clap` rejects with this kind of error
 abbrev pub IsAnswer : ErrorKind → Meaning → Type 0
@@ -394,16 +403,3 @@ AreRefused words =
     ⊎ ((words ≡ codes "link" ∷ codes "main.o" ∷ [])
     ⊎ ((words ≡ codes "load" ∷ codes "main" ∷ [])
     ⊎ (words ≡ codes "load" ∷ codes "--at" ∷ codes "10000" ∷ codes "main" ∷ codes "other" ∷ [])))
-
--- ---- what a request means
-
--- the request means this, or memory ran out
-abbrev pub IsOrNothing : Meaning → Meaning → Type 0
-IsOrNothing wanted nothing = ⊤
-IsOrNothing wanted other = other ≡ wanted
-
-abbrev pub Means : Meaning → Request → Type 0
-Means wanted request = IsOrNothing wanted (meaning request)
-
-abbrev pub Asks : Call → Request → Type 0
-Asks call = Means (calls call)

@@ -6,8 +6,11 @@ use Rattle.hunk_commands.specs.Request.{Ends, Refuses, Run}
 use Rattle.hunk_commands.specs.declared.failure.Failure.TheVariants.{Tool}
 use Rattle.hunk_commands.specs.declared.request.Request.{Request}
 use Rattle.hunk_commands.specs.declared.request.Request.TheVariants.{OutOfMemory}
-use Rattle.amihunk.specs.CommandLine.{IsAskedBy, Means}
-use Rattle.amihunk.specs.CommandLine.Meaning.{rejection}
+use Rattle.amihunk.specs.Call.{Means}
+use Rattle.amihunk.specs.Arguments.{AreArguments, IsAskedByAll}
+use Rattle.amihunk.specs.declared.arguments.Argument.{Argument}
+use Rattle.amihunk.specs.CommandLine.{IsAskedBy}
+use Rattle.amihunk.specs.Call.Meaning.{rejection}
 
 -- the status after a command line: that of the request that its arguments make
 pub record EndsLine {W : Type 0} (run : Run) (taken : W → Option (List ℕ)) (failed : W → Bool) (old new : W) (words : List (List ℕ)) (status : ℕ) : Type 0 where
@@ -15,10 +18,9 @@ pub record EndsLine {W : Type 0} (run : Run) (taken : W → Option (List ℕ)) (
   pub asked : IsAskedBy words request
   pub ends : Ends run taken failed old new request status
 
--- what a start asks for: what some arguments ask for; or nothing, since they are not UTF-8, or since there
--- is no memory for them
+-- what a start asks for: what the arguments ask for, or nothing, since there is no memory for them
 abbrev pub IsStart : Request → Type 0
-IsStart request = ((words : List (List ℕ)) × IsAskedBy words request) ⊎ (Means rejection request ⊎ (request ≡ OutOfMemory))
+IsStart request = ((arguments : List Argument) × AreArguments arguments × IsAskedByAll arguments request) ⊎ (request ≡ OutOfMemory)
 
 -- memory ran out before anything was begun, and this was told
 abbrev pub IsNotBegun : {W : Type 0} (taken : W → Option (List ℕ)) (failed : W → Bool) (old new : W) (status : ℕ) → Type 0

@@ -1,5 +1,5 @@
 -- The command line that the program accepts, as `clap` is told of it.
-use Rattle.std.specs.Prelude.{◌≡◌, ⊤, ◌∷◌, ℕ, List, [], true, false, codes, Some}
+use Rattle.std.specs.Prelude.{◌≡◌, ⊤, ◌∷◌, ℕ, Bool, List, [], true, false, codes, Some}
 use Rattle.clap.specs.Lexer.{usize_max}
 use Rattle.clap.specs.Words.{App, Rule, Shape, Text, new_app, new_rule, with_rule, with_subcommand}
 use Rattle.clap.specs.declared.builder.arg.Arg.{Arg}
@@ -50,9 +50,13 @@ value_rule name = record (new_rule name) { value_names = 1; required = true }
 abbrev pub file_rule : Rule
 file_rule = value_rule (codes "file")
 
+-- `FILE...`, at least one of which is required if this is set
+abbrev pub files_rule_if : Bool → Rule
+files_rule_if needed = record (new_rule (codes "file")) { value_names = 1; required = needed; range = Some (record { start_inclusive = 1; end_inclusive = usize_max }) }
+
 -- `FILE...`, at least one of which is required
 abbrev pub files_rule : Rule
-files_rule = record file_rule { range = Some (record { start_inclusive = 1; end_inclusive = usize_max }) }
+files_rule = files_rule_if true
 
 -- `--explain`
 abbrev pub explain_rule : Rule
@@ -67,9 +71,14 @@ abbrev pub given_flags : App → App
 given_flags app = with_rule (with_rule (with_rule app (with_letter letter_s (flag_rule (codes "strip"))))
     (flag_rule (codes "short"))) (flag_rule (codes "trim"))
 
--- `link --out OUT [--map MAP] [--strip] [--short] [--trim] [--explain] FILE...`, where `-o` is `--out`
+-- `[--files-from LIST] [--lines] [FILE...]`
+abbrev pub given_files : App → App
+given_files app = with_rule (with_rule (with_rule app (option_rule (codes "files-from"))) (flag_rule (codes "lines"))) (files_rule_if false)
+
+-- `link --out OUT [--map MAP] [--strip] [--short] [--trim] [--explain] [--files-from LIST] [--lines] [FILE...]`,
+-- where `-o` is `--out`
 abbrev pub link_shape : Shape
-link_shape = (with_rule (with_rule (given_flags (given_outputs (new_app (codes "link")))) explain_rule) files_rule).top
+link_shape = (given_files (with_rule (given_flags (given_outputs (new_app (codes "link")))) explain_rule)).top
 
 -- the options by which addresses are given
 abbrev pub given_addresses : App → App
@@ -104,9 +113,13 @@ show_shape = (with_rule (with_rule (given_shown (new_app (codes "show"))) explai
 abbrev pub bare_app : App
 bare_app = record { top = record (new_app (codes "amihunk")).top { has_version = true; subcommand_required = true; disable_help_subcommand = true }; subs = [] }
 
--- `survey FILE...`
+-- `[--json] [--digest] [--wait]`
+abbrev pub given_survey : App → App
+given_survey app = with_rule (with_rule (with_rule app (flag_rule (codes "json"))) (flag_rule (codes "digest"))) (flag_rule (codes "wait"))
+
+-- `survey [--json] [--digest] [--wait] [--files-from LIST] [--lines] [FILE...]`
 abbrev pub survey_shape : Shape
-survey_shape = (with_rule (new_app (codes "survey")) files_rule).top
+survey_shape = (given_files (given_survey (new_app (codes "survey")))).top
 
 -- `[--strip] [--short] [--trim] [--normal]`
 abbrev pub given_forms : App → App
@@ -122,7 +135,8 @@ compare_shape = (with_rule (with_rule (with_rule
     (new_app (codes "compare")) (flag_rule (codes "symbols"))) (value_rule (codes "first"))) (value_rule (codes "second"))).top
 
 -- the command line that the program accepts; of `--at` and `--at-file` it wants one, `--normal` and `--html`
--- stand alone, and `--content` goes with `--json`, which no rule of `clap` says
+-- stand alone, `--content` goes with `--json` and `--lines` with `--files-from`, and without the latter there is a
+-- FILE, which no rule of `clap` says
 abbrev pub command_line : App
 command_line = with_subcommand (with_subcommand (with_subcommand (with_subcommand (with_subcommand (with_subcommand (with_subcommand (with_subcommand
     bare_app link_shape) load_shape) image_shape) check_shape) show_shape) survey_shape) copy_shape) compare_shape

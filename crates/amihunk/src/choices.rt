@@ -1,10 +1,12 @@
 //! What the flags of a subcommand choose together.
 ghost use Rattle.std.specs.Prelude.{◌≡◌, MatchResult, None, Some};
 ghost use Rattle.clap.specs.declared.error.ErrorKind.TheVariants.{ArgumentConflict};
-ghost use Rattle.amihunk.specs.CommandLine.{conflict_kind, copy_form_by, show_text_by, shown_by, text_by};
+ghost use Rattle.amihunk.specs.CommandLine.{conflict_kind, copy_form_by, list_by, show_text_by, shown_by, text_by};
+ghost use Rattle.hunk_commands.specs.FileList.{given_list};
+ghost use Rattle.hunk_commands.specs.Request.{given_text};
 
 use crate::conflict::Conflict;
-use hunk_commands::{LoadText, ShowText};
+use hunk_commands::{FileList, LoadText, NameEnd, ShowText};
 use hunk_tool::{CopyForm, ImageForm, LinkOptions, SymbolForm};
 
 /// What is printed of a load file, or of object files, at addresses.
@@ -63,6 +65,32 @@ pub fn show_text_of(json: bool, content: bool, html: bool) -> Result<ShowText, C
         (true, _, true) => Err(Conflict::JsonAndHtml),
         (false, true, true) => Err(Conflict::ContentAndHtml),
         (false, true, false) => Err(Conflict::ContentAlone),
+    }
+}
+
+/// The list of files that is asked for: the file that `--files-from` names, with names that end as `--lines`
+/// says, which goes with it. Without a list there has to be a FILE, and `has_files` says whether there is.
+pub fn list_of<'a>(
+    file: Option<&'a str>,
+    lines: bool,
+    has_files: bool,
+) -> Result<Option<FileList<'a>>, Conflict>
+    ensures { MatchResult result
+        (λ list. list_by (given_text file.entry) lines has_files ≡ Some (given_list list))
+        (λ _. list_by (given_text file.entry) lines has_files ≡ None) }
+{
+    match (file, lines, has_files) {
+        (Some(file), true, _) => {
+            let end = NameEnd::Line;
+            Ok(Some(FileList { file, end }))
+        }
+        (Some(file), false, _) => {
+            let end = NameEnd::Zero;
+            Ok(Some(FileList { file, end }))
+        }
+        (None, true, _) => Err(Conflict::LinesAlone),
+        (None, false, false) => Err(Conflict::NoFiles),
+        (None, false, true) => Ok(None),
     }
 }
 

@@ -1,27 +1,32 @@
 //! The arguments of the command line, as `clap` reads them.
-ghost use Rattle.std.specs.Prelude.{◌≡◌, ◌∷◌, ◌<◌, ℕ, All, Bool, IfOk, List, MatchResult, None, Option, Some, codes, is_some, false, length, map, option_map, true};
+ghost use Rattle.std.specs.Prelude.{◌≡◌, ◌∷◌, ◌<◌, ℕ, All, Bool, IfOk, List, MatchResult, None, Option, Some, codes, false, length, map};
 ghost use Rattle.clap.specs.Takes.{is_given};
 ghost use Rattle.clap.specs.Walk.{texts};
-ghost use Rattle.clap.specs.Words.{FailsBy, fault_of, first_of, found_of, kind_of, rows_of, subcommand_of, subcommand_rows_of};
+ghost use Rattle.clap.specs.Words.{FailsBy, fault_of, first_of, found_of, rows_of, subcommand_of, subcommand_rows_of};
 ghost use Rattle.amihunk.specs.Syntax.{command_line};
-ghost use Rattle.amihunk.specs.CommandLine.{Answers, AreRefused, Asks, HasValue, IsAskedBy, IsFlag, IsNoFlag, IsNoFlagIn, IsVersionWord, IsWhole, Means};
-ghost use Rattle.amihunk.specs.CommandLine.{Says, brief_link_line, compare_line, conflict_kind, copy_line, file_line, files_in, image_line, link_line, load_line, normal_line, options_in};
-ghost use Rattle.amihunk.specs.CommandLine.{names_line, origin_in, show_line, survey_line, text_in, value_in, version_line};
-ghost use Rattle.amihunk.specs.CommandLine.Meaning.{rejection, version};
-ghost use Rattle.amihunk.specs.CommandLine.Call.{to_check, to_compare, to_copy, to_image, to_link, to_load, to_names, to_show, to_survey};
+ghost use Rattle.amihunk.specs.Call.{Asks, Means};
+ghost use Rattle.amihunk.specs.Call.Call.{to_check, to_compare, to_copy, to_image, to_link, to_load, to_names, to_show, to_survey};
+ghost use Rattle.amihunk.specs.Call.Meaning.{rejection, version};
+ghost use Rattle.amihunk.specs.CommandLine.{AreRefused, HasValue, IsAskedBy, IsFlag, IsNoFlag, IsNoFlagIn, IsVersionWord, IsWhole, IsWritten, Says};
+ghost use Rattle.amihunk.specs.CommandLine.{brief_link_line, compare_line, copy_line, file_line, files_in, has_some, image_line, link_line, list_by, load_line, no_survey_options, normal_line, options_in};
+ghost use Rattle.amihunk.specs.CommandLine.{names_line, origin_in, show_line, survey_line, survey_options_in, text_in, value_in, version_line};
 ghost use Rattle.hunk_commands.specs.Addresses.{Origin, origin_of};
+ghost use Rattle.hunk_commands.specs.FileList.{given_list};
 ghost use Rattle.hunk_commands.specs.Request.{given_text};
 ghost use Rattle.hunk_commands.specs.declared.load.LoadText.{LoadText};
 ghost use Rattle.hunk_commands.specs.declared.text.ShowText.{ShowText};
 ghost use Rattle.hunk_tool.specs.declared.copy.CopyForm.{CopyForm};
 ghost use Rattle.hunk_tool.specs.declared.link_options.LinkOptions.{LinkOptions};
 
-use crate::choices::{Shown, copy_form, shown_of, text_of};
+use crate::choices::{Shown, copy_form, list_of, shown_of, text_of};
 use crate::conflict::Conflict;
-use crate::syntax::{command, copy_command, image_command, load_command, show_command};
-use clap::error::ErrorKind;
-use clap::{ArgMatches, Command, Error};
-use hunk_commands::{Addresses, Request};
+use crate::refusal::{answer_to, refuse, refuse_file};
+use crate::standard_input::with_standard_input;
+use crate::syntax::{
+    command, copy_command, image_command, link_command, load_command, show_command, survey_command,
+};
+use clap::{ArgMatches, Error};
+use hunk_commands::{Addresses, FileList, Request, SurveyOptions};
 use hunk_tool::LinkOptions;
 use std::alloc::{AllocError, Global};
 use std::convert::AsStr;
@@ -31,10 +36,10 @@ pub fn read_words<'a, S: AsStr>(alloc: Global, words: &'a [S]) -> Request<'a>
     ensures answer { IsAskedBy (map S.text words.entry.now) result }
     ensures link { (program : List ℕ) (options : LinkOptions) (out : List ℕ) (map_file : Option (List ℕ)) (files : List (List ℕ))
         → map S.text words.entry.now ≡ link_line program options out map_file files
-        → IsNoFlag out → IsNoFlagIn map_file → 0 < length files → All IsNoFlag files → Asks (to_link out map_file options false files) result }
+        → IsNoFlag out → IsNoFlagIn map_file → 0 < length files → All IsNoFlag files → Asks (to_link out map_file options false files None) result }
     ensures brief { (program : List ℕ) (options : LinkOptions) (out : List ℕ) (map_file : Option (List ℕ)) (files : List (List ℕ))
         → map S.text words.entry.now ≡ brief_link_line program options out map_file files
-        → IsNoFlag out → IsNoFlagIn map_file → 0 < length files → All IsNoFlag files → Asks (to_link out map_file options false files) result }
+        → IsNoFlag out → IsNoFlagIn map_file → 0 < length files → All IsNoFlag files → Asks (to_link out map_file options false files None) result }
     ensures load { (program : List ℕ) (origin : Origin) (text : LoadText) (file : List ℕ)
         → map S.text words.entry.now ≡ load_line program origin text file
         → IsNoFlag (text_in origin) → IsNoFlag file → Asks (to_load origin text false file) result }
@@ -52,7 +57,7 @@ pub fn read_words<'a, S: AsStr>(alloc: Global, words: &'a [S]) -> Request<'a>
         → 0 < length files → All IsNoFlag files → Asks (to_names files) result }
     ensures survey { (program : List ℕ) (files : List (List ℕ))
         → map S.text words.entry.now ≡ survey_line program files
-        → 0 < length files → All IsNoFlag files → Asks (to_survey files) result }
+        → 0 < length files → All IsNoFlag files → Asks (to_survey no_survey_options files None) result }
     ensures copy { (program : List ℕ) (options : LinkOptions) (out file : List ℕ)
         → map S.text words.entry.now ≡ copy_line program options out file
         → IsNoFlag out → IsNoFlag file → Asks (to_copy out (CopyForm.Written options) false file) result }
@@ -81,24 +86,6 @@ fn request_for<'a, S: AsStr>(alloc: Global, words: &'a [S]) -> Request<'a>
     }
 }
 
-/// Rejects arguments that are not UTF-8, as `clap` does.
-pub fn refuse_bytes<'a>(alloc: Global) -> Request<'a>
-    ensures { Means rejection result }
-{
-    let text = "invalid UTF-8 was detected in one or more arguments";
-    match error_of(alloc, ErrorKind::ValueValidation, text) {
-        Ok(error) => answer_to(alloc, &error),
-        Err(_) => Request::OutOfMemory,
-    }
-}
-
-/// An error of this kind, with this text, as `clap` makes its own.
-fn error_of(alloc: Global, kind: ErrorKind, text: &str) -> Result<Error, AllocError>
-    ensures { IfOk result (λ e. kind_of e ≡ kind) }
-{
-    command(alloc)?.error(kind, text)
-}
-
 /// What `clap` makes of the arguments.
 fn matches_of<'a, S: AsStr>(alloc: Global, words: &'a [S]) -> Result<ArgMatches<'a>, Error>
     ensures fails { FailsBy (fault_of command_line (map S.text words.entry.now)) result }
@@ -112,6 +99,14 @@ fn matches_of<'a, S: AsStr>(alloc: Global, words: &'a [S]) -> Result<ArgMatches<
 fn request_of<'a>(alloc: Global, matches: &ArgMatches<'a>) -> Result<Request<'a>, AllocError>
     requires { IsWhole (subcommand_rows_of matches.now) }
     ensures { IfOk result (Says (subcommand_rows_of matches.now)) }
+{
+    with_standard_input(alloc, written_request(alloc, matches)?)
+}
+
+/// The same with the arguments for files as they are written.
+fn written_request<'a>(alloc: Global, matches: &ArgMatches<'a>) -> Result<Request<'a>, AllocError>
+    requires { IsWhole (subcommand_rows_of matches.now) }
+    ensures { IfOk result (IsWritten (subcommand_rows_of matches.now)) }
 {
     match matches.subcommand() {
         Some(("link", values)) => link_request(alloc, values),
@@ -129,21 +124,29 @@ fn request_of<'a>(alloc: Global, matches: &ArgMatches<'a>) -> Result<Request<'a>
 /// The request of a parse that found the subcommand `link`.
 fn link_request<'a>(alloc: Global, values: &ArgMatches<'a>) -> Result<Request<'a>, AllocError>
     requires { IsWhole (Some (codes "link", rows_of (found_of values.now))) }
-    ensures { IfOk result (Says (Some (codes "link", rows_of (found_of values.now)))) }
+    ensures { IfOk result (IsWritten (Some (codes "link", rows_of (found_of values.now)))) }
 {
-    Ok(Request::Link {
-        out: value_of(values, "out"),
-        map: optional_value(values, "map"),
-        options: options_of(values),
-        explain: is_set(values, "explain"),
-        files: files_of(alloc, values)?,
-    })
+    let files = files_of(alloc, values)?;
+    match list_in(values, has_files(files.as_slice())) {
+        Ok(list) => Ok(Request::Link {
+            out: value_of(values, "out"),
+            map: optional_value(values, "map"),
+            options: options_of(values),
+            explain: is_set(values, "explain"),
+            files,
+            list,
+        }),
+        Err(conflict) => {
+            let link = link_command(alloc)?.bin_name("amihunk link")?;
+            refuse(alloc, link, conflict)
+        }
+    }
 }
 
 /// The request of a parse that found the subcommand `load`.
 fn load_request<'a>(alloc: Global, values: &ArgMatches<'a>) -> Result<Request<'a>, AllocError>
     requires { IsWhole (Some (codes "load", rows_of (found_of values.now))) }
-    ensures { IfOk result (Says (Some (codes "load", rows_of (found_of values.now)))) }
+    ensures { IfOk result (IsWritten (Some (codes "load", rows_of (found_of values.now)))) }
 {
     match addresses_in(values) {
         Ok(addresses) => Ok(Request::Load {
@@ -162,7 +165,7 @@ fn load_request<'a>(alloc: Global, values: &ArgMatches<'a>) -> Result<Request<'a
 /// The request of a parse that found the subcommand `image`.
 fn image_request<'a>(alloc: Global, values: &ArgMatches<'a>) -> Result<Request<'a>, AllocError>
     requires { IsWhole (Some (codes "image", rows_of (found_of values.now))) }
-    ensures { IfOk result (Says (Some (codes "image", rows_of (found_of values.now)))) }
+    ensures { IfOk result (IsWritten (Some (codes "image", rows_of (found_of values.now)))) }
 {
     match addresses_in(values) {
         Ok(addresses) => Ok(Request::Image {
@@ -181,7 +184,7 @@ fn image_request<'a>(alloc: Global, values: &ArgMatches<'a>) -> Result<Request<'
 /// The request of a parse that found the subcommand `check`.
 fn check_request<'a>(values: &ArgMatches<'a>) -> Request<'a>
     requires { IsWhole (Some (codes "check", rows_of (found_of values.now))) }
-    ensures { Says (Some (codes "check", rows_of (found_of values.now))) result }
+    ensures { IsWritten (Some (codes "check", rows_of (found_of values.now))) result }
 {
     Request::Check {
         explain: is_set(values, "explain"),
@@ -192,7 +195,7 @@ fn check_request<'a>(values: &ArgMatches<'a>) -> Request<'a>
 /// The request of a parse that found the subcommand `show`.
 fn show_request<'a>(alloc: Global, values: &ArgMatches<'a>) -> Result<Request<'a>, AllocError>
     requires { IsWhole (Some (codes "show", rows_of (found_of values.now))) }
-    ensures { IfOk result (Says (Some (codes "show", rows_of (found_of values.now)))) }
+    ensures { IfOk result (IsWritten (Some (codes "show", rows_of (found_of values.now)))) }
 {
     let explain = is_set(values, "explain");
     let files = files_of(alloc, values)?;
@@ -220,30 +223,31 @@ fn show_request<'a>(alloc: Global, values: &ArgMatches<'a>) -> Result<Request<'a
     }
 }
 
-/// Rejects a second file of `show`, as `clap` rejects an argument that it does not expect.
-fn refuse_file<'a>(alloc: Global, file: &str) -> Result<Request<'a>, AllocError>
-    ensures { IfOk result (Answers ErrorKind.UnknownArgument) }
-{
-    let mut show = show_command(alloc)?.bin_name("amihunk show")?;
-    let text = format!(in alloc; "unexpected argument '{file}' found")?;
-    let error = show.error(ErrorKind::UnknownArgument, &text)?;
-    Ok(answer_to(alloc, &error))
-}
-
 /// The request of a parse that found the subcommand `survey`.
 fn survey_request<'a>(alloc: Global, values: &ArgMatches<'a>) -> Result<Request<'a>, AllocError>
     requires { IsWhole (Some (codes "survey", rows_of (found_of values.now))) }
-    ensures { IfOk result (Says (Some (codes "survey", rows_of (found_of values.now)))) }
+    ensures { IfOk result (IsWritten (Some (codes "survey", rows_of (found_of values.now)))) }
 {
-    Ok(Request::Survey {
-        files: files_of(alloc, values)?,
-    })
+    let files = files_of(alloc, values)?;
+    let names = files.as_slice();
+    let bytes = bytes_of(alloc, names)?;
+    match list_in(values, has_files(names)) {
+        Ok(list) => Ok(Request::Survey {
+            options: survey_options_of(values),
+            files: bytes,
+            list,
+        }),
+        Err(conflict) => {
+            let survey = survey_command(alloc)?.bin_name("amihunk survey")?;
+            refuse(alloc, survey, conflict)
+        }
+    }
 }
 
 /// The request of a parse that found the subcommand `copy`.
 fn copy_request<'a>(alloc: Global, values: &ArgMatches<'a>) -> Result<Request<'a>, AllocError>
     requires { IsWhole (Some (codes "copy", rows_of (found_of values.now))) }
-    ensures { IfOk result (Says (Some (codes "copy", rows_of (found_of values.now)))) }
+    ensures { IfOk result (IsWritten (Some (codes "copy", rows_of (found_of values.now)))) }
 {
     match copy_form(
         is_set(values, "normal"),
@@ -266,7 +270,7 @@ fn copy_request<'a>(alloc: Global, values: &ArgMatches<'a>) -> Result<Request<'a
 /// The request of a parse that found the subcommand `compare`.
 fn compare_request<'a>(values: &ArgMatches<'a>) -> Request<'a>
     requires { IsWhole (Some (codes "compare", rows_of (found_of values.now))) }
-    ensures { Says (Some (codes "compare", rows_of (found_of values.now))) result }
+    ensures { IsWritten (Some (codes "compare", rows_of (found_of values.now))) result }
 {
     Request::Compare {
         with_symbols: is_set(values, "symbols"),
@@ -289,16 +293,32 @@ fn options_of(values: &ArgMatches<'_>) -> LinkOptions
     }
 }
 
-/// Rejects such arguments of a subcommand.
-fn refuse<'a>(
-    alloc: Global,
-    mut subcommand: Command<'a>,
-    conflict: Conflict,
-) -> Result<Request<'a>, AllocError>
-    ensures { IfOk result (Answers (conflict_kind conflict)) }
+/// What is asked of a survey.
+fn survey_options_of(values: &ArgMatches<'_>) -> SurveyOptions
+    requires json { IsFlag (rows_of (found_of values.now)) (codes "json") }
+    requires digest { IsFlag (rows_of (found_of values.now)) (codes "digest") }
+    requires wait { IsFlag (rows_of (found_of values.now)) (codes "wait") }
+    ensures { result ≡ survey_options_in (rows_of (found_of values.now)) }
 {
-    let error = subcommand.error(conflict.kind(), conflict.text())?;
-    Ok(answer_to(alloc, &error))
+    SurveyOptions {
+        json: is_set(values, "json"),
+        digest: is_set(values, "digest"),
+        wait: is_set(values, "wait"),
+    }
+}
+
+/// The list of files that is asked for, where `has_files` says whether there is a FILE.
+fn list_in<'a>(values: &ArgMatches<'a>, has_files: bool) -> Result<Option<FileList<'a>>, Conflict>
+    requires { IsFlag (rows_of (found_of values.now)) (codes "lines") }
+    ensures { MatchResult result
+        (λ list. list_by (first_of (codes "files-from") (rows_of (found_of values.now))) (is_given (codes "lines") (rows_of (found_of values.now))) has_files ≡ Some (given_list list))
+        (λ _. list_by (first_of (codes "files-from") (rows_of (found_of values.now))) (is_given (codes "lines") (rows_of (found_of values.now))) has_files ≡ None) }
+{
+    list_of(
+        optional_value(values, "files-from"),
+        is_set(values, "lines"),
+        has_files,
+    )
 }
 
 /// The addresses that are asked for, of which there is one list, or one file.
@@ -346,26 +366,28 @@ fn is_set(values: &ArgMatches<'_>, id: &str) -> bool
 
 /// The arguments FILE..., in the order given.
 fn files_of<'a>(alloc: Global, values: &ArgMatches<'a>) -> Result<Vec<&'a str>, AllocError>
-    requires { HasValue (rows_of (found_of values.now)) (codes "file") }
     ensures { IfOk result (λ files. texts files.items ≡ files_in (rows_of (found_of values.now))) }
 {
     match values.get_strs("file") {
         Some(files) => files.to_vec(alloc),
-        None => unreachable!(),
+        None => Ok(Vec::new(alloc)),
     }
 }
 
-/// The request of a parse that failed: help, the version, or a rejection.
-fn answer_to<'a>(alloc: Global, error: &Error) -> Request<'a>
-    ensures { Answers (kind_of error.now) result }
+/// Whether there is a file.
+fn has_files(files: &[&str]) -> bool
+    ensures { result ≡ has_some (texts files.now) }
 {
-    let Ok(text) = error.to_string(alloc) else {
-        return Request::OutOfMemory;
-    };
-    match error.kind() {
-        ErrorKind::OutOfMemory => Request::OutOfMemory,
-        ErrorKind::DisplayVersion => Request::Version,
-        ErrorKind::DisplayHelp => Request::Help(text),
-        _ => Request::Refused(text),
+    !files.is_empty()
+}
+
+/// The bytes of texts.
+fn bytes_of<'a>(alloc: Global, files: &[&'a str]) -> Result<Vec<&'a [u8]>, AllocError>
+    ensures { IfOk result (λ bytes. texts bytes.items ≡ texts files.entry.now) }
+{
+    let mut bytes = Vec::with_capacity(alloc, files.len())?;
+    for file in files {
+        bytes.push(file.as_bytes())?;
     }
+    Ok(bytes)
 }

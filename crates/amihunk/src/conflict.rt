@@ -33,6 +33,12 @@ pub enum Conflict {
     NamesAndHtml,
     /// `--names` and `--explain`.
     NamesAndExplain,
+    /// Neither a FILE nor `--files-from`.
+    NoFiles,
+    /// `--lines` without `--files-from`.
+    LinesAlone,
+    /// `-` for two files to read, or more.
+    InputTwice,
 }
 
 impl Conflict {
@@ -41,7 +47,10 @@ impl Conflict {
         ensures { result ≡ conflict_kind self }
     {
         match self {
-            Conflict::NoAddresses | Conflict::ContentAlone => ErrorKind::MissingRequiredArgument,
+            Conflict::NoAddresses
+            | Conflict::ContentAlone
+            | Conflict::NoFiles
+            | Conflict::LinesAlone => ErrorKind::MissingRequiredArgument,
             Conflict::TwoAddresses
             | Conflict::NormalAndStrip
             | Conflict::NormalAndShort
@@ -52,7 +61,8 @@ impl Conflict {
             | Conflict::NamesAndJson
             | Conflict::NamesAndContent
             | Conflict::NamesAndHtml
-            | Conflict::NamesAndExplain => ErrorKind::ArgumentConflict,
+            | Conflict::NamesAndExplain
+            | Conflict::InputTwice => ErrorKind::ArgumentConflict,
         }
     }
 
@@ -81,6 +91,13 @@ impl Conflict {
             Conflict::ContentAlone => {
                 "the following required arguments were not provided:\n  --json"
             }
+            Conflict::NoFiles => {
+                "the following required arguments were not provided:\n  <FILE>..."
+            }
+            Conflict::LinesAlone => {
+                "the following required arguments were not provided:\n  --files-from <LIST>"
+            }
+            Conflict::InputTwice => "the argument '-' cannot be used multiple times",
             Conflict::NoAddresses => {
                 "the following required arguments were not provided:\n  <--at <LIST>|--at-file <FILE>>"
             }

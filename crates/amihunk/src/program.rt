@@ -1,5 +1,5 @@
 //! The program: the arguments of the command line, what they ask for, and the exit status.
-ghost use Rattle.std.specs.Prelude.{◌≡◌, ◌⊎◌, ◌<◌, ◌≤◌, ◌∷◌, ℕ, Bool, List, Option, codes, false, length, map};
+ghost use Rattle.std.specs.Prelude.{◌≡◌, ◌⊎◌, ◌<◌, ◌≤◌, ◌∷◌, ℕ, Bool, List, None, Option, codes, false, length, map};
 ghost use Rattle.std.specs.List.{All};
 ghost use Rattle.hunk_tool.specs.declared.copy.CopyForm.{CopyForm};
 ghost use Rattle.hunk_tool.specs.declared.link_options.LinkOptions.{LinkOptions};
@@ -7,11 +7,14 @@ ghost use Rattle.hunk_commands.specs.Addresses.{Origin};
 ghost use Rattle.hunk_commands.specs.declared.load.LoadText.{LoadText};
 ghost use Rattle.hunk_commands.specs.declared.text.ShowText.{ShowText};
 ghost use Rattle.hunk_commands.specs.Request.{EndsCompare, EndsCopy, EndsImage, EndsLink, EndsLoad, EndsNames, EndsSurvey, EndsText, EndsVersion, Reads, Replaces, Run, run_between};
+ghost use Rattle.amihunk.specs.Arguments.{AreArguments};
 ghost use Rattle.amihunk.specs.Program.{EndsLine, EndsStart, IsNotBegun, IsRejected};
 ghost use Rattle.amihunk.specs.CommandLine.{AreRefused, IsNoFlag, IsNoFlagIn, IsVersionWord, brief_link_line, compare_line, copy_line, file_line, image_line, link_line, load_line};
-ghost use Rattle.amihunk.specs.CommandLine.{names_line, normal_line, show_line, survey_line, text_in, version_line};
+ghost use Rattle.amihunk.specs.CommandLine.{names_line, no_survey_options, normal_line, show_line, survey_line, text_in, version_line};
 
-use crate::command_line::{read_words, refuse_bytes};
+use crate::arguments::{Argument, are_texts, arguments_of, read_arguments};
+use crate::command_line::read_words;
+use crate::standard_input::STANDARD_INPUT;
 use hunk_commands::{
     Failure, Output, Printer, Request, Store, System, Text, answer, random_key, report_failure,
 };
@@ -19,15 +22,27 @@ use hunk_tool::NameHasher;
 use hunk_words::Sink;
 use std::alloc::Global;
 use std::convert::AsStr;
-use std::io::ErrorKind;
 use std::random::RandomSource;
 use std::rt::{Env, Files};
-use std::{env, io};
+use std::{fs, io};
 
 /// Does what the system's command line asks for with the system's files, and prints to the standard output.
 /// Names are hashed with a key from the system's source of random bytes, or with one that is no secret where
 /// it has none. Returns the exit status.
 pub fn begin<R: Env + Files + Print + RandomSource + AllocGlobal, W: Sink>(
+    rt: &R,
+    errors: &mut W,
+    has_stack: bool,
+) -> u8
+    ensures begun { ((run : Run) × EndsStart run W.taken W.failed errors.old errors.new result) ⊎ IsNotBegun W.taken W.failed errors.old errors.new result }
+    ensures status { result ≤ 4 }
+{
+    let _input = in_place_of_input(rt);
+    begin_with_input(rt, errors, has_stack)
+}
+
+/// Does it where no file takes the place of the standard input.
+fn begin_with_input<R: Env + Files + Print + RandomSource + AllocGlobal, W: Sink>(
     rt: &R,
     errors: &mut W,
     has_stack: bool,
@@ -42,6 +57,15 @@ pub fn begin<R: Env + Files + Print + RandomSource + AllocGlobal, W: Sink>(
             start(rt, &mut system, &mut output, errors, has_stack)
         }
         Err(_) => report_failure(errors, &[], &Failure::out_of_memory()),
+    }
+}
+
+/// What takes the place of a standard input that is closed: a directory, which cannot be read. The first
+/// file that is opened would take it otherwise, and `/dev/stdin` would lead to that file.
+fn in_place_of_input<R: Files>(rt: &R) -> Option<R::File> {
+    match fs::metadata(rt, STANDARD_INPUT) {
+        Ok(_) => None,
+        Err(_) => fs::open(rt, "/").ok(),
     }
 }
 
@@ -61,13 +85,29 @@ fn start<R: Env + AllocGlobal, S: Store, O: Output, W: Sink>(
     if !has_stack {
         return answer(alloc, store, output, errors, Request::OutOfMemory);
     }
-    match words_of(rt) {
-        Ok(words) => run(alloc, store, output, errors, words.as_slice()),
-        Err(error) if error.kind() == ErrorKind::OutOfMemory => {
-            answer(alloc, store, output, errors, Request::OutOfMemory)
-        }
-        Err(_) => answer(alloc, store, output, errors, refuse_bytes(alloc)),
+    match arguments_of(rt) {
+        Ok(arguments) => run_arguments(alloc, store, output, errors, arguments.as_slice()),
+        Err(_) => answer(alloc, store, output, errors, Request::OutOfMemory),
     }
+}
+
+/// Does what the arguments of a command line ask for, and gives the exit status.
+fn run_arguments<S: Store, O: Output, W: Sink>(
+    alloc: Global,
+    store: &mut S,
+    output: &mut O,
+    errors: &mut W,
+    arguments: &[Argument],
+) -> u8
+    requires { AreArguments arguments.now }
+    ensures ends { EndsStart (run_between S.content O.taken O.failed O.waiting store.old store.new output.old output.new) W.taken W.failed errors.old errors.new result }
+    ensures status { result ≤ 4 }
+{
+    if are_texts(arguments) {
+        return run(alloc, store, output, errors, arguments);
+    }
+    let request = read_arguments(alloc, arguments);
+    answer(alloc, store, output, errors, request)
 }
 
 /// Does what the words of a command line ask for, and gives the exit status. The line of what is
@@ -82,10 +122,10 @@ pub fn run<S: Store, O: Output, W: Sink, T: AsStr>(
     ensures line { EndsLine (run_between S.content O.taken O.failed O.waiting store.old store.new output.old output.new) W.taken W.failed errors.old errors.new (map T.text words.now) result }
     ensures link { (program : List ℕ) (options : LinkOptions) (out : List ℕ) (map_file : Option (List ℕ)) (files : List (List ℕ))
         → map T.text words.now ≡ link_line program options out map_file files
-        → IsNoFlag out → IsNoFlagIn map_file → 0 < length files → All IsNoFlag files → Replaces (run_between S.content O.taken O.failed O.waiting store.old store.new output.old output.new) (λ contents contents_then. EndsLink contents contents_then W.taken W.failed errors.old errors.new out map_file options false files result) }
+        → IsNoFlag out → IsNoFlagIn map_file → 0 < length files → All IsNoFlag files → Replaces (run_between S.content O.taken O.failed O.waiting store.old store.new output.old output.new) (λ contents contents_then. EndsLink contents contents_then W.taken W.failed errors.old errors.new out map_file options false files None result) }
     ensures brief { (program : List ℕ) (options : LinkOptions) (out : List ℕ) (map_file : Option (List ℕ)) (files : List (List ℕ))
         → map T.text words.now ≡ brief_link_line program options out map_file files
-        → IsNoFlag out → IsNoFlagIn map_file → 0 < length files → All IsNoFlag files → Replaces (run_between S.content O.taken O.failed O.waiting store.old store.new output.old output.new) (λ contents contents_then. EndsLink contents contents_then W.taken W.failed errors.old errors.new out map_file options false files result) }
+        → IsNoFlag out → IsNoFlagIn map_file → 0 < length files → All IsNoFlag files → Replaces (run_between S.content O.taken O.failed O.waiting store.old store.new output.old output.new) (λ contents contents_then. EndsLink contents contents_then W.taken W.failed errors.old errors.new out map_file options false files None result) }
     ensures load { (program : List ℕ) (origin : Origin) (text : LoadText) (file : List ℕ)
         → map T.text words.now ≡ load_line program origin text file
         → IsNoFlag (text_in origin) → IsNoFlag file → Reads (run_between S.content O.taken O.failed O.waiting store.old store.new output.old output.new) (λ contents printed. EndsLoad contents printed W.taken W.failed errors.old errors.new origin text false file result) }
@@ -103,7 +143,7 @@ pub fn run<S: Store, O: Output, W: Sink, T: AsStr>(
         → 0 < length files → All IsNoFlag files → Reads (run_between S.content O.taken O.failed O.waiting store.old store.new output.old output.new) (λ contents printed. EndsNames contents printed W.taken W.failed errors.old errors.new files result) }
     ensures survey { (program : List ℕ) (files : List (List ℕ))
         → map T.text words.now ≡ survey_line program files
-        → 0 < length files → All IsNoFlag files → Reads (run_between S.content O.taken O.failed O.waiting store.old store.new output.old output.new) (λ contents printed. EndsSurvey contents printed W.taken W.failed errors.old errors.new files result) }
+        → 0 < length files → All IsNoFlag files → Reads (run_between S.content O.taken O.failed O.waiting store.old store.new output.old output.new) (λ contents printed. EndsSurvey no_survey_options contents printed W.taken W.failed errors.old errors.new files None result) }
     ensures copy { (program : List ℕ) (options : LinkOptions) (out file : List ℕ)
         → map T.text words.now ≡ copy_line program options out file
         → IsNoFlag out → IsNoFlag file → Replaces (run_between S.content O.taken O.failed O.waiting store.old store.new output.old output.new) (λ contents contents_then. EndsCopy contents contents_then W.taken W.failed errors.old errors.new out (CopyForm.Written options) false file result) }
@@ -120,10 +160,4 @@ pub fn run<S: Store, O: Output, W: Sink, T: AsStr>(
 {
     let request = read_words(alloc, words);
     answer(alloc, store, output, errors, request)
-}
-
-/// The arguments of the command line. One that is not UTF-8 is an error.
-fn words_of<R: Env + AllocGlobal>(rt: &R) -> io::Result<Vec<String>> {
-    let words = env::args(rt)?.collect(rt.alloc())?;
-    Ok(words)
 }

@@ -2,7 +2,7 @@
 ghost use Rattle.std.specs.Prelude.{◌≡◌, IfOk, codes, false, map};
 ghost use Rattle.clap.specs.Words.{Shape, app_of, rule_of, shape_of, with_subcommand};
 ghost use Rattle.clap.specs.declared.builder.command.Command.TheViews.{out-Command};
-ghost use Rattle.amihunk.specs.Syntax.{AreLocal, bare_app, check_shape, command_line, compare_shape, copy_shape, explain_rule, file_rule, files_rule, flag_rule, image_shape, letter_s};
+ghost use Rattle.amihunk.specs.Syntax.{AreLocal, bare_app, check_shape, command_line, compare_shape, copy_shape, explain_rule, file_rule, files_rule, files_rule_if, flag_rule, image_shape, letter_s};
 ghost use Rattle.amihunk.specs.Syntax.{link_shape, load_shape, option_rule, out_rule, show_shape, survey_shape, value_rule, with_letter, with_rules};
 
 use clap::{Arg, ArgAction, Command};
@@ -59,9 +59,10 @@ fn with_arguments<'a>(
     command.args(arguments)
 }
 
-/// The subcommand `link --out OUT [--map MAP] [--strip] [--short] [--trim] [--explain] FILE...`, where
-/// `-o` is `--out`, and `-s` is `--strip`.
-fn link_command<'a>(alloc: Global) -> Result<Command<'a>, AllocError>
+/// The subcommand `link --out OUT [--map MAP] [--strip] [--short] [--trim] [--explain] [--files-from LIST]
+/// [--lines] [FILE...]`, where `-o` is `--out`, and `-s` is `--strip`. No rule of `clap` says that `--lines`
+/// goes with `--files-from`, and that there is a FILE without it: the command line is judged after the parse.
+pub fn link_command<'a>(alloc: Global) -> Result<Command<'a>, AllocError>
     ensures shape { IfOk result (λ c. shape_of c ≡ link_shape) }
     ensures local { IfOk result (λ c. (out-Command c).has_globals ≡ false) }
 {
@@ -72,7 +73,9 @@ fn link_command<'a>(alloc: Global) -> Result<Command<'a>, AllocError>
         short_flag(alloc),
         trim_flag(alloc),
         explain_flag(alloc),
-        files_argument(alloc, "Object files, in the order of linking"),
+        list_argument(alloc),
+        lines_flag(alloc),
+        listed_argument(alloc, "Object files, in the order of linking"),
     ]?;
     let link = Command::new(alloc, "link")
         .about("Links object files, and writes the load file")
@@ -171,7 +174,7 @@ pub fn load_command<'a>(alloc: Global) -> Result<Command<'a>, AllocError>
     ensures local { IfOk result (λ c. (out-Command c).has_globals ≡ false) }
 {
     let arguments = vec![in alloc;
-        list_argument(alloc),
+        at_argument(alloc),
         addresses_argument(alloc),
         records_flag(alloc),
         symbols_flag(alloc),
@@ -192,7 +195,7 @@ pub fn image_command<'a>(alloc: Global) -> Result<Command<'a>, AllocError>
     ensures local { IfOk result (λ c. (out-Command c).has_globals ≡ false) }
 {
     let arguments = vec![in alloc;
-        list_argument(alloc),
+        at_argument(alloc),
         addresses_argument(alloc),
         records_flag(alloc),
         symbols_flag(alloc),
@@ -207,7 +210,7 @@ pub fn image_command<'a>(alloc: Global) -> Result<Command<'a>, AllocError>
 }
 
 /// The subcommand `check [--explain] FILE`.
-fn check_command<'a>(alloc: Global) -> Result<Command<'a>, AllocError>
+pub fn check_command<'a>(alloc: Global) -> Result<Command<'a>, AllocError>
     ensures shape { IfOk result (λ c. shape_of c ≡ check_shape) }
     ensures local { IfOk result (λ c. (out-Command c).has_globals ≡ false) }
 {
@@ -247,13 +250,24 @@ pub fn show_command<'a>(alloc: Global) -> Result<Command<'a>, AllocError>
     with_arguments(show, arguments)
 }
 
-/// The subcommand `survey FILE...`.
-fn survey_command<'a>(alloc: Global) -> Result<Command<'a>, AllocError>
+/// The subcommand `survey [--json] [--digest] [--wait] [--files-from LIST] [--lines] [FILE...]`. No rule of
+/// `clap` says that `--lines` goes with `--files-from`, and that there is a FILE without it: the command line
+/// is judged after the parse.
+pub fn survey_command<'a>(alloc: Global) -> Result<Command<'a>, AllocError>
     ensures shape { IfOk result (λ c. shape_of c ≡ survey_shape) }
     ensures local { IfOk result (λ c. (out-Command c).has_globals ≡ false) }
 {
+    let json =
+        "Prints a JSON document about each file, on a line of its own, in place of the lines";
+    let digest = "Tells of each load file the SHA-256 of its normal form";
+    let wait = "Opens pipes and devices too, and waits until they can be read";
     let arguments = vec![in alloc;
-        files_argument(alloc, "Object files, load files and any others"),
+        flag(alloc, "json", json),
+        flag(alloc, "digest", digest),
+        flag(alloc, "wait", wait),
+        list_argument(alloc),
+        lines_flag(alloc),
+        listed_argument(alloc, "Object files, load files and any others"),
     ]?;
     let survey = Command::new(alloc, "survey")
         .about("Tells of each file what it is, and how many there are of each kind")
@@ -293,7 +307,7 @@ fn normal_flag<'a>(alloc: Global) -> Arg<'a>
 }
 
 /// The subcommand `compare [--symbols] A B`.
-fn compare_command<'a>(alloc: Global) -> Result<Command<'a>, AllocError>
+pub fn compare_command<'a>(alloc: Global) -> Result<Command<'a>, AllocError>
     ensures shape { IfOk result (λ c. shape_of c ≡ compare_shape) }
     ensures local { IfOk result (λ c. (out-Command c).has_globals ≡ false) }
 {
@@ -320,7 +334,7 @@ fn value_argument<'a>(alloc: Global, name: &'a str, value: &'a str, help: &'a st
 }
 
 /// The argument `--at LIST`.
-fn list_argument<'a>(alloc: Global) -> Arg<'a>
+fn at_argument<'a>(alloc: Global) -> Arg<'a>
     ensures rule { rule_of result ≡ option_rule (codes "at") }
     ensures local { result.global ≡ false }
 {
@@ -335,6 +349,24 @@ fn addresses_argument<'a>(alloc: Global) -> Arg<'a>
 {
     let help = "A file with these addresses, with commas, spaces, tabs or line ends between";
     option(alloc, "at-file", "FILE", help)
+}
+
+/// The argument `--files-from LIST`.
+fn list_argument<'a>(alloc: Global) -> Arg<'a>
+    ensures rule { rule_of result ≡ option_rule (codes "files-from") }
+    ensures local { result.global ≡ false }
+{
+    let help = "A file with the names of further files, each ended by a zero byte";
+    option(alloc, "files-from", "LIST", help)
+}
+
+/// The flag `--lines`.
+fn lines_flag<'a>(alloc: Global) -> Arg<'a>
+    ensures rule { rule_of result ≡ flag_rule (codes "lines") }
+    ensures local { result.global ≡ false }
+{
+    let help = "With `--files-from`, each name in LIST is a line";
+    flag(alloc, "lines", help)
 }
 
 /// The argument `--NAME VALUE`.
@@ -362,6 +394,17 @@ fn files_argument<'a>(alloc: Global, help: &'a str) -> Arg<'a>
     ensures local { result.global ≡ false }
 {
     file_argument(alloc, help).num_args(1..)
+}
+
+/// The arguments FILE..., which may be left out.
+fn listed_argument<'a>(alloc: Global, help: &'a str) -> Arg<'a>
+    ensures rule { rule_of result ≡ files_rule_if false }
+    ensures local { result.global ≡ false }
+{
+    Arg::new(alloc, "file")
+        .value_name("FILE")
+        .num_args(1..)
+        .help(help)
 }
 
 mod help;

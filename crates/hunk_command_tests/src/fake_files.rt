@@ -246,8 +246,12 @@ impl Print for FakeFiles<'_> {
         failed(ErrorKind::Unsupported)
     }
 
-    fn write_all(&self, _bytes: &[u8]) -> io::Result<()> {
-        failed(ErrorKind::Unsupported)
+    fn write_all(&self, bytes: &[u8]) -> io::Result<()> {
+        if self.write_some(bytes)? == bytes.len() {
+            Ok(())
+        } else {
+            failed(ErrorKind::StorageFull)
+        }
     }
 
     fn write_some(&self, bytes: &[u8]) -> io::Result<usize> {

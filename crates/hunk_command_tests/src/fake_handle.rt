@@ -86,7 +86,7 @@ impl Write for Handle<'_> {
                 self.kind = Kind::Regular;
                 return Ok(0);
             }
-            Kind::Regular | Kind::Pipe | Kind::Directory => {}
+            Kind::Regular | Kind::Pipe | Kind::NamedPipe | Kind::Directory => {}
         }
         let Bytes::Written(number, at) = self.bytes else {
             return Err(io::Error::from(ErrorKind::InvalidInput));

@@ -15,6 +15,8 @@ pub enum Kind {
     Regular,
     /// A pipe, of which there is no metadata.
     Pipe,
+    /// A pipe, which the system tells as what is neither a regular file nor a directory.
+    NamedPipe,
     /// A directory: it can be opened, but neither read nor written.
     Directory,
     /// A device that takes no byte.
@@ -48,6 +50,11 @@ pub fn find(name: &str, opened: usize) -> Option<(Kind, &'static [u8])> {
         "mended" => Some((Kind::Regular, &CALLEE)),
         "bad-addresses" => Some((Kind::Regular, b",10000 ,\r\n\r\n0x20,30000\n")),
         "pipe" => Some((Kind::Pipe, &LOOP)),
+        "named-pipe" => Some((Kind::NamedPipe, &LOOP)),
+        "names" => Some((Kind::Regular, b"\0caller\0\0x\0caller\xFF\0callee")),
+        "lines" => Some((Kind::Regular, b"caller\n\ncallee\n")),
+        "one-name" => Some((Kind::Regular, b"callee")),
+        "no-names" => Some((Kind::Regular, b"\0\0")),
         "directory" | "folder" | "crowded" => Some((Kind::Directory, &[])),
         "full" => Some((Kind::Full, &[])),
         "full-at-first" => Some((Kind::FullAtFirst, &[])),
@@ -88,6 +95,7 @@ pub fn metadata_of(kind: Kind) -> io::Result<Metadata> {
         Kind::Pipe | Kind::Full | Kind::FullAtFirst => {
             Err(io::Error::from(ErrorKind::Unsupported))
         }
+        Kind::NamedPipe => Ok(Metadata::of_symlink(0)),
         Kind::Directory => Ok(Metadata::of_dir()),
         Kind::Regular => Ok(Metadata::of_file(0)),
     }

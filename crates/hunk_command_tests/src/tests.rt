@@ -15,6 +15,7 @@
 //! - `keys`: keys from sources of random bytes.
 //! - `lines`: lines that reach a writer whole.
 //! - `links`: the load file of object files.
+//! - `lists`: links of the files in a list, and links that are written to the standard output.
 //! - `loads`: the report and the symbols of a load file.
 //! - `maps`: the load file of object files, and its map.
 //! - `names`: the names in files.
@@ -45,6 +46,7 @@ mod json_runs;
 mod keys;
 mod lines;
 mod links;
+mod lists;
 mod loads;
 mod maps;
 mod names;

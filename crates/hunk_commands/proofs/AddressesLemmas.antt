@@ -7,11 +7,12 @@ use Rattle.hunk_commands.specs.Addresses.{IsAddressesFailure, IsListFailure, IsR
 use Rattle.hunk_commands.specs.Addresses.Origin.{in_file, in_list}
 use Rattle.hunk_commands.specs.Store.{Contents}
 use Rattle.hunk_commands.specs.declared.failure.Failure.{Failure}
-use Rattle.hunk_commands.specs.declared.failure.Failure.TheVariants.{BadNumber, MapOverFile, Opening, Printing, Reading, SameFile, TooLong, TooManyAddresses, Tool, Writing}
+use Rattle.hunk_commands.specs.declared.failure.Failure.TheVariants.{BadName, BadNumber, MapOverFile, Opening, Printing, Reading, SameFile, TooLong, TooManyAddresses, Tool, Writing}
 
 module _ (contents : Contents) where
   failure_of_file : (name : List ℕ) (input : Input) (failure : Failure) → IsReaderOf (contents name) input → IsReadFailure name input failure → IsAddressesFailure contents (in_file name) failure
   failure_of_file name input (BadNumber found index) is_reader why = (why.0, record { input = input; is_reader = is_reader; holds = why.1 })
+  failure_of_file name input (BadName list index) is_reader why = absurd why
   failure_of_file name input (TooManyAddresses file) is_reader why =
       subst (λ n. IsAddressesFailure contents (in_file n) (TooManyAddresses file)) why.0
       (refl, record { input = input; is_reader = subst (λ n. IsReaderOf (contents n) input) (sym why.0) is_reader; holds = why.1 })
@@ -39,6 +40,7 @@ module _ (contents : Contents) where
   failure_of_list list (BadNumber found index) why = why
   failure_of_list list (TooManyAddresses file) why = absurd why
   failure_of_list list (TooLong file) why = absurd why
+  failure_of_list list (BadName other index) why = absurd why
   failure_of_list list (Opening file reason) why = absurd why
   failure_of_list list (Reading file) why = absurd why
   failure_of_list list (Writing file) why = absurd why

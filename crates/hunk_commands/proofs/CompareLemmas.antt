@@ -7,7 +7,7 @@ use Rattle.hunk_commands.specs.Inputs.{IsUnopened}
 use Rattle.hunk_commands.specs.Output.{IsNothing, Printed}
 use Rattle.hunk_commands.specs.Store.{Contents}
 use Rattle.hunk_commands.specs.declared.failure.Failure.{Failure}
-use Rattle.hunk_commands.specs.declared.failure.Failure.TheVariants.{BadNumber, MapOverFile, Opening, Printing, Reading, SameFile, TooLong, TooManyAddresses, Tool, Writing}
+use Rattle.hunk_commands.specs.declared.failure.Failure.TheVariants.{BadName, BadNumber, MapOverFile, Opening, Printing, Reading, SameFile, TooLong, TooManyAddresses, Tool, Writing}
 use Rattle.hunk_commands.proofs.InputsLemmas.{unopened_first, unopened_second}
 
 module _ (with_symbols : Bool) (contents : Contents) (first second : List ℕ) (printed : Printed) (nothing : IsNothing printed) where
@@ -17,6 +17,7 @@ module _ (with_symbols : Bool) (contents : Contents) (first second : List ℕ) (
   fails_to_open file (BadNumber addresses index) is unopened = absurd is
   fails_to_open file (TooManyAddresses name) is unopened = absurd is
   fails_to_open file (TooLong name) is unopened = absurd is
+  fails_to_open file (BadName list index) is unopened = absurd is
   fails_to_open file (Opening name reason) is unopened = (subst (λ n. IsUnopened contents (first ∷ second ∷ []) n.now) (sym is.0) (unopened is.1), nothing)
   fails_to_open file (Reading name) is unopened = absurd is
   fails_to_open file (Writing name) is unopened = absurd is

@@ -29,7 +29,7 @@ use Rattle.hunk_commands.specs.declared.explain.Command.TheVariants as command
 use Rattle.hunk_commands.specs.declared.unexplained.Unexplained.{Unexplained}
 use Rattle.hunk_commands.specs.declared.unexplained.Unexplained.TheVariants.{OutOfMemory}
 use Rattle.hunk_commands.specs.declared.failure.Failure.{Failure}
-use Rattle.hunk_commands.specs.declared.failure.Failure.TheVariants.{BadNumber, MapOverFile, Opening, Printing, Reading, SameFile, TooLong, TooManyAddresses, Tool, Writing}
+use Rattle.hunk_commands.specs.declared.failure.Failure.TheVariants.{BadName, BadNumber, MapOverFile, Opening, Printing, Reading, SameFile, TooLong, TooManyAddresses, Tool, Writing}
 use Rattle.hunk_commands.specs.OpenFault.{reason_line}
 use Rattle.hunk_tool.specs.declared.tool_fault.ToolFault.TheVariants as tool_fault
 use Rattle.hunk_commands.proofs.FaultLemmas.{one_fault}
@@ -190,6 +190,7 @@ some_lines : (contents : Contents) (kind_of : List ℕ → FileKind) (AreRefusal
 some_lines contents kind_of AreRefusals ArePlaces files (BadNumber addresses index) refusals places = ([], refl)
 some_lines contents kind_of AreRefusals ArePlaces files (TooManyAddresses name) refusals places = ([], refl)
 some_lines contents kind_of AreRefusals ArePlaces files (TooLong name) refusals places = ([], refl)
+some_lines contents kind_of AreRefusals ArePlaces files (BadName list index) refusals places = ([], refl)
 some_lines contents kind_of AreRefusals ArePlaces files (Opening name reason) refusals places = (reason_line reason, refl)
 some_lines contents kind_of AreRefusals ArePlaces files (Reading name) refusals places = ([], inl refl)
 some_lines contents kind_of AreRefusals ArePlaces files (Writing name) refusals places = ([], refl)

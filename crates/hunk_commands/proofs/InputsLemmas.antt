@@ -15,7 +15,7 @@ use Rattle.hunk_commands.specs.Devices.{IsOpening}
 use Rattle.hunk_commands.specs.Inputs.{AreInputs, AreReadersOf, IsInput, IsOpenFailure, IsUnopened, OfFiles, OfWholeFiles, ended_in, ended_where, failed_in, left_in, left_where}
 use Rattle.hunk_commands.specs.Store.{Contents}
 use Rattle.hunk_commands.specs.declared.failure.Failure.{Failure}
-use Rattle.hunk_commands.specs.declared.failure.Failure.TheVariants.{BadNumber, MapOverFile, Opening, Printing, Reading, SameFile, TooLong, TooManyAddresses, Tool, Writing}
+use Rattle.hunk_commands.specs.declared.failure.Failure.TheVariants.{BadName, BadNumber, MapOverFile, Opening, Printing, Reading, SameFile, TooLong, TooManyAddresses, Tool, Writing}
 use Rattle.hunk_commands.specs.declared.input.Input.{Input as FileInput}
 
 -- the name of the file with this number is among the names
@@ -49,6 +49,7 @@ IsOpenFailure-opening contents files index none (Opening name reason) within ear
     subst (λ n. IsOpenFailure contents (file_names files) (Opening n reason)) (sym is.0) (unopened_at contents files index none within earlier is.1)
 IsOpenFailure-opening contents files index none (TooManyAddresses name) within earlier is = absurd is
 IsOpenFailure-opening contents files index none (TooLong name) within earlier is = absurd is
+IsOpenFailure-opening contents files index none (BadName list number) within earlier is = absurd is
 IsOpenFailure-opening contents files index none (Reading name) within earlier is = absurd is
 IsOpenFailure-opening contents files index none (Writing name) within earlier is = absurd is
 IsOpenFailure-opening contents files index none (SameFile name) within earlier is = absurd is

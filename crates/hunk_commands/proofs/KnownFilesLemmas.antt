@@ -1,5 +1,5 @@
 -- No request over files that are known fails for a device.
-use Rattle.std.proofs.Common.{◌≡◌, ℕ, zero, suc, List, [], ◌∷◌, ◌++◌, Bool, Bor, false, IsTrue, inl, inr, subst, sym}
+use Rattle.std.proofs.Common.{◌≡◌, ℕ, zero, suc, List, [], ◌∷◌, ◌++◌, Bool, Bor, false, IsTrue, None, Option, Some, inl, inr, subst, sym}
 use Rattle.std.specs.declared.alloc.Global.{Global}
 use Rattle.hunk_tool.specs.FileSystem.{FileContent, OfFile}
 use Rattle.hunk_tool.specs.FileSystem.FileContent.{known, missing, unknown}
@@ -11,6 +11,7 @@ use Rattle.hunk_tool.specs.declared.tool_fault.ToolFault.TheVariants as tool_fau
 use Rattle.hunk_commands.specs.Addresses.{Origin}
 use Rattle.hunk_commands.specs.Compare.{IsCompareFailure}
 use Rattle.hunk_commands.specs.Copy.{IsCopyFailure}
+use Rattle.hunk_commands.specs.FileList.{IsListFailure, IsUnopenedList, NamedList}
 use Rattle.hunk_commands.specs.Image.{IsImageFailure}
 use Rattle.hunk_commands.specs.Inputs.{AreReadersOf, OfFiles}
 use Rattle.hunk_commands.specs.KnownFiles.{AreKnown, IsOfDevice, NoDeviceFails}
@@ -18,11 +19,13 @@ use Rattle.hunk_commands.specs.Link.{IsLinkFailure, IsMapFailure}
 use Rattle.hunk_commands.specs.Load.{IsLoadFailure}
 use Rattle.hunk_commands.specs.Output.{Printed}
 use Rattle.hunk_commands.specs.Store.{Contents, IsKnown}
-use Rattle.hunk_commands.specs.Survey.{IsCutShort}
+use Rattle.hunk_commands.specs.Survey.{IsCutShort, IsNotOpen, IsSurveyFailure, IsUnreadList, plan_of}
 use Rattle.hunk_commands.specs.Text.{IsTextFailure}
 use Rattle.hunk_commands.specs.declared.failure.Failure.{Failure}
-use Rattle.hunk_commands.specs.declared.failure.Failure.TheVariants.{BadNumber, MapOverFile, Opening, Printing, Reading, SameFile, TooLong, TooManyAddresses, Tool, Writing}
+use Rattle.hunk_commands.specs.declared.failure.Failure.TheVariants.{BadName, BadNumber, MapOverFile, Opening, Printing, Reading, SameFile, TooLong, TooManyAddresses, Tool, Writing}
 use Rattle.hunk_commands.specs.declared.load.LoadText.{LoadText}
+use Rattle.hunk_commands.specs.declared.survey.Plan.{Plan}
+use Rattle.hunk_commands.specs.declared.survey.SurveyOptions.{SurveyOptions}
 use Rattle.hunk_commands.specs.declared.text.Text.{Text}
 
 -- what holds of each failure of a device holds of one that is
@@ -31,6 +34,7 @@ by_device : (P : Failure → Type 0) → ((file : Bor (List ℕ)) → P (Reading
 by_device P reading writing printing device output (BadNumber addresses index) is = absurd is
 by_device P reading writing printing device output (TooManyAddresses file) is = absurd is
 by_device P reading writing printing device output (TooLong file) is = absurd is
+by_device P reading writing printing device output (BadName list index) is = absurd is
 by_device P reading writing printing device output (Opening name reason) is = absurd is
 by_device P reading writing printing device output (Reading file) is = reading file
 by_device P reading writing printing device output (Writing file) is = writing file
@@ -142,11 +146,34 @@ module _ (contents contents_then : Contents) (printed : Printed) (are_known : Ar
       (λ name why. absurd why) (λ name why. absurd why) (λ why. no_write why.1)
       (λ number why. compared_device with_symbols first second number why) (λ written why. no_write why.holds.holds.1)
 
-  surveyed : (files : List (List ℕ)) (failure : Failure) → IsOfDevice failure → IsCutShort contents files printed failure → ⊥
-  unfolding no_write
-  surveyed files = by_device (λ failure. IsCutShort contents files printed failure → ⊥)
-      (λ name why. absurd why) (λ name why. absurd why) (λ why. no_write why.1)
+  unlisted : (list : NamedList) (failure : Failure) → IsOfDevice failure → IsListFailure contents list failure → ⊥
+  unfolding no_file
+  unlisted list = by_device (λ failure. IsListFailure contents list failure → ⊥)
+      (λ name why. no_file list.file why.1) (λ name why. absurd why) (λ why. absurd why)
+      (λ number why. device_apart number why) (λ written why. output_apart written why)
+
+  not_open : (list : Option NamedList) (failure : Failure) → IsOfDevice failure → IsNotOpen contents list failure → ⊥
+  not_open None failure is why = absurd why
+  not_open (Some list) failure is why =
+      by_device (λ failure. IsUnopenedList contents list failure → ⊥)
+      (λ name why. absurd why) (λ name why. absurd why) (λ why. absurd why)
+      (λ number why. device_apart number why) (λ written why. output_apart written why) failure is why
+
+  unread_list : (list : Option NamedList) (name : Bor (List ℕ)) → IsUnreadList contents list name → ⊥
+  unfolding no_file
+  unread_list None name why = absurd why
+  unread_list (Some list) name why = no_file list.file why.1
+
+  cut_short : (plan : Plan) (list : Option NamedList) (names : List (List ℕ)) (failure : Failure) → IsOfDevice failure → IsCutShort plan contents list names printed failure → ⊥
+  unfolding no_write unread_list
+  cut_short plan list names = by_device (λ failure. IsCutShort plan contents list names printed failure → ⊥)
+      (λ name why. unread_list list name why.1) (λ name why. absurd why) (λ why. no_write why.1)
       (λ number why. device_apart number why.1) (λ written why. output_apart written why.1)
+
+  surveyed : (options : SurveyOptions) (files : List (List ℕ)) (list : Option NamedList) (failure : Failure) → IsOfDevice failure → IsSurveyFailure options contents files list printed failure → ⊥
+  unfolding not_open cut_short
+  surveyed options files list failure is why =
+      elim why [ inl unopened ↦ not_open list failure is unopened.0 | inr short ↦ cut_short (plan_of options files list) list short.0 failure is short.2 ]
 
   linked : (options : LinkOptions) (files : List (List ℕ)) (out : List ℕ) (failure : Failure) → IsOfDevice failure → IsLinkFailure options contents files out failure → ⊥
   unfolding no_file no_readers
@@ -209,13 +236,14 @@ module _ (contents contents_then : Contents) (printed : Printed) (are_known : Ar
       ])
 
 pub no_device_fails : NoDeviceFails
-unfolding load image told compared surveyed linked mapped copied
+unfolding load image told compared unlisted surveyed linked mapped copied
 no_device_fails contents contents_then printed failure are_known are_known_then whole is = record {
   load = λ text origin file. load contents contents_then printed are_known are_known_then whole text origin file failure is;
   image = λ text origin files. image contents contents_then printed are_known are_known_then whole text origin files failure is;
   text = λ text file. told contents contents_then printed are_known are_known_then whole text file failure is;
   compare = λ with_symbols first second. compared contents contents_then printed are_known are_known_then whole with_symbols first second failure is;
-  survey = λ files. surveyed contents contents_then printed are_known are_known_then whole files failure is;
+  survey = λ options files list. surveyed contents contents_then printed are_known are_known_then whole options files list failure is;
+  list = λ list. unlisted contents contents_then printed are_known are_known_then whole list failure is;
   link = λ options files out. linked contents contents_then printed are_known are_known_then whole options files out failure is;
   link_with_map = λ options files out map. mapped contents contents_then printed are_known are_known_then whole options files out map failure is;
   copy = λ form file out. copied contents contents_then printed are_known are_known_then whole form file out failure is;

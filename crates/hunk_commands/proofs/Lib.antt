@@ -7,9 +7,12 @@ pub mod FailureLemmas
 pub mod FaultLemmas
 pub mod HeadlineLemmas
 pub mod InputsLemmas
+pub mod NameReaderLemmas
 pub mod KnownFilesLemmas
 pub mod LinkLemmas
+pub mod ListedNamesLemmas
 mod MemoryStoreLemmas
 pub mod PrintingLemmas
 pub mod RequestLemmas
 pub mod SurveyLemmas
+pub mod SurveyNamesLemmas

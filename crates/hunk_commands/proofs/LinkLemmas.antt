@@ -27,7 +27,7 @@ use Rattle.hunk_commands.specs.Inputs.{OfFiles, OfWholeFiles}
 use Rattle.hunk_commands.specs.Link.{DoLinkAll, DoLinkFiles, DoLinkTo, HasMap, HasRunFault, IsLinkFailure, IsLinkedWithMap, IsMade, IsMapFailure, IsMapped, IsUnmapped, IsUnwritten, IsWrittenOut, map_failure}
 use Rattle.hunk_commands.specs.Store.{AreUnchanged, Contents, HasRun, IsBegun, IsCauseOf, IsReplaced, IsUnplaced, IsWriteFault, run_of}
 use Rattle.hunk_commands.specs.declared.failure.Failure.{Failure}
-use Rattle.hunk_commands.specs.declared.failure.Failure.TheVariants.{BadNumber, MapOverFile, Opening, Printing, Reading, SameFile, TooLong, TooManyAddresses, Tool, Writing}
+use Rattle.hunk_commands.specs.declared.failure.Failure.TheVariants.{BadName, BadNumber, MapOverFile, Opening, Printing, Reading, SameFile, TooLong, TooManyAddresses, Tool, Writing}
 use Rattle.hunk_commands.proofs.InputsLemmas.{OfFiles-weaker, OfWholeFiles-weaker}
 
 module _ (options : LinkOptions) (contents : Contents) (names : List (List ℕ)) (out : List ℕ) (taken : Taken) where
@@ -82,6 +82,7 @@ IsUnwritten-unplaced : (content : FileContent) (out : List ℕ) (failure : Failu
 IsUnwritten-unplaced content out (BadNumber addresses index) is = is
 IsUnwritten-unplaced content out (TooManyAddresses name) is = is
 IsUnwritten-unplaced content out (TooLong name) is = is
+IsUnwritten-unplaced content out (BadName list index) is = is
 IsUnwritten-unplaced content out (Opening name reason) is = is
 IsUnwritten-unplaced content out (Reading name) is = is
 IsUnwritten-unplaced content out (Writing name) is = is
@@ -103,6 +104,7 @@ IsUnmapped-unplaced : (content : FileContent) (map : Bor (List ℕ)) (failure : 
 IsUnmapped-unplaced content map (BadNumber addresses index) is = absurd is
 IsUnmapped-unplaced content map (TooManyAddresses name) is = absurd is
 IsUnmapped-unplaced content map (TooLong name) is = absurd is
+IsUnmapped-unplaced content map (BadName list index) is = absurd is
 IsUnmapped-unplaced content map (Opening name reason) is = is
 IsUnmapped-unplaced content map (Reading name) is = absurd is
 IsUnmapped-unplaced content map (Writing name) is = absurd is

@@ -1,36 +1,28 @@
--- The lines of a survey, which were printed, or why they were not.
-use Rattle.std.proofs.Common.{◌≡◌, ◌+◌, ap, arith, Bool, eq-eqb, if◌then◌else◌, ℕ, length, length-append, List, [], ◌++◌, Option, IsTrue, subst, sym, refl, take}
+-- The lines of a survey, one after another, and where they stopped.
+use Rattle.std.proofs.Common.{◌≡◌, ◌∙◌, ◌+◌, ◌<◌, ◌≤◌, zero, suc, ap, arith, Bool, eq-eqb, if◌then◌else◌, ℕ, length, length-append, List, [], ◌∷◌, ◌++◌, Option, None, Some, IsTrue, subst, sym, refl, take, append_assoc, append-nil, drop, get_or}
+use Rattle.std.specs.Borrow.{Bor}
+use Rattle.std.specs.Prelude.{IfErr, OnErr, Result, Ok, Err}
 use Rattle.std.specs.Io.KnownBytes.{Appends, Keeps}
+use Rattle.std.specs.List.{All, flat_map, zip}
 use Rattle.std.proofs.Math.Seq.{take-append-add, take-length}
-use Rattle.std.proofs.lemmas.List.{take-append-le}
+use Rattle.std.proofs.lemmas.List.{take-append-drop, take-append-le}
+use Rattle.std.proofs.lemmas.List.Elements.{All-cons, All-head, All-nil, All-tail}
 use Rattle.std.proofs.KnownBytes.{Appends-kept, Appends-trans}
 use Rattle.hunk_base.specs.Streams.{TookFront}
-use Rattle.hunk_tool.specs.Link.{Taken}
-use Rattle.hunk_tool.specs.Survey.{AreFound, IsSurveyFault, finding_lines, survey_status, totals_line}
-use Rattle.hunk_tool.specs.declared.survey.Finding.{Finding}
-use Rattle.hunk_tool.specs.declared.survey.SurveyFault.{SurveyFault}
-use Rattle.hunk_tool.specs.declared.survey.SurveyFault.TheVariants as survey_fault
+use Rattle.hunk_survey.specs.Finding.{IsOfFile, content_of}
+use Rattle.hunk_survey.specs.Tally.{tally_of, tally_status}
+use Rattle.hunk_survey.specs.declared.finding.Finding.{Finding}
+use Rattle.hunk_survey.specs.declared.tally.Tally.{Tally}
+use Rattle.hunk_tool.specs.Inputs.{file_names}
+use Rattle.hunk_commands.specs.FileList.{NamedList}
 use Rattle.hunk_commands.specs.Output.{IsFlushed, Printed}
 use Rattle.hunk_commands.specs.Store.{Contents}
-use Rattle.hunk_commands.specs.Survey.{IsCutShort, IsFailureOf, IsSurveyed, survey_text}
+use Rattle.hunk_commands.specs.Survey.{AreFirstFindings, AreTold, AreToldFirst, AreUntold, IsCut, IsCutShort, IsSurveyed, last_lines, survey_line, survey_lines, survey_text}
 use Rattle.hunk_commands.specs.declared.failure.Failure.{Failure}
-use Rattle.hunk_commands.specs.declared.failure.Failure.TheVariants.{Printing}
+use Rattle.hunk_commands.specs.declared.failure.Failure.TheVariants.{BadName, BadNumber, MapOverFile, Opening, Printing, Reading, SameFile, TooLong, TooManyAddresses, Tool, Writing}
+use Rattle.hunk_commands.specs.declared.survey.Plan.{Plan}
 
--- all lines were written, and the output passed them on
-pub surveyed : (contents : Contents) (names : List (List ℕ)) (printed : Printed) (findings : List Finding) (status : ℕ) (middle end : Option (List ℕ))
-    → AreFound contents names printed.old middle findings → Appends middle end (totals_line findings) → Keeps end printed.new → IsFlushed printed
-    → status ≡ survey_status findings → IsSurveyed contents names printed status
-surveyed contents names printed findings status middle end found totals kept flushed is = record {
-  findings = findings;
-  one_each = found.one_each;
-  of_files = found.of_files;
-  written = Appends-kept printed.old end printed.new (finding_lines names findings ++ totals_line findings)
-      (Appends-trans printed.old middle end (finding_lines names findings) (totals_line findings) found.written totals) kept;
-  flushed = flushed;
-  status_is = is;
-}
-
--- ---- not all lines were printed
+-- ---- the front of a text
 
 -- the first bytes of a text are the first of any that begins with it
 front-of : (old new : Option (List ℕ)) (text more : List ℕ) (written : ℕ) → TookFront old new text written → TookFront old new (text ++ more) written
@@ -50,75 +42,264 @@ front-after old between new text more written whole front = record {
   taken = subst (Appends old new) (sym (take-append-add text more written)) (Appends-trans old between new text (take written more) whole front.taken);
 }
 
--- a flush keeps what was taken
-front-kept : (old between new : Option (List ℕ)) (text : List ℕ) (written : ℕ) → TookFront old between text written → Keeps between new → TookFront old new text written
-front-kept old between new text written front kept = record { within = front.within; taken = Appends-kept old between new (take written text) front.taken kept }
+-- ---- names
 
--- where something was found of each file, their numbers come after the lines
-text-of-all : (names : List (List ℕ)) (findings : List Finding) → length findings ≡ length names → survey_text names findings ≡ finding_lines names findings ++ totals_line findings
-text-of-all names findings all = ap (λ is. finding_lines names findings ++ (if is then totals_line findings else [])) (eq-eqb (length findings) (length names) all)
+-- the name of one more file
+pub names-next : (files : List (Bor (List ℕ))) (none : Bor (List ℕ)) (index : ℕ) → index < length files
+    → take index (file_names files) ++ (get_or files index none).now ∷ [] ≡ take (index + 1) (file_names files)
+names-next files none index within = names-after files none index within ∙ ap (λ count. take count (file_names files)) (let one : suc index ≡ index + 1 = omega arith in one)
+  where
+    names-after : (files : List (Bor (List ℕ))) (none : Bor (List ℕ)) (index : ℕ) → index < length files
+        → take index (file_names files) ++ (get_or files index none).now ∷ [] ≡ take (suc index) (file_names files)
+    names-after [] none index within = absurd (omega (arith, within))
+    names-after (file ∷ files) none zero within = refl
+    names-after (file ∷ files) none (suc index) within = ap (λ rest. file.now ∷ rest) (names-after files none index (omega (arith, within)))
 
-module _ (contents : Contents) (names : List (List ℕ)) (printed : Printed) where
-  -- the survey of the files was cut short, and the output was flushed all the same
-  pub cut_short : (failed : Bool) (taken : Taken) (fault : SurveyFault) (failure : Failure) → IsSurveyFault contents names failed taken fault → printed.old ≡ taken.old → Keeps taken.new printed.new
-      → (IsTrue taken.failed → IsTrue printed.failed) → IsFailureOf fault failure → IsCutShort contents names printed failure
-  cut_short failed taken survey_fault.Output failure ((written, cut), failing) from_start kept stays is =
-      subst (IsCutShort contents names printed) (sym is) (
-        (
-          written,
-          record {
-            findings = cut.findings;
-            few = cut.few;
-            of_files = cut.of_files;
-            front = subst (λ old. TookFront old printed.new (survey_text names cut.findings) written) (sym from_start)
-                (front-kept taken.old taken.new printed.new _ written (front-of taken.old taken.new (finding_lines names cut.findings) _ written cut.front) kept);
-          },
-        ),
-        stays failing,
-      )
-  cut_short failed taken survey_fault.OutOfMemory failure (found, same) from_start kept stays is =
-      subst (IsCutShort contents names printed) (sym is) (
-        record {
-          findings = found.findings;
-          few = found.few;
-          of_files = found.of_files;
-          written = subst (λ old. Appends old printed.new (finding_lines names found.findings)) (sym from_start) (Appends-kept taken.old taken.new printed.new _ found.written kept);
-        },
-        refl,
-      )
+-- ---- findings, with the names of their files
 
-  -- the last line was not written
-  pub cut_in_totals : (findings : List Finding) (middle : Option (List ℕ)) (written : ℕ) → AreFound contents names printed.old middle findings → TookFront middle printed.new (totals_line findings) written
-      → IsTrue printed.failed → IsCutShort contents names printed Printing
-  cut_in_totals findings middle written found front failing = (
-    (
-      length (finding_lines names findings) + written,
-      record {
-        findings = findings;
-        few = omega (arith, found.one_each);
-        of_files = found.of_files;
-        front = subst (λ text. TookFront printed.old printed.new text (length (finding_lines names findings) + written)) (sym (text-of-all names findings found.one_each))
-            (front-after printed.old middle printed.new _ _ written found.written front);
-      },
-    ),
-    failing,
+-- names after those of the findings change nothing
+zip-longer : (names more : List (List ℕ)) (findings : List Finding) → length findings ≤ length names → zip (names ++ more) findings ≡ zip names findings
+zip-longer [] [] [] few = refl
+zip-longer [] (name ∷ more) [] few = refl
+zip-longer [] more (finding ∷ findings) few = absurd (omega (arith, few))
+zip-longer (name ∷ names) more [] few = refl
+zip-longer (name ∷ names) more (finding ∷ findings) few = ap (λ rest. (name, finding) ∷ rest) (zip-longer names more findings (omega (arith, few)))
+
+-- one name and one finding more
+zip-more : (names : List (List ℕ)) (findings : List Finding) (name : List ℕ) (finding : Finding) → length findings ≡ length names
+    → zip (names ++ name ∷ []) (findings ++ finding ∷ []) ≡ zip names findings ++ (name, finding) ∷ []
+zip-more [] [] name finding same = refl
+zip-more [] (found ∷ findings) name finding same = absurd (omega (arith, same))
+zip-more (other ∷ names) [] name finding same = absurd (omega (arith, same))
+zip-more (other ∷ names) (found ∷ findings) name finding same = ap (λ rest. (other, found) ∷ rest) (zip-more names findings name finding (omega (arith, same)))
+
+All-more : {X : Type 0} (Holds : X → Type 0) (xs : List X) (x : X) → All Holds xs → Holds x → All Holds (xs ++ x ∷ [])
+All-more Holds [] x all holds = All-cons Holds x [] holds (All-nil Holds)
+All-more Holds (first ∷ xs) x all holds = All-cons Holds first (xs ++ x ∷ []) (All-head Holds first xs all) (All-more Holds xs x (All-tail Holds first xs all) holds)
+
+flat_map-more : {X : Type 0} (text : X → List ℕ) (xs : List X) (x : X) → flat_map text (xs ++ x ∷ []) ≡ flat_map text xs ++ text x
+flat_map-more text [] x = append-nil (text x)
+flat_map-more text (first ∷ xs) x = ap (λ rest. text first ++ rest) (flat_map-more text xs x) ∙ sym (append_assoc (text first) (flat_map text xs) (text x))
+
+module _ (plan : Plan) (contents : Contents) where
+  abbrev Fits : List ℕ × Finding → Type 0
+  Fits about = IsOfFile plan.find (content_of contents about.0) about.1
+
+  abbrev Line : List ℕ × Finding → List ℕ
+  Line about = survey_line plan.json about.0 about.1
+
+  first-longer : (names more : List (List ℕ)) (findings : List Finding) → AreFirstFindings plan contents names findings → AreFirstFindings plan contents (names ++ more) findings
+  first-longer names more findings first = record {
+    few = omega (arith, first.few, length-append names more);
+    of_files = subst (All Fits) (sym (zip-longer names more findings first.few)) first.of_files;
+  }
+
+  lines-longer : (names more : List (List ℕ)) (findings : List Finding) → length findings ≤ length names → survey_lines plan.json (names ++ more) findings ≡ survey_lines plan.json names findings
+  lines-longer names more findings few = ap (flat_map Line) (zip-longer names more findings few)
+
+  -- ---- one line after another
+
+  -- nothing was told yet
+  pub told-none : (now : Option (List ℕ)) → AreTold plan contents [] now now (tally_of [])
+  told-none None = record { findings = []; one_each = refl; of_files = All-nil Fits; written = tt; tally_is = refl }
+  told-none (Some bytes) = record { findings = []; one_each = refl; of_files = All-nil Fits; written = sym (append-nil bytes); tally_is = refl }
+
+  -- the line about one more file was written
+  pub told-more : (names : List (List ℕ)) (name : List ℕ) (finding : Finding) (start between now : Option (List ℕ)) (tally tally_then : Tally)
+      → AreTold plan contents names start between tally → IsOfFile plan.find (content_of contents name) finding → Appends between now (survey_line plan.json name finding)
+      → ((findings : List Finding) → tally ≡ tally_of findings → tally_then ≡ tally_of (findings ++ finding ∷ []))
+      → AreTold plan contents (names ++ name ∷ []) start now tally_then
+  told-more names name finding start between now tally tally_then told is written counts = record {
+    findings = told.findings ++ finding ∷ [];
+    one_each = omega (arith, told.one_each, length-append told.findings (finding ∷ []), length-append names (name ∷ []));
+    of_files = subst (All Fits) (sym (zip-more names told.findings name finding told.one_each)) (All-more Fits (zip names told.findings) (name, finding) told.of_files is);
+    written = subst (Appends start now) (sym (ap (flat_map Line) (zip-more names told.findings name finding told.one_each) ∙ flat_map-more Line (zip names told.findings) (name, finding)))
+        (Appends-trans start between now (survey_lines plan.json names told.findings) (survey_line plan.json name finding) told.written written);
+    tally_is = counts told.findings told.tally_is;
+  }
+
+  -- a flush keeps what was told
+  pub told-kept : (names : List (List ℕ)) (start between now : Option (List ℕ)) (tally : Tally) → AreTold plan contents names start between tally → Keeps between now → AreTold plan contents names start now tally
+  told-kept names start between now tally told kept = record {
+    findings = told.findings;
+    one_each = told.one_each;
+    of_files = told.of_files;
+    written = Appends-kept start between now (survey_lines plan.json names told.findings) told.written kept;
+    tally_is = told.tally_is;
+  }
+
+  -- the lines that were told are those about the first files
+  pub told-first : (names more : List (List ℕ)) (start now : Option (List ℕ)) (tally : Tally) → AreTold plan contents names start now tally → AreToldFirst plan contents (names ++ more) start now
+  told-first names more start now tally told = record {
+    findings = told.findings;
+    are_first = first-longer names more told.findings (record { few = omega (arith, told.one_each); of_files = told.of_files });
+    written = subst (Appends start now) (sym (lines-longer names more told.findings (omega (arith, told.one_each)))) told.written;
+  }
+
+  -- and about all files
+  pub told-whole : (names : List (List ℕ)) (start now : Option (List ℕ)) (tally : Tally) → AreTold plan contents names start now tally → AreToldFirst plan contents names start now
+  told-whole names start now tally told = record {
+    findings = told.findings;
+    are_first = record { few = omega (arith, told.one_each); of_files = told.of_files };
+    written = told.written;
+  }
+
+  -- ---- where they stopped
+
+  -- the line about the next file was not written
+  pub cut-in-line : (names : List (List ℕ)) (name : List ℕ) (finding : Finding) (start between now : Option (List ℕ)) (tally : Tally) (written : ℕ)
+      → AreTold plan contents names start between tally → IsOfFile plan.find (content_of contents name) finding → TookFront between now (survey_line plan.json name finding) written
+      → (total : ℕ) × IsCut plan contents (names ++ name ∷ []) (survey_lines plan.json (names ++ name ∷ [])) start now total
+  cut-in-line names name finding start between now tally written told is front = (
+    length (survey_lines plan.json names told.findings) + written,
+    record {
+      findings = told.findings ++ finding ∷ [];
+      are_first = record {
+        few = omega (arith, told.one_each, length-append told.findings (finding ∷ []), length-append names (name ∷ []));
+        of_files = subst (All Fits) (sym (zip-more names told.findings name finding told.one_each)) (All-more Fits (zip names told.findings) (name, finding) told.of_files is);
+      };
+      front = subst (λ text. TookFront start now text (length (survey_lines plan.json names told.findings) + written))
+          (sym (ap (flat_map Line) (zip-more names told.findings name finding told.one_each) ∙ flat_map-more Line (zip names told.findings) (name, finding)))
+          (front-after start between now (survey_lines plan.json names told.findings) (survey_line plan.json name finding) written told.written front);
+    },
   )
 
-  -- everything was written, and the output did not pass it on
-  pub cut_at_flush : (findings : List Finding) (middle end : Option (List ℕ)) → AreFound contents names printed.old middle findings → Appends middle end (totals_line findings) → Keeps end printed.new
-      → IsTrue printed.failed → IsCutShort contents names printed Printing
-  cut_at_flush findings middle end found totals kept failing =
-      let whole = Appends-kept printed.old end printed.new (finding_lines names findings ++ totals_line findings)
-      (Appends-trans printed.old middle end (finding_lines names findings) (totals_line findings) found.written totals) kept in (
+  -- everything was written, and not passed on
+  pub cut-at-flush : (names : List (List ℕ)) (start now : Option (List ℕ)) (tally : Tally) → AreTold plan contents names start now tally
+      → (total : ℕ) × IsCut plan contents names (survey_lines plan.json names) start now total
+  cut-at-flush names start now tally told = (
+    length (survey_lines plan.json names told.findings),
+    record {
+      findings = told.findings;
+      are_first = record { few = omega (arith, told.one_each); of_files = told.of_files };
+      front = front-whole start now (survey_lines plan.json names told.findings) told.written;
+    },
+  )
+
+  -- the output did not pass them on, and says so
+  pub untold-at-flush : {X : Type 0} (list : Option NamedList) (names : List (List ℕ)) (start now : Option (List ℕ)) (failed : Bool) (result : Result X Failure)
+      → OnErr result (IsTrue failed) → IfErr result (λ failure. failure ≡ Printing)
+      → ((total : ℕ) × IsCut plan contents names (survey_lines plan.json names) start now total) → IfErr result (AreUntold plan contents list names start now failed)
+  untold-at-flush list names start now failed (Ok done) failing is cut = tt
+  untold-at-flush list names start now failed (Err failure) failing is cut = subst (AreUntold plan contents list names start now failed) (sym is) (cut, failing)
+
+  cut-longer : (names more : List (List ℕ)) (start now : Option (List ℕ)) (written : ℕ)
+      → IsCut plan contents names (survey_lines plan.json names) start now written → IsCut plan contents (names ++ more) (survey_lines plan.json (names ++ more)) start now written
+  cut-longer names more start now written cut = record {
+    findings = cut.findings;
+    are_first = first-longer names more cut.findings cut.are_first;
+    front = subst (λ text. TookFront start now text written) (sym (lines-longer names more cut.findings cut.are_first.few)) cut.front;
+  }
+
+  toldfirst-longer : (names more : List (List ℕ)) (start now : Option (List ℕ)) → AreToldFirst plan contents names start now → AreToldFirst plan contents (names ++ more) start now
+  toldfirst-longer names more start now told = record {
+    findings = told.findings;
+    are_first = first-longer names more told.findings told.are_first;
+    written = subst (Appends start now) (sym (lines-longer names more told.findings told.are_first.few)) told.written;
+  }
+
+  -- it stopped in the lines about the first of more files
+  pub untold-longer : (list : Option NamedList) (names more : List (List ℕ)) (start now : Option (List ℕ)) (failed : Bool) (failure : Failure)
+      → AreUntold plan contents list names start now failed failure → AreUntold plan contents list (names ++ more) start now failed failure
+  untold-longer list names more start now failed Printing stopped = ((stopped.0.0, cut-longer names more start now stopped.0.0 stopped.0.1), stopped.1)
+  untold-longer list names more start now failed (Reading name) stopped = (toldfirst-longer names more start now stopped.0, stopped.1)
+  untold-longer list names more start now failed (Tool fault) stopped = (toldfirst-longer names more start now stopped.0, stopped.1)
+  untold-longer list names more start now failed (BadNumber found index) stopped = absurd stopped
+  untold-longer list names more start now failed (BadName found index) stopped = absurd stopped
+  untold-longer list names more start now failed (TooManyAddresses file) stopped = absurd stopped
+  untold-longer list names more start now failed (TooLong file) stopped = absurd stopped
+  untold-longer list names more start now failed (Opening file reason) stopped = absurd stopped
+  untold-longer list names more start now failed (Writing file) stopped = absurd stopped
+  untold-longer list names more start now failed (SameFile file) stopped = absurd stopped
+  untold-longer list names more start now failed (MapOverFile file) stopped = absurd stopped
+
+  -- it stopped after the line about one of the files
+  pub untold-next : (list : Option NamedList) (files : List (Bor (List ℕ))) (none : Bor (List ℕ)) (index : ℕ) (start now : Option (List ℕ)) (failed : Bool) (failure : Failure) → index < length files
+      → AreUntold plan contents list (take index (file_names files) ++ (get_or files index none).now ∷ []) start now failed failure → AreUntold plan contents list (file_names files) start now failed failure
+  untold-next list files none index start now failed failure within stopped =
+      let names = file_names files in
+      let front = subst (λ front. AreUntold plan contents list front start now failed failure) (names-next files none index within) stopped in
+      subst (λ all. AreUntold plan contents list all start now failed failure) (take-append-drop (index + 1) names)
+      (untold-longer list (take (index + 1) names) (drop (index + 1) names) start now failed failure front)
+
+  -- the lines stopped, so all that is told did
+  pub untold-short : (list : Option NamedList) (names : List (List ℕ)) (printed : Printed) (failure : Failure)
+      → AreUntold plan contents list names printed.old printed.new printed.failed failure → IsCutShort plan contents list names printed failure
+  untold-short list names printed Printing stopped =
+      let cut = stopped.0.1 in (
         (
-          length (finding_lines names findings ++ totals_line findings),
+          stopped.0.0,
           record {
-            findings = findings;
-            few = omega (arith, found.one_each);
-            of_files = found.of_files;
-            front = subst (λ text. TookFront printed.old printed.new text (length (finding_lines names findings ++ totals_line findings))) (sym (text-of-all names findings found.one_each))
-                (front-whole printed.old printed.new _ whole);
+            findings = cut.findings;
+            are_first = cut.are_first;
+            front = front-of printed.old printed.new (survey_lines plan.json names cut.findings) _ stopped.0.0 cut.front;
           },
         ),
-        failing,
+        stopped.1,
       )
+  untold-short list names printed (Reading name) stopped = stopped
+  untold-short list names printed (Tool fault) stopped = stopped
+  untold-short list names printed (BadNumber found index) stopped = absurd stopped
+  untold-short list names printed (BadName found index) stopped = absurd stopped
+  untold-short list names printed (TooManyAddresses file) stopped = absurd stopped
+  untold-short list names printed (TooLong file) stopped = absurd stopped
+  untold-short list names printed (Opening file reason) stopped = absurd stopped
+  untold-short list names printed (Writing file) stopped = absurd stopped
+  untold-short list names printed (SameFile file) stopped = absurd stopped
+  untold-short list names printed (MapOverFile file) stopped = absurd stopped
+
+  -- ---- the last lines
+
+  -- where something was found of each file, the last lines come after the others
+  text-of-all : (names : List (List ℕ)) (findings : List Finding) → length findings ≡ length names
+      → survey_text plan.json names findings ≡ survey_lines plan.json names findings ++ last_lines plan.json (tally_of findings)
+  text-of-all names findings all = ap (λ is. survey_lines plan.json names findings ++ (if is then last_lines plan.json (tally_of findings) else [])) (eq-eqb (length findings) (length names) all)
+
+  module _ (names : List (List ℕ)) (printed : Printed) (tally : Tally) (middle : Option (List ℕ)) (told : AreTold plan contents names printed.old middle tally) where
+    abbrev last : List ℕ
+    last = last_lines plan.json (tally_of told.findings)
+
+    -- all lines were written, and the output passed them on
+    pub surveyed : (end : Option (List ℕ)) (status : ℕ) → Appends middle end (last_lines plan.json tally) → Keeps end printed.new → IsFlushed printed
+        → status ≡ tally_status tally → IsSurveyed plan contents names printed status
+    surveyed end status written kept flushed is = record {
+      findings = told.findings;
+      one_each = told.one_each;
+      of_files = told.of_files;
+      written = Appends-kept printed.old end printed.new (survey_lines plan.json names told.findings ++ last)
+          (Appends-trans printed.old middle end (survey_lines plan.json names told.findings) last told.written (subst (λ t. Appends middle end (last_lines plan.json t)) told.tally_is written)) kept;
+      flushed = flushed;
+      status_is = is ∙ ap tally_status told.tally_is;
+    }
+
+    -- the last lines were not written
+    pub cut-in-last : (list : Option NamedList) (written : ℕ) → TookFront middle printed.new (last_lines plan.json tally) written → IsTrue printed.failed → IsCutShort plan contents list names printed Printing
+    cut-in-last list written front failing = (
+      (
+        length (survey_lines plan.json names told.findings) + written,
+        record {
+          findings = told.findings;
+          are_first = record { few = omega (arith, told.one_each); of_files = told.of_files };
+          front = subst (λ text. TookFront printed.old printed.new text (length (survey_lines plan.json names told.findings) + written)) (sym (text-of-all names told.findings told.one_each))
+              (front-after printed.old middle printed.new _ _ written told.written (subst (λ t. TookFront middle printed.new (last_lines plan.json t) written) told.tally_is front));
+        },
+      ),
+      failing,
+    )
+
+    -- everything was written, and the output did not pass it on
+    pub cut-at-end : (list : Option NamedList) (end : Option (List ℕ)) → Appends middle end (last_lines plan.json tally) → Keeps end printed.new → IsTrue printed.failed → IsCutShort plan contents list names printed Printing
+    cut-at-end list end written kept failing =
+        let whole = Appends-kept printed.old end printed.new (survey_lines plan.json names told.findings ++ last)
+        (Appends-trans printed.old middle end (survey_lines plan.json names told.findings) last told.written (subst (λ t. Appends middle end (last_lines plan.json t)) told.tally_is written)) kept in (
+          (
+            length (survey_lines plan.json names told.findings ++ last),
+            record {
+              findings = told.findings;
+              are_first = record { few = omega (arith, told.one_each); of_files = told.of_files };
+              front = subst (λ text. TookFront printed.old printed.new text (length (survey_lines plan.json names told.findings ++ last))) (sym (text-of-all names told.findings told.one_each))
+                  (front-whole printed.old printed.new _ whole);
+            },
+          ),
+          failing,
+        )

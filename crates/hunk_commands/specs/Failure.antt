@@ -9,12 +9,12 @@ use Rattle.hunk_tool.specs.FaultLine.{fault_line}
 use Rattle.hunk_tool.specs.declared.tool_fault.ToolFault.TheVariants.{Input, Output}
 use Rattle.hunk_tool.specs.ToolFault.{status}
 use Rattle.hunk_commands.specs.declared.failure.Failure.{Failure}
-use Rattle.hunk_commands.specs.declared.failure.Failure.TheVariants.{BadNumber, MapOverFile, Opening, Printing, Reading, SameFile, TooLong, TooManyAddresses, Tool, Writing}
+use Rattle.hunk_commands.specs.declared.failure.Failure.TheVariants.{BadName, BadNumber, MapOverFile, Opening, Printing, Reading, SameFile, TooLong, TooManyAddresses, Tool, Writing}
 use Rattle.hunk_commands.specs.Addresses.{Origin, origin_of}
 use Rattle.hunk_commands.specs.Addresses.Origin.{in_file, in_list}
 
--- 2 if the addresses are rejected, or MAP is one file with OUT or with one of the FILEs, 3 if a file
--- cannot be opened, or a read of the addresses or a write failed, also one of the map, and otherwise the
+-- 2 if the addresses or a name in a list are rejected, or MAP is one file with OUT or with one of the FILEs, 3 if
+-- a file cannot be opened, or a read of the addresses or of a list or a write failed, also one of the map, and otherwise the
 -- status of what `hunk_tool` returned
 abbrev pub status_of : Failure → ℕ
 status_of (BadNumber addresses index) = 2
@@ -22,6 +22,7 @@ status_of (TooManyAddresses file) = 2
 status_of (TooLong file) = 2
 status_of (Opening file reason) = 3
 status_of (Reading file) = 3
+status_of (BadName list index) = 2
 status_of (Writing file) = 3
 status_of (SameFile file) = 2
 status_of (MapOverFile file) = 2
@@ -38,10 +39,17 @@ abbrev pub origin_name : Origin → List ℕ
 origin_name (in_list list) = codes "--at"
 origin_name (in_file name) = name
 
+-- the line that tells this about the part of a file that has this kind and index
+abbrev pub part_line : (file kind : List ℕ) → ℕ → (told : List ℕ) → List ℕ
+part_line file kind index told = line (codes "amihunk: " ++ file ++ kind ++ decimal index ++ told)
+
 -- the line for a part of the addresses that is not a number
 abbrev pub bad_number_line : Origin → ℕ → List ℕ
-bad_number_line origin index =
-    line (codes "amihunk: " ++ origin_name origin ++ codes ": part " ++ decimal index ++ codes " is not 1 to 8 hexadecimal digits")
+bad_number_line origin index = part_line (origin_name origin) (codes ": part ") index (codes " is not 1 to 8 hexadecimal digits")
+
+-- the line for a name in a list that is not UTF-8
+abbrev pub bad_name_line : (list : List ℕ) → ℕ → List ℕ
+bad_name_line list index = part_line list (codes ": name ") index (codes " is not UTF-8")
 
 -- the line that tells this about a file
 abbrev pub about_line : (file told : List ℕ) → List ℕ
@@ -54,6 +62,7 @@ failure_line names (TooManyAddresses file) = about_line file.now (codes "more th
 failure_line names (TooLong file) = about_line file.now (codes "more than 16777216 bytes")
 failure_line names (Opening file reason) = about_line file.now (codes "cannot be opened")
 failure_line names (Reading file) = about_line file.now (codes "read failed")
+failure_line names (BadName list index) = bad_name_line list.now index
 failure_line names (Writing file) = about_line file.now (codes "write failed")
 failure_line names (SameFile file) = about_line file.now (codes "given for both --out and --map")
 failure_line names (MapOverFile file) = about_line file.now (codes "given for both --map and FILE")

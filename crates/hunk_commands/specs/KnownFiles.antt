@@ -1,21 +1,23 @@
 -- Over files that are known, and an output that has not failed, no request fails for a device.
-use Rattle.std.specs.Prelude.{◌≡◌, ℕ, List, Bool, false, ⊤}
+use Rattle.std.specs.Prelude.{◌≡◌, ℕ, List, Bool, Option, false, ⊤}
 use Rattle.hunk_tool.specs.declared.copy.CopyForm.{CopyForm}
 use Rattle.hunk_tool.specs.declared.link_options.LinkOptions.{LinkOptions}
 use Rattle.hunk_tool.specs.declared.tool_fault.ToolFault.TheVariants.{InputDevice, Output}
 use Rattle.hunk_commands.specs.Addresses.{Origin}
 use Rattle.hunk_commands.specs.Compare.{IsCompareFailure}
 use Rattle.hunk_commands.specs.Copy.{IsCopyFailure}
+use Rattle.hunk_commands.specs.FileList.{IsListFailure, NamedList}
 use Rattle.hunk_commands.specs.Image.{IsImageFailure}
 use Rattle.hunk_commands.specs.Link.{IsLinkFailure, IsMapFailure}
 use Rattle.hunk_commands.specs.Load.{IsLoadFailure}
 use Rattle.hunk_commands.specs.Output.{Printed}
 use Rattle.hunk_commands.specs.Store.{Contents, IsKnown}
-use Rattle.hunk_commands.specs.Survey.{IsCutShort}
+use Rattle.hunk_commands.specs.Survey.{IsSurveyFailure}
 use Rattle.hunk_commands.specs.Text.{IsTextFailure}
 use Rattle.hunk_commands.specs.declared.failure.Failure.{Failure}
 use Rattle.hunk_commands.specs.declared.failure.Failure.TheVariants.{Printing, Reading, Tool, Writing}
 use Rattle.hunk_commands.specs.declared.load.LoadText.{LoadText}
+use Rattle.hunk_commands.specs.declared.survey.SurveyOptions.{SurveyOptions}
 use Rattle.hunk_commands.specs.declared.text.Text.{Text}
 
 -- a read or a write failed
@@ -37,7 +39,8 @@ pub record IsNoFailure (contents contents_then : Contents) (printed : Printed) (
   pub image : (text : LoadText) (origin : Origin) (files : List (List ℕ)) → IsImageFailure text contents origin files printed failure → ⊥
   pub text : (text : Text) (file : List ℕ) → IsTextFailure text contents file printed failure → ⊥
   pub compare : (with_symbols : Bool) (first second : List ℕ) → IsCompareFailure with_symbols contents first second printed failure → ⊥
-  pub survey : (files : List (List ℕ)) → IsCutShort contents files printed failure → ⊥
+  pub survey : (options : SurveyOptions) (files : List (List ℕ)) (list : Option NamedList) → IsSurveyFailure options contents files list printed failure → ⊥
+  pub list : (list : NamedList) → IsListFailure contents list failure → ⊥
   pub link : (options : LinkOptions) (files : List (List ℕ)) (out : List ℕ) → IsLinkFailure options contents files out failure → ⊥
   pub link_with_map : (options : LinkOptions) (files : List (List ℕ)) (out map : List ℕ) → IsMapFailure options contents files out map contents_then failure → ⊥
   pub copy : (form : CopyForm) (file out : List ℕ) → IsCopyFailure form contents file out failure → ⊥

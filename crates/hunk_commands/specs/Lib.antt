@@ -10,6 +10,9 @@ pub mod Store
 pub mod SystemFile
 pub mod MemoryStore
 pub mod Inputs
+pub mod FileList
+pub mod NameReader
+pub mod ListedNames
 pub mod Addresses
 pub mod Load
 pub mod Link

@@ -1,12 +1,13 @@
 -- The exit status after a request, the line of its failure, and what is told after it.
 use Rattle.std.specs.Borrow.{Bor}
-use Rattle.std.specs.Prelude.{◌≡◌, ◌⊎◌, ◌∷◌, ◌++◌, [], ℕ, List, Bool, Option, if◌then◌else◌, option_map, string_bytes}
+use Rattle.std.specs.Prelude.{◌≡◌, ◌⊎◌, ◌∷◌, ◌++◌, [], ℕ, List, Bool, Option, None, Some, if◌then◌else◌, option_map, string_bytes}
 use Rattle.hunk_tool.specs.Inputs.{file_names}
 use Rattle.hunk_tool.specs.declared.copy.CopyForm.{CopyForm}
 use Rattle.hunk_tool.specs.declared.link_options.LinkOptions.{LinkOptions}
 use Rattle.hunk_tool.specs.declared.tool_fault.ToolFault.TheVariants as tool_fault
 use Rattle.hunk_commands.specs.Addresses.{Origin, origin_of}
 use Rattle.hunk_commands.specs.Explain.{AreImageLines, AreLinkLines, AreLoadFileLines, AreLoadLines, AreNoLines, AreTextLines, IfAsked}
+use Rattle.hunk_commands.specs.FileList.{AreNamesIn, IsListFailure, NamedList, given_list}
 use Rattle.hunk_commands.specs.Failure.{failure_line, status_of, status_of_comparison, TellsLine}
 use Rattle.hunk_commands.specs.Compare.{AreCompared, IsCompareFailure}
 use Rattle.hunk_commands.specs.Copy.{IsCopiedOut, IsCopyFailure}
@@ -16,12 +17,13 @@ use Rattle.hunk_commands.specs.Image.{AreImaged, IsImageFailure}
 use Rattle.hunk_commands.specs.Names.{AreListed, IsNamesFailure}
 use Rattle.hunk_commands.specs.Output.{IsExhausted, IsNothing, IsPrinted, IsUnprinted, Printed, printed_of}
 use Rattle.hunk_commands.specs.Store.{AreUnchanged, Contents}
-use Rattle.hunk_commands.specs.Survey.{IsCutShort, IsSurveyed}
+use Rattle.hunk_commands.specs.Survey.{AreSurveyed, IsSurveyFailure}
 use Rattle.hunk_commands.specs.Text.{IsTextFailure, IsTold}
 use Rattle.hunk_commands.specs.Version.{version_line}
 use Rattle.hunk_commands.specs.declared.failure.Failure.{Failure}
 use Rattle.hunk_commands.specs.declared.failure.Failure.TheVariants.{Tool}
 use Rattle.hunk_commands.specs.declared.load.LoadText.{LoadText}
+use Rattle.hunk_commands.specs.declared.survey.SurveyOptions.{SurveyOptions}
 use Rattle.hunk_commands.specs.declared.text.Text.{Text}
 use Rattle.hunk_commands.specs.declared.text.Text.TheVariants.{Line, Shown}
 use Rattle.hunk_commands.specs.declared.request.Request.{Request}
@@ -84,9 +86,10 @@ EndsNames contents printed taken failed old new files status =
     ⊎ IsFailed taken failed old new (OrExhausted printed (IsNamesFailure contents files printed)) NoMore files status
 
 -- the status after `survey`: no file stops it
-abbrev pub EndsSurvey : {W : Type 0} → Contents → Printed → (taken : W → Option (List ℕ)) (failed : W → Bool) (old new : W) (files : List (List ℕ)) → ℕ → Type 0
-EndsSurvey contents printed taken failed old new files status =
-    IsSurveyed contents files printed status ⊎ IsFailed taken failed old new (IsCutShort contents files printed) NoMore [] status
+abbrev pub EndsSurvey : {W : Type 0} → SurveyOptions → Contents → Printed → (taken : W → Option (List ℕ)) (failed : W → Bool) (old new : W) (files : List (List ℕ)) → Option NamedList → ℕ → Type 0
+EndsSurvey options contents printed taken failed old new files list status =
+    AreSurveyed options contents files list printed status
+    ⊎ IsFailed taken failed old new (IsSurveyFailure options contents files list printed) NoMore [] status
 
 -- the status of a comparison that was made
 abbrev pub compared_status : (same : Bool) → ℕ
@@ -114,12 +117,22 @@ EndsVersion printed taken failed old new status = EndsHelp version_line printed 
 abbrev pub given_text : Option (Bor (List ℕ)) → Option (List ℕ)
 given_text = option_map (λ text. text.now)
 
--- the status after `link`
-abbrev pub EndsLink : {W : Type 0} → (contents contents_then : Contents) → (taken : W → Option (List ℕ)) (failed : W → Bool) (old new : W) (out : List ℕ) (map : Option (List ℕ)) (options : LinkOptions) (explain : Bool) (files : List (List ℕ)) → ℕ → Type 0
-EndsLink contents contents_then taken failed old new out map options explain files status =
+-- the status after `link` of these files
+abbrev pub EndsLinkOf : {W : Type 0} → (contents contents_then : Contents) → (taken : W → Option (List ℕ)) (failed : W → Bool) (old new : W) (out : List ℕ) (map : Option (List ℕ)) (options : LinkOptions) (explain : Bool) (files : List (List ℕ)) → ℕ → Type 0
+EndsLinkOf contents contents_then taken failed old new out map options explain files status =
     ((status ≡ 0) × IsDone options contents files out map contents_then)
     ⊎ IsFailed taken failed old new (OrUntouched contents contents_then (IsUndone options contents files out map contents_then))
     (IfAsked explain (AreLinkLines contents_then files)) files status
+
+-- the status after `link`: of the files that are given, and of those in a list, if there is one, after them; or the
+-- names in the list are not known, and no file was touched
+abbrev pub EndsLink : {W : Type 0} → (contents contents_then : Contents) → (taken : W → Option (List ℕ)) (failed : W → Bool) (old new : W) (out : List ℕ) (map : Option (List ℕ)) (options : LinkOptions) (explain : Bool) (files : List (List ℕ)) → Option NamedList → ℕ → Type 0
+EndsLink contents contents_then taken failed old new out map options explain files None status =
+    EndsLinkOf contents contents_then taken failed old new out map options explain files status
+EndsLink contents contents_then taken failed old new out map options explain files (Some list) status =
+    ((listed : List (List ℕ)) × AreNamesIn (contents list.file) list.end listed × EndsLinkOf contents contents_then taken failed old new out map options explain (files ++ listed) status)
+    ⊎ IsFailed taken failed old new (λ failure. IsListFailure contents list failure × AreUnchanged contents contents_then)
+    (IfAsked explain (AreLinkLines contents_then [])) [] status
 
 -- the status after `copy`
 abbrev pub EndsCopy : {W : Type 0} → (contents contents_then : Contents) → (taken : W → Option (List ℕ)) (failed : W → Bool) (old new : W) (out : List ℕ) (form : CopyForm) (explain : Bool) (file : List ℕ) → ℕ → Type 0
@@ -164,12 +177,12 @@ Ends run taken failed old new (Show text explain file) status =
     Reads run (λ contents printed. EndsText contents printed taken failed old new (Shown text) explain file.now status)
 Ends run taken failed old new (Names files) status =
     Reads run (λ contents printed. EndsNames contents printed taken failed old new (file_names files.items) status)
-Ends run taken failed old new (Survey files) status =
-    Reads run (λ contents printed. EndsSurvey contents printed taken failed old new (file_names files.items) status)
+Ends run taken failed old new (Survey options files list) status =
+    Reads run (λ contents printed. EndsSurvey options contents printed taken failed old new (file_names files.items) (given_list list) status)
 Ends run taken failed old new (Compare with_symbols first second) status =
     Reads run (λ contents printed. EndsCompare contents printed taken failed old new with_symbols first.now second.now status)
-Ends run taken failed old new (Link out map options explain files) status =
-    Replaces run (λ contents contents_then. EndsLink contents contents_then taken failed old new out.now (given_text map) options explain (file_names files.items) status)
+Ends run taken failed old new (Link out map options explain files list) status =
+    Replaces run (λ contents contents_then. EndsLink contents contents_then taken failed old new out.now (given_text map) options explain (file_names files.items) (given_list list) status)
 Ends run taken failed old new (Copy out form explain file) status =
     Replaces run (λ contents contents_then. EndsCopy contents contents_then taken failed old new out.now form explain file.now status)
 Ends run taken failed old new Version status = Reads run (λ contents printed. EndsVersion printed taken failed old new status)

@@ -1,6 +1,6 @@
 //! What is read once more to explain a failure.
-ghost use Rattle.std.specs.Prelude.{◌≡◌, true, IfErr, IfOk};
-ghost use Rattle.hunk_tool.specs.FileSystem.{IsContent};
+ghost use Rattle.std.specs.Prelude.{◌≡◌, false, true, IfErr, IfOk};
+ghost use Rattle.hunk_tool.specs.FileSystem.{IsContent, MayBeMissing};
 ghost use Rattle.hunk_tool.specs.Inputs.{file_names};
 ghost use Rattle.hunk_commands.specs.Addresses.{HaveNumbers, origin_of};
 ghost use Rattle.hunk_commands.specs.Again.{AreNoAddressesAgain, AreNoUnitsAgain, HaveUnits, IsIrregular, IsNotLinkedAgain, IsNotOpenedAgain};
@@ -13,8 +13,15 @@ use crate::link::linked;
 use crate::store::Store;
 use crate::unexplained::Unexplained;
 use hunk_loadfile::LoadFile;
-use hunk_tool::{ObjectFiles, read_object_files};
+use hunk_tool::{FileType, ObjectFiles, read_object_files};
 use std::alloc::Global;
+
+/// Whether the file named `name` is a regular file, which can be read more than once.
+fn is_regular<S: Store>(store: &S, name: &str) -> bool
+    ensures { result ≡ false → MayBeMissing (S.content store.now name.now) }
+{
+    matches!(store.file_type(name), FileType::Regular)
+}
 
 /// Opens the file named `name` once more.
 ///
@@ -26,7 +33,7 @@ pub(crate) fn open_again<S: Store>(store: &S, name: &str) -> Result<S::File, Une
     ensures there { IfOk result (λ file. IsContent (S.content store.now name.now) (S.File.left file)) }
     ensures err { IfErr result (IsNotOpenedAgain (S.content store.now name.now)) }
 {
-    if !store.is_regular(name) {
+    if !is_regular(store, name) {
         return Err(Unexplained::NotRegular);
     }
     match store.open(name) {
@@ -44,7 +51,7 @@ fn all_regular<S: Store>(store: &S, files: &[&str]) -> Result<(), Unexplained>
     ensures err { IfErr result (IsIrregular (S.content store.now) (file_names files.now)) }
 {
     for name in files {
-        if !store.is_regular(name) {
+        if !is_regular(store, name) {
             return Err(Unexplained::NotRegular);
         }
     }
@@ -110,7 +117,7 @@ pub(crate) fn addresses_again<S: Store>(
     ensures err { IfErr result (AreNoAddressesAgain (S.content store.now) (origin_of addresses.entry)) }
 {
     match addresses {
-        Addresses::File(name) if !store.is_regular(name) => Err(Unexplained::NotRegular),
+        Addresses::File(name) if !is_regular(store, name) => Err(Unexplained::NotRegular),
         addresses => Ok(addresses_of(alloc, store, addresses)?),
     }
 }

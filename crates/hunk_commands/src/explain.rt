@@ -22,8 +22,8 @@ use crate::unexplained::{Unexplained, write_unexplained_line};
 use hunk_link::LinkRefusal;
 use hunk_loadfile::{LoadHunk, read_load};
 use hunk_tool::{
-    Explanation, OpenFault, ToolFault, explain_file, explain_link, explain_load, explain_object,
-    write_explanation, write_link_explanation, write_places,
+    Explanation, FileType, OpenFault, ToolFault, explain_file, explain_link, explain_load,
+    explain_object, write_explanation, write_link_explanation, write_places,
 };
 use hunk_words::{Fault, ReadFault, Sink, Source, Text};
 use std::alloc::Global;
@@ -73,6 +73,7 @@ pub fn explain_failure<S: Store, W: Sink>(
         Failure::BadNumber { .. } => {}
         Failure::TooManyAddresses(_) => {}
         Failure::TooLong(_) => {}
+        Failure::BadName { .. } => {}
         Failure::Writing(_) => {}
         Failure::SameFile(_) => {}
         Failure::MapOverFile(_) => {}
@@ -119,7 +120,7 @@ fn name_at<'a>(files: &[&'a str], number: usize) -> &'a str
 fn explain_unread<S: Store, W: Sink>(store: &S, errors: &mut W, name: &str)
     ensures { TellsMore W.taken W.failed errors.old errors.new IsDirectoryOrNone }
 {
-    if store.is_directory(name) {
+    if matches!(store.file_type(name), FileType::Directory) {
         tell_reason(errors, OpenFault::Directory);
     }
 }

@@ -3,7 +3,7 @@ ghost use Rattle.std.specs.Prelude.{◌≡◌, map};
 ghost use Rattle.std.specs.String.{string_bytes};
 ghost use Rattle.hunk_tool.specs.FaultLine.{fault_line};
 ghost use Rattle.hunk_commands.specs.Addresses.{origin_of};
-ghost use Rattle.hunk_commands.specs.Failure.{about_line, bad_number_line, failure_line, origin_name};
+ghost use Rattle.hunk_commands.specs.Failure.{about_line, bad_name_line, bad_number_line, failure_line, origin_name, part_line};
 ghost use Rattle.hunk_commands.specs.Failure.{status_of, status_of_comparison, TellsLine};
 
 use crate::addresses::Addresses;
@@ -34,8 +34,15 @@ pub enum Failure<'a> {
     },
     /// The file with this name cannot be opened, or cannot be created, for this reason.
     Opening(&'a str, OpenFault),
-    /// A read of the file of addresses with this name failed.
+    /// A read of the file of addresses, or of the list of files, with this name failed.
     Reading(&'a str),
+    /// A name in a list of files is not UTF-8, and the files are opened by such names alone.
+    BadName {
+        /// The name of the list.
+        list: &'a str,
+        /// The index, from 0, of the first such name.
+        index: usize,
+    },
     /// The file of addresses with this name has more of them than a load file has hunks.
     TooManyAddresses(&'a str),
     /// The file of addresses with this name is longer than one may be.
@@ -67,6 +74,7 @@ impl<'a> Failure<'a> {
         match self {
             Failure::BadNumber { .. } | Failure::TooManyAddresses(_) | Failure::TooLong(_) =>
                 COMMAND_LINE,
+            Failure::BadName { .. } => COMMAND_LINE,
             Failure::SameFile(_) | Failure::MapOverFile(_) => COMMAND_LINE,
             Failure::Opening(..) | Failure::Reading(_) | Failure::Writing(_) | Failure::Printing =>
                 DEVICE,
@@ -131,6 +139,7 @@ fn tell_failure<W: Sink>(errors: &mut W, files: &[String], failure: &Failure<'_>
         Failure::BadNumber { addresses, index } => tell_bad_number(errors, *addresses, *index),
         Failure::Opening(file, _) => tell_about(errors, file, b"cannot be opened"),
         Failure::Reading(file) => tell_about(errors, file, b"read failed"),
+        Failure::BadName { list, index } => tell_bad_name(errors, list, *index),
         Failure::TooManyAddresses(file) => tell_about(errors, file, b"more than 65535 addresses"),
         Failure::TooLong(file) => tell_about(errors, file, b"more than 16777216 bytes"),
         Failure::Writing(file) => tell_about(errors, file, b"write failed"),
@@ -148,12 +157,27 @@ fn tell_failure<W: Sink>(errors: &mut W, files: &[String], failure: &Failure<'_>
 fn tell_bad_number<W: Sink>(errors: &mut W, addresses: Addresses<'_>, index: usize)
     ensures { TellsLine W.taken W.failed errors.old errors.new (bad_number_line (origin_of addresses.entry) index) }
 {
+    let told = b" is not 1 to 8 hexadecimal digits";
+    tell_of_part(errors, origin_name(addresses), b": part ", index, told);
+}
+
+/// Writes the line for a name in a list that is not UTF-8.
+fn tell_bad_name<W: Sink>(errors: &mut W, list: &str, index: usize)
+    ensures { TellsLine W.taken W.failed errors.old errors.new (bad_name_line list.now index) }
+{
+    tell_of_part(errors, list, b": name ", index, b" is not UTF-8");
+}
+
+/// Writes the line that tells this about the part of a file that has this kind and index.
+fn tell_of_part<W: Sink>(errors: &mut W, file: &str, kind: &[u8], index: usize, told: &[u8])
+    ensures { TellsLine W.taken W.failed errors.old errors.new (part_line file.now kind.now index told.now) }
+{
     let mut text = Text::new(errors);
     text.put(b"amihunk: ");
-    text.put(origin_name(addresses).as_bytes());
-    text.put(b": part ");
+    text.put(file.as_bytes());
+    text.put(kind);
     text.put_decimal(index as u64);
-    text.put(b" is not 1 to 8 hexadecimal digits");
+    text.put(told);
     text.end_line();
     let _ = text.finish();
 }

@@ -8,8 +8,10 @@
 //!   it is not.
 //! - `devices`: the file that a command reads, the one that it replaces, and what it prints.
 //! - `inputs`: the files that a command reads, if there are several; `input`: one of them.
+//! - `file_list`: lists of the names of files; `name_reader`: what reads the names in one, by `list_bytes`.
+//! - `listed_names`: all names in a list, as texts.
 //! - `load`: the command `load`.
-//! - `link`: the command `link`.
+//! - `link`: the command `link`; `link_request`: doing what it asks for, also with a list of files.
 //! - `image`: the command `image`.
 //! - `copy`: the command `copy`.
 //! - `compare`: the command `compare`.
@@ -41,14 +43,19 @@ pub mod copy;
 mod devices;
 pub mod explain;
 mod failure;
+mod file_list;
 pub mod image;
 mod input;
 mod inputs;
 pub mod laws;
 mod lines;
 pub mod link;
+mod link_request;
+mod list_bytes;
+mod listed_names;
 pub mod load;
 mod memory_store;
+mod name_reader;
 pub mod names;
 mod new_file;
 mod open_fault;
@@ -68,6 +75,7 @@ mod version;
 
 pub use addresses::{Addresses, addresses_of};
 pub use failure::{COMMAND_LINE, DEVICE, DIFFERENT, DONE, Failure, report_failure};
+pub use file_list::{FileList, NameEnd};
 pub use input::Input;
 pub use inputs::open_inputs;
 pub use lines::Lines;
@@ -78,6 +86,7 @@ pub use printer::Printer;
 pub use random::random_key;
 pub use request::{Request, answer};
 pub use store::Store;
+pub use survey::SurveyOptions;
 pub use system::System;
 pub use text::{ShowText, Text, print_text, print_text_to};
 pub use version::{VERSION, print_version};

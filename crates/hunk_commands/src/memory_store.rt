@@ -5,7 +5,7 @@ ghost use Rattle.std.specs.Prelude.{◌≡◌, [], ℕ, List, Some, false, IsTru
 use crate::failure::Failure;
 use crate::store::Store;
 use bumpalo::Bump;
-use hunk_tool::{FileSystem, NameHasher, OpenFault, ToolFault};
+use hunk_tool::{FileSystem, FileType, NameHasher, OpenFault, ToolFault};
 use hunk_words::{DeviceFault, Sink, Source};
 use std::alloc::{AllocError, Global};
 use std::collections::BTreeMap;
@@ -141,6 +141,13 @@ impl<'m> FileSystem for MemoryStore<'m> {
         }
     }
 
+    fn file_type(&self, name: &str) -> FileType {
+        match self.bytes(name) {
+            Some(_) => FileType::Regular,
+            None => FileType::Unknown,
+        }
+    }
+
     ghost at_end = { λ file. file.at_end };
 
     ghost all_unknown = { all_known };
@@ -152,14 +159,6 @@ impl<'m> Store for MemoryStore<'m> {
     ghost use Rattle.hunk_commands.specs.MemoryStore.{keyless};
 
     type New = NewBytes;
-
-    fn is_regular(&self, name: &str) -> bool {
-        self.bytes(name).is_some()
-    }
-
-    fn is_directory(&self, _name: &str) -> bool {
-        false
-    }
 
     fn can_be_opened_again(&self, _file: &MemoryFile<'m>) -> bool {
         true

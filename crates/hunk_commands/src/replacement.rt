@@ -12,17 +12,20 @@ use crate::open_fault::reason_of;
 use hunk_tool::{OpenFault, ToolFault};
 use hunk_words::{DeviceFault, Sink};
 use std::alloc::{AllocError, Global};
-use std::fs;
 use std::fs::{OpenFile, OpenOptions};
 use std::io::{ErrorKind, Write};
 use std::rt::Files;
+use std::{fs, io};
+
+/// The name that stands for the standard output where a file is written.
+pub const STANDARD_OUTPUT: &str = "-";
 
 /// What replaces the file with a name: a writer, whose bytes are seen under that name only once
 /// [`Replacement::finish`] has put all of them there.
 ///
 /// Nothing is begun before the first write. The bytes go to a new file beside the one that they
 /// replace, which is renamed in the end. They are kept in memory, and written in the end, if the name
-/// is that of a device or a pipe, or no file can be made beside it.
+/// is that of a device or a pipe, if no file can be made beside it, or if it is [`STANDARD_OUTPUT`].
 #[derive(Drop)]
 pub struct Replacement<'r, R: Files + AllocGlobal> {
     rt: &'r R,
@@ -85,6 +88,8 @@ impl<'r, R: Files + AllocGlobal> Replacement<'r, R> {
     /// - [`Failure::Printing`] if it did not take everything.
     /// - [`Failure::out_of_memory`] if an allocation failed.
     pub fn finish<'a>(self, name: &'a str, ran: Result<(), ToolFault>) -> Result<(), Failure<'a>>
+    where
+        R: Print,
         ensures ok { OnOk result (HasRun ran) }
         ensures err { IfErr result (IsCauseOf ran unknown name.entry.now) }
     {
@@ -155,7 +160,7 @@ impl<F: Write + Drop + OpenFile> Place<F> {
     }
 
     /// Puts the bytes where the name leads.
-    fn commit<'a, R: Files<File = F> + AllocGlobal>(
+    fn commit<'a, R: Files<File = F> + Print + AllocGlobal>(
         self,
         rt: &R,
         name: &'a str,
@@ -208,21 +213,32 @@ impl<F: Write + Drop> Held<F> {
         }
     }
 
-    /// Writes the bytes to their device, or to the file with this name.
-    fn write_out<'a, R: Files<File = F>>(self, rt: &R, name: &'a str) -> Result<(), Failure<'a>>
+    /// Writes the bytes to their device, to the standard output, or to the file with this name.
+    fn write_out<'a, R: Files<File = F> + Print>(
+        self,
+        rt: &R,
+        name: &'a str,
+    ) -> Result<(), Failure<'a>>
         ensures { IfErr result (IsUnplaced unknown name.entry.now) }
     {
         let Held { bytes, device, .. } = self;
-        let mut output = match device {
-            Some(device) => device,
-            None => create(rt, name)?,
-        };
-        if output.write_all(bytes.as_slice()).is_err() {
-            return Err(Failure::Printing);
+        match device {
+            Some(device) => write_whole(device, bytes.as_slice()),
+            None if name == STANDARD_OUTPUT => write_whole(io::writer(rt), bytes.as_slice()),
+            None => write_whole(create(rt, name)?, bytes.as_slice()),
         }
-        flush(output)?;
-        Ok(())
     }
+}
+
+/// Writes all of these bytes to `output`.
+fn write_whole<'a, O: Write + Drop>(mut output: O, bytes: &[u8]) -> Result<(), Failure<'a>>
+    ensures { IfErr result (λ failure. failure ≡ Failure.Printing) }
+{
+    if output.write_all(bytes).is_err() {
+        return Err(Failure::Printing);
+    }
+    flush(output)?;
+    Ok(())
 }
 
 /// Begins what replaces the file named `name` with a first write.
@@ -243,6 +259,9 @@ fn begin_with<R: Files + AllocGlobal>(
 fn begin<R: Files + AllocGlobal>(rt: &R, name: &str) -> Place<R::File>
     ensures { IsFresh result }
 {
+    if name == STANDARD_OUTPUT {
+        return in_memory(rt.alloc(), None);
+    }
     match OpenOptions::new().write(true).open(rt, name) {
         Ok(old) => begin_over(rt, name, old),
         Err(error) if error.kind() == ErrorKind::NotFound => begin_new(rt, name),

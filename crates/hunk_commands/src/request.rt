@@ -1,11 +1,11 @@
 //! What a command line asks for, and doing it.
-ghost use Rattle.std.specs.Prelude.{◌≡◌, IfErr, OnOk, map, string_bytes};
+ghost use Rattle.std.specs.Prelude.{◌≡◌, map, string_bytes};
 ghost use Rattle.hunk_tool.specs.Inputs.{file_names};
 ghost use Rattle.hunk_commands.specs.Addresses.{origin_of};
 ghost use Rattle.hunk_commands.specs.Explain.{AreLinesOf, IfAsked};
-ghost use Rattle.hunk_commands.specs.Link.{IsDone, IsUndone};
+ghost use Rattle.hunk_commands.specs.FileList.{given_list};
 ghost use Rattle.hunk_commands.specs.Output.{IsPrinted, printed_of};
-ghost use Rattle.hunk_commands.specs.Request.{Ends, EndsCompare, EndsCopy, EndsHelp, EndsImage, EndsLink, EndsLoad, EndsNames, EndsSurvey, EndsText, EndsVersion, IsFailed, given_text, run_between};
+ghost use Rattle.hunk_commands.specs.Request.{Ends, EndsCompare, EndsCopy, EndsHelp, EndsImage, EndsLoad, EndsNames, EndsSurvey, EndsText, EndsVersion, IsFailed, run_between};
 
 use crate::addresses::Addresses;
 use crate::compare::compare;
@@ -13,14 +13,15 @@ use crate::copy::copy;
 use crate::devices::print;
 use crate::explain::{Command, explain_failure};
 use crate::failure::{DIFFERENT, DONE, Failure, report_failure, report_refusal};
+use crate::file_list::FileList;
 use crate::image::image;
 use crate::inputs::names_of;
-use crate::link::{link, link_with_map};
+use crate::link_request::answer_link;
 use crate::load::{LoadText, load};
 use crate::names::print_names;
 use crate::output::Output;
 use crate::store::Store;
-use crate::survey::survey;
+use crate::survey::{SurveyOptions, survey};
 use crate::text::{ShowText, Text, print_text};
 use crate::version::print_version;
 use hunk_tool::{CopyForm, LinkOptions};
@@ -30,8 +31,9 @@ use std::alloc::Global;
 /// What the arguments of a command line ask for.
 #[derive(Drop)]
 pub enum Request<'a> {
-    /// `link --out OUT [--map MAP] [--strip] [--short] [--trim] [--explain] FILE...`: the load file of
-    /// the object files FILE..., written to OUT, and the map of it, written to MAP.
+    /// `link --out OUT [--map MAP] [--strip] [--short] [--trim] [--explain] [--files-from LIST] FILE...`: the
+    /// load file of the object files FILE... and of those in LIST, written to OUT, and the map of it, written to
+    /// MAP.
     Link {
         /// The argument OUT.
         out: &'a str,
@@ -41,8 +43,10 @@ pub enum Request<'a> {
         options: LinkOptions,
         /// Whether `--explain` is given.
         explain: bool,
-        /// The arguments FILE..., in the order given, of which there is at least one.
+        /// The arguments FILE..., in the order given, of which there is at least one, or a list.
         files: Vec<&'a str>,
+        /// The list LIST, if it is given.
+        list: Option<FileList<'a>>,
     },
     /// `load --at LIST [--srec] [--symbols] [--explain] FILE`, or with `--at-file`: the image or the
     /// symbols of FILE, loaded at the addresses.
@@ -91,10 +95,15 @@ pub enum Request<'a> {
         /// The arguments FILE..., in the order given, of which there is at least one.
         files: Vec<&'a str>,
     },
-    /// `survey FILE...`: a line about each of FILE..., and one with their numbers.
+    /// `survey [--json] [--digest] [--wait] [--files-from LIST] FILE...`: a line about each of FILE... and of
+    /// the files in LIST, and then their numbers.
     Survey {
-        /// The arguments FILE..., in the order given, of which there is at least one.
-        files: Vec<&'a str>,
+        /// Which of `--json`, `--digest` and `--wait` are given.
+        options: SurveyOptions,
+        /// The arguments FILE..., in the order given, of which there is at least one, or a list.
+        files: Vec<&'a [u8]>,
+        /// The list LIST, if it is given.
+        list: Option<FileList<'a>>,
     },
     /// `copy --out OUT [--strip] [--short] [--trim] [--explain] FILE`, or `copy --out OUT --normal FILE`: the
     /// load file FILE, written to OUT.
@@ -147,9 +156,12 @@ pub fn answer<S: Store, O: Output, W: Sink>(
             options,
             explain,
             files,
+            list,
         } => {
             let files = files.as_slice();
-            answer_link(alloc, store, errors, out, map, options, explain, files)
+            answer_link(
+                alloc, store, errors, out, map, options, explain, files, list,
+            )
         }
         Request::Load {
             addresses,
@@ -180,8 +192,13 @@ pub fn answer<S: Store, O: Output, W: Sink>(
             answer_text(alloc, store, output, errors, text, explain, file)
         }
         Request::Names { files } => { answer_names(alloc, store, output, errors, files.as_slice()) }
-        Request::Survey { files } => {
-            answer_survey(alloc, store, output, errors, files.as_slice())
+        Request::Survey {
+            options,
+            files,
+            list,
+        } => {
+            let files = files.as_slice();
+            answer_survey(alloc, store, output, errors, options, files, list)
         }
         Request::Copy {
             out,
@@ -203,7 +220,7 @@ pub fn answer<S: Store, O: Output, W: Sink>(
 
 /// Reports a failure of this command for the files named `files`, explains it if `explain` is set, and
 /// returns the exit status. `names` are the same names.
-fn fail<S: Store, W: Sink>(
+pub(crate) fn fail<S: Store, W: Sink>(
     alloc: Global,
     store: &S,
     errors: &mut W,
@@ -257,62 +274,6 @@ fn answer_load<S: Store, O: Output, W: Sink>(
     }
 }
 
-/// Does `link`, and returns the exit status.
-fn answer_link<S: Store, W: Sink>(
-    alloc: Global,
-    store: &mut S,
-    errors: &mut W,
-    out: &str,
-    map_file: Option<&str>,
-    options: LinkOptions,
-    explain: bool,
-    files: &[&str],
-) -> u8
-    ensures { EndsLink (S.content store.old) (S.content store.new) W.taken W.failed errors.old errors.new out.now (given_text map_file.entry) options explain (file_names files.now) result }
-{
-    let Ok(names) = names_of(alloc, files) else {
-        return report_failure(errors, &[], &Failure::out_of_memory());
-    };
-    match link_as_asked(
-        alloc,
-        store,
-        out,
-        map_file,
-        options,
-        files,
-        names.as_slice(),
-    ) {
-        Ok(()) => DONE,
-        Err(failure) => {
-            let command = Command::Link;
-            let names = names.as_slice();
-            fail(
-                alloc, store, errors, command, explain, files, names, &failure,
-            )
-        }
-    }
-}
-
-/// Links, and writes the map if one is asked for.
-fn link_as_asked<'a, S: Store>(
-    alloc: Global,
-    store: &mut S,
-    out: &'a str,
-    map_file: Option<&'a str>,
-    options: LinkOptions,
-    files: &[&'a str],
-    names: &[String],
-) -> Result<(), Failure<'a>>
-    requires { map string_bytes names.now ≡ file_names files.now }
-    ensures ok { OnOk result (IsDone options (S.content store.old) (file_names files.entry.now) out.entry.now (given_text map_file.entry) (S.content store.new)) }
-    ensures err { IfErr result (IsUndone options (S.content store.old) (file_names files.entry.now) out.entry.now (given_text map_file.entry) (S.content store.new)) }
-{
-    match map_file {
-        None => link(alloc, store, out, options, files),
-        Some(map_file) => link_with_map(alloc, store, out, map_file, options, files, names),
-    }
-}
-
 /// Does `image`, and returns the exit status.
 fn answer_image<S: Store, O: Output, W: Sink>(
     alloc: Global,
@@ -360,17 +321,19 @@ fn answer_names<S: Store, O: Output, W: Sink>(
     }
 }
 
-/// Does `survey FILE...`, and returns the exit status.
+/// Does `survey`, and returns the exit status.
 fn answer_survey<S: Store, O: Output, W: Sink>(
     alloc: Global,
     store: &S,
     output: &mut O,
     errors: &mut W,
-    files: &[&str],
+    options: SurveyOptions,
+    files: &[&[u8]],
+    list: Option<FileList<'_>>,
 ) -> u8
-    ensures { EndsSurvey (S.content store.now) (printed_of O.taken O.failed O.waiting output.old output.new) W.taken W.failed errors.old errors.new (file_names files.now) result }
+    ensures { EndsSurvey options (S.content store.now) (printed_of O.taken O.failed O.waiting output.old output.new) W.taken W.failed errors.old errors.new (file_names files.now) (given_list list.entry) result }
 {
-    match survey(alloc, store, output, files) {
+    match survey(alloc, store, output, options, files, list) {
         Ok(status) => status,
         Err(failure) => report_failure(errors, &[], &failure),
     }

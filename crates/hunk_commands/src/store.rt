@@ -2,7 +2,6 @@
 
 ghost use Rattle.std.specs.Prelude.{◌≡◌, ◌≢◌, true, false, IfErr, IfOk, OnErr, OnOk};
 ghost use Rattle.hunk_link.specs.declared.name_hasher.NameHasher.{NameHasher as Hasher};
-ghost use Rattle.hunk_tool.specs.FileSystem.{MayBeMissing};
 ghost use Rattle.hunk_commands.specs.Store.{AreUnchanged, HasRun, IsBegun, IsCauseOf, IsKnown, IsReplaced};
 
 use crate::failure::Failure;
@@ -16,14 +15,6 @@ use std::alloc::AllocError;
 pub trait Store: FileSystem {
     /// What is to take the place of a file.
     type New: Sink + Drop;
-
-    /// Whether the file named `name` is a regular file, which can be read more than once. A file of which
-    /// it is known what is in it is one.
-    fn is_regular(&self, name: &str) -> bool
-        ensures { result ≡ false → MayBeMissing (Self.content self.now name.now) };
-
-    /// Whether the file named `name` is a directory.
-    fn is_directory(&self, name: &str) -> bool;
 
     /// Whether an open file is a regular file, which can be opened again by its name.
     fn can_be_opened_again(&self, file: &Self::File) -> bool;

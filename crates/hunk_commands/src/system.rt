@@ -3,17 +3,18 @@ ghost use Rattle.std.specs.Prelude.{◌≡◌};
 
 use crate::failure::Failure;
 use crate::open_fault::reason_of;
-use crate::replacement::Replacement;
+use crate::replacement::{Replacement, STANDARD_OUTPUT};
 use crate::same_file::is_one_file;
 use crate::store::Store;
 use crate::system_file::SystemFile;
-use hunk_tool::{FileSystem, NameHasher, OpenFault, ToolFault};
+use hunk_tool::{FileSystem, FileType, NameHasher, OpenFault, ToolFault};
 use std::alloc::AllocError;
 use std::fs;
 use std::fs::OpenFile;
 use std::rt::Files;
 
-/// The files of the operating system. Nothing is known of what is in them.
+/// The files of the operating system. Nothing is known of what is in them. Where a file is written, the name
+/// `-` stands for the standard output.
 #[derive(Drop)]
 pub struct System<'r, R: Files + AllocGlobal> {
     rt: &'r R,
@@ -45,6 +46,15 @@ impl<'r, R: Files + AllocGlobal> FileSystem for System<'r, R> {
         }
     }
 
+    fn file_type(&self, name: &str) -> FileType {
+        match fs::metadata(self.rt, name) {
+            Ok(metadata) if metadata.is_file() => FileType::Regular,
+            Ok(metadata) if metadata.is_dir() => FileType::Directory,
+            Ok(_) => FileType::Other,
+            Err(_) => FileType::Unknown,
+        }
+    }
+
     ghost at_end = { at_end R.File.Read.remaining };
 
     ghost all_unknown = { λ system other name another is. is };
@@ -52,23 +62,15 @@ impl<'r, R: Files + AllocGlobal> FileSystem for System<'r, R> {
     ghost may_fail = { λ system name file failing. refl };
 }
 
-impl<'r, R: Files + AllocGlobal> Store for System<'r, R> {
+impl<'r, R: Files + Print + AllocGlobal> Store for System<'r, R> {
     type New = Replacement<'r, R>;
-
-    fn is_regular(&self, name: &str) -> bool {
-        fs::metadata(self.rt, name).is_ok_and(|metadata| metadata.is_file())
-    }
-
-    fn is_directory(&self, name: &str) -> bool {
-        fs::metadata(self.rt, name).is_ok_and(|metadata| metadata.is_dir())
-    }
 
     fn can_be_opened_again(&self, file: &SystemFile<R::File>) -> bool {
         file.is_regular()
     }
 
     fn is_one_file(&self, first: &str, second: &str) -> bool {
-        is_one_file(self.rt, first, second)
+        first == second || is_one_file(self.rt, path_written(first), path_written(second))
     }
 
     ghost name_hasher = { λ system. system.hasher };
@@ -88,5 +90,14 @@ impl<'r, R: Files + AllocGlobal> Store for System<'r, R> {
         ran: Result<(), ToolFault>,
     ) -> Result<(), Failure<'a>> {
         new.finish(name, ran)
+    }
+}
+
+/// The path of what a name stands for where a file is written.
+fn path_written(name: &str) -> &str {
+    if name == STANDARD_OUTPUT {
+        "/dev/stdout"
+    } else {
+        name
     }
 }

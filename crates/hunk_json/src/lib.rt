@@ -29,4 +29,5 @@ pub use form::JsonForm;
 pub use load::write_load_json;
 pub use object::write_object_json;
 pub use page::page_run;
+pub use parts::write_name_json;
 pub use run::{json_run, json_run_with};

@@ -5,6 +5,7 @@ ghost use Rattle.serde_json.specs.Data.{string};
 ghost use Rattle.hunk_base.specs.Text.{Puts};
 ghost use Rattle.hunk_json.specs.Document.{document};
 ghost use Rattle.hunk_json.specs.FileJson.{debug_json, hunk_site_json, kind_json, memory_json, name_json, natural, symbol_json};
+ghost use Rattle.hunk_json.specs.declared.form.JsonForm.TheVariants.{Plain};
 
 use crate::document::{WriteJson, write_list};
 use crate::escapes::write_string;
@@ -42,6 +43,14 @@ pub(crate) fn write_name<W: Sink>(text: &mut Text<'_, W>, form: JsonForm, name: 
         Ok(string) => write_string(text, form, string),
         Err(_) => write_list(text, form, name),
     }
+}
+
+/// Writes the bytes of a name as one JSON value, with the escapes of [`JsonForm::Plain`]: a string where
+/// they are UTF-8, and otherwise an array of numbers. It does not allocate.
+pub fn write_name_json<W: Sink>(text: &mut Text<'_, W>, name: &[u8])
+    ensures { Puts W.taken W.failed text.old text.new (document Plain (name_json name.now)) }
+{
+    write_name(text, JsonForm::Plain, name);
 }
 
 /// Writes a site to which the base of a hunk is added.

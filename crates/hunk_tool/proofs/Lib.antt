@@ -5,7 +5,6 @@ pub mod SymbolsLemmas
 pub mod FileTextLemmas
 pub mod CheckLemmas
 pub mod ShowLemmas
-pub mod SurveyLemmas
 pub mod HeadlineLemmas
 pub mod InputsLemmas
 pub mod LinkLemmas

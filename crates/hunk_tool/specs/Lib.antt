@@ -7,7 +7,6 @@ pub mod FileText
 pub mod Check
 pub mod Show
 pub mod FileSystem
-pub mod Survey
 pub mod Direct
 pub mod Inputs
 pub mod LinkOptions

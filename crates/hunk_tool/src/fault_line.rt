@@ -113,8 +113,8 @@ fn write_place_fault<W: Sink>(text: &mut Text<'_, W>, fault: PlaceFault)
     }
 }
 
-/// Writes why a longword is rejected.
-pub(crate) fn write_reason<W: Sink>(text: &mut Text<'_, W>, reason: Reason)
+/// Writes why a longword is rejected, as [`write_fault`] tells it. It does not allocate.
+pub fn write_reason<W: Sink>(text: &mut Text<'_, W>, reason: Reason)
     ensures { Puts W.taken W.failed text.old text.new (reason_text reason) }
 {
     match reason {

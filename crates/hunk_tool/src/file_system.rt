@@ -1,6 +1,6 @@
 //! Files by their names.
 
-ghost use Rattle.std.specs.Prelude.{◌≡◌, false, ℕ, List, IfErr, IfOk, IsTrue};
+ghost use Rattle.std.specs.Prelude.{◌≡◌, ◌≢◌, false, ℕ, List, IfErr, IfOk, IsTrue};
 ghost use Rattle.std.specs.Io.KnownBytes.{IsAtEnd};
 ghost use Rattle.hunk_tool.specs.FileSystem.FileContent.{unknown};
 ghost use Rattle.hunk_tool.specs.FileSystem.{FileContent, IsContent, MayBeMissing};
@@ -30,6 +30,19 @@ pub enum OpenFault {
     Unknown,
 }
 
+/// What stands under a name.
+#[derive(Clone, Copy, Debug, PartialEq, Eq)]
+pub enum FileType {
+    /// A regular file, which can be read more than once.
+    Regular,
+    /// A directory.
+    Directory,
+    /// A pipe, a socket, a device or anything else. Opening it may wait for another program.
+    Other,
+    /// Nothing, or nothing that the system tells of.
+    Unknown,
+}
+
 /// What opens files by their names.
 pub trait FileSystem {
     // What is known of the file with a name.
@@ -47,6 +60,11 @@ pub trait FileSystem {
         ensures there { IfOk result (λ file. IsContent (content self.now name.now) (Self.File.left file)) }
         ensures unread { IfOk result (λ file. (Self.File.failed file ≡ false) × (Self.File.ended file ≡ false)) }
         ensures missing { IfErr result (λ fault. MayBeMissing (content self.now name.now)) };
+
+    /// What stands under the name `name`, or where its symbolic links lead. It is not opened for it. A file of
+    /// which it is known what is in it is a regular one.
+    fn file_type(&self, name: &str) -> FileType
+        ensures { result ≢ FileType.Regular → MayBeMissing (content self.now name.now) };
 
     // A file that was read to its end has no byte left.
     ghost at_end: { (file : Self.File) → IsTrue (Self.File.ended file) → IsAtEnd (Self.File.left file) };

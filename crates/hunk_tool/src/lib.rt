@@ -6,7 +6,7 @@
 //! - `laws`: laws about the outcomes of the operations.
 //! - `check`: checks a file of either kind and writes what it is.
 //! - `show`: reads a file of either kind and writes its listing.
-//! - `survey`: what files are, the line about each, and their numbers; `file_system`: what opens them.
+//! - `file_system`: what opens files by their names.
 //! - `link`: links object files and writes the load file.
 //! - `link_options`: how object files are linked, and how their load file is written.
 //! - `object_files`: the object files that an operation reads: their units, with their places.
@@ -53,7 +53,6 @@ mod origin_text;
 mod origins;
 pub mod show;
 mod shown_name;
-pub mod survey;
 pub mod symbol_form;
 pub mod symbols;
 pub mod tool_fault;
@@ -63,9 +62,9 @@ pub mod undefined_name;
 pub use check::check_run;
 pub use compare::compare_run;
 pub use copy::{CopyForm, copy_run};
-pub use fault_line::write_fault;
+pub use fault_line::{write_fault, write_reason};
 pub use file_name::FileName;
-pub use file_system::{FileSystem, OpenFault};
+pub use file_system::{FileSystem, FileType, OpenFault};
 pub use hunk_files::{
     CountedFile, Explanation, File, Found, HunkFile, HunkFileDecoder, LoadCounter, ObjectCounter,
     count_file, explain_file, explain_load, explain_object, read_hunk_file, write_explanation,
@@ -87,9 +86,6 @@ pub use names::{NameList, write_names};
 pub use object_files::{ObjectFiles, read_object_files};
 pub use show::show_run;
 pub use shown_name::write_name;
-pub use survey::{
-    Finding, SurveyFault, survey_file, survey_files, survey_status, write_finding, write_totals,
-};
 pub use symbol_form::SymbolForm;
 pub use symbols::{image_symbols_run, symbols_run};
 pub use tool_fault::{ToolFault, status_of};

@@ -21,7 +21,6 @@
 //! - `reports`: files that are loaded.
 //! - `runs`: contents that are compared while they come.
 //! - `streaming`: what `ImageLoader` allocates.
-//! - `surveys`: what a survey finds of files, and the lines that it writes.
 //! - `symbol_records`: the symbols of load files and of object files before their S-records.
 //! - `symbols`: the symbols of load files, with their addresses.
 //! - `texts`: the texts that are written about files.
@@ -51,7 +50,6 @@ mod refusals;
 mod reports;
 mod runs;
 mod streaming;
-mod surveys;
 mod symbol_records;
 mod symbols;
 mod texts;

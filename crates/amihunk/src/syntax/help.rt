@@ -16,6 +16,13 @@ unit and the hunk that it is from, and below it a line for each name that the hu
 For example, this writes a short and trimmed load file without symbols and debug blocks:
   amihunk link --out program --strip --short --trim startup.o main.o
 
+With `--files-from` it links the object files that LIST names too, after the FILEs. Each name in LIST ends
+with a zero byte or, with `--lines`, with the end of a line. For example, with `startup.o` first:
+  amihunk link --out program --files-from names --lines startup.o
+
+A FILE or LIST that is `-` is standard input, and OUT or MAP that is `-` is standard output. A file of that
+name is `./-`.
+
 OUT and MAP are each replaced in one step: whatever fails, each is the old file or the whole new one.
 
 The exit status is 0 if everything was written, 1 if a FILE is not an object file or the units do not
@@ -41,6 +48,8 @@ and `amihunk load --at 10000 --srec FILE` the same bytes as S-records
   S70500000000FA
 An address is the number of a byte, from 0 to FFFFFFFF. With `--at-file`, the addresses are read from a
 file of at most 16 MiB: `amihunk load --at-file addresses FILE`.
+
+A FILE that is `-` is standard input, and one of that name is `./-`.
 
 With `--symbols` it prints a line for each symbol of FILE, in file order, with the symbol's address,
 the number of its hunk, and its name. The address is that of the hunk plus the symbol's value, modulo
@@ -70,7 +79,8 @@ in the order of linking: the files in the order given, the units in the order of
 in the order of a unit. An address is the number of a byte, from 0 to FFFFFFFF. For example, this
 prints two hunks, the first of them at the address 10000:
   amihunk image --at 10000,20000 startup.o main.o
-With `--at-file`, the addresses are read from a file of at most 16 MiB.
+With `--at-file`, the addresses are read from a file of at most 16 MiB. A FILE that is `-` is standard
+input, and one of that name is `./-`.
 
 With `--symbols`, that load file has the symbols and debug blocks of the object files, and the addresses
 of its symbols are printed, in lines or, with `--srec` too, before the S-records. For example:
@@ -87,6 +97,8 @@ units, for example
   object file: 1 units, 2 hunks
 and for a load file
   load file: 2 hunks
+
+A FILE that is `-` is standard input, and one of that name is `./-`.
 
 The exit status is 0 if FILE is an object file or a load file, 1 if it is neither, 2 if the command
 line is not understood, 3 if FILE cannot be read or the line cannot be printed, and 4 if memory runs
@@ -131,6 +143,8 @@ The letters are those of `nm`: `T`, `D` and `B` for what code, data and bss hunk
 values, `U` for what is referred to and none of the FILEs defines, and `t`, `d` and `b` for symbols. Units
 are numbered from 0 over all FILEs.
 
+A FILE that is `-` is standard input, and one of that name is `./-`.
+
 The exit status is 0 if the text was printed, 1 if FILE is neither an object file nor a load file, 2 if
 the command line is not understood, 3 if FILE cannot be read or the text cannot be printed, and 4 if
 memory runs out.";
@@ -138,12 +152,27 @@ memory runs out.";
 /// The end of the help of `survey`.
 pub const SURVEY: &str = "\
 It prints a line about each FILE, in the order given, with its name and what `check` prints, or why the
-FILE is refused or cannot be read, and goes on with the next one. The last line has the number of
-files, and how many are of each kind. For example, `amihunk survey disk/*` prints for three files
+FILE is refused or cannot be read, and goes on with the next one. The last two lines have the number of
+files, how many are of each kind, and how many of those that are refused are no hunk files at all. For
+example, `amihunk survey disk/*` prints for three files
   disk/main.o: object file: 1 units, 2 hunks
   disk/program: load file: 2 hunks
   disk/readme: longword 0: wrong first longword
   3 files: 1 object files, 1 load files, 1 refused, 0 unreadable
+  1 refused, of which 1 are no hunk files
+
+With `--json` each line is a JSON document about a FILE, and there are no last lines. For example:
+  {\"file\":\"disk/main.o\",\"kind\":\"object file\",\"units\":1,\"hunks\":2}
+
+With `--digest` the line of a load file has the SHA-256 of its normal form too, which `copy --normal` writes:
+files with one digest mean the same.
+
+With `--files-from` it goes on with the files that LIST names. Each name in LIST ends with a zero byte or,
+with `--lines`, with the end of a line. For example:
+  find disk -type f -print0 | amihunk survey --files-from -
+
+A FILE that is a pipe, a socket or a device is opened if it is the only one, or with `--wait`. A FILE or LIST
+that is `-` is standard input, and a file of that name is `./-`. A name may be any bytes.
 
 The exit status is 0 if each FILE is an object file or a load file, 1 if one is neither and each was
 read, 2 if the command line is not understood, 3 if a FILE cannot be read or the lines cannot be
@@ -161,6 +190,8 @@ added to, as not every old loader clears the end of a hunk before it adds addres
 
 For example, this makes a program smaller where it is:
   amihunk copy --out program --strip --short --trim program
+
+A FILE that is `-` is standard input, and OUT that is `-` is standard output. A file of that name is `./-`.
 
 OUT is replaced in one step: whatever fails, it is the old file or the whole new one.
 
@@ -189,6 +220,8 @@ debug block by debug block, for example
   hunk 0 symbol 3: \"loop\" 00000010 and none
   hunk 0 symbol 3: \"loop\" and \"next\"
   hunk 1 debug 0
+
+A or B that is `-` is standard input, and a file of that name is `./-`.
 
 The exit status is 0 if nothing differs, 1 if something does, 2 if the command line is not understood
 or A or B is not a load file, 3 if a file cannot be read or the line cannot be printed, and 4 if memory

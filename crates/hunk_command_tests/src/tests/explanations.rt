@@ -200,6 +200,7 @@ fn link_of(out: &'static str, explain: bool, files: Vec<&'static str>) -> Reques
         options: PLAIN,
         explain,
         files,
+        list: None,
     }
 }
 

@@ -55,6 +55,16 @@ fn tells_which_part_is_no_address(rt: HostRuntime) -> Result<(), Fail> {
 }
 
 #[test]
+fn tells_which_name_is_no_text(rt: HostRuntime) -> Result<(), Fail> {
+    let line = "amihunk: names: name 20 is not UTF-8\n";
+    let rejected = Failure::BadName {
+        list: "names",
+        index: 20,
+    };
+    is_told(&rt, rt.alloc(), &rejected, line, 2)
+}
+
+#[test]
 fn names_the_file_that_failed(rt: HostRuntime) -> Result<(), Fail> {
     let alloc = rt.alloc();
     let opening = "amihunk: x: cannot be opened\n";

@@ -12,7 +12,7 @@ use std::rt::Files;
 use std::test::Fail;
 
 // Of 40 files with this name, so many are open before they are read.
-fn opens<R: Files + AllocGlobal>(
+fn opens<R: Files + Print + AllocGlobal>(
     rt: &impl Abort,
     system: &R,
     log: &Log,
@@ -45,7 +45,7 @@ fn a_regular_file_after_the_first_32_is_closed_until_it_is_read(
 }
 
 // The last of 33 files is opened by its first read, and closed by the one that finds its end.
-fn opens_the_last<R: Files + AllocGlobal>(
+fn opens_the_last<R: Files + Print + AllocGlobal>(
     rt: &impl Abort,
     system: &R,
     log: &Log,
@@ -79,7 +79,10 @@ fn an_input_is_open_from_its_first_read_to_its_end(rt: HostRuntime) -> Result<()
 }
 
 // Why these files are not opened.
-fn failure_of<'a, R: Files + AllocGlobal>(system: &R, names: &[&'a str]) -> Option<Failure<'a>> {
+fn failure_of<'a, R: Files + Print + AllocGlobal>(
+    system: &R,
+    names: &[&'a str],
+) -> Option<Failure<'a>> {
     match open_inputs(system.alloc(), &store_of(system), names) {
         Ok(_) => None,
         Err(failure) => Some(failure),

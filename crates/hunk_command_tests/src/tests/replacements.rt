@@ -291,6 +291,7 @@ fn long_ends(
         options: PLAIN,
         explain: false,
         files: ["loop"; 300].to_vec(alloc)?,
+        list: None,
     };
     is_answered(rt, &(files, alloc), request, (status, line))?;
     was_done(rt, &log, events)?;

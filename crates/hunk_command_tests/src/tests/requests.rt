@@ -30,6 +30,7 @@ fn link_ends<'a>(
         options: PLAIN,
         explain: false,
         files: files.to_vec(alloc)?,
+        list: None,
     };
     is_answered(rt, &(system, alloc), request, (status, line))
 }

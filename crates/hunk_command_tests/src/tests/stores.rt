@@ -8,7 +8,9 @@ use hunk_commands::image::image;
 use hunk_commands::link::{link, link_with_map};
 use hunk_commands::load::load;
 use hunk_commands::{Addresses, Failure, LoadText, MemoryStore, Output, Store};
-use hunk_tool::{CopyForm, FileSystem, ImageForm, LinkOptions, OpenFault, SymbolForm, ToolFault};
+use hunk_tool::{
+    CopyForm, FileSystem, FileType, ImageForm, LinkOptions, OpenFault, SymbolForm, ToolFault,
+};
 use hunk_words::{DeviceFault, Fault, Reason, Sink, Source, Watched};
 use std::alloc::{AllocError, Global};
 use std::process::Abort;
@@ -195,8 +197,8 @@ fn prints_nothing_of_a_file_that_is_missing(rt: HostRuntime) -> Result<(), Fail>
         equals(&rt, ended, Err(unopened));
     }
     equals(&rt, printed.sink.into_inner().as_slice(), b"".as_slice());
-    holds(&rt, &"x", !store.is_regular("x"));
-    holds(&rt, &"one-hunk", store.is_regular("one-hunk"));
+    equals(&rt, store.file_type("x"), FileType::Unknown);
+    equals(&rt, store.file_type("one-hunk"), FileType::Regular);
     Ok(())
 }
 

@@ -3,7 +3,8 @@
 //! Each returns once what is printed has left the buffer, as far as the standard output takes it.
 
 use hunk_commands::{
-    Addresses, Failure, LoadText, Printer, Request, System, compare, copy, image, link, survey,
+    Addresses, Failure, FileList, LoadText, Printer, Request, SurveyOptions, System, compare, copy,
+    image, link, survey,
 };
 use hunk_test_support::KEY;
 use hunk_tool::{CopyForm, LinkOptions, NameHasher};
@@ -30,7 +31,7 @@ pub(super) fn answer<R: Files + Print + AllocGlobal, W: Sink>(
 }
 
 /// Links files to OUT.
-pub(super) fn link<'a, R: Files + AllocGlobal>(
+pub(super) fn link<'a, R: Files + Print + AllocGlobal>(
     system: &R,
     out: &'a str,
     options: LinkOptions,
@@ -41,7 +42,7 @@ pub(super) fn link<'a, R: Files + AllocGlobal>(
 }
 
 /// Links files to OUT, and writes the map to MAP.
-pub(super) fn link_with_map<'a, R: Files + AllocGlobal>(
+pub(super) fn link_with_map<'a, R: Files + Print + AllocGlobal>(
     system: &R,
     out: &'a str,
     map_file: &'a str,
@@ -62,7 +63,7 @@ pub(super) fn link_with_map<'a, R: Files + AllocGlobal>(
 }
 
 /// Copies a file to OUT.
-pub(super) fn copy<'a, R: Files + AllocGlobal>(
+pub(super) fn copy<'a, R: Files + Print + AllocGlobal>(
     system: &R,
     out: &'a str,
     form: CopyForm,
@@ -99,10 +100,12 @@ pub(super) fn image<'a, R: Files + Print + AllocGlobal>(
 /// Surveys files.
 pub(super) fn survey<'a, R: Files + Print + AllocGlobal>(
     system: &R,
-    files: &[&'a str],
+    options: SurveyOptions,
+    files: &[&[u8]],
+    list: Option<FileList<'a>>,
 ) -> Result<Result<u8, Failure<'a>>, Fail> {
     let alloc = system.alloc();
     let store = store_of(system);
     let mut output = Printer::new(alloc, io::writer(system))?;
-    Ok(survey::survey(alloc, &store, &mut output, files))
+    Ok(survey::survey(alloc, &store, &mut output, options, files, list))
 }

@@ -1,6 +1,7 @@
 use Rattle.std.proofs.Common.{map, subst, sym}
 use Rattle.clap.specs.Words.{kind_of}
-use Rattle.amihunk.specs.CommandLine.{IsWhole, meaning}
+use Rattle.amihunk.specs.Call.{meaning}
+use Rattle.amihunk.specs.CommandLine.{IsWhole}
 use Rattle.amihunk.proofs.CommandLineLemmas.{whole_where_faultless}
 use Rattle.amihunk.proofs.CommandLineAnswerLemmas.{asked_by_kind, asked_by_result}
 use Rattle.amihunk.proofs.command_line.request_for.Goals as goal

@@ -1,8 +1,9 @@
-use Rattle.std.proofs.Common.{false}
+use Rattle.std.proofs.Common.{None, false}
 use Rattle.hunk_tool.specs.declared.copy.CopyForm.TheVariants.{Normal, Written}
 use Rattle.hunk_commands.specs.Request.{run_between}
-use Rattle.amihunk.specs.CommandLine.Meaning.{calls, rejection, version}
-use Rattle.amihunk.specs.CommandLine.Call.{to_check, to_compare, to_copy, to_image, to_link, to_load, to_names, to_show, to_survey}
+use Rattle.amihunk.specs.CommandLine.{no_survey_options}
+use Rattle.amihunk.specs.Call.Meaning.{calls, rejection, version}
+use Rattle.amihunk.specs.Call.Call.{to_check, to_compare, to_copy, to_image, to_link, to_load, to_names, to_show, to_survey}
 use Rattle.amihunk.proofs.ProgramLemmas.{ends_asked}
 use Rattle.amihunk.proofs.program.run.Goals as goal
 
@@ -15,9 +16,9 @@ returns g c =
     record {
       line = record { request = request; asked = asked.answer; ends = c.answer.ensures };
       link = λ program options out map_file files is_line plain_out plain_map some plain.
-          ends (calls (to_link out map_file options false files)) request status (asked.link program options out map_file files is_line plain_out plain_map some plain) c.answer.ensures;
+          ends (calls (to_link out map_file options false files None)) request status (asked.link program options out map_file files is_line plain_out plain_map some plain) c.answer.ensures;
       brief = λ program options out map_file files is_line plain_out plain_map some plain.
-          ends (calls (to_link out map_file options false files)) request status (asked.brief program options out map_file files is_line plain_out plain_map some plain) c.answer.ensures;
+          ends (calls (to_link out map_file options false files None)) request status (asked.brief program options out map_file files is_line plain_out plain_map some plain) c.answer.ensures;
       load = λ program origin text file is_line plain_value plain.
           ends (calls (to_load origin text false file)) request status (asked.load program origin text file is_line plain_value plain) c.answer.ensures;
       image = λ program origin form files is_line plain_value some plain.
@@ -25,7 +26,7 @@ returns g c =
       check = λ program file is_line plain. ends (calls (to_check false file)) request status (asked.check program file is_line plain) c.answer.ensures;
       show = λ program text file is_line plain. ends (calls (to_show text false file)) request status (asked.show program text file is_line plain) c.answer.ensures;
       names = λ program files is_line some plain. ends (calls (to_names files)) request status (asked.names program files is_line some plain) c.answer.ensures;
-      survey = λ program files is_line some plain. ends (calls (to_survey files)) request status (asked.survey program files is_line some plain) c.answer.ensures;
+      survey = λ program files is_line some plain. ends (calls (to_survey no_survey_options files None)) request status (asked.survey program files is_line some plain) c.answer.ensures;
       copy = λ program options out file is_line plain_out plain.
           ends (calls (to_copy out (Written options) false file)) request status (asked.copy program options out file is_line plain_out plain) c.answer.ensures;
       normal = λ program out file is_line plain_out plain.

@@ -18,6 +18,9 @@ returns-in-TooManyAddresses-clause-told g c = rw c.in-TooManyAddresses.is (tells
 pub returns-in-TooLong-clause-told : goal.returns-in-TooLong-clause-told
 returns-in-TooLong-clause-told g c = rw c.in-TooLong.is (tells_none g.W.Sink.taken g.W.Sink.failed c.args.errors.now)
 
+pub returns-in-BadName-clause-told : goal.returns-in-BadName-clause-told
+returns-in-BadName-clause-told g c = rw c.in-BadName.is (tells_none g.W.Sink.taken g.W.Sink.failed c.args.errors.now)
+
 pub returns-in-Writing-clause-told : goal.returns-in-Writing-clause-told
 returns-in-Writing-clause-told g c = rw c.in-Writing.is (tells_none g.W.Sink.taken g.W.Sink.failed c.args.errors.now)
 

@@ -1,6 +1,0 @@
-use Rattle.std.proofs.Common.{subst}
-use Rattle.amihunk.specs.CommandLine.{Answers}
-use Rattle.amihunk.proofs.command_line.refuse_file.Goals as goal
-
-pub returns : goal.returns
-returns c = subst (λ kind. Answers kind c.answer_to.result) c.in_ok-error.ensures.kind c.answer_to.ensures

@@ -1,8 +1,0 @@
--- The line is put into a text that is finished.
-use Rattle.std.proofs.Common.{[], rules}
-use Rattle.hunk_commands.proofs.survey.write_last_line.Goals as goal
-
-pub returns : goal.returns
-returns g c =
-    let wrote = c.finish.ensures.wrote c.args.writer.now _ (c.write_totals.ensures.adds _ [] c.new-text.ensures.empty) in
-    search (rules, wrote)

@@ -1,0 +1,5 @@
+pub mod DigestLawsLemmas
+pub mod FindLemmas
+pub mod NamedLemmas
+pub mod StrangerLemmas
+pub mod SurveyLemmas

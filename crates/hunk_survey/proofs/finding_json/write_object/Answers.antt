@@ -1,0 +1,6 @@
+-- The numbers, and the words between them.
+use Rattle.hunk_base.proofs.TextLemmas.{◌⨾◌}
+use Rattle.hunk_survey.proofs.finding_json.write_object.Goals as goal
+
+pub returns : goal.returns
+returns g c = c.put.ensures ⨾ c.put_decimal.ensures ⨾ c.put-2.ensures ⨾ c.put_decimal-2.ensures
