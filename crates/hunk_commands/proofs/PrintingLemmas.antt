@@ -34,7 +34,7 @@ kept_at text bases left left_then old between new kept read =
     HasRead-weaker left left_then (IsWrittenAt text bases old between) (IsWrittenAt text bases old new)
     (λ bytes is. record { hunks = is.hunks; is_file = is.is_file; placed = is.placed; written = Appends-kept old between new _ is.written kept }) read
 
-pub kept_text : (text : FileValue → List ℕ) (left left_then old between new : Option (List ℕ)) → Keeps between new
+pub kept_text : (text : List ℕ → FileValue → List ℕ) (left left_then old between new : Option (List ℕ)) → Keeps between new
     → HasRead left left_then (IsWritten text old between) → HasRead left left_then (IsWritten text old new)
 kept_text text left left_then old between new kept read =
     HasRead-weaker left left_then (IsWritten text old between) (IsWritten text old new)

@@ -5,7 +5,7 @@ use Rattle.hunk_json.specs.Run.{json_text, json_text_in}
 use Rattle.hunk_json.specs.declared.form.JsonForm.TheVariants.{WithContent}
 use Rattle.hunk_tool.specs.Check.{check_text}
 use Rattle.hunk_tool.specs.FileSystem.{MayBeMissing, OfFile, OfWholeFile}
-use Rattle.hunk_tool.specs.FileText.{IsTextFault, IsWritten}
+use Rattle.hunk_tool.specs.FileText.{IsTextFault, IsWritten, of_value}
 use Rattle.hunk_files.specs.FileValue.{FileValue}
 use Rattle.hunk_tool.specs.Show.{show_text}
 use Rattle.hunk_commands.specs.declared.failure.Failure.{Failure}
@@ -16,13 +16,13 @@ use Rattle.hunk_commands.specs.declared.text.Text.TheVariants.{Line, Shown}
 use Rattle.hunk_commands.specs.Output.{IsFlushed, IsNothing, Printed, ends_between}
 use Rattle.hunk_commands.specs.Store.{Contents}
 
--- the text about a file of this value
-abbrev pub text_of : Text → FileValue → List ℕ
-text_of Line = check_text
-text_of (Shown Listing) = show_text
-text_of (Shown Json) = json_text
-text_of (Shown JsonWithContent) = json_text_in WithContent
-text_of (Shown Page) = page_text
+-- the text about a file of these bytes and this value
+abbrev pub text_of : Text → (bytes : List ℕ) → FileValue → List ℕ
+text_of Line = of_value check_text
+text_of (Shown Listing) = of_value show_text
+text_of (Shown Json) = of_value json_text
+text_of (Shown JsonWithContent) = of_value (json_text_in WithContent)
+text_of (Shown Page) = of_value page_text
 
 -- the text about the file, of the kind that its first four bytes tell, is what the output has taken
 abbrev pub IsWrittenOf : Text → Contents → (file : List ℕ) → Printed → Type 0

@@ -20,7 +20,7 @@ use hunk_words::{Builder, Feed, FileKind, ReadFault, Refusal, Source, ValueDecod
 const TYPES: u32 = 0x4000_0000;
 
 /// A decoder of files of one kind.
-pub(crate) trait KindDecoder: Drop {
+pub trait KindDecoder: Drop {
     // What it holds after these bytes have been fed.
     ghost stands_for: { Self → List ℕ → Type 0 };
 
@@ -230,7 +230,7 @@ impl<O: KindDecoder, L: KindDecoder> Feed for FileDecoder<O, L> {
 ///   only once the reader has ended.
 /// - [`ReadFault::Refused`] with [`Refusal::OutOfMemory`] only if an allocation failed.
 /// - [`ReadFault::Device`] only if a read failed.
-pub(crate) fn read_file<R: Source, O: KindDecoder, L: KindDecoder>(
+pub fn read_file<R: Source, O: KindDecoder, L: KindDecoder>(
     reader: &mut R,
     object: O,
     load: L,

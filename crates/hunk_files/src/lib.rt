@@ -25,5 +25,5 @@ pub use counting::{CountedFile, count_file};
 pub use explain::{explain_file, explain_load, explain_object};
 pub use explanation::{Explanation, Found};
 pub use explanation_text::write_explanation;
-pub use file_decoder::File;
+pub use file_decoder::{File, KindDecoder, read_file};
 pub use hunk_file::{HunkFile, HunkFileDecoder, read_hunk_file};

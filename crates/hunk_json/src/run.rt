@@ -3,7 +3,7 @@
 ghost use Rattle.std.specs.Prelude.{◌^◌, ◌<◌, length, IsTrue, OnOk, IfErr};
 ghost use Rattle.hunk_base.specs.Streams.{HasRead, IsDevice, WroteAll};
 ghost use Rattle.hunk_base.specs.Text.{Puts};
-ghost use Rattle.hunk_tool.specs.FileText.{IsTextFault, IsWritten};
+ghost use Rattle.hunk_tool.specs.FileText.{IsTextFault, IsWritten, of_value};
 ghost use Rattle.hunk_files.specs.HunkFile.{value_of};
 ghost use Rattle.hunk_tool.specs.Load.{ends_of};
 ghost use Rattle.hunk_json.specs.Document.{document};
@@ -35,9 +35,9 @@ pub fn json_run<A: Allocator + Copy, R: Source, W: Sink>(
     reader: &mut R,
     writer: &mut W,
 ) -> Result<(), ToolFault<A>>
-    ensures ok { OnOk result (HasRead (R.left reader.old) (R.left reader.new) (IsWritten json_text (W.taken writer.old) (W.taken writer.new))) }
+    ensures ok { OnOk result (HasRead (R.left reader.old) (R.left reader.new) (IsWritten (of_value json_text) (W.taken writer.old) (W.taken writer.new))) }
     ensures ended { OnOk result (IsTrue (R.ended reader.new)) }
-    ensures err { IfErr result (IsTextFault json_text (ends_of
+    ensures err { IfErr result (IsTextFault (of_value json_text) (ends_of
         (R.left reader.old) (R.left reader.new) (R.failed reader.new) (R.ended reader.new)
         (W.taken writer.old) (W.taken writer.new) (W.failed writer.new))) }
 {
@@ -55,9 +55,9 @@ pub fn json_run_with<A: Allocator + Copy, R: Source, W: Sink>(
     form: JsonForm,
     writer: &mut W,
 ) -> Result<(), ToolFault<A>>
-    ensures ok { OnOk result (HasRead (R.left reader.old) (R.left reader.new) (IsWritten (json_text_in form) (W.taken writer.old) (W.taken writer.new))) }
+    ensures ok { OnOk result (HasRead (R.left reader.old) (R.left reader.new) (IsWritten (of_value (json_text_in form)) (W.taken writer.old) (W.taken writer.new))) }
     ensures ended { OnOk result (IsTrue (R.ended reader.new)) }
-    ensures err { IfErr result (IsTextFault (json_text_in form) (ends_of
+    ensures err { IfErr result (IsTextFault (of_value (json_text_in form)) (ends_of
         (R.left reader.old) (R.left reader.new) (R.failed reader.new) (R.ended reader.new)
         (W.taken writer.old) (W.taken writer.new) (W.failed writer.new))) }
 {

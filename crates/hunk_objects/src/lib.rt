@@ -16,10 +16,11 @@ pub mod object_decoder;
 mod open_hunk;
 mod open_unit;
 pub mod program_unit;
-mod unit_builder;
+pub mod unit_builder;
 pub mod unit_hunk;
 
 pub use hunk_words::{HunkKind, Memory};
 pub use object_decoder::{ObjectDecoder, read_object};
 pub use program_unit::{ProgramUnit, hunk_total};
+pub use unit_builder::UnitBuilder;
 pub use unit_hunk::{Adds, Definition, HunkParts, UnitHunk};

@@ -17,9 +17,10 @@ use Rattle.hunk_files.specs.declared.counters.ObjectCounter.{ObjectCounter}
 use Rattle.hunk_files.specs.declared.file_decoder.File.{File}
 use Rattle.hunk_files.specs.declared.file_decoder.File.TheVariants.{Load, Object}
 use Rattle.hunk_tool.proofs.FileTextLemmas.{HasText}
+use Rattle.hunk_tool.specs.FileText.{of_value}
 
 -- the line of the counters is that of the file
-line-counted : {A : Type 0} (kind : FileKind) (counted : File (ObjectCounter A) (LoadCounter A)) (bytes : List ℕ) → kind_of_bytes bytes ≡ kind → IsFileOf CountsObject CountsLoad kind counted bytes → HasText check_text (line_of counted) bytes
+line-counted : {A : Type 0} (kind : FileKind) (counted : File (ObjectCounter A) (LoadCounter A)) (bytes : List ℕ) → kind_of_bytes bytes ≡ kind → IsFileOf CountsObject CountsLoad kind counted bytes → HasText (of_value check_text) (line_of counted) bytes
 line-counted kind_is.Object (Object counter) bytes is has = record {
   value = object_file has.units;
   is_file = rw is has.is_file;
@@ -34,7 +35,7 @@ line-counted kind_is.Object (Load counter) bytes is has = absurd has
 line-counted kind_is.Load (Object counter) bytes is has = absurd has
 
 pub HasText-counted : {A : Type 0} (counted : File (ObjectCounter A) (LoadCounter A)) (left left_then : Option (List ℕ))
-    → HasRead left left_then (λ bytes. IsFileOf CountsObject CountsLoad (kind_of_bytes bytes) counted bytes) → HasRead left left_then (HasText check_text (line_of counted))
+    → HasRead left left_then (λ bytes. IsFileOf CountsObject CountsLoad (kind_of_bytes bytes) counted bytes) → HasRead left left_then (HasText (of_value check_text) (line_of counted))
 HasText-counted counted left left_then read = HasRead-weaker left left_then _ _ (λ bytes has. line-counted (kind_of_bytes bytes) counted bytes refl has) read
 
 -- ---- the lines are short

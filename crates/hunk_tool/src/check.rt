@@ -4,7 +4,7 @@ ghost use Rattle.std.specs.Prelude.{IsTrue, OnOk, IfErr};
 ghost use Rattle.hunk_base.specs.Streams.{HasRead, IsDevice, WroteAll};
 ghost use Rattle.hunk_text.specs.Listing.{load_line, object_line};
 ghost use Rattle.hunk_tool.specs.Check.{check_text, line_of};
-ghost use Rattle.hunk_tool.specs.FileText.{IsTextFault, IsWritten};
+ghost use Rattle.hunk_tool.specs.FileText.{IsTextFault, IsWritten, of_value};
 ghost use Rattle.hunk_tool.specs.Load.{ends_of};
 
 use crate::tool_fault::ToolFault;
@@ -35,9 +35,9 @@ pub fn check_run<A: Allocator + Copy, R: Source, W: Sink>(
     reader: &mut R,
     writer: &mut W,
 ) -> Result<(), ToolFault<A>>
-    ensures ok { OnOk result (HasRead (R.left reader.old) (R.left reader.new) (IsWritten check_text (W.taken writer.old) (W.taken writer.new))) }
+    ensures ok { OnOk result (HasRead (R.left reader.old) (R.left reader.new) (IsWritten (of_value check_text) (W.taken writer.old) (W.taken writer.new))) }
     ensures ended { OnOk result (IsTrue (R.ended reader.new)) }
-    ensures err { IfErr result (IsTextFault check_text (ends_of
+    ensures err { IfErr result (IsTextFault (of_value check_text) (ends_of
         (R.left reader.old) (R.left reader.new) (R.failed reader.new) (R.ended reader.new)
         (W.taken writer.old) (W.taken writer.new) (W.failed writer.new))) }
 {
