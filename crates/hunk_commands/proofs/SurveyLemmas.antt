@@ -1,15 +1,16 @@
 -- The lines of a survey, one after another, and where they stopped.
-use Rattle.std.proofs.Common.{◌≡◌, ◌∙◌, ◌+◌, ◌<◌, ◌≤◌, zero, suc, ap, arith, Bool, eq-eqb, if◌then◌else◌, ℕ, length, length-append, List, [], ◌∷◌, ◌++◌, Option, None, Some, IsTrue, subst, sym, refl, take, append_assoc, append-nil, drop, get_or}
+use Rattle.std.proofs.Common.{◌≡◌, ◌∙◌, ◌+◌, ◌<◌, ◌≤◌, zero, suc, ap, arith, Bool, eq-eqb, if◌then◌else◌, ℕ, length, length-append, List, [], ◌∷◌, ◌++◌, Option, None, Some, IsTrue, subst, sym, refl, take, append-nil, drop, get_or}
 use Rattle.std.specs.Borrow.{Bor}
 use Rattle.std.specs.Prelude.{IfErr, OnErr, Result, Ok, Err}
 use Rattle.std.specs.Io.KnownBytes.{Appends, Keeps}
 use Rattle.std.specs.List.{All, flat_map, zip}
 use Rattle.std.proofs.Math.Seq.{take-append-add, take-length}
 use Rattle.std.proofs.lemmas.List.{take-append-drop, take-append-le}
-use Rattle.std.proofs.lemmas.List.Elements.{All-cons, All-head, All-nil, All-tail}
+use Rattle.std.proofs.lemmas.List.Elements.{All-nil}
 use Rattle.std.proofs.KnownBytes.{Appends-kept, Appends-trans}
 use Rattle.hunk_base.specs.Streams.{TookFront}
 use Rattle.hunk_survey.specs.Finding.{IsOfFile, content_of}
+use Rattle.hunk_survey.proofs.SurveyLemmas.{AreOfFiles-more, lines-more}
 use Rattle.hunk_survey.specs.Tally.{tally_of, tally_status}
 use Rattle.hunk_survey.specs.declared.finding.Finding.{Finding}
 use Rattle.hunk_survey.specs.declared.tally.Tally.{Tally}
@@ -65,22 +66,6 @@ zip-longer [] more (finding ∷ findings) few = absurd (omega (arith, few))
 zip-longer (name ∷ names) more [] few = refl
 zip-longer (name ∷ names) more (finding ∷ findings) few = ap (λ rest. (name, finding) ∷ rest) (zip-longer names more findings (omega (arith, few)))
 
--- one name and one finding more
-zip-more : (names : List (List ℕ)) (findings : List Finding) (name : List ℕ) (finding : Finding) → length findings ≡ length names
-    → zip (names ++ name ∷ []) (findings ++ finding ∷ []) ≡ zip names findings ++ (name, finding) ∷ []
-zip-more [] [] name finding same = refl
-zip-more [] (found ∷ findings) name finding same = absurd (omega (arith, same))
-zip-more (other ∷ names) [] name finding same = absurd (omega (arith, same))
-zip-more (other ∷ names) (found ∷ findings) name finding same = ap (λ rest. (other, found) ∷ rest) (zip-more names findings name finding (omega (arith, same)))
-
-All-more : {X : Type 0} (Holds : X → Type 0) (xs : List X) (x : X) → All Holds xs → Holds x → All Holds (xs ++ x ∷ [])
-All-more Holds [] x all holds = All-cons Holds x [] holds (All-nil Holds)
-All-more Holds (first ∷ xs) x all holds = All-cons Holds first (xs ++ x ∷ []) (All-head Holds first xs all) (All-more Holds xs x (All-tail Holds first xs all) holds)
-
-flat_map-more : {X : Type 0} (text : X → List ℕ) (xs : List X) (x : X) → flat_map text (xs ++ x ∷ []) ≡ flat_map text xs ++ text x
-flat_map-more text [] x = append-nil (text x)
-flat_map-more text (first ∷ xs) x = ap (λ rest. text first ++ rest) (flat_map-more text xs x) ∙ sym (append_assoc (text first) (flat_map text xs) (text x))
-
 module _ (plan : Plan) (contents : Contents) where
   abbrev Fits : List ℕ × Finding → Type 0
   Fits about = IsOfFile plan.find (content_of contents about.0) about.1
@@ -112,8 +97,8 @@ module _ (plan : Plan) (contents : Contents) where
   told-more names name finding start between now tally tally_then told is written counts = record {
     findings = told.findings ++ finding ∷ [];
     one_each = omega (arith, told.one_each, length-append told.findings (finding ∷ []), length-append names (name ∷ []));
-    of_files = subst (All Fits) (sym (zip-more names told.findings name finding told.one_each)) (All-more Fits (zip names told.findings) (name, finding) told.of_files is);
-    written = subst (Appends start now) (sym (ap (flat_map Line) (zip-more names told.findings name finding told.one_each) ∙ flat_map-more Line (zip names told.findings) (name, finding)))
+    of_files = AreOfFiles-more plan.find contents names told.findings name finding told.one_each told.of_files is;
+    written = subst (Appends start now) (sym (lines-more (survey_line plan.json) names told.findings name finding told.one_each))
         (Appends-trans start between now (survey_lines plan.json names told.findings) (survey_line plan.json name finding) told.written written);
     tally_is = counts told.findings told.tally_is;
   }
@@ -156,10 +141,10 @@ module _ (plan : Plan) (contents : Contents) where
       findings = told.findings ++ finding ∷ [];
       are_first = record {
         few = omega (arith, told.one_each, length-append told.findings (finding ∷ []), length-append names (name ∷ []));
-        of_files = subst (All Fits) (sym (zip-more names told.findings name finding told.one_each)) (All-more Fits (zip names told.findings) (name, finding) told.of_files is);
+        of_files = AreOfFiles-more plan.find contents names told.findings name finding told.one_each told.of_files is;
       };
       front = subst (λ text. TookFront start now text (length (survey_lines plan.json names told.findings) + written))
-          (sym (ap (flat_map Line) (zip-more names told.findings name finding told.one_each) ∙ flat_map-more Line (zip names told.findings) (name, finding)))
+          (sym (lines-more (survey_line plan.json) names told.findings name finding told.one_each))
           (front-after start between now (survey_lines plan.json names told.findings) (survey_line plan.json name finding) written told.written front);
     },
   )

@@ -4,8 +4,6 @@ use Rattle.std.proofs.lemmas.List.Elements.{All-cons, All-head, All-tail}
 use Rattle.std.specs.List.{flat_map, zip}
 use Rattle.hunk_tool.specs.FileSystem.{FileContent}
 use Rattle.hunk_survey.specs.Finding.{AreOfFiles, IsOfFile, content_of}
-use Rattle.hunk_survey.specs.FindingJson.{finding_json, finding_json_lines}
-use Rattle.hunk_survey.specs.FindingLine.{finding_line, finding_lines}
 use Rattle.hunk_survey.specs.declared.find.FindOptions.{FindOptions}
 use Rattle.hunk_survey.specs.declared.finding.Finding.{Finding}
 
@@ -28,19 +26,11 @@ AreOfFiles-more options contents (first ∷ names) (found ∷ findings) name fin
 
 -- what is told of each file so far, and then of the next one
 module _ (told : List ℕ → Finding → List ℕ) where
-  told-more : (names : List (List ℕ)) (findings : List Finding) (name : List ℕ) (finding : Finding) → length findings ≡ length names
+  pub lines-more : (names : List (List ℕ)) (findings : List Finding) (name : List ℕ) (finding : Finding) → length findings ≡ length names
       → flat_map (λ about. told about.0 about.1) (zip (names ++ name ∷ []) (findings ++ finding ∷ [])) ≡ flat_map (λ about. told about.0 about.1) (zip names findings) ++ told name finding
-  told-more [] [] name finding each = append-nil (told name finding)
-  told-more [] (found ∷ findings) name finding each = absurd (omega (arith, each))
-  told-more (first ∷ names) [] name finding each = absurd (omega (arith, each))
-  told-more (first ∷ names) (found ∷ findings) name finding each =
-      ap (λ lines. told first found ++ lines) (told-more names findings name finding (omega (arith, each)))
+  lines-more [] [] name finding each = append-nil (told name finding)
+  lines-more [] (found ∷ findings) name finding each = absurd (omega (arith, each))
+  lines-more (first ∷ names) [] name finding each = absurd (omega (arith, each))
+  lines-more (first ∷ names) (found ∷ findings) name finding each =
+      ap (λ lines. told first found ++ lines) (lines-more names findings name finding (omega (arith, each)))
       ∙ sym (append_assoc (told first found) (flat_map (λ about. told about.0 about.1) (zip names findings)) (told name finding))
-
-pub lines-more : (names : List (List ℕ)) (findings : List Finding) (name : List ℕ) (finding : Finding) → length findings ≡ length names
-    → finding_lines (names ++ name ∷ []) (findings ++ finding ∷ []) ≡ finding_lines names findings ++ finding_line name finding
-lines-more = told-more finding_line
-
-pub json_lines-more : (names : List (List ℕ)) (findings : List Finding) (name : List ℕ) (finding : Finding) → length findings ≡ length names
-    → finding_json_lines (names ++ name ∷ []) (findings ++ finding ∷ []) ≡ finding_json_lines names findings ++ finding_json name finding
-json_lines-more = told-more finding_json

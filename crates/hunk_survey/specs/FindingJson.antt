@@ -1,7 +1,6 @@
 -- The lines of JSON about files.
 use Rattle.std.specs.Prelude.{ℕ, List, [], ◌++◌, codes, Bool, if◌then◌else◌, Option, Some, None}
 use Rattle.std.specs.Fmt.{decimal}
-use Rattle.std.specs.List.{flat_map, zip}
 use Rattle.hex.specs.Hex.{encode_lower}
 use Rattle.hunk_base.specs.Text.{line}
 use Rattle.hunk_base.specs.declared.fault.Fault.{Fault}
@@ -59,7 +58,3 @@ finding_members NotRegular = codes ",\"kind\":\"unreadable\""
 -- an object without spaces between its parts, on one line
 abbrev pub finding_json : (name : List ℕ) → Finding → List ℕ
 finding_json name finding = line (codes "{\"file\":" ++ document Plain (name_json name) ++ finding_members finding ++ codes "}")
-
--- the lines about the files with these names, in order
-abbrev pub finding_json_lines : (names : List (List ℕ)) → List Finding → List ℕ
-finding_json_lines names findings = flat_map (λ about. finding_json about.0 about.1) (zip names findings)

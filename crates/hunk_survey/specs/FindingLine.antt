@@ -1,7 +1,6 @@
 -- The lines of text about files.
 use Rattle.std.specs.Prelude.{ℕ, List, ◌++◌, codes, Option, Some, None}
 use Rattle.std.specs.Fmt.{decimal}
-use Rattle.std.specs.List.{flat_map, zip}
 use Rattle.hex.specs.Hex.{encode_lower}
 use Rattle.hunk_base.specs.Text.{line}
 use Rattle.hunk_text.specs.Listing.{load_line, object_line}
@@ -27,7 +26,3 @@ finding_text NotRegular = line (codes "not a regular file")
 
 abbrev pub finding_line : (name : List ℕ) → Finding → List ℕ
 finding_line name finding = shown_name name ++ codes ": " ++ finding_text finding
-
--- the lines about the files with these names, in order
-abbrev pub finding_lines : (names : List (List ℕ)) → List Finding → List ℕ
-finding_lines names findings = flat_map (λ about. finding_line about.0 about.1) (zip names findings)
