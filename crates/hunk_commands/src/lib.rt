@@ -1,6 +1,6 @@
 //! What the program `amihunk` does for each of its commands: with the files of any store, and any output.
 //!
-//! - `request`: what a command line asks for, and doing it.
+//! - `request`: what a command line asks for; `answers`: doing it.
 //! - `failure`: why a command failed, the line that reports it, and the exit status.
 //! - `store`: the files that are read and replaced; `output`: what is printed to.
 //! - `addresses`: where the addresses of the hunks come from.
@@ -37,6 +37,7 @@
 
 pub mod addresses;
 mod again;
+mod answers;
 mod buffers;
 pub mod compare;
 pub mod copy;

@@ -5,13 +5,13 @@ ghost use Rattle.hunk_commands.specs.FileList.{AreNamesIn, IsListFailure, given_
 ghost use Rattle.hunk_commands.specs.Link.{IsDone, IsUndone};
 ghost use Rattle.hunk_commands.specs.Request.{EndsLink, EndsLinkOf, given_text};
 
+use crate::answers::fail;
 use crate::explain::Command;
 use crate::failure::{DONE, Failure, report_failure};
 use crate::file_list::FileList;
 use crate::inputs::names_of;
 use crate::link::{link, link_with_map};
 use crate::listed_names::listed_names;
-use crate::request::fail;
 use crate::store::Store;
 use hunk_tool::LinkOptions;
 use hunk_words::Sink;
@@ -32,18 +32,38 @@ pub(crate) fn answer_link<S: Store, W: Sink>(
     ensures { EndsLink (S.content store.old) (S.content store.new) W.taken W.failed errors.old errors.new out.now (given_text map_file.entry) options explain (file_names files.now) (given_list list.entry) result }
 {
     let Some(list) = list else {
-        return answer_link_of(alloc, store, errors, out, map_file, options, explain, files);
+        return answer_link_of_given(alloc, store, errors, out, map_file, options, explain, files);
     };
     match all_names(alloc, store, files, list) {
         Ok(names) => {
             let names = names.as_slice();
-            answer_link_of_names(alloc, store, errors, out, map_file, options, explain, names)
+            answer_link_of(alloc, store, errors, out, map_file, options, explain, names)
         }
         Err(failure) => {
             let command = Command::Link;
             fail(alloc, store, errors, command, explain, &[], &[], &failure)
         }
     }
+}
+
+/// Links these files, and returns the exit status.
+fn answer_link_of_given<S: Store, W: Sink>(
+    alloc: Global,
+    store: &mut S,
+    errors: &mut W,
+    out: &str,
+    map_file: Option<&str>,
+    options: LinkOptions,
+    explain: bool,
+    files: &[&str],
+) -> u8
+    ensures { EndsLinkOf (S.content store.old) (S.content store.new) W.taken W.failed errors.old errors.new out.now (given_text map_file.entry) options explain (file_names files.now) result }
+{
+    let Ok(names) = names_of(alloc, files) else {
+        return report_failure(errors, &[], &Failure::out_of_memory());
+    };
+    let names = names.as_slice();
+    answer_link_of(alloc, store, errors, out, map_file, options, explain, names)
 }
 
 /// The names of the files that are given, and after them those in the list.
@@ -73,7 +93,7 @@ fn joined(alloc: Global, files: &[&str], mut others: Vec<String>) -> Result<Vec<
 }
 
 /// Links the files with these names, and returns the exit status.
-fn answer_link_of_names<S: Store, W: Sink>(
+fn answer_link_of<S: Store, W: Sink>(
     alloc: Global,
     store: &mut S,
     errors: &mut W,
@@ -85,11 +105,19 @@ fn answer_link_of_names<S: Store, W: Sink>(
 ) -> u8
     ensures { EndsLinkOf (S.content store.old) (S.content store.new) W.taken W.failed errors.old errors.new out.now (given_text map_file.entry) options explain (map string_bytes names.now) result }
 {
-    let Ok(files) = texts_of(alloc, names) else {
+    let Ok(texts) = texts_of(alloc, names) else {
         return report_failure(errors, &[], &Failure::out_of_memory());
     };
-    let files = files.as_slice();
-    answer_link_of(alloc, store, errors, out, map_file, options, explain, files)
+    let files = texts.as_slice();
+    match link_as_asked(alloc, store, out, map_file, options, files, names) {
+        Ok(()) => DONE,
+        Err(failure) => {
+            let command = Command::Link;
+            fail(
+                alloc, store, errors, command, explain, files, names, &failure,
+            )
+        }
+    }
 }
 
 /// The texts of names.
@@ -101,42 +129,6 @@ fn texts_of<'n>(alloc: Global, names: &'n [String]) -> Result<Vec<&'n str>, Allo
         texts.push(name.as_str())?;
     }
     Ok(texts)
-}
-
-/// Links these files, and returns the exit status.
-fn answer_link_of<S: Store, W: Sink>(
-    alloc: Global,
-    store: &mut S,
-    errors: &mut W,
-    out: &str,
-    map_file: Option<&str>,
-    options: LinkOptions,
-    explain: bool,
-    files: &[&str],
-) -> u8
-    ensures { EndsLinkOf (S.content store.old) (S.content store.new) W.taken W.failed errors.old errors.new out.now (given_text map_file.entry) options explain (file_names files.now) result }
-{
-    let Ok(names) = names_of(alloc, files) else {
-        return report_failure(errors, &[], &Failure::out_of_memory());
-    };
-    match link_as_asked(
-        alloc,
-        store,
-        out,
-        map_file,
-        options,
-        files,
-        names.as_slice(),
-    ) {
-        Ok(()) => DONE,
-        Err(failure) => {
-            let command = Command::Link;
-            let names = names.as_slice();
-            fail(
-                alloc, store, errors, command, explain, files, names, &failure,
-            )
-        }
-    }
 }
 
 /// Links, and writes the map if one is asked for.

@@ -9,7 +9,7 @@ use Rattle.hunk_tool.specs.declared.tool_fault.ToolFault.TheVariants as tool_fau
 use Rattle.hunk_commands.specs.declared.failure.Failure.TheVariants.{Tool}
 use Rattle.hunk_commands.proofs.ExplainLemmas.{none_asked}
 use Rattle.hunk_commands.proofs.RequestLemmas.{IsFailed-why, not_begun, out_of_memory_told}
-use Rattle.hunk_commands.proofs.request.answer_text.Goals as goal
+use Rattle.hunk_commands.proofs.answers.answer_text.Goals as goal
 
 pub returns-in_default : goal.returns-in_default
 returns-in_default g c =

@@ -3,7 +3,7 @@ use Rattle.hunk_tool.specs.Inputs.{file_names}
 use Rattle.hunk_commands.specs.Explain.{AreLinesOf, IfAsked}
 use Rattle.hunk_commands.proofs.ExplainLemmas.{after_asked, after_nothing}
 use Rattle.hunk_commands.proofs.RequestLemmas.{is_failed}
-use Rattle.hunk_commands.proofs.request.fail.Goals as goal
+use Rattle.hunk_commands.proofs.answers.fail.Goals as goal
 
 pub returns-then-explain : goal.returns-then-explain
 returns-then-explain g c =

@@ -3,7 +3,7 @@ use Rattle.std.proofs.Common.{[], inr, refl}
 use Rattle.hunk_commands.specs.Output.{IsUnprinted, printed_of}
 use Rattle.hunk_commands.specs.Request.{NoMore, OrExhausted}
 use Rattle.hunk_commands.proofs.RequestLemmas.{fails_with_line}
-use Rattle.hunk_commands.proofs.request.answer_help.Goals as goal
+use Rattle.hunk_commands.proofs.answers.answer_help.Goals as goal
 
 pub returns-in-Err : goal.returns-in-Err
 returns-in-Err g c =

@@ -6,7 +6,7 @@ use Rattle.hunk_commands.specs.Output.{printed_of}
 use Rattle.hunk_commands.specs.Request.{NoMore}
 use Rattle.hunk_commands.specs.Survey.{IsSurveyFailure}
 use Rattle.hunk_commands.proofs.RequestLemmas.{fails_with_line}
-use Rattle.hunk_commands.proofs.request.answer_survey.Goals as goal
+use Rattle.hunk_commands.proofs.answers.answer_survey.Goals as goal
 
 pub returns-in-Err : goal.returns-in-Err
 returns-in-Err g c =

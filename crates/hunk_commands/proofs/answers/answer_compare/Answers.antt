@@ -9,7 +9,7 @@ use Rattle.hunk_commands.specs.Request.{NoMore, OrExhausted}
 use Rattle.hunk_tool.specs.declared.tool_fault.ToolFault.TheVariants as tool_fault
 use Rattle.hunk_commands.specs.declared.failure.Failure.TheVariants.{Tool}
 use Rattle.hunk_commands.proofs.RequestLemmas.{fails_with, out_of_memory_told}
-use Rattle.hunk_commands.proofs.request.answer_compare.Goals as goal
+use Rattle.hunk_commands.proofs.answers.answer_compare.Goals as goal
 
 pub returns-in_default : goal.returns-in_default
 returns-in_default g c =
