@@ -1,11 +1,15 @@
 //! The command line that the program accepts, as `clap` is told of it.
-ghost use Rattle.std.specs.Prelude.{◌≡◌, IfOk, codes, false, map};
+ghost use Rattle.std.specs.Prelude.{◌≡◌, IfOk, false, map};
 ghost use Rattle.clap.specs.Words.{Shape, app_of, rule_of, shape_of, with_subcommand};
 ghost use Rattle.clap.specs.declared.builder.command.Command.TheViews.{out-Command};
-ghost use Rattle.amihunk.specs.Syntax.{AreLocal, bare_app, check_shape, command_line, compare_shape, copy_shape, explain_rule, file_rule, files_rule, files_rule_if, flag_rule, image_shape, letter_s};
-ghost use Rattle.amihunk.specs.Syntax.{link_shape, load_shape, option_rule, out_rule, show_shape, survey_shape, value_rule, with_letter, with_rules};
+ghost use Rattle.amihunk.specs.Syntax.{AreLocal, bare_app, check_shape, command_line, compare_shape, copy_shape, image_shape, link_shape, load_shape, show_shape, survey_shape, with_rules};
 
-use clap::{Arg, ArgAction, Command};
+use crate::syntax::options::{
+    addresses_argument, at_argument, explain_flag, file_argument, files_argument, flag, lines_flag,
+    list_argument, listed_argument, map_argument, normal_flag, out_argument, records_flag,
+    short_flag, strip_flag, symbols_flag, trim_flag, value_argument,
+};
+use clap::{Arg, Command};
 use hunk_commands::VERSION;
 use std::alloc::{AllocError, Global};
 
@@ -81,89 +85,6 @@ pub fn link_command<'a>(alloc: Global) -> Result<Command<'a>, AllocError>
         .about("Links object files, and writes the load file")
         .after_help(help::LINK);
     with_arguments(link, arguments)
-}
-
-/// The argument `--map MAP`.
-fn map_argument<'a>(alloc: Global) -> Arg<'a>
-    ensures rule { rule_of result ≡ option_rule (codes "map") }
-    ensures local { result.global ≡ false }
-{
-    let help = "The file to write that tells where each hunk is from";
-    option(alloc, "map", "MAP", help)
-}
-
-/// The argument `--out OUT` or `-o OUT`, which is required.
-fn out_argument<'a>(alloc: Global) -> Arg<'a>
-    ensures rule { rule_of result ≡ out_rule }
-    ensures local { result.global ≡ false }
-{
-    option(alloc, "out", "OUT", "The load file to write")
-        .short('o')
-        .required(true)
-}
-
-/// The flag `--NAME`.
-fn flag<'a>(alloc: Global, name: &'a str, help: &'a str) -> Arg<'a>
-    ensures rule { rule_of result ≡ flag_rule name.now }
-    ensures local { result.global ≡ false }
-{
-    Arg::new(alloc, name)
-        .long(name)
-        .action(ArgAction::SetTrue)
-        .help(help)
-}
-
-/// The flag `--strip` or `-s`.
-fn strip_flag<'a>(alloc: Global) -> Arg<'a>
-    ensures rule { rule_of result ≡ with_letter letter_s (flag_rule (codes "strip")) }
-    ensures local { result.global ≡ false }
-{
-    flag(alloc, "strip", "Leaves out symbols and debug blocks").short('s')
-}
-
-/// The flag `--short`.
-fn short_flag<'a>(alloc: Global) -> Arg<'a>
-    ensures rule { rule_of result ≡ flag_rule (codes "short") }
-    ensures local { result.global ≡ false }
-{
-    let help = "Writes the short form, with relocations in 16-bit lists where they fit";
-    flag(alloc, "short", help)
-}
-
-/// The flag `--trim`.
-fn trim_flag<'a>(alloc: Global) -> Arg<'a>
-    ensures rule { rule_of result ≡ flag_rule (codes "trim") }
-    ensures local { result.global ≡ false }
-{
-    let help = "Leaves out zero longwords at the end of each hunk";
-    flag(alloc, "trim", help)
-}
-
-/// The flag `--srec`.
-fn records_flag<'a>(alloc: Global) -> Arg<'a>
-    ensures rule { rule_of result ≡ flag_rule (codes "srec") }
-    ensures local { result.global ≡ false }
-{
-    let help = "Prints Motorola S-records in place of the report";
-    flag(alloc, "srec", help)
-}
-
-/// The flag `--symbols` of `load` and `image`.
-fn symbols_flag<'a>(alloc: Global) -> Arg<'a>
-    ensures rule { rule_of result ≡ flag_rule (codes "symbols") }
-    ensures local { result.global ≡ false }
-{
-    let help = "Prints the address of each symbol in place of the report, or before the S-records";
-    flag(alloc, "symbols", help)
-}
-
-/// The flag `--explain`.
-fn explain_flag<'a>(alloc: Global) -> Arg<'a>
-    ensures rule { rule_of result ≡ explain_rule }
-    ensures local { result.global ≡ false }
-{
-    let help = "Tells more of a refusal, in further lines";
-    flag(alloc, "explain", help)
 }
 
 /// The subcommand `load --at LIST [--srec] [--symbols] [--explain] FILE`, or with `--at-file FILE` in
@@ -297,15 +218,6 @@ pub fn copy_command<'a>(alloc: Global) -> Result<Command<'a>, AllocError>
     with_arguments(copy, arguments)
 }
 
-/// The flag `--normal`.
-fn normal_flag<'a>(alloc: Global) -> Arg<'a>
-    ensures rule { rule_of result ≡ flag_rule (codes "normal") }
-    ensures local { result.global ≡ false }
-{
-    let help = "Writes the normal form, which files that mean the same have in common";
-    flag(alloc, "normal", help)
-}
-
 /// The subcommand `compare [--symbols] A B`.
 pub fn compare_command<'a>(alloc: Global) -> Result<Command<'a>, AllocError>
     ensures shape { IfOk result (λ c. shape_of c ≡ compare_shape) }
@@ -322,89 +234,5 @@ pub fn compare_command<'a>(alloc: Global) -> Result<Command<'a>, AllocError>
     with_arguments(compare, arguments)
 }
 
-/// The argument VALUE, which is required.
-fn value_argument<'a>(alloc: Global, name: &'a str, value: &'a str, help: &'a str) -> Arg<'a>
-    ensures rule { rule_of result ≡ value_rule name.now }
-    ensures local { result.global ≡ false }
-{
-    Arg::new(alloc, name)
-        .value_name(value)
-        .required(true)
-        .help(help)
-}
-
-/// The argument `--at LIST`.
-fn at_argument<'a>(alloc: Global) -> Arg<'a>
-    ensures rule { rule_of result ≡ option_rule (codes "at") }
-    ensures local { result.global ≡ false }
-{
-    let help = "The address of each hunk, in hexadecimal, with commas between";
-    option(alloc, "at", "LIST", help)
-}
-
-/// The argument `--at-file FILE`.
-fn addresses_argument<'a>(alloc: Global) -> Arg<'a>
-    ensures rule { rule_of result ≡ option_rule (codes "at-file") }
-    ensures local { result.global ≡ false }
-{
-    let help = "A file with these addresses, with commas, spaces, tabs or line ends between";
-    option(alloc, "at-file", "FILE", help)
-}
-
-/// The argument `--files-from LIST`.
-fn list_argument<'a>(alloc: Global) -> Arg<'a>
-    ensures rule { rule_of result ≡ option_rule (codes "files-from") }
-    ensures local { result.global ≡ false }
-{
-    let help = "A file with the names of further files, each ended by a zero byte";
-    option(alloc, "files-from", "LIST", help)
-}
-
-/// The flag `--lines`.
-fn lines_flag<'a>(alloc: Global) -> Arg<'a>
-    ensures rule { rule_of result ≡ flag_rule (codes "lines") }
-    ensures local { result.global ≡ false }
-{
-    let help = "With `--files-from`, each name in LIST is a line";
-    flag(alloc, "lines", help)
-}
-
-/// The argument `--NAME VALUE`.
-fn option<'a>(alloc: Global, name: &'a str, value: &'a str, help: &'a str) -> Arg<'a>
-    ensures rule { rule_of result ≡ option_rule name.now }
-    ensures local { result.global ≡ false }
-{
-    Arg::new(alloc, name)
-        .long(name)
-        .value_name(value)
-        .help(help)
-}
-
-/// The argument FILE, for one file.
-fn file_argument<'a>(alloc: Global, help: &'a str) -> Arg<'a>
-    ensures rule { rule_of result ≡ file_rule }
-    ensures local { result.global ≡ false }
-{
-    value_argument(alloc, "file", "FILE", help)
-}
-
-/// The arguments FILE..., for one file or more.
-fn files_argument<'a>(alloc: Global, help: &'a str) -> Arg<'a>
-    ensures rule { rule_of result ≡ files_rule }
-    ensures local { result.global ≡ false }
-{
-    file_argument(alloc, help).num_args(1..)
-}
-
-/// The arguments FILE..., which may be left out.
-fn listed_argument<'a>(alloc: Global, help: &'a str) -> Arg<'a>
-    ensures rule { rule_of result ≡ files_rule_if false }
-    ensures local { result.global ≡ false }
-{
-    Arg::new(alloc, "file")
-        .value_name("FILE")
-        .num_args(1..)
-        .help(help)
-}
-
 mod help;
+mod options;
