@@ -1,4 +1,4 @@
-//! Tests of what the program does for each of its commands, and of files as JSON.
+//! Tests of what the program does for each of its commands.
 //!
 //! - `tests`: files, standard outputs and standard errors, by public calls only.
 //! - `samples`: files and a device for the tests.

@@ -8,10 +8,6 @@
 //! - `failures`: the line of each failure, and its status.
 //! - `images`: the report of object files.
 //! - `inputs`: files that are open at once.
-//! - `json_forms`: the forms of JSON documents.
-//! - `json_load`, `json_object`: load files and object files as JSON texts.
-//! - `json_pages`: pages of files.
-//! - `json_runs`: files of either kind as JSON, from readers to writers.
 //! - `keys`: keys from sources of random bytes.
 //! - `lines`: lines that reach a writer whole.
 //! - `links`: the load file of object files.
@@ -38,11 +34,6 @@ mod explanations;
 mod failures;
 mod images;
 mod inputs;
-mod json_forms;
-mod json_load;
-mod json_object;
-mod json_pages;
-mod json_runs;
 mod keys;
 mod lines;
 mod links;

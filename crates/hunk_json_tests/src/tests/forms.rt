@@ -1,7 +1,7 @@
 //! The forms of JSON documents: what is escaped in each, and contents in base64.
 
 use super::asserts::equals_at;
-use super::json_runs::ENOUGH;
+use super::runs::ENOUGH;
 use hunk_json::{JsonForm, json_run_with};
 use hunk_test_support::{CHUNKS, bytes_of};
 use hunk_tool::ToolFault;

@@ -1,7 +1,7 @@
 //! Files of either kind as JSON, from readers to writers.
 
 use super::asserts::{equals_at, holds};
-use super::{json_load, json_object};
+use super::{load, object};
 use hunk_json::json_run;
 use hunk_test_support::{CHUNKS, Refusing, bytes_of};
 use hunk_tool::ToolFault;
@@ -68,10 +68,10 @@ fn is_written(rt: &impl Abort, alloc: Global, words: &[u32], text: &str) -> Resu
 
 #[test]
 fn writes_files_of_either_kind(rt: HostRuntime) -> Result<(), Fail> {
-    for (words, text) in &json_load::FILES {
+    for (words, text) in &load::FILES {
         is_written(&rt, rt.alloc(), words, text)?;
     }
-    for (words, text) in &json_object::FILES {
+    for (words, text) in &object::FILES {
         is_written(&rt, rt.alloc(), words, text)?;
     }
     is_run(&rt, rt.alloc(), WHOLE, &NAMED, Ok(()), LINE)
