@@ -31,7 +31,7 @@ _amihunk() {
         link) options='-o --out --map -s --strip --short --trim --explain --files-from --lines -h --help' ;;
         load | image) options='--at --at-file --srec --symbols --explain -h --help' ;;
         show) options='--json --content --html --names --explain -h --help' ;;
-        check) options='--explain -h --help' ;;
+        check) options='--lint --explain -h --help' ;;
         survey) options='--json --digest --wait --files-from --lines -h --help' ;;
         copy) options='-o --out -s --strip --short --trim --normal --explain -h --help' ;;
         compare) options='--symbols -h --help' ;;

@@ -19,6 +19,7 @@ import copies
 import explanations
 import json_documents
 import limits
+import lints
 import maps
 import memory
 import names

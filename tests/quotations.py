@@ -9,7 +9,7 @@ import model
 from command_line import lines_of
 from comparisons import CHIP, DIFFERENT, load_file, symbols
 from harness import DONE, REFUSED, equals, test
-from model import BSS, CODE, DATA, DEBUG, DEF, RELOC32, Hunk, Unit, words
+from model import BSS, CODE, DATA, DEBUG, DEF, END, HEADER, RELOC32, UNIT, Hunk, Unit, words
 from readme import blocks
 from runs import LOAD_FILE
 from sources import TOP, text_of
@@ -17,7 +17,7 @@ from sources import TOP, text_of
 
 def write_examples(program):
     """The files of the examples: `main.o` has something of all that a unit may have, and `linked` is made of it; `call.o` calls
-    what `put.o` defines; and `rts`, `half` and `next` are load files."""
+    what `put.o` defines; `rts`, `half` and `next` are load files; and `odd.o` and `odd` are no good ones."""
     code = Hunk(CODE, [0, 0], b"CODE")
     code.sites, code.definitions, code.symbols, code.debugs = [(2, 1)], [(DEF, b"main", 0)], [(b"loop", 6)], [[7]]
     program.write("main.o", model.object_file([Unit([code, Hunk(BSS, [0, 0], memory="chip")], b"test")]))
@@ -29,6 +29,9 @@ def write_examples(program):
     program.write("rts", LOAD_FILE)
     program.write("half", load_file((2, CODE, 1, 0x4E754E71)))
     program.write("next", load_file((1, CODE, 1, 0x4E754E71, *symbols(("loop", 2)))))
+    program.write("odd.o", words(UNIT, 0, CODE, 1 << 31 | 2, 0xFF, 0, RELOC32, 1, 0, 1, 0, END))
+    odd = (1 << 31 | 2, 0, 0, RELOC32, 1, 0, 3, 0, END)
+    program.write("odd", words(HEADER, 0, 4, 0, 3, 2, 0, 0, 0, CODE, *odd, *(CODE, 0, END) * 3))
     os.mkdir(program.at("disk"))
     for name, file in (("main.o", "main.o"), ("program", "linked")):
         shutil.copy(program.at(file), program.at(f"disk/{name}"))
@@ -89,6 +92,7 @@ def compared(program, *lines):
 def the_manual_quotes_what_is_printed(program):
     write_examples(program)
     quoted = blocks(text_of("docs/OUTPUT.md"))
+    equals(quoted.pop(0), printed(program, "check --lint odd.o"))
     # Documents are quoted on several lines, and of one a hunk alone.
     for block in (quoted[4], quoted[5]):
         block[:] = ["".join(block)]
@@ -164,7 +168,7 @@ def the_help_quotes_what_is_printed(program):
         "load": printed(program, "load --at 10000 rts") + printed(program, "load --at 10000 --srec rts")
         + printed(program, "load --at 10000 --symbols next") + recorded(program),
         "image": [f"amihunk image --at 10000,20000 {flags}startup.o main.o" for flags in ("", "--srec --symbols ")],
-        "check": printed(program, "check main.o") + printed(program, "check linked"),
+        "check": printed(program, "check main.o") + printed(program, "check linked") + printed(program, "check --lint odd")[1:],
         "show": [*printed(program, "show main.o"), *printed(program, "show half"), document, "amihunk show --html program > program.html",
                  *printed(program, "show --names call.o")],
         "survey": surveyed(program) + printed(program, "survey --json disk/main.o") + ["find disk -type f -print0 | amihunk survey --files-from -"],

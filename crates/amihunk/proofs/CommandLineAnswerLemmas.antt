@@ -107,7 +107,7 @@ means_no_conflict : (request : Request) (call : Call) → meaning request ≡ ca
 means_no_conflict (Link out map options explain files list) call is none = cc
 means_no_conflict (Load addresses text explain file) call is none = cc
 means_no_conflict (Image addresses form explain files) call is none = cc
-means_no_conflict (Check explain file) call is none = cc
+means_no_conflict (Check lint explain file) call is none = cc
 means_no_conflict (Show text explain file) call is none = cc
 means_no_conflict (Names files) call is none = cc
 means_no_conflict (Survey options files list) call is none = cc

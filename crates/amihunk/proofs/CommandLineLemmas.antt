@@ -82,8 +82,8 @@ flag_regular letter name named =
     is_switched (record { action_is = refl; range_is = refl; missing_is = refl; reading_is = refl; defaults_are = refl; named = named; optional = refl }) refl
 
 -- what each of these subcommands ends with: `[--explain] FILE`, or `[--explain] FILE...`
-check_regular : AllRegular false (built_below check_shape).rules
-check_regular = (flag_regular None (codes "explain") refl, (is_valued (inl refl) (omega arith) refl refl, (asks_help refl refl refl, tt)))
+file_regular : AllRegular false (drop 1 (built_below check_shape).rules)
+file_regular = (flag_regular None (codes "explain") refl, (is_valued (inl refl) (omega arith) refl refl, (asks_help refl refl refl, tt)))
 
 files_regular : AllRegular false (drop 4 (built_below image_shape).rules)
 files_regular = (flag_regular None (codes "explain") refl, (is_valued (inr refl) (omega arith) refl refl, (asks_help refl refl refl, tt)))
@@ -98,8 +98,11 @@ link_flags = (flag_regular (Some letter_s) (codes "strip") refl, (flag_regular N
 link_regular : AllRegular false (built_below link_shape).rules
 link_regular = (is_valued (inl refl) (omega arith) refl refl, (option_regular (codes "map") refl, link_flags))
 
+check_regular : AllRegular false (built_below check_shape).rules
+check_regular = (flag_regular None (codes "lint") refl, file_regular)
+
 load_flags : AllRegular false (drop 2 (built_below load_shape).rules)
-load_flags = (flag_regular None (codes "srec") refl, (flag_regular None (codes "symbols") refl, check_regular))
+load_flags = (flag_regular None (codes "srec") refl, (flag_regular None (codes "symbols") refl, file_regular))
 
 load_regular : AllRegular false (built_below load_shape).rules
 load_regular = (option_regular (codes "at") refl, (option_regular (codes "at-file") refl, load_flags))
@@ -114,7 +117,7 @@ survey_regular : AllRegular false (built_below survey_shape).rules
 survey_regular = (flag_regular None (codes "json") refl, (flag_regular None (codes "digest") refl, (flag_regular None (codes "wait") refl, listed_regular)))
 
 copy_flags : AllRegular false (drop 1 (built_below copy_shape).rules)
-copy_flags = (flag_regular (Some letter_s) (codes "strip") refl, (flag_regular None (codes "short") refl, (flag_regular None (codes "trim") refl, (flag_regular None (codes "normal") refl, check_regular))))
+copy_flags = (flag_regular (Some letter_s) (codes "strip") refl, (flag_regular None (codes "short") refl, (flag_regular None (codes "trim") refl, (flag_regular None (codes "normal") refl, file_regular))))
 
 copy_regular : AllRegular false (built_below copy_shape).rules
 copy_regular = (is_valued (inl refl) (omega arith) refl refl, copy_flags)

@@ -217,13 +217,13 @@ is_check : IsSubcommand (built_below check_shape)
 unfolding clap_on_literals
 is_check = record { met = refl; quiet = refl; found = refl }
 
-takes-check : TakesFile (built_below check_shape) nothing_held (to_check false)
+takes-check : TakesFile (built_below check_shape) nothing_held (to_check false false)
 unfolding clap_on_literals
 takes-check = (record { by_index = refl; other = refl; quiet = refl; late = λ file. refl }, λ file. refl)
 
-pub calls-check : (program file : Text) → IsNoFlag file → Calls (file_line program (codes "check") file) (to_check false file)
+pub calls-check : (program file : Text) → IsNoFlag file → Calls (file_line program (codes "check") file) (to_check false false file)
 calls-check program file plain =
-    calls-file program (built_below check_shape) [] nothing_held (to_check false) is_check (passes-nil (built_below check_shape) (walk_from nothing_held)) takes-check file plain
+    calls-file program (built_below check_shape) [] nothing_held (to_check false false) is_check (passes-nil (built_below check_shape) (walk_from nothing_held)) takes-check file plain
     (All-cons IsNoFlag file [] plain (All-nil IsNoFlag))
 
 is_show : IsSubcommand (built_below show_shape)

@@ -14,7 +14,7 @@ use Rattle.hunk_commands.specs.Image.{IsImageFailure}
 use Rattle.hunk_commands.specs.Link.{IsUndone}
 use Rattle.hunk_commands.specs.Load.{IsLoadFailure}
 use Rattle.hunk_commands.specs.Names.{IsNamesFailure}
-use Rattle.hunk_commands.specs.Text.{IsTextFailure}
+use Rattle.hunk_commands.specs.Text.{IsTextFailure, checked}
 use Rattle.hunk_commands.specs.Output.{IsNothing, IsUnprinted, Printed}
 use Rattle.hunk_commands.specs.Store.{AreUnchanged, Contents}
 use Rattle.hunk_commands.specs.FileList.{IsListFailure}
@@ -23,7 +23,7 @@ use Rattle.hunk_commands.specs.declared.survey.SurveyOptions.{SurveyOptions}
 use Rattle.hunk_tool.specs.declared.tool_fault.ToolFault.TheVariants as tool_fault
 use Rattle.hunk_commands.specs.declared.failure.Failure.TheVariants.{Tool}
 use Rattle.hunk_commands.specs.declared.text.Text.{Text}
-use Rattle.hunk_commands.specs.declared.text.Text.TheVariants.{Line, Shown}
+use Rattle.hunk_commands.specs.declared.text.Text.TheVariants.{Shown}
 use Rattle.hunk_commands.specs.declared.request.Request.{Request}
 use Rattle.hunk_commands.specs.declared.request.Request.TheVariants.{Load, Link, Image, Check, Show, Names, Survey, Copy, Compare, Version, Help, Refused, OutOfMemory}
 use Rattle.hunk_commands.proofs.ExplainLemmas.{none_asked}
@@ -53,7 +53,7 @@ module _ {W : Type 0} (run : Run) (taken : W → Option (List ℕ)) (failed : W 
   EndsCall (to_link out map options explain files list) status = Replaces run (λ contents contents_then. EndsLink contents contents_then taken failed old new out map options explain files list status)
   EndsCall (to_load origin text explain file) status = Reads run (λ contents printed. EndsLoad contents printed taken failed old new origin text explain file status)
   EndsCall (to_image origin form explain files) status = Reads run (λ contents printed. EndsImage contents printed taken failed old new origin form explain files status)
-  EndsCall (to_check explain file) status = Reads run (λ contents printed. EndsText contents printed taken failed old new Line explain file status)
+  EndsCall (to_check lint explain file) status = Reads run (λ contents printed. EndsText contents printed taken failed old new (checked lint) explain file status)
   EndsCall (to_show text explain file) status = Reads run (λ contents printed. EndsText contents printed taken failed old new (Shown text) explain file status)
   EndsCall (to_names files) status = Reads run (λ contents printed. EndsNames contents printed taken failed old new files status)
   EndsCall (to_survey options files list) status = Reads run (λ contents printed. EndsSurvey options contents printed taken failed old new files list status)
@@ -88,7 +88,7 @@ module _ {W : Type 0} (run : Run) (taken : W → Option (List ℕ)) (failed : W 
         (none_asked explain (AreImageLines run.contents origin files) (Tool (tool_fault.OutOfMemory 0)) refl) ends.0),
     ends.1,
   )
-  ends_memory (to_check explain file) status ends = ends_text Line explain file status ends
+  ends_memory (to_check lint explain file) status ends = ends_text (checked lint) explain file status ends
   ends_memory (to_show text explain file) status ends = ends_text (Shown text) explain file status ends
   ends_memory (to_names files) status ends =
       (inr (not_begun taken failed (OrExhausted run.printed (IsNamesFailure run.contents files run.printed)) NoMore files status old new (inl (refl, ends.2)) refl ends.0), ends.1)
@@ -130,7 +130,7 @@ module _ {W : Type 0} (run : Run) (taken : W → Option (List ℕ)) (failed : W 
   ends_asked m (Link out map options explain files list) status asks ends = subst (λ x. EndsAsked x status) asks ends
   ends_asked m (Load addresses text explain file) status asks ends = subst (λ x. EndsAsked x status) asks ends
   ends_asked m (Image addresses form explain files) status asks ends = subst (λ x. EndsAsked x status) asks ends
-  ends_asked m (Check explain file) status asks ends = subst (λ x. EndsAsked x status) asks ends
+  ends_asked m (Check lint explain file) status asks ends = subst (λ x. EndsAsked x status) asks ends
   ends_asked m (Names files) status asks ends = subst (λ x. EndsAsked x status) asks ends
   ends_asked m (Show text explain file) status asks ends = subst (λ x. EndsAsked x status) asks ends
   ends_asked m (Survey options files list) status asks ends = subst (λ x. EndsAsked x status) asks ends

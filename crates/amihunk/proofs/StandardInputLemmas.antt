@@ -90,7 +90,7 @@ named_plain (to_load (in_file name) text explain file) plain =
 named_plain (to_image (in_list list) text explain files) plain = ap (to_image (in_list list) text explain) (plain_names files plain)
 named_plain (to_image (in_file name) text explain files) plain =
     ap₂ (λ n fs. to_image (in_file n) text explain fs) (plain_name name (All-head IsNoFlag name files plain)) (plain_names files (All-tail IsNoFlag name files plain))
-named_plain (to_check explain file) plain = ap (to_check explain) (plain_name file (All-head IsNoFlag file [] plain))
+named_plain (to_check lint explain file) plain = ap (to_check lint explain) (plain_name file (All-head IsNoFlag file [] plain))
 named_plain (to_show text explain file) plain = ap (to_show text explain) (plain_name file (All-head IsNoFlag file [] plain))
 named_plain (to_names files) plain = ap to_names (plain_names files plain)
 named_plain (to_survey options files None) plain = ap (λ fs. to_survey options fs None) (plain_names files plain)

@@ -21,7 +21,7 @@ pub data Call : Type 0 where
   to_link : (out : Text) (map : Option Text) (options : LinkOptions) (explain : Bool) (files : List Text) (list : Option NamedList) → Call
   to_load : (origin : Origin) (text : LoadText) (explain : Bool) (file : Text) → Call
   to_image : (origin : Origin) (text : LoadText) (explain : Bool) (files : List Text) → Call
-  to_check : (explain : Bool) (file : Text) → Call
+  to_check : (lint explain : Bool) (file : Text) → Call
   to_show : (text : ShowText) (explain : Bool) (file : Text) → Call
   to_names : (files : List Text) → Call
   to_survey : (options : SurveyOptions) (files : List Text) (list : Option NamedList) → Call
@@ -43,7 +43,7 @@ abbrev pub meaning : Request → Meaning
 meaning (Link out map options explain files list) = calls (to_link out.now (given_text map) options explain (texts files.items) (given_list list))
 meaning (Load addresses text explain file) = calls (to_load (origin_of addresses) text explain file.now)
 meaning (Image addresses text explain files) = calls (to_image (origin_of addresses) text explain (texts files.items))
-meaning (Check explain file) = calls (to_check explain file.now)
+meaning (Check lint explain file) = calls (to_check lint explain file.now)
 meaning (Show text explain file) = calls (to_show text explain file.now)
 meaning (Names files) = calls (to_names (texts files.items))
 meaning (Survey options files list) = calls (to_survey options (texts files.items) (given_list list))

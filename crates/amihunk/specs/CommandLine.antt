@@ -204,7 +204,7 @@ survey_in rows = survey_call (survey_options_in rows) (files_in rows) (list_in r
 -- the names of the subcommands, and what each asks for by what was found for its arguments
 abbrev pub subcommands : List (Text × (List Row → Call))
 subcommands = (codes "link", link_in) ∷ (codes "load", load_in) ∷ (codes "image", image_in)
-    ∷ (codes "check", λ rows. to_check (is_given (codes "explain") rows) (value_in (codes "file") rows))
+    ∷ (codes "check", λ rows. to_check (is_given (codes "lint") rows) (is_given (codes "explain") rows) (value_in (codes "file") rows))
     ∷ (codes "show", show_in) ∷ (codes "survey", survey_in)
     ∷ (codes "copy", copy_in) ∷ (codes "compare", compare_in) ∷ []
 

@@ -46,7 +46,7 @@ abbrev pub inputs_of : Call → List Text
 inputs_of (to_link out map options explain files list) = list_inputs list ++ files
 inputs_of (to_load origin text explain file) = origin_inputs origin ++ file ∷ []
 inputs_of (to_image origin text explain files) = origin_inputs origin ++ files
-inputs_of (to_check explain file) = file ∷ []
+inputs_of (to_check lint explain file) = file ∷ []
 inputs_of (to_show text explain file) = file ∷ []
 inputs_of (to_names files) = files
 inputs_of (to_survey options files list) = list_inputs list ++ files
@@ -59,7 +59,7 @@ abbrev pub named_call : Call → Call
 named_call (to_link out map_file options explain files list) = to_link out map_file options explain (map input_name files) (option_map input_list list)
 named_call (to_load origin text explain file) = to_load (input_origin origin) text explain (input_name file)
 named_call (to_image origin text explain files) = to_image (input_origin origin) text explain (map input_name files)
-named_call (to_check explain file) = to_check explain (input_name file)
+named_call (to_check lint explain file) = to_check lint explain (input_name file)
 named_call (to_show text explain file) = to_show text explain (input_name file)
 named_call (to_names files) = to_names (map input_name files)
 named_call (to_survey options files list) = to_survey options (map input_name files) (option_map input_list list)

@@ -96,9 +96,9 @@ load_shape = (with_rule (with_rule (given_texts (given_addresses (new_app (codes
 abbrev pub image_shape : Shape
 image_shape = (with_rule (with_rule (given_texts (given_addresses (new_app (codes "image")))) explain_rule) files_rule).top
 
--- `check [--explain] FILE`
+-- `check [--lint] [--explain] FILE`
 abbrev pub check_shape : Shape
-check_shape = (with_rule (with_rule (new_app (codes "check")) explain_rule) file_rule).top
+check_shape = (with_rule (with_rule (with_rule (new_app (codes "check")) (flag_rule (codes "lint"))) explain_rule) file_rule).top
 
 -- `[--json] [--content] [--html] [--names]`
 abbrev pub given_shown : App → App

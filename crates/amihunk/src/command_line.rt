@@ -48,7 +48,7 @@ pub fn read_words<'a, S: AsStr>(alloc: Global, words: &'a [S]) -> Request<'a>
         → IsNoFlag (text_in origin) → 0 < length files → All IsNoFlag files → Asks (to_image origin text false files) result }
     ensures check { (program file : List ℕ)
         → map S.text words.entry.now ≡ file_line program (codes "check") file
-        → IsNoFlag file → Asks (to_check false file) result }
+        → IsNoFlag file → Asks (to_check false false file) result }
     ensures show { (program : List ℕ) (text : ShowText) (file : List ℕ)
         → map S.text words.entry.now ≡ show_line program text file
         → IsNoFlag file → Asks (to_show text false file) result }
@@ -187,6 +187,7 @@ fn check_request<'a>(values: &ArgMatches<'a>) -> Request<'a>
     ensures { IsWritten (Some (codes "check", rows_of (found_of values.now))) result }
 {
     Request::Check {
+        lint: is_set(values, "lint"),
         explain: is_set(values, "explain"),
         file: value_of(values, "file"),
     }

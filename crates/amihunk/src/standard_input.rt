@@ -184,7 +184,12 @@ fn by_name<'a>(written: Request<'a>) -> Request<'a>
             explain,
             files: input_names(files),
         },
-        Request::Check { explain, file } => Request::Check {
+        Request::Check {
+            lint,
+            explain,
+            file,
+        } => Request::Check {
+            lint,
             explain,
             file: input_name(file),
         },

@@ -130,12 +130,14 @@ pub fn image_command<'a>(alloc: Global) -> Result<Command<'a>, AllocError>
     with_arguments(image, arguments)
 }
 
-/// The subcommand `check [--explain] FILE`.
+/// The subcommand `check [--lint] [--explain] FILE`.
 pub fn check_command<'a>(alloc: Global) -> Result<Command<'a>, AllocError>
     ensures shape { IfOk result (λ c. shape_of c ≡ check_shape) }
     ensures local { IfOk result (λ c. (out-Command c).has_globals ≡ false) }
 {
+    let lint = "Tells what in the file is ignored, or likely to be a mistake";
     let arguments = vec![in alloc;
+        flag(alloc, "lint", lint),
         explain_flag(alloc),
         file_argument(alloc, "An object file or a load file"),
     ]?;

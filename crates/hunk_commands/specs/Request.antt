@@ -18,14 +18,14 @@ use Rattle.hunk_commands.specs.Names.{AreListed, IsNamesFailure}
 use Rattle.hunk_commands.specs.Output.{IsExhausted, IsNothing, IsPrinted, IsUnprinted, Printed, printed_of}
 use Rattle.hunk_commands.specs.Store.{AreUnchanged, Contents}
 use Rattle.hunk_commands.specs.Survey.{AreSurveyed, IsSurveyFailure}
-use Rattle.hunk_commands.specs.Text.{IsTextFailure, IsTold}
+use Rattle.hunk_commands.specs.Text.{IsTextFailure, IsTold, checked}
 use Rattle.hunk_commands.specs.Version.{version_line}
 use Rattle.hunk_commands.specs.declared.failure.Failure.{Failure}
 use Rattle.hunk_commands.specs.declared.failure.Failure.TheVariants.{Tool}
 use Rattle.hunk_commands.specs.declared.load.LoadText.{LoadText}
 use Rattle.hunk_commands.specs.declared.survey.SurveyOptions.{SurveyOptions}
 use Rattle.hunk_commands.specs.declared.text.Text.{Text}
-use Rattle.hunk_commands.specs.declared.text.Text.TheVariants.{Line, Shown}
+use Rattle.hunk_commands.specs.declared.text.Text.TheVariants.{Shown}
 use Rattle.hunk_commands.specs.declared.request.Request.{Request}
 use Rattle.hunk_commands.specs.declared.request.Request.TheVariants.{Load, Link, Image, Check, Show, Names, Survey, Copy, Compare, Version, Help, Refused, OutOfMemory}
 
@@ -171,8 +171,8 @@ Ends run taken failed old new (Load addresses text explain file) status =
     Reads run (λ contents printed. EndsLoad contents printed taken failed old new (origin_of addresses) text explain file.now status)
 Ends run taken failed old new (Image addresses text explain files) status =
     Reads run (λ contents printed. EndsImage contents printed taken failed old new (origin_of addresses) text explain (file_names files.items) status)
-Ends run taken failed old new (Check explain file) status =
-    Reads run (λ contents printed. EndsText contents printed taken failed old new Line explain file.now status)
+Ends run taken failed old new (Check lint explain file) status =
+    Reads run (λ contents printed. EndsText contents printed taken failed old new (checked lint) explain file.now status)
 Ends run taken failed old new (Show text explain file) status =
     Reads run (λ contents printed. EndsText contents printed taken failed old new (Shown text) explain file.now status)
 Ends run taken failed old new (Names files) status =

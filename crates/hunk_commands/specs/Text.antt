@@ -1,8 +1,9 @@
 -- What is known of a file and the output after a text about the file was printed, or why it was not.
-use Rattle.std.specs.Prelude.{◌≡◌, ℕ, List, IsTrue}
+use Rattle.std.specs.Prelude.{◌≡◌, ℕ, Bool, List, IsTrue, if◌then◌else◌}
 use Rattle.hunk_json.specs.Page.{page_text}
 use Rattle.hunk_json.specs.Run.{json_text, json_text_in}
 use Rattle.hunk_json.specs.declared.form.JsonForm.TheVariants.{WithContent}
+use Rattle.hunk_lint.specs.Run.{lint_text}
 use Rattle.hunk_tool.specs.Check.{check_text}
 use Rattle.hunk_tool.specs.FileSystem.{MayBeMissing, OfFile, OfWholeFile}
 use Rattle.hunk_tool.specs.FileText.{IsTextFault, IsWritten, of_value}
@@ -12,17 +13,22 @@ use Rattle.hunk_commands.specs.declared.failure.Failure.{Failure}
 use Rattle.hunk_commands.specs.declared.failure.Failure.TheVariants.{Opening, Printing, Tool}
 use Rattle.hunk_commands.specs.declared.text.ShowText.TheVariants.{Json, JsonWithContent, Listing, Page}
 use Rattle.hunk_commands.specs.declared.text.Text.{Text}
-use Rattle.hunk_commands.specs.declared.text.Text.TheVariants.{Line, Shown}
+use Rattle.hunk_commands.specs.declared.text.Text.TheVariants.{Line, Lint, Shown}
 use Rattle.hunk_commands.specs.Output.{IsFlushed, IsNothing, Printed, ends_between}
 use Rattle.hunk_commands.specs.Store.{Contents}
 
 -- the text about a file of these bytes and this value
 abbrev pub text_of : Text → (bytes : List ℕ) → FileValue → List ℕ
 text_of Line = of_value check_text
+text_of Lint = lint_text
 text_of (Shown Listing) = of_value show_text
 text_of (Shown Json) = of_value json_text
 text_of (Shown JsonWithContent) = of_value (json_text_in WithContent)
 text_of (Shown Page) = of_value page_text
+
+-- what `check` prints
+abbrev pub checked : (lint : Bool) → Text
+checked lint = if lint then Lint else Line
 
 -- the text about the file, of the kind that its first four bytes tell, is what the output has taken
 abbrev pub IsWrittenOf : Text → Contents → (file : List ℕ) → Printed → Type 0

@@ -63,8 +63,10 @@ pub enum Request<'a> {
         /// The arguments FILE..., in the order given, of which there is at least one.
         files: Vec<&'a str>,
     },
-    /// `check [--explain] FILE`: one line about FILE.
+    /// `check [--lint] [--explain] FILE`: one line about FILE, or more of them.
     Check {
+        /// Whether `--lint` is given.
+        lint: bool,
         /// Whether `--explain` is given.
         explain: bool,
         /// The argument FILE.
@@ -170,8 +172,13 @@ pub fn answer<S: Store, O: Output, W: Sink>(
                 alloc, store, output, errors, addresses, text, explain, files,
             )
         }
-        Request::Check { explain, file } => {
-            answer_text(alloc, store, output, errors, Text::Line, explain, file)
+        Request::Check {
+            lint,
+            explain,
+            file,
+        } => {
+            let text = if lint { Text::Lint } else { Text::Line };
+            answer_text(alloc, store, output, errors, text, explain, file)
         }
         Request::Show {
             text,

@@ -11,6 +11,7 @@ use crate::failure::Failure;
 use crate::output::Output;
 use crate::store::Store;
 use hunk_json::{JsonForm, json_run, json_run_with, page_run};
+use hunk_lint::lint_run;
 use hunk_tool::{ToolFault, check_run, show_run};
 use hunk_words::{Sink, Source};
 use std::alloc::Global;
@@ -20,6 +21,8 @@ use std::alloc::Global;
 pub enum Text {
     /// One line: the kind of the file, and how many units and hunks it has.
     Line,
+    /// The same line, and then one for each thing in the file that is ignored or likely to be a mistake.
+    Lint,
     /// What is in it.
     Shown(ShowText),
 }
@@ -63,8 +66,8 @@ pub fn print_text<'a, S: Store, O: Output>(
 ///
 /// # Errors
 ///
-/// Those of [`check_run`] for a line, of [`show_run`] for a listing, of [`json_run`] and
-/// [`json_run_with`] for a document, and of [`page_run`] for a page.
+/// Those of [`check_run`] for a line, of [`lint_run`] for more of them, of [`show_run`] for a listing, of
+/// [`json_run`] and [`json_run_with`] for a document, and of [`page_run`] for a page.
 pub fn print_text_to<R: Source, W: Sink>(
     alloc: Global,
     text: Text,
@@ -79,6 +82,7 @@ pub fn print_text_to<R: Source, W: Sink>(
 {
     match text {
         Text::Line => check_run(alloc, reader, writer),
+        Text::Lint => lint_run(alloc, reader, writer),
         Text::Shown(ShowText::Listing) => show_run(alloc, reader, writer),
         Text::Shown(ShowText::Json) => json_run(alloc, reader, writer),
         Text::Shown(ShowText::JsonWithContent) => {

@@ -98,6 +98,12 @@ units, for example
 and for a load file
   load file: 2 hunks
 
+With `--lint` it prints more lines, if there is something to tell: what in the file is ignored, and what
+programs stumble over, such as a longword at an odd offset to which an address is added. For example
+  longword 10: the upper bits of the size are ignored
+  hunk 0: site 00000003 is at an odd offset
+Numbers of longwords count from 0. The exit status does not depend on what is told.
+
 A FILE that is `-` is standard input, and one of that name is `./-`.
 
 The exit status is 0 if FILE is an object file or a load file, 1 if it is neither, 2 if the command

@@ -221,7 +221,11 @@ fn request_of(alloc: Global, asked: Asked, explain: bool) -> Result<Request<'sta
             explain,
             file,
         },
-        Asked::Check(file) => Request::Check { explain, file },
+        Asked::Check(file) => Request::Check {
+            lint: false,
+            explain,
+            file,
+        },
         Asked::Show(file) => Request::Show {
             text: ShowText::Listing,
             explain,

@@ -11,8 +11,9 @@ use std::io::Read;
 use std::process::Abort;
 
 // All texts about a file.
-const TEXTS: [Text; 5] = [
+const TEXTS: [Text; 6] = [
     Text::Line,
+    Text::Lint,
     Text::Shown(ShowText::Listing),
     Text::Shown(ShowText::Json),
     Text::Shown(ShowText::JsonWithContent),
