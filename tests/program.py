@@ -42,9 +42,10 @@ def main():
                 try:
                     it(Program(path, folder))
                     passed += 1
+                    print(f"test {it.__name__} ... ok", flush=True)
                 except Exception:
                     failed += 1
-                    print(f"FAILED: {it.__name__}, {path}\n{traceback.format_exc()}")
+                    print(f"FAILED: {it.__name__}, {path}\n{traceback.format_exc()}", flush=True)
     print(f"{passed} passed, {failed} failed")
     return 1 if failed or not passed else 0
 
