@@ -1,8 +1,9 @@
 #!/usr/bin/env bash
 # Measures `amihunk check` and `amihunk show`: their time compared with `cat` and `xxd`, the memory of `check` and of
-# `show --json`, and the decoder of object files compared with that of load files. It makes its own inputs, and prints for
-# each figure what is allowed and what was reached. Times are the best of five runs. It ends with status 1 where
-# a figure is missed. It needs the toolchain, python3 and xxd on the PATH, and 2 GB for temporary files.
+# `show --json`, `check --lint` by half the work and its memory, and the decoder of object files compared with that of load
+# files. It makes its own inputs, and prints for each figure what is allowed and what was reached. Times are the best of five
+# runs. It ends with status 1 where a figure is missed. It needs the toolchain, python3 and xxd on the PATH, and 2 GB for
+# temporary files.
 set -eu
 . "$(dirname "$0")/common.sh"
 longwords=15728640 # 60 MB
@@ -25,6 +26,11 @@ for kind in load object; do
     figure "memory of the same" 32 "$(ratio "$(peak "$amihunk" check "$kind")" 1024)" MiB
     beside="$(($(peak "$amihunk" show --json "$kind") - 4 * longwords / 1024))"
     figure "memory of show --json beside its content" 64 "$(ratio "$beside" 1024)" MiB
+    lint="$(best /dev/null "$amihunk" check --lint "$kind")"
+    half="$(best /dev/null "$amihunk" check --lint "$kind.half")"
+    figure "check --lint of the same ($lint us) by half the work ($half us)" 2.2 "$(ratio "$lint" "$half")" times
+    beside="$(($(peak "$amihunk" check --lint "$kind") - 4 * longwords / 1024))"
+    figure "memory of check --lint beside its content" 64 "$(ratio "$beside" 1024)" MiB
 done
 
 load="$(best /dev/null "$bench" decode-file load)"
