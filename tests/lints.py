@@ -4,8 +4,8 @@ import random
 import model
 from harness import DEVICE, DONE, REFUSED, equals, test
 from lint_model import lint_of
-from model import ABS, BSS, CODE, DATA, DEBUG, DEF, END, EXT, HEADER, MEMORIES, NAME, REF32, RELOC32, RELOC32SHORT, SYMBOL, UNIT, words
-from random_load_files import any_bits, loose_name, random_groups, random_hunks, spelt
+from model import BSS, CODE, DATA, DEBUG, DEF, END, EXT, HEADER, MEMORIES, NAME, REF32, RELOC32, RELOC32SHORT, SYMBOL, UNIT, words
+from random_load_files import any_bits, loose_name, loose_symbol, loose_title, random_groups, random_hunks, spelt
 from runs import LOAD_FILE, OBJECT_FILE
 
 # Bits that are ignored, above the 30 of a type or of a size.
@@ -104,8 +104,7 @@ def loose_units(dice, units):
     """An object file of these units, with what an object file may have and none needs."""
     parts = []
     for unit in units:
-        title = loose_name(dice, model.name_of(unit))
-        parts.append(words(any_bits(dice, UNIT), len(title) // 4) + title)
+        parts.append(loose_title(dice, UNIT, model.name_of(unit)))
         parts += [loose_hunk(dice, hunk) for hunk in unit]
         if dice.random() < 0.1:
             parts.append(words(UNIT, 0))
@@ -115,8 +114,7 @@ def loose_units(dice, units):
 def loose_hunk(dice, hunk):
     parts = []
     if hunk.name:
-        title = loose_name(dice, hunk.name)
-        parts.append(words(any_bits(dice, NAME), len(title) // 4) + title)
+        parts.append(loose_title(dice, NAME, hunk.name))
     content = b"" if hunk.kind == BSS else words(*hunk.words)
     parts.append(words(MEMORIES.index(hunk.memory) << 30 | hunk.kind, any_bits(dice, len(hunk.words))) + content)
     sites = [(offset, target) for offset, target in hunk.sites if isinstance(target, int)]
@@ -130,8 +128,7 @@ def loose_hunk(dice, hunk):
         entries.append(loose_entry(dice, REF32, b"nobody", words(0)))
     parts.append(words(any_bits(dice, EXT)) + b"".join(entries) + words(0))
     if hunk.symbols:
-        rows = [(loose_name(dice, of), value) for of, value in hunk.symbols]
-        parts.append(words(any_bits(dice, SYMBOL)) + b"".join(words(len(stored) // 4) + stored + words(value) for stored, value in rows) + words(0))
+        parts.append(words(any_bits(dice, SYMBOL)) + b"".join(loose_symbol(dice, *row) for row in hunk.symbols) + words(0))
     parts += [words(any_bits(dice, DEBUG), len(debug), *debug) for debug in hunk.debugs]
     return b"".join(parts) + words(any_bits(dice, END))
 

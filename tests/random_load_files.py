@@ -103,6 +103,12 @@ def loose_name(dice, name):
     return stored if end < 0 else name + b"\0" + dice.randbytes(end)
 
 
+def loose_title(dice, type_, name):
+    """A block that has a name alone."""
+    stored = loose_name(dice, name)
+    return words(any_bits(dice, type_), len(stored) // 4) + stored
+
+
 def loose_symbol(dice, name, value):
     stored = loose_name(dice, name)
     if not stored:
@@ -133,8 +139,7 @@ def spelt_hunk(dice, hunk):
         stored = hunk.bytes()[: 4 * longwords]
     parts = []
     if dice.random() < 0.3:
-        name = loose_name(dice, random_name(dice))
-        parts.append(words(any_bits(dice, NAME), len(name) // 4) + name)
+        parts.append(loose_title(dice, NAME, random_name(dice)))
     parts.append(words(any_bits(dice, hunk.kind), any_bits(dice, longwords)) + stored)
     debugs = [words(any_bits(dice, DEBUG), len(debug), *debug) for debug in hunk.debugs]
     parts += merged(dice, random_lists(dice, hunk.sites), symbol_blocks(dice, hunk.symbols), debugs)

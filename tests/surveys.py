@@ -11,7 +11,7 @@ import threading
 
 import trees
 from harness import BAD_WORDS, DEVICE, DONE, REFUSED, as_nobody, equals, test
-from load_files import copied, read
+from load_files import read
 from model import CODE, END, HEADER, words
 from runs import LITTLE_MEMORY, LOAD_FILE, OBJECT_FILE
 from trees import FOLDER, NOT_REGULAR, UNOPENED, an_object, json_line, line, survey_of, totals
