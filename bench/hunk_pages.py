@@ -34,7 +34,7 @@ def page_of(document):
 
 
 def content_value(content, offset):
-    return {"content": base64.b64encode(content).decode()} | ({"content_offset": offset} if content else {})
+    return {"content": base64.b64encode(content).decode(), "content_offset": offset}
 
 
 def document_of(hunks):

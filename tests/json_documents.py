@@ -6,6 +6,7 @@ import random
 import re
 
 import model
+from content_offsets import content_offsets
 from harness import DEVICE, DONE, equals, test
 from model import ABS, BSS, CODE, DATA, DEF, END, HEADER, KINDS, Hunk, Unit, words
 from runs import LITTLE_MEMORY, write_parts
@@ -79,14 +80,18 @@ def without_obeyed(text):
     return OBEYED.sub(lambda found: f"\\u{ord(found[0]):04x}", text)
 
 
+# The members about the content of a hunk.
+STORED = ("content", "content_offset")
+
+
 def in_order(value, with_content):
-    """The value with the members of its objects in the order of their keys, but contents before symbols, or left out."""
+    """The value with the members of its objects in the order of their keys, but those about contents before symbols, or left out."""
     if isinstance(value, list):
         return [in_order(part, with_content) for part in value]
     if not isinstance(value, dict):
         return value
-    keys = sorted(value, key=lambda key: (key == "symbols", key == "content", key))
-    return {key: in_order(value[key], with_content) for key in keys if with_content or key != "content"}
+    keys = sorted(value, key=lambda key: (key == "symbols", key in STORED, key))
+    return {key: in_order(value[key], with_content) for key in keys if with_content or key not in STORED}
 
 
 def document(value):
@@ -103,11 +108,16 @@ def text_about(program, options, name, limit):
 PAGE = os.path.join(os.path.dirname(os.path.abspath(__file__)), "../page")
 
 
+def page_ends():
+    """What begins a page, and what ends it."""
+    with open(f"{PAGE}/head.html", "rb") as head, open(f"{PAGE}/tail.html", "rb") as tail:
+        return head.read(), tail.read()
+
+
 def prints_page(program, value, name, limit=None):
     """`show --html` prints what begins a page, the document without a less-than sign, and what ends a page."""
     page = text_about(program, ["--html"], name, limit)
-    with open(f"{PAGE}/head.html", "rb") as head, open(f"{PAGE}/tail.html", "rb") as tail:
-        before, behind = head.read(), tail.read()
+    before, behind = page_ends()
     told = page.removeprefix(before).removesuffix(behind)
     equals(before + told + behind, page, name)
     assert b"<" not in told, name
@@ -116,7 +126,11 @@ def prints_page(program, value, name, limit=None):
 
 
 def prints_documents(program, value, name, limit=None):
-    """`show` prints the value: without contents, with them, and in a page."""
+    """`show` prints the value: without contents, with them and where they stand in the file, and in a page."""
+    offsets = content_offsets(program.read(name))
+    hunks = value["hunks"] if "hunks" in value else [hunk for unit in value["units"] for hunk in unit["hunks"]]
+    for hunk, offset in zip(hunks, offsets, strict=True):
+        hunk["content_offset"] = offset
     for options, with_content in ((["--json"], False), (["--json", "--content"], True)):
         told, bytes_ = in_order(value, with_content), text_about(program, options, name, limit)
         equals(json.loads(bytes_), told, name)
@@ -162,7 +176,8 @@ def documents_are_these_texts(program):
         "show", "--json", "x",
     )
     program.prints(
-        '{"hunks":[{"debugs":[],"kind":"code","memory":"any","sites":[],"size":2,"stored":1,"content":"TnVOcQ==","symbols":[]}],'
+        '{"hunks":[{"debugs":[],"kind":"code","memory":"any","sites":[],"size":2,"stored":1,"content":"TnVOcQ==","content_offset":32,'
+        '"symbols":[]}],'
         '"kind":"load file"}\n',
         "show", "--json", "--content", "x",
     )

@@ -6,3 +6,6 @@ pub mod Counters
 pub mod FileValue
 pub mod FileDecoder
 pub mod HunkFile
+pub mod Watched
+pub mod WatchedReader
+pub mod WatchedFile

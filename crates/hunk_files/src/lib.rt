@@ -7,6 +7,8 @@
 //! - `explain`: reads a file once more, to tell where and why it is refused.
 //! - `explanation`: what is told of its first offence; `explanation_text`: the lines of that.
 //! - `follower`: follows the longwords of a file up to it; `path`: in which unit, hunk and block.
+//! - `watched_file`: reads a file of either kind, and shows its longwords to a `watcher`; `watched_decoder`,
+//!   `watched_reader`: the same for one kind.
 #![tactic(auto)]
 
 pub mod counters;
@@ -19,6 +21,10 @@ mod first_bytes;
 mod follower;
 pub mod hunk_file;
 mod path;
+mod watched_decoder;
+pub mod watched_file;
+mod watched_reader;
+pub mod watcher;
 
 pub use counters::{LoadCounter, ObjectCounter};
 pub use counting::{CountedFile, count_file};
@@ -27,3 +33,5 @@ pub use explanation::{Explanation, Found};
 pub use explanation_text::write_explanation;
 pub use file_decoder::{File, KindDecoder, read_file};
 pub use hunk_file::{HunkFile, HunkFileDecoder, read_hunk_file};
+pub use watched_file::read_watched;
+pub use watcher::{Watched, Watcher};

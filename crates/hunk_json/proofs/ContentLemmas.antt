@@ -1,5 +1,6 @@
 -- The text of bytes in base64.
-use Rattle.std.proofs.Common.{◌≡◌, ◌∙◌, ℕ, zero, suc, ◌+◌, ◌*◌, ◌/◌, ◌%◌, ◌<◌, ◌≤◌, ◌==◌, List, [], ◌∷◌, ◌++◌, Bool, true, ◌&&◌, not, nat_le, Result, Ok, IsUtf8, inl, inr, length, min, replicate, slice_index, take, drop, ap, ap₂, append-nil, codes, refl, subst, sym, arith}
+use Rattle.std.proofs.Common.{◌≡◌, ◌∙◌, ℕ, zero, suc, ◌+◌, ◌*◌, ◌/◌, ◌%◌, ◌<◌, ◌≤◌, ◌==◌, List, [], ◌∷◌, ◌++◌, Bool, true, ◌&&◌, not, nat_le, Result, Ok, IsUtf8, inl, inr, length, min, replicate, slice_index, take, drop, ap, ap₂, append-nil, append_assoc, codes, refl, subst, sym, arith}
+use Rattle.std.specs.Fmt.{decimal}
 use Rattle.std.specs.List.{All, AllByRecursion}
 use Rattle.std.specs.Result.{OnOk, result_unwrap_or}
 use Rattle.std.proofs.lemmas.Bool.{agree_below_at, and_from, and_parts, cases_lt, eqb-false, leb-true, not-true}
@@ -16,11 +17,11 @@ use Rattle.json.proofs.Printed.Utf8.{IsUtf8-quoted}
 use Rattle.json.specs.Print.{escape, escape_byte}
 use Rattle.serde_json.specs.Data.{string}
 use Rattle.serde_json.specs.Written.{compact_text}
-use Rattle.hunk_json.specs.Document.{document, further_member, further_members}
+use Rattle.hunk_json.specs.Document.{document, further_members}
 use Rattle.hunk_json.specs.Escapes.{with_escapes}
-use Rattle.hunk_json.specs.FileJson.{content_member, content_members}
+use Rattle.hunk_json.specs.FileJson.{content_members, natural, stored_members}
 use Rattle.hunk_json.specs.declared.form.JsonForm.{JsonForm}
-use Rattle.hunk_json.proofs.EscapesLemmas.{are_plain, is_plain, quoted-told, with_escapes-plain}
+use Rattle.hunk_json.proofs.EscapesLemmas.{are_plain, decimal-plain, is_plain, quoted-told, with_escapes-plain}
 
 base64-ascii : (bytes : List ℕ) → IsUtf8 (encode_of standard bytes)
 base64-ascii bytes = IsUtf8-from_ascii (encode_of standard bytes) (IsAscii-encode_of standard bytes)
@@ -115,11 +116,12 @@ base64-told form bytes typed =
     quoted-told form symbols (base64-ascii bytes)
     ∙ ap (λ inner. (34 ∷ []) ++ inner ++ (34 ∷ [])) (ap (with_escapes form) (kept-escape symbols kept) ∙ with_escapes-plain form symbols (kept-plain symbols kept))
 
--- the member, behind a comma
-pub content-further : (form : JsonForm) (content : List ℕ) → All (λ b. b < 256) content → content_members form content ≡ content_member content ∷ []
-    → further_members form (content_members form content) ≡ codes ",\"content\":\"" ++ encode_of standard content ++ codes "\""
+-- the members, each behind a comma
+pub content-further : (form : JsonForm) (offset : ℕ) (content : List ℕ) → All (λ b. b < 256) content → content_members form offset content ≡ stored_members offset content
+    → further_members form (content_members form offset content) ≡ codes ",\"content\":\"" ++ encode_of standard content ++ codes "\",\"content_offset\":" ++ decimal offset
 unfolding escape_byte
-content-further form content typed is =
+content-further form offset content typed is =
     ap (further_members form) is
-    ∙ append-nil (further_member form (content_member content))
-    ∙ ap (λ value. codes ",\"content\":" ++ value) (base64-told form content typed)
+    ∙ ap (λ value. (codes ",\"content\":" ++ value) ++ ((codes ",\"content_offset\":" ++ document form (natural offset)) ++ [])) (base64-told form content typed)
+    ∙ ap (λ value. (codes ",\"content\":" ++ ((34 ∷ []) ++ encode_of standard content ++ (34 ∷ []))) ++ ((codes ",\"content_offset\":" ++ value) ++ [])) (with_escapes-plain form (decimal offset) (decimal-plain offset))
+    ∙ (simp (append_assoc, append-nil))

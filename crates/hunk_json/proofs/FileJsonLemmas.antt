@@ -1,14 +1,14 @@
 -- The JSON values of the parts of a file: their keys are plain, and their texts are UTF-8.
-use Rattle.std.proofs.Common.{◌≡◌, ℕ, ◌/◌, List, [], ◌∷◌, ◌++◌, Bool, true, false, IsUtf8, Vec, length, map, codes, ap, refl, append_assoc, sym}
+use Rattle.std.proofs.Common.{◌≡◌, ◌∙◌, ℕ, ◌/◌, List, [], ◌∷◌, ◌++◌, Bool, true, false, IsUtf8, Vec, length, map, codes, ap, refl, append_assoc, sym}
 use Rattle.std.specs.Fmt.{decimal}
 use Rattle.std.specs.Str.{is_utf8}
 use Rattle.std.proofs.lemmas.Bool.{cond_both, cond-false, cond-true, false_from_ne_true}
 use Rattle.std.proofs.lemmas.Str.{IsUtf8-from_is_utf8, is_utf8-from_IsUtf8}
 use Rattle.json.proofs.Printed.Utf8.{IsUtf8-boolean, IsUtf8-quoted}
-use Rattle.json.specs.Print.{escape_byte}
+use Rattle.json.specs.Print.{escape_byte, quoted}
 use Rattle.serde_json.specs.Data.{Data, array, boolean, string}
 use Rattle.serde_json.specs.View.{items_of}
-use Rattle.serde_json.specs.Written.{compact_text}
+use Rattle.serde_json.specs.Written.{comma_if, compact_text}
 use Rattle.hunk_words.specs.DebugInfo.{lists_of}
 use Rattle.hunk_words.specs.declared.kinds.HunkKind.{HunkKind}
 use Rattle.hunk_words.specs.declared.kinds.HunkKind.TheVariants.{Code, Data as DataHunk, Bss}
@@ -22,7 +22,7 @@ use Rattle.hunk_objects.specs.declared.unit_hunk.Definition.{Definition}
 use Rattle.hunk_objects.specs.declared.unit_hunk.Definition.TheVariants.{At, Absolute}
 use Rattle.hunk_loadfile.specs.LoadHunk.{FileHunk}
 use Rattle.hunk_json.specs.Document.{document, further_members}
-use Rattle.hunk_json.specs.FileJson.{adds_json, content_members, debug_json, definition_json, hunk_site_json, kind_json, listed, load_hunk_json, load_json, meaning_json, members_in, memory_json, name_json, natural, object_json, site_json, stands_for_json, symbol_json, unit_hunk_json, unit_json}
+use Rattle.hunk_json.specs.FileJson.{adds_json, content_members, debug_json, definition_json, hunk_json, hunk_site_json, hunks_at, kind_json, listed, load_hunk_json, load_json, meaning_json, members_in, memory_json, name_json, natural, object_json, site_json, stands_for_json, symbol_json, unit_hunk_json, unit_json, units_at}
 use Rattle.hunk_json.specs.declared.form.JsonForm.{JsonForm}
 use Rattle.hunk_json.specs.declared.form.JsonForm.TheVariants.{Plain, WithContent, InPage}
 use Rattle.hunk_json.proofs.ContentLemmas.{base64-utf8}
@@ -101,24 +101,27 @@ pub debugs-listed : {A : Type 0} (vecs : List (Vec ℕ A)) → listed (λ words.
 debugs-listed vecs = ap (λ values. array (items_of values)) (counts vecs)
 
 -- the further members about the content, in front of others
-content-told : (form : JsonForm) (content : List ℕ) (rest : List (List ℕ × Data)) → AreTold (members_in rest) → AreTold (members_in (content_members form content ++ rest))
+content-told : (form : JsonForm) (offset : ℕ) (content : List ℕ) (rest : List (List ℕ × Data)) → AreTold (members_in rest) → AreTold (members_in (content_members form offset content ++ rest))
 unfolding escape_byte
-content-told Plain content rest is = is
-content-told WithContent content rest is = (refl, (base64-utf8 content, is))
-content-told InPage content rest is = (refl, (base64-utf8 content, is))
+content-told Plain offset content rest is = is
+content-told WithContent offset content rest is = (refl, (base64-utf8 content, (refl, (natural-utf8 offset, is))))
+content-told InPage offset content rest is = (refl, (base64-utf8 content, (refl, (natural-utf8 offset, is))))
 
-pub content-members : (form : JsonForm) (content : List ℕ) (rest : List (List ℕ × Data))
-    → members_told form true (members_in (content_members form content ++ rest)) ≡ further_members form (content_members form content) ++ members_told form true (members_in rest)
-unfolding escape_byte
-content-members Plain content rest = refl
-content-members WithContent content rest = simp append_assoc
-content-members InPage content rest = simp append_assoc
+members-further : (form : JsonForm) (parts rest : List (List ℕ × Data))
+    → members_told form true (members_in (parts ++ rest)) ≡ further_members form parts ++ members_told form true (members_in rest)
+members-further form [] rest = refl
+members-further form (part ∷ parts) rest =
+    ap (λ end. comma_if true ++ (quoted part.0 ++ 58 ∷ (document form part.1 ++ end))) (members-further form parts rest) ∙ (simp append_assoc)
+
+pub content-members : (form : JsonForm) (offset : ℕ) (content : List ℕ) (rest : List (List ℕ × Data))
+    → members_told form true (members_in (content_members form offset content ++ rest)) ≡ further_members form (content_members form offset content) ++ members_told form true (members_in rest)
+content-members form offset content rest = members-further form (content_members form offset content) rest
 
 -- ---- load files
 
-pub load_hunk-told : (form : JsonForm) (hunk : FileHunk) → IsTold (load_hunk_json form hunk)
+pub load_hunk-told : (form : JsonForm) (offset : ℕ) (hunk : FileHunk) → IsTold (load_hunk_json form offset hunk)
 unfolding escape_byte
-load_hunk-told form hunk =
+load_hunk-told form offset hunk =
     let sites = listed-utf8 hunk_site_json hunk.sites.entries (λ site. told-utf8 (hunk_site_json site) (hunk_site-told site)) in
     let symbols : AreTold (members_in ((codes "symbols", listed symbol_json hunk.symbols) ∷ [])) = (refl, (symbols-utf8 hunk.symbols, tt)) in (
       refl,
@@ -140,7 +143,7 @@ load_hunk-told form hunk =
                       refl,
                       (
                         natural-utf8 hunk.size,
-                        (refl, (natural-utf8 (length hunk.content / 4), content-told form hunk.content _ symbols)),
+                        (refl, (natural-utf8 (length hunk.content / 4), content-told form offset hunk.content _ symbols)),
                       ),
                     ),
                   ),
@@ -152,9 +155,12 @@ load_hunk-told form hunk =
       ),
     )
 
-pub load-told : (form : JsonForm) (hunks : List FileHunk) → IsTold (load_json form hunks)
+pub load_hunk-utf8 : (form : JsonForm) (hunk : ℕ × FileHunk) → IsUtf8 (compact_text (hunk_json (load_hunk_json form) hunk))
+load_hunk-utf8 form hunk = told-utf8 (load_hunk_json form hunk.0 hunk.1) (load_hunk-told form hunk.0 hunk.1)
+
+pub load-told : (form : JsonForm) (offsets : List ℕ) (hunks : List FileHunk) → IsTold (load_json form offsets hunks)
 unfolding escape_byte
-load-told form hunks = (refl, (listed-utf8 (load_hunk_json form) hunks (λ hunk. told-utf8 (load_hunk_json form hunk) (load_hunk-told form hunk)), (refl, (IsUtf8-plain _ refl, tt))))
+load-told form offsets hunks = (refl, (listed-utf8 (hunk_json (load_hunk_json form)) (hunks_at offsets hunks) (load_hunk-utf8 form), (refl, (IsUtf8-plain _ refl, tt))))
 
 -- ---- object files
 
@@ -171,9 +177,9 @@ pub meaning-told : (name : List ℕ) (definition : Definition) → IsTold (meani
 meaning-told name (At offset) = stands_for-told name false offset
 meaning-told name (Absolute value) = stands_for-told name true value
 
-pub unit_hunk-told : (form : JsonForm) (hunk : ObjectHunk) → IsTold (unit_hunk_json form hunk)
+pub unit_hunk-told : (form : JsonForm) (offset : ℕ) (hunk : ObjectHunk) → IsTold (unit_hunk_json form offset hunk)
 unfolding escape_byte
-unit_hunk-told form hunk =
+unit_hunk-told form offset hunk =
     let definitions = listed-utf8 definition_json hunk.definitions (λ d. told-utf8 (meaning_json d.0 d.1) (meaning-told d.0 d.1)) in
     let sites = listed-utf8 (site_json hunk.references) hunk.sites.entries (λ site. told-utf8 (site_json hunk.references site) (adds-told hunk.references site.0 site.1)) in
     let symbols : AreTold (members_in ((codes "symbols", listed symbol_json hunk.symbols) ∷ [])) = (refl, (symbols-utf8 hunk.symbols, tt)) in (
@@ -200,7 +206,7 @@ unit_hunk-told form hunk =
                           refl,
                           (
                             sites,
-                            (refl, (natural-utf8 hunk.size, content-told form hunk.content _ symbols)),
+                            (refl, (natural-utf8 hunk.size, content-told form offset hunk.content _ symbols)),
                           ),
                         ),
                       ),
@@ -214,11 +220,14 @@ unit_hunk-told form hunk =
       ),
     )
 
-pub unit-told : (form : JsonForm) (unit : ObjectUnit) → IsTold (unit_json form unit)
+pub unit_hunk-utf8 : (form : JsonForm) (hunk : ℕ × ObjectHunk) → IsUtf8 (compact_text (hunk_json (unit_hunk_json form) hunk))
+unit_hunk-utf8 form hunk = told-utf8 (unit_hunk_json form hunk.0 hunk.1) (unit_hunk-told form hunk.0 hunk.1)
+
+pub unit-told : (form : JsonForm) (unit : List ℕ × ObjectUnit) → IsTold (unit_json form unit)
 unfolding escape_byte
 unit-told form unit =
-    (refl, (listed-utf8 (unit_hunk_json form) unit.hunks (λ hunk. told-utf8 (unit_hunk_json form hunk) (unit_hunk-told form hunk)), (refl, (name-utf8 unit.name, tt))))
+    (refl, (listed-utf8 (hunk_json (unit_hunk_json form)) (hunks_at unit.0 unit.1.hunks) (unit_hunk-utf8 form), (refl, (name-utf8 unit.1.name, tt))))
 
-pub object-told : (form : JsonForm) (units : List ObjectUnit) → IsTold (object_json form units)
+pub object-told : (form : JsonForm) (offsets : List ℕ) (units : List ObjectUnit) → IsTold (object_json form offsets units)
 unfolding escape_byte
-object-told form units = (refl, (IsUtf8-plain _ refl, (refl, (listed-utf8 (unit_json form) units (λ unit. told-utf8 (unit_json form unit) (unit-told form unit)), tt))))
+object-told form offsets units = (refl, (IsUtf8-plain _ refl, (refl, (listed-utf8 (unit_json form) (units_at offsets units) (λ unit. told-utf8 (unit_json form unit) (unit-told form unit)), tt))))

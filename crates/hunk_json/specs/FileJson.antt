@@ -1,6 +1,6 @@
 -- What a hunk file is as one JSON value. The members of an object stand in the order of their keys,
 -- except that those about the content of a hunk stand behind its size.
-use Rattle.std.specs.Prelude.{ℕ, ◌/◌, List, [], ◌∷◌, ◌++◌, Bool, true, false, if◌then◌else◌, length, map, get_or, codes}
+use Rattle.std.specs.Prelude.{ℕ, ◌/◌, List, [], ◌∷◌, ◌++◌, Bool, true, false, if◌then◌else◌, drop, length, map, get_or, slice_index, codes}
 use Rattle.std.specs.Str.{is_utf8}
 use Rattle.base64.specs.Engines.{standard}
 use Rattle.base64.specs.GeneralPurpose.{encode_of}
@@ -65,34 +65,47 @@ symbol_json symbol = named ((codes "name", name_json symbol.0) ∷ (codes "value
 abbrev pub debug_json : List ℕ → Data
 debug_json words = natural (length words)
 
--- the stored bytes in base64
-abbrev pub content_member : List ℕ → List ℕ × Data
-content_member content = (codes "content", string (encode_of standard content))
+-- the stored bytes in base64, and the offset at which they begin in the file
+abbrev pub stored_members : (offset : ℕ) (content : List ℕ) → List (List ℕ × Data)
+stored_members offset content = (codes "content", string (encode_of standard content)) ∷ (codes "content_offset", natural offset) ∷ []
 
 -- in the forms that have them
-abbrev pub content_members : JsonForm → List ℕ → List (List ℕ × Data)
-content_members Plain content = []
-content_members WithContent content = content_member content ∷ []
-content_members InPage content = content_member content ∷ []
+abbrev pub content_members : JsonForm → (offset : ℕ) (content : List ℕ) → List (List ℕ × Data)
+content_members Plain offset content = []
+content_members WithContent offset content = stored_members offset content
+content_members InPage offset content = stored_members offset content
+
+-- hunks, each with the offset of its content: the next of these offsets, or 0 where there is none
+abbrev pub hunks_at : {T : Type 0} → (offsets : List ℕ) → List T → List (ℕ × T)
+hunks_at offsets [] = []
+hunks_at offsets (hunk ∷ hunks) = (slice_index offsets 0, hunk) ∷ hunks_at (drop 1 offsets) hunks
+
+-- the value of a hunk, with the offset of its content
+abbrev pub hunk_json : {T : Type 0} → (value : ℕ → T → Data) → ℕ × T → Data
+hunk_json value hunk = value hunk.0 hunk.1
+
+-- the array of the values of hunks
+abbrev pub hunks_json : {T : Type 0} → (value : ℕ → T → Data) → (offsets : List ℕ) → List T → Data
+hunks_json value offsets hunks = listed (hunk_json value) (hunks_at offsets hunks)
 
 -- ---- load files
 
 -- `stored` is the number of longwords that the file has for the hunk
-abbrev pub load_hunk_json : JsonForm → FileHunk → Data
-load_hunk_json form hunk = named (
+abbrev pub load_hunk_json : JsonForm → (offset : ℕ) → FileHunk → Data
+load_hunk_json form offset hunk = named (
     (codes "debugs", listed debug_json hunk.debugs)
     ∷ (codes "kind", kind_json hunk.kind)
     ∷ (codes "memory", memory_json hunk.memory)
     ∷ (codes "sites", listed hunk_site_json hunk.sites.entries)
     ∷ (codes "size", natural hunk.size)
     ∷ (codes "stored", natural (length hunk.content / 4))
-    ∷ content_members form hunk.content
+    ∷ content_members form offset hunk.content
     ++ (codes "symbols", listed symbol_json hunk.symbols)
     ∷ [])
 
--- the load file of these hunks
-abbrev pub load_json : JsonForm → List FileHunk → Data
-load_json form hunks = named ((codes "hunks", listed (load_hunk_json form) hunks) ∷ (codes "kind", string (codes "load file")) ∷ [])
+-- the load file of these hunks, with the offsets of their contents
+abbrev pub load_json : JsonForm → (offsets : List ℕ) → List FileHunk → Data
+load_json form offsets hunks = named ((codes "hunks", hunks_json (load_hunk_json form) offsets hunks) ∷ (codes "kind", string (codes "load file")) ∷ [])
 
 -- ---- object files
 
@@ -124,8 +137,8 @@ definition_json definition = meaning_json definition.0 definition.1
 abbrev pub sites_json : ObjectHunk → Data
 sites_json hunk = listed (site_json hunk.references) hunk.sites.entries
 
-abbrev pub unit_hunk_json : JsonForm → ObjectHunk → Data
-unit_hunk_json form hunk = named (
+abbrev pub unit_hunk_json : JsonForm → (offset : ℕ) → ObjectHunk → Data
+unit_hunk_json form offset hunk = named (
     (codes "debugs", listed debug_json hunk.debugs)
     ∷ (codes "definitions", listed definition_json hunk.definitions)
     ∷ (codes "kind", kind_json hunk.kind)
@@ -133,13 +146,19 @@ unit_hunk_json form hunk = named (
     ∷ (codes "name", name_json hunk.name)
     ∷ (codes "sites", sites_json hunk)
     ∷ (codes "size", natural hunk.size)
-    ∷ content_members form hunk.content
+    ∷ content_members form offset hunk.content
     ++ (codes "symbols", listed symbol_json hunk.symbols)
     ∷ [])
 
-abbrev pub unit_json : JsonForm → ObjectUnit → Data
-unit_json form unit = named ((codes "hunks", listed (unit_hunk_json form) unit.hunks) ∷ (codes "name", name_json unit.name) ∷ [])
+-- a unit, with the offsets of the contents from its first hunk on
+abbrev pub unit_json : JsonForm → List ℕ × ObjectUnit → Data
+unit_json form unit = named ((codes "hunks", hunks_json (unit_hunk_json form) unit.0 unit.1.hunks) ∷ (codes "name", name_json unit.1.name) ∷ [])
 
--- the object file of these units
-abbrev pub object_json : JsonForm → List ObjectUnit → Data
-object_json form units = named ((codes "kind", string (codes "object file")) ∷ (codes "units", listed (unit_json form) units) ∷ [])
+-- units, each with the offsets from its first hunk on
+abbrev pub units_at : (offsets : List ℕ) → List ObjectUnit → List (List ℕ × ObjectUnit)
+units_at offsets [] = []
+units_at offsets (unit ∷ units) = (offsets, unit) ∷ units_at (drop (length unit.hunks) offsets) units
+
+-- the object file of these units, with the offsets of the contents of their hunks
+abbrev pub object_json : JsonForm → (offsets : List ℕ) → List ObjectUnit → Data
+object_json form offsets units = named ((codes "kind", string (codes "object file")) ∷ (codes "units", listed (unit_json form) (units_at offsets units)) ∷ [])

@@ -1,3 +1,4 @@
+pub mod ContentOffsets
 pub mod Document
 pub mod Escapes
 pub mod FileJson

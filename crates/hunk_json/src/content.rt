@@ -1,4 +1,4 @@
-//! The stored bytes of a hunk, in base64.
+//! The stored bytes of a hunk, in base64, and where they stand in the file.
 
 ghost use Rattle.std.specs.Prelude.{◌≤◌, length};
 ghost use Rattle.base64.specs.Engines.{standard};
@@ -17,17 +17,23 @@ const PIECE: usize = 192;
 /// How many symbols stand for a piece.
 const PIECE_SYMBOLS: usize = PIECE / 3 * 4;
 
-/// Writes the member with the stored bytes of a hunk, in the forms that have it, behind the members
-/// before it.
-pub(crate) fn write_content<W: Sink>(text: &mut Text<'_, W>, form: JsonForm, content: &[u8])
-    ensures { Puts W.taken W.failed text.old text.new (further_members form (content_members form content.now)) }
+/// Writes the members with the stored bytes of a hunk and the offset at which they begin in the file,
+/// in the forms that have them, behind the members before them.
+pub(crate) fn write_content<W: Sink>(
+    text: &mut Text<'_, W>,
+    form: JsonForm,
+    offset: u32,
+    content: &[u8],
+)
+    ensures { Puts W.taken W.failed text.old text.new (further_members form (content_members form offset content.now)) }
 {
     match form {
         JsonForm::Plain => {}
         JsonForm::WithContent | JsonForm::InPage => {
             text.put(b",\"content\":\"");
             write_base64(text, content);
-            text.put(b"\"");
+            text.put(b"\",\"content_offset\":");
+            text.put_decimal(u64::from(offset));
         }
     }
 }

@@ -5,7 +5,7 @@
 pub enum JsonForm {
     /// What the listing of the file tells.
     Plain,
-    /// Likewise, with the stored bytes of each hunk.
+    /// Likewise, with the stored bytes of each hunk, and where they stand in the file.
     WithContent,
     /// Likewise, with each less-than sign escaped: so the document can stand in a page, where none
     /// of it is read as a tag.

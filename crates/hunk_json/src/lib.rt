@@ -4,7 +4,7 @@
 //! - `escapes`: strings, and which characters are escaped in them.
 //! - `document`: what has a JSON value, and how its text is written.
 //! - `parts`: names, and what hunks of either kind of file have.
-//! - `content`: the stored bytes of a hunk.
+//! - `content`: the stored bytes of a hunk; `content_offsets`: where they stand in the file.
 //! - `load`: load files.
 //! - `object`: object files.
 //! - `run`: reads a file of either kind, and writes its JSON.
@@ -14,6 +14,7 @@
 #![tactic(auto)]
 
 mod content;
+mod content_offsets;
 mod document;
 mod escapes;
 pub mod form;

@@ -5,10 +5,10 @@ ghost use Rattle.serde_json.specs.Data.{boolean};
 ghost use Rattle.serde_json.specs.Written.{compact_text};
 ghost use Rattle.hunk_base.specs.Text.{Puts};
 ghost use Rattle.hunk_json.specs.Document.{document};
-ghost use Rattle.hunk_json.specs.FileJson.{adds_json, definition_json, object_json, sites_json, stands_for_json, unit_hunk_json, unit_json};
+ghost use Rattle.hunk_json.specs.FileJson.{adds_json, definition_json, listed, object_json, sites_json, stands_for_json, unit_hunk_json, unit_json, units_at};
 
 use crate::content::write_content;
-use crate::document::{WriteJson, write_comma, write_list};
+use crate::document::{WriteHunk, WriteJson, offsets_behind, write_comma, write_hunks, write_list};
 use crate::escapes::write_string;
 use crate::form::JsonForm;
 use crate::parts::{kind_word, memory_word, write_hunk_site, write_name};
@@ -17,35 +17,63 @@ use hunk_words::{Name, Sink, Text};
 use std::alloc::Allocator;
 
 /// Writes what is in an object file with these units, as one JSON value in this form: what its
-/// listing tells of each unit and of each hunk, in order. Does not allocate.
+/// listing tells of each unit and of each hunk, in order. `offsets` are those at which the contents of
+/// all hunks begin in the file, in order, for the forms that tell them; 0 is told where one is missing.
+/// Does not allocate.
 pub fn write_object_json<A: Allocator + Copy, W: Sink>(
     text: &mut Text<'_, W>,
     form: JsonForm,
+    offsets: &[u32],
     units: &[ProgramUnit<A>],
 )
-    ensures { Puts W.taken W.failed text.old text.new (document form (object_json form units.now)) }
+    ensures { Puts W.taken W.failed text.old text.new (document form (object_json form offsets.now units.now)) }
 {
     text.put(b"{\"kind\":\"object file\",\"units\":");
-    write_list(text, form, units);
+    write_units(text, form, offsets, units);
     text.put(b"}");
 }
 
-impl<A: Allocator + Copy> WriteJson for ProgramUnit<A> {
-    ghost json = { unit_json };
-
-    fn write_json<W: Sink>(&self, text: &mut Text<'_, W>, form: JsonForm) {
-        text.put(b"{\"hunks\":");
-        write_list(text, form, self.hunks());
-        text.put(b",\"name\":");
-        write_name(text, form, self.name().bytes());
-        text.put(b"}");
+/// Writes the array of the values of these units, with the offsets of the contents of their hunks.
+fn write_units<A: Allocator + Copy, W: Sink>(
+    text: &mut Text<'_, W>,
+    form: JsonForm,
+    offsets: &[u32],
+    units: &[ProgramUnit<A>],
+)
+    ensures { Puts W.taken W.failed text.old text.new (document form (listed (unit_json form) (units_at offsets.now units.now))) }
+{
+    text.put(b"[");
+    let mut later = false;
+    let mut left = offsets;
+    for unit in units {
+        write_comma(text, later);
+        write_unit(text, form, left, unit);
+        left = offsets_behind(left, unit.hunks().len());
+        later = true;
     }
+    text.put(b"]");
 }
 
-impl<A: Allocator + Copy> WriteJson for UnitHunk<A> {
+/// Writes a unit, with the offsets of the contents from its first hunk on.
+fn write_unit<A: Allocator + Copy, W: Sink>(
+    text: &mut Text<'_, W>,
+    form: JsonForm,
+    offsets: &[u32],
+    unit: &ProgramUnit<A>,
+)
+    ensures { Puts W.taken W.failed text.old text.new (document form (unit_json form (offsets.now, unit.now))) }
+{
+    text.put(b"{\"hunks\":");
+    write_hunks(text, form, offsets, unit.hunks());
+    text.put(b",\"name\":");
+    write_name(text, form, unit.name().bytes());
+    text.put(b"}");
+}
+
+impl<A: Allocator + Copy> WriteHunk for UnitHunk<A> {
     ghost json = { unit_hunk_json };
 
-    fn write_json<W: Sink>(&self, text: &mut Text<'_, W>, form: JsonForm) {
+    fn write_hunk<W: Sink>(&self, text: &mut Text<'_, W>, form: JsonForm, offset: u32) {
         text.put(b"{\"debugs\":");
         write_list(text, form, self.debugs());
         text.put(b",\"definitions\":");
@@ -60,7 +88,7 @@ impl<A: Allocator + Copy> WriteJson for UnitHunk<A> {
         write_sites(text, form, self);
         text.put(b",\"size\":");
         text.put_decimal(u64::from(self.size()));
-        write_content(text, form, self.content());
+        write_content(text, form, offset, self.content());
         text.put(b",\"symbols\":");
         write_list(text, form, self.symbols());
         text.put(b"}");

@@ -1,7 +1,6 @@
 pub mod HunkLintExamples
 pub mod HunkLintSizeLemmas
 pub mod LintExamples
-pub mod LintReaderLemmas
 pub mod LintTextLemmas
 pub mod LintedLemmas
 pub mod LintsLemmas

@@ -21,15 +21,16 @@ use Rattle.hunk_objects.specs.ProgramUnit.{ObjectUnit}
 use Rattle.hunk_loadfile.specs.LoadHunk.{FileHunk}
 use Rattle.hunk_files.specs.FileValue.{FileValue, IsOfKind, kind_of_bytes}
 use Rattle.hunk_files.specs.FileValue.FileValue.{load_file, object_file}
+use Rattle.hunk_files.specs.Watched.{latest_first}
 use Rattle.hunk_files.specs.declared.file_decoder.File.{File}
+use Rattle.hunk_files.proofs.WatchedLemmas.{length-latest}
 use Rattle.hunk_lint.specs.LintText.{lint_lines, longword_line, oddity_front, oddity_number, value_lints}
 use Rattle.hunk_lint.specs.Linted.{IsLinted, oddities_of, value_of}
-use Rattle.hunk_lint.specs.Oddity.{has_number, has_no_offsets, has_no_references, has_other_size, hunk_named, hunks_named, if_named, ignores_name_bytes, ignores_size_bits, ignores_type_bits, latest_first, lint_at, lints_of, longword_lints, named_again, names_load_hunk, odd_at, told_again, told_if}
+use Rattle.hunk_lint.specs.Oddity.{has_number, has_no_offsets, has_no_references, has_other_size, hunk_named, hunks_named, if_named, ignores_name_bytes, ignores_size_bits, ignores_type_bits, lint_at, lints_of, longword_lints, named_again, names_load_hunk, odd_at, told_again, told_if}
 use Rattle.hunk_lint.specs.declared.linted.Linted.{Linted}
 use Rattle.hunk_lint.specs.declared.oddity.Oddity.{Oddity}
 use Rattle.hunk_lint.specs.declared.oddity.Oddity.TheVariants as oddity_is
 use Rattle.hunk_lint.proofs.HunkLintSizeLemmas.{load_lints-fit, object_lints-fit}
-use Rattle.hunk_lint.proofs.LintReaderLemmas.{length-latest}
 
 -- ---- the longwords of a file have at most 64 bits
 

@@ -1,7 +1,6 @@
 pub mod Oddity
 pub mod Watch
 pub mod Lints
-pub mod LintReader
 pub mod Linted
 pub mod HunkLintLines
 pub mod HunkLint

@@ -7,8 +7,10 @@ use Rattle.hunk_files.specs.FileValue.{FileValue, IsOfItsKind, kind_of_bytes}
 use Rattle.hunk_files.specs.FileValue.FileValue.{object_file, load_file}
 use Rattle.hunk_files.specs.declared.file_decoder.File.{File}
 use Rattle.hunk_files.specs.declared.file_decoder.File.TheVariants.{Object, Load}
+use Rattle.hunk_files.specs.declared.watcher.Watched.{Watched}
 use Rattle.hunk_lint.specs.Oddity.{longword_lints}
 use Rattle.hunk_lint.specs.declared.linted.Linted.{Linted}
+use Rattle.hunk_lint.specs.declared.lints.Lints.{Lints}
 use Rattle.hunk_lint.specs.declared.oddity.LongwordLint.{LongwordLint}
 
 abbrev pub value_of : {A : Type 0} → File (Linted (Vec ObjectUnit A) A) (Linted (List FileHunk) A) → FileValue
@@ -18,6 +20,13 @@ value_of (Load linted) = load_file linted.value
 abbrev pub oddities_of : {A : Type 0} → File (Linted (Vec ObjectUnit A) A) (Linted (List FileHunk) A) → List LongwordLint
 oddities_of (Object linted) = linted.oddities.items
 oddities_of (Load linted) = linted.oddities.items
+
+-- a file that was read, with what was found odd beside its value
+abbrev pub linted_file : {A : Type 0} → Watched (File (Vec ObjectUnit A) (List FileHunk)) (Lints A) → File (Linted (Vec ObjectUnit A) A) (Linted (List FileHunk) A)
+linted_file watched = elim watched.value [
+  | Object units ↦ Object (record { value = units; oddities = watched.watcher.found })
+  | Load hunks ↦ Load (record { value = hunks; oddities = watched.watcher.found })
+]
 
 -- The bytes are a file with this value, and this is odd about their longwords.
 abbrev pub IsLinted : {A : Type 0} → File (Linted (Vec ObjectUnit A) A) (Linted (List FileHunk) A) → List ℕ → Type 0

@@ -1,11 +1,10 @@
 -- What is odd about the longwords of a file: what its spelling has that its value does not keep.
 --
 -- Each longword stands with what was due there, and the longwords before it the latest first.
-use Rattle.std.specs.Prelude.{ℕ, zero, suc, ◌/◌, ◌%◌, ◌^◌, ◌==◌, ◌&&◌, not, nat_le, nat_lt, Bool, true, false, List, [], ◌∷◌, ◌++◌, length, map, reverse, if◌then◌else◌, Option, Some, None, is_some, option_to_list, slice_index}
+use Rattle.std.specs.Prelude.{ℕ, zero, suc, ◌/◌, ◌%◌, ◌^◌, ◌==◌, ◌&&◌, not, nat_le, nat_lt, Bool, true, false, List, [], ◌∷◌, ◌++◌, length, map, if◌then◌else◌, Option, Some, None, is_some, option_to_list, slice_index}
 use Rattle.std.specs.List.{list_any}
 use Rattle.hunk_base.specs.Name.{bytes_of}
 use Rattle.hunk_words.specs.Kinds.{low, type_of}
-use Rattle.hunk_words.specs.Due.{dues_read}
 use Rattle.hunk_words.specs.declared.due.Due.{Due}
 use Rattle.hunk_words.specs.declared.due.Due.TheVariants as due_is
 use Rattle.hunk_words.specs.declared.event.FileKind.{FileKind}
@@ -14,6 +13,7 @@ use Rattle.hunk_words.specs.declared.kinds.BlockType.{BlockType}
 use Rattle.hunk_words.specs.declared.kinds.BlockType.TheVariants as block_is
 use Rattle.hunk_words.specs.declared.kinds.HunkKind.TheVariants.{Bss}
 use Rattle.hunk_files.specs.Path.{hunks_ended, is_type, types_of}
+use Rattle.hunk_files.specs.Watched.{is_content_size, latest_first}
 use Rattle.hunk_lint.specs.declared.oddity.Oddity.{Oddity}
 use Rattle.hunk_lint.specs.declared.oddity.Oddity.TheVariants as oddity_is
 use Rattle.hunk_lint.specs.declared.oddity.LongwordLint.{LongwordLint}
@@ -43,10 +43,6 @@ begins_load_hunk due = false
 
 abbrev pub names_load_hunk : Due × ℕ → Bool
 names_load_hunk d = begins_load_hunk d.0 && is_name (type_of (low d.1))
-
-abbrev pub is_content_size : Due → Bool
-is_content_size due_is.ContentSize = true
-is_content_size due = false
 
 abbrev pub is_header_size : Due → Bool
 is_header_size due_is.HeaderSize = true
@@ -188,10 +184,6 @@ lint_at place oddity = record { place = place; oddity = oddity }
 abbrev pub lints_of : FileKind → List (Due × ℕ) → List LongwordLint
 lints_of kind [] = []
 lints_of kind (d ∷ before) = lints_of kind before ++ map (lint_at (length before)) (odd_at kind before d)
-
--- the longwords of a file, the latest first
-abbrev pub latest_first : FileKind → List ℕ → List (Due × ℕ)
-latest_first kind ws = reverse (dues_read kind ws)
 
 abbrev pub longword_lints : FileKind → List ℕ → List LongwordLint
 longword_lints kind ws = lints_of kind (latest_first kind ws)

@@ -1,8 +1,7 @@
 //! What is odd about a file: what is ignored in it, and what a loader or a processor stumbles over.
 //!
 //! - `run`: reads a file of either kind, and writes what is odd about it.
-//! - `linted`: reads a file of either kind, with what is odd about its longwords; `lint_reader`, `lint_decoder`: the same
-//!   for one kind.
+//! - `linted`: reads a file of either kind, with what is odd about its longwords.
 //! - `oddity`: what is odd about a longword, by itself; `watch`: what is known of the longwords before it; `lints`: what was
 //!   found odd so far.
 //! - `lint_text`: the lines about longwords, and all of them.
@@ -11,8 +10,6 @@
 
 mod hunk_lint;
 mod hunk_lint_lines;
-mod lint_decoder;
-mod lint_reader;
 pub mod lint_text;
 pub mod linted;
 mod lints;

@@ -1,16 +1,16 @@
 //! Reads a file of either kind, with what is odd about its longwords.
 
-ghost use Rattle.std.specs.Prelude.{IsTrue, OnOk, IfOk, IfErr};
+ghost use Rattle.std.specs.Prelude.{◌≡◌, IsTrue, OnOk, IfOk, IfErr};
 ghost use Rattle.hunk_base.specs.Streams.{HasRead};
 ghost use Rattle.hunk_files.specs.FileDecoder.{IsReadFault};
-ghost use Rattle.hunk_lint.specs.Linted.{IsLinted};
+ghost use Rattle.hunk_lint.specs.Linted.{IsLinted, linted_file};
 
-use crate::lint_decoder::LintDecoder;
+use crate::lints::Lints;
 use crate::oddity::LongwordLint;
-use hunk_files::{File, read_file};
-use hunk_loadfile::{LoadBuilder, LoadFile};
-use hunk_objects::{ProgramUnit, UnitBuilder};
-use hunk_words::{Builder, ReadFault, Source};
+use hunk_files::{File, HunkFile, Watched, read_watched};
+use hunk_loadfile::LoadFile;
+use hunk_objects::ProgramUnit;
+use hunk_words::{ReadFault, Source};
 use std::alloc::{Allocator, Global};
 
 /// What is in a file, and what is odd about its longwords, in file order.
@@ -44,11 +44,21 @@ pub fn read_linted<A: Allocator + Copy, R: Source>(
     ensures ended { OnOk result (IsTrue (R.ended reader.new)) }
     ensures refused { IfErr result (IsReadFault (R.left reader.old) (R.left reader.new) (R.failed reader.new) (R.ended reader.new)) }
 {
-    let object: UnitBuilder<A> = UnitBuilder::new(alloc);
-    let load: LoadBuilder<A> = LoadBuilder::new(alloc);
-    read_file(
-        reader,
-        LintDecoder::new(alloc, object),
-        LintDecoder::new(alloc, load),
-    )
+    let object = Lints::new(alloc);
+    let load = Lints::new(alloc);
+    match read_watched(alloc, reader, object, load) {
+        Ok(watched) => Ok(linted_file(watched)),
+        Err(fault) => Err(fault),
+    }
+}
+
+/// A file that was read, with what was found odd beside its value.
+fn linted_file<A: Allocator + Copy>(watched: Watched<HunkFile<A>, Lints<A>>) -> LintedFile<A>
+    ensures { result ≡ linted_file watched }
+{
+    let oddities = watched.watcher.into_found();
+    match watched.value {
+        File::Object(value) => File::Object(Linted { value, oddities }),
+        File::Load(value) => File::Load(Linted { value, oddities }),
+    }
 }

@@ -1,7 +1,6 @@
 //! What was found odd about the longwords of a file.
 
-ghost use Rattle.std.specs.Prelude.{◌≡◌, ℕ, ◌<◌, ◌^◌, List, [], ◌∷◌, ◌++◌, length, map, OnOk};
-ghost use Rattle.hunk_words.specs.declared.due.Due.{Due};
+ghost use Rattle.std.specs.Prelude.{◌≡◌, [], ◌++◌, map, OnOk};
 ghost use Rattle.hunk_lint.specs.Lints.{IsLintsOf};
 ghost use Rattle.hunk_lint.specs.Oddity.{lint_at, told_again, told_if};
 
@@ -9,6 +8,7 @@ use crate::oddity::{
     LongwordLint, Oddity, has_no_references, ignores_size_bits, ignores_type_bits, names_load_hunk,
 };
 use crate::watch::Watch;
+use hunk_files::Watcher;
 use hunk_words::{Due, FileKind};
 use std::alloc::{AllocError, Allocator};
 
@@ -62,14 +62,18 @@ impl<A: Allocator + Copy> Lints<A> {
         }
     }
 
-    /// Takes the next longword, where this was due.
-    ///
-    /// # Errors
-    ///
-    /// [`AllocError`] only if an allocation failed; then it stands for nothing.
-    pub(crate) fn take(&mut self, kind: FileKind, due: Due, word: u32) -> Result<(), AllocError>
-        ensures { (before : List (Due × ℕ)) → length before < 2 ^ 29 → IsLintsOf kind self.old before → OnOk result (IsLintsOf kind self.new ((due, word) ∷ before)) }
+    /// What was found.
+    pub(crate) fn into_found(self) -> Vec<LongwordLint, A>
+        ensures { result ≡ self.found }
     {
+        self.found
+    }
+}
+
+impl<A: Allocator + Copy> Watcher for Lints<A> {
+    ghost stands_for = { λ kind lints before. IsLintsOf kind lints before };
+
+    fn take(&mut self, kind: FileKind, due: Due, word: u32) -> Result<(), AllocError> {
         let place = self.place;
         let found = &mut self.found;
         let odd = ignores_type_bits(kind, due, word);
@@ -91,12 +95,5 @@ impl<A: Allocator + Copy> Lints<A> {
         self.place = self.place.saturating_add(1);
         self.watch.take(due, word)?;
         Ok(())
-    }
-
-    /// What was found.
-    pub(crate) fn into_found(self) -> Vec<LongwordLint, A>
-        ensures { result ≡ self.found }
-    {
-        self.found
     }
 }

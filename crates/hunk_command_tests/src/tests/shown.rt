@@ -25,7 +25,8 @@ static TEXTS: [(ShowText, &str); 3] = [
     (
         ShowText::JsonWithContent,
         "{\"hunks\":[{\"debugs\":[],\"kind\":\"code\",\"memory\":\"any\",\"sites\":[],\
-         \"size\":1,\"stored\":1,\"content\":\"TnVOcQ==\",\"symbols\":[]}],\"kind\":\"load file\"}\n",
+         \"size\":1,\"stored\":1,\"content\":\"TnVOcQ==\",\"content_offset\":32,\"symbols\":[]}],\
+         \"kind\":\"load file\"}\n",
     ),
 ];
 

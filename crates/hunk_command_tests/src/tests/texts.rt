@@ -127,14 +127,17 @@ fn tells_contents_as_json(rt: HostRuntime) {
              {\"debugs\":[1],\"definitions\":[{\"absolute\":false,\"name\":\"main\",\"value\":0}],\
              \"kind\":\"code\",\"memory\":\"any\",\"name\":\"CODE\",\
              \"sites\":[{\"hunk\":1,\"offset\":2}],\
-             \"size\":2,\"content\":\"TrkAAAAATnU=\",\"symbols\":[{\"name\":\"loop\",\"value\":6}]},\
+             \"size\":2,\"content\":\"TrkAAAAATnU=\",\"content_offset\":32,\
+             \"symbols\":[{\"name\":\"loop\",\"value\":6}]},\
              {\"debugs\":[],\"definitions\":[],\"kind\":\"bss\",\"memory\":\"chip\",\"name\":\"\",\
-             \"sites\":[],\"size\":2,\"content\":\"\",\"symbols\":[]}],\"name\":\"test\"}]}\n",
+             \"sites\":[],\"size\":2,\"content\":\"\",\"content_offset\":124,\"symbols\":[]}],\
+             \"name\":\"test\"}]}\n",
         ),
         (
             &ONE_HUNK,
             "{\"hunks\":[{\"debugs\":[],\"kind\":\"code\",\"memory\":\"any\",\"sites\":[],\
-             \"size\":1,\"stored\":1,\"content\":\"TnVOcQ==\",\"symbols\":[]}],\"kind\":\"load file\"}\n",
+             \"size\":1,\"stored\":1,\"content\":\"TnVOcQ==\",\"content_offset\":32,\"symbols\":[]}],\
+             \"kind\":\"load file\"}\n",
         ),
     ];
     for (file, line) in &files {

@@ -1,16 +1,17 @@
 //! The forms of JSON documents: what is escaped in each, and contents in base64.
 
-use super::asserts::equals_at;
+use super::asserts::{equals_at, holds};
 use super::runs::ENOUGH;
 use hunk_json::{JsonForm, json_run_with};
-use hunk_test_support::{CHUNKS, bytes_of};
+use hunk_test_support::load_words::THREE_HUNKS;
+use hunk_test_support::{CHUNKS, Refusing, bytes_of};
 use hunk_tool::ToolFault;
 use hunk_words::{Pieces, Room};
 use std::alloc::Global;
 use std::process::Abort;
 use std::test::Fail;
 
-// The forms that tell the same of a file without content.
+// All forms. They tell the same of a file without hunks.
 const FORMS: [JsonForm; 3] = [JsonForm::Plain, JsonForm::WithContent, JsonForm::InPage];
 
 // The limits of a reader and of a writer.
@@ -173,13 +174,9 @@ fn load_text(alloc: Global, stored: usize, content: &str) -> Result<String, Fail
 fn tells_contents(rt: HostRuntime) -> Result<(), Fail> {
     let alloc = rt.alloc();
     for (words, symbols) in &CONTENTS {
-        let member = format!(in alloc; ",\"content\":\"{symbols}\"")?;
-        for (form, content) in [
-            (JsonForm::Plain, ""),
-            (JsonForm::WithContent, member.as_str()),
-            (JsonForm::InPage, member.as_str()),
-        ] {
-            let text = object_text(alloc, words.len(), content)?;
+        for form in FORMS {
+            let content = member(alloc, form, symbols, 16)?;
+            let text = object_text(alloc, words.len(), content.as_str())?;
             is_written(
                 &rt,
                 alloc,
@@ -187,9 +184,101 @@ fn tells_contents(rt: HostRuntime) -> Result<(), Fail> {
                 &object_words(alloc, words)?,
                 text.as_str(),
             )?;
-            let text = load_text(alloc, words.len(), content)?;
+            let content = member(alloc, form, symbols, 32)?;
+            let text = load_text(alloc, words.len(), content.as_str())?;
             is_written(&rt, alloc, form, &load_words(alloc, words)?, text.as_str())?;
         }
+    }
+    Ok(())
+}
+
+// The members about a content in this form.
+fn member(alloc: Global, form: JsonForm, symbols: &str, offset: u32) -> Result<String, Fail> {
+    match form {
+        JsonForm::Plain => Ok(String::new(alloc)),
+        JsonForm::WithContent | JsonForm::InPage => Ok(format!(in alloc;
+            ",\"content\":\"{symbols}\",\"content_offset\":{offset}"
+        )?),
+    }
+}
+
+// Two units with a hunk each, the second of which has a name and is not stored. Their contents begin
+// behind longwords 3 and 11.
+static TWO_CONTENTS: [u32; 13] = [
+    0x3E7, 0, 0x3EA, 1, 0xFB020910, 0x3F2, //
+    0x3E7, 0, 0x3E8, 0, 0x400003EB, 7, 0x3F2,
+];
+
+static TWO_CONTENTS_TEXT: &str = "{\"kind\":\"object file\",\"units\":[\
+     {\"hunks\":[{\"debugs\":[],\"definitions\":[],\"kind\":\"data\",\"memory\":\"any\",\"name\":\"\",\
+     \"sites\":[],\"size\":1,\"content\":\"+wIJEA==\",\"content_offset\":16,\"symbols\":[]}],\"name\":\"\"},\
+     {\"hunks\":[{\"debugs\":[],\"definitions\":[],\"kind\":\"bss\",\"memory\":\"chip\",\"name\":\"\",\
+     \"sites\":[],\"size\":7,\"content\":\"\",\"content_offset\":48,\"symbols\":[]}],\"name\":\"\"}]}";
+
+#[test]
+fn counts_hunks_over_all_units(rt: HostRuntime) -> Result<(), Fail> {
+    for form in [JsonForm::WithContent, JsonForm::InPage] {
+        is_written(&rt, rt.alloc(), form, &TWO_CONTENTS, TWO_CONTENTS_TEXT)?;
+    }
+    Ok(())
+}
+
+// Three hunks with the addresses of others: their contents begin behind longwords 9, 14 and 23.
+static THREE_HUNKS_TEXT: &str = "{\"hunks\":[\
+     {\"debugs\":[],\"kind\":\"code\",\"memory\":\"any\",\"sites\":[],\"size\":2,\"stored\":2,\
+     \"content\":\"TnFOcU51TnE=\",\"content_offset\":40,\"symbols\":[]},\
+     {\"debugs\":[],\"kind\":\"code\",\"memory\":\"any\",\"sites\":[{\"hunk\":2,\"offset\":0}],\"size\":1,\"stored\":1,\
+     \"content\":\"AAAACA==\",\"content_offset\":60,\"symbols\":[]},\
+     {\"debugs\":[],\"kind\":\"bss\",\"memory\":\"any\",\"sites\":[],\"size\":4,\"stored\":0,\
+     \"content\":\"\",\"content_offset\":96,\"symbols\":[]}],\"kind\":\"load file\"}";
+
+#[test]
+fn tells_where_each_content_begins(rt: HostRuntime) -> Result<(), Fail> {
+    for form in [JsonForm::WithContent, JsonForm::InPage] {
+        is_written(&rt, rt.alloc(), form, &THREE_HUNKS, THREE_HUNKS_TEXT)?;
+    }
+    Ok(())
+}
+
+// More allocations than a run makes.
+const MOST_GROWTHS: u64 = 64;
+
+// Whether a run in which this allocation is to fail makes fewer; otherwise it has written nothing.
+fn is_made_without(
+    rt: &impl Abort,
+    alloc: Global,
+    words: &[u32],
+    refused: u64,
+) -> Result<bool, Fail> {
+    let heap = Refusing::new(alloc, refused);
+    let mut reader = Pieces::new(bytes_of(alloc, words, &[])?, ENOUGH, None);
+    let mut writer = Room::new(alloc, ENOUGH, ENOUGH, false)?;
+    let got = json_run_with(&heap, &mut reader, JsonForm::WithContent, &mut writer);
+    if heap.asked() <= refused {
+        holds(rt, &("growth", refused), got.is_ok());
+        return Ok(true);
+    }
+    let out_of_memory = matches!(got, Err(ToolFault::OutOfMemory { written: 0 }));
+    holds(rt, &("growth", refused), out_of_memory);
+    holds(rt, &("growth", refused), writer.bytes().is_empty());
+    Ok(false)
+}
+
+// How many allocations a run over these longwords makes, each of which was refused in turn.
+fn growths(rt: &impl Abort, alloc: Global, words: &[u32]) -> Result<u64, Fail> {
+    for refused in 0..MOST_GROWTHS {
+        if is_made_without(rt, alloc, words, refused)? {
+            return Ok(refused);
+        }
+    }
+    Err("each run was refused a growth")?
+}
+
+#[test]
+fn is_out_of_memory_with_each_growth_refused(rt: HostRuntime) -> Result<(), Fail> {
+    for words in [TWO_CONTENTS.as_slice(), THREE_HUNKS.as_slice()] {
+        let growths = growths(&rt, rt.alloc(), words)?;
+        holds(&rt, &("growths", growths), 2 <= growths);
     }
     Ok(())
 }
@@ -198,7 +287,8 @@ fn tells_contents(rt: HostRuntime) -> Result<(), Fail> {
 fn tells_what_a_writer_took(rt: HostRuntime) -> Result<(), Fail> {
     let alloc = rt.alloc();
     let words = object_words(alloc, &[0xFB020910])?;
-    let text = object_text(alloc, 1, ",\"content\":\"+wIJEA==\"")?;
+    let content = member(alloc, JsonForm::WithContent, "+wIJEA==", 16)?;
+    let text = object_text(alloc, 1, content.as_str())?;
     for room in 0..text.len() {
         for chunk in CHUNKS {
             let devices = Devices { chunk, room };

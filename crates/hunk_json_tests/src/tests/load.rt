@@ -48,9 +48,49 @@ fn writes_load_files(rt: HostRuntime) -> Result<(), Fail> {
         let file = file_of(rt.alloc(), words)?;
         let mut writer = Room::new(rt.alloc(), CHUNK, ENOUGH, false)?;
         let mut text = Text::new(&mut writer);
-        write_load_json(&mut text, JsonForm::Plain, file.hunks());
+        write_load_json(&mut text, JsonForm::Plain, &[], file.hunks());
         equals_at(&rt, &row, text.finish(), Ok(()));
         equals_at(&rt, &row, writer.bytes(), wanted.as_bytes());
+    }
+    Ok(())
+}
+
+// The first of these files with its contents, and with these offsets: one for each hunk, too few and
+// too many.
+static PLACED: [(&[u32], [u32; 2]); 4] = [
+    (&[36, 160], [36, 160]),
+    (&[4294967295], [4294967295, 0]),
+    (&[], [0, 0]),
+    (&[1, 2, 3], [1, 2]),
+];
+
+// The document of the file of two hunks with these offsets.
+fn placed_text(alloc: Global, [code, data]: [u32; 2]) -> Result<String, Fail> {
+    Ok(format!(in alloc;
+        "{{\"hunks\":[\
+         {{\"debugs\":[2],\"kind\":\"code\",\"memory\":\"any\",\
+         \"sites\":[{{\"hunk\":1,\"offset\":2}},{{\"hunk\":0,\"offset\":8}}],\
+         \"size\":4,\"stored\":4,\"content\":\"IHwAAAAATrkAAAAOTnVOdQ==\",\"content_offset\":{code},\
+         \"symbols\":[{{\"name\":\"main\",\"value\":0}},{{\"name\":\"sub\",\"value\":14}}]}},\
+         {{\"debugs\":[0],\"kind\":\"data\",\"memory\":\"chip\",\
+         \"sites\":[],\"size\":2,\"stored\":1,\"content\":\"aHVuaw==\",\"content_offset\":{data},\
+         \"symbols\":[]}}],\"kind\":\"load file\"}}"
+    )?)
+}
+
+#[test]
+fn writes_contents_with_their_offsets(rt: HostRuntime) -> Result<(), Fail> {
+    let alloc = rt.alloc();
+    let file = file_of(alloc, &TWO_HUNKS)?;
+    for (offsets, told) in &PLACED {
+        for form in [JsonForm::WithContent, JsonForm::InPage] {
+            let mut writer = Room::new(alloc, CHUNK, ENOUGH, false)?;
+            let mut text = Text::new(&mut writer);
+            write_load_json(&mut text, form, offsets, file.hunks());
+            equals_at(&rt, &offsets.len(), text.finish(), Ok(()));
+            let wanted = placed_text(alloc, *told)?;
+            equals_at(&rt, &offsets.len(), writer.bytes(), wanted.as_bytes());
+        }
     }
     Ok(())
 }

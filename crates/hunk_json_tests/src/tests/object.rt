@@ -76,9 +76,59 @@ fn writes_object_files(rt: HostRuntime) -> Result<(), Fail> {
         let units = units_of(rt.alloc(), words)?;
         let mut writer = Room::new(rt.alloc(), CHUNK, ENOUGH, false)?;
         let mut text = Text::new(&mut writer);
-        write_object_json(&mut text, JsonForm::Plain, &units);
+        write_object_json(&mut text, JsonForm::Plain, &[], &units);
         equals_at(&rt, &row, text.finish(), Ok(()));
         equals_at(&rt, &row, writer.bytes(), wanted.as_bytes());
+    }
+    Ok(())
+}
+
+// Three units: one with two hunks, one without hunks, and one with a hunk.
+const THREE_UNITS: [u32; 18] = [
+    0x3E7, 0, 0x3EB, 1, 0x3F2, 0x3E9, 1, 0x4E754E71, 0x3F2, //
+    0x3E7, 0, //
+    0x3E7, 1, 0x61000000, 0x3EA, 1, 0xFF000000, 0x3F2,
+];
+
+// Offsets for its hunks, and those that are told.
+static PLACED: [(&[u32], [u32; 3]); 4] = [
+    (&[16, 28, 64], [16, 28, 64]),
+    (&[5, 6], [5, 6, 0]),
+    (&[7], [7, 0, 0]),
+    (&[1, 2, 3, 4], [1, 2, 3]),
+];
+
+// Its document with these offsets.
+fn placed_text(alloc: Global, [zeros, code, data]: [u32; 3]) -> Result<String, Fail> {
+    Ok(format!(in alloc;
+        "{{\"kind\":\"object file\",\"units\":[\
+         {{\"hunks\":[\
+         {{\"debugs\":[],\"definitions\":[],\"kind\":\"bss\",\"memory\":\"any\",\"name\":\"\",\
+         \"sites\":[],\"size\":1,\"content\":\"\",\"content_offset\":{zeros},\"symbols\":[]}},\
+         {{\"debugs\":[],\"definitions\":[],\"kind\":\"code\",\"memory\":\"any\",\"name\":\"\",\
+         \"sites\":[],\"size\":1,\"content\":\"TnVOcQ==\",\"content_offset\":{code},\"symbols\":[]}}\
+         ],\"name\":\"\"}},\
+         {{\"hunks\":[],\"name\":\"\"}},\
+         {{\"hunks\":[\
+         {{\"debugs\":[],\"definitions\":[],\"kind\":\"data\",\"memory\":\"any\",\"name\":\"\",\
+         \"sites\":[],\"size\":1,\"content\":\"/wAAAA==\",\"content_offset\":{data},\"symbols\":[]}}\
+         ],\"name\":\"a\"}}]}}"
+    )?)
+}
+
+#[test]
+fn writes_contents_with_their_offsets(rt: HostRuntime) -> Result<(), Fail> {
+    let alloc = rt.alloc();
+    let units = units_of(alloc, &THREE_UNITS)?;
+    for (offsets, told) in &PLACED {
+        for form in [JsonForm::WithContent, JsonForm::InPage] {
+            let mut writer = Room::new(alloc, CHUNK, ENOUGH, false)?;
+            let mut text = Text::new(&mut writer);
+            write_object_json(&mut text, form, offsets, &units);
+            equals_at(&rt, &offsets.len(), text.finish(), Ok(()));
+            let wanted = placed_text(alloc, *told)?;
+            equals_at(&rt, &offsets.len(), writer.bytes(), wanted.as_bytes());
+        }
     }
     Ok(())
 }

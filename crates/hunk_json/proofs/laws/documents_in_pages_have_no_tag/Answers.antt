@@ -5,4 +5,4 @@ use Rattle.hunk_json.proofs.LawsLemmas.{with_escapes-no_tag}
 use Rattle.hunk_json.proofs.laws.documents_in_pages_have_no_tag.Goals as goal
 
 pub returns : goal.returns
-returns c = λ value. with_escapes-no_tag (compact_text (file_json InPage value))
+returns c = λ offsets value. with_escapes-no_tag (compact_text (file_json InPage offsets value))

@@ -12,5 +12,6 @@ unfolding escape_byte
 returns g c =
     let form = c.args.form in
     let hunks = c.args.hunks.now in
-    let pieces = c.put.ensures ⨾ c.write_list.ensures ⨾ c.put-2.ensures in
-    Puts-as ((simp (append_assoc, kind_load-document)) ∙ sym (document-told form (load_json form hunks) (load-told form hunks))) pieces
+    let offsets = c.args.offsets.now in
+    let pieces = c.put.ensures ⨾ c.write_hunks.ensures ⨾ c.put-2.ensures in
+    Puts-as ((simp (append_assoc, kind_load-document)) ∙ sym (document-told form (load_json form offsets hunks) (load-told form offsets hunks))) pieces

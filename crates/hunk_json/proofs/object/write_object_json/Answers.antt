@@ -12,5 +12,6 @@ unfolding escape_byte
 returns g c =
     let form = c.args.form in
     let units = c.args.units.now in
-    let pieces = c.put.ensures ⨾ c.write_list.ensures ⨾ c.put-2.ensures in
-    Puts-as ((simp (append_assoc, kind_object-document)) ∙ sym (document-told form (object_json form units) (object-told form units))) pieces
+    let offsets = c.args.offsets.now in
+    let pieces = c.put.ensures ⨾ c.write_units.ensures ⨾ c.put-2.ensures in
+    Puts-as ((simp (append_assoc, kind_object-document)) ∙ sym (document-told form (object_json form offsets units) (object-told form offsets units))) pieces

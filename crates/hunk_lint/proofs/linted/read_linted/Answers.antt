@@ -1,12 +1,13 @@
 -- What was read is a file with that value, and is odd there.
-use Rattle.std.proofs.lemmas.Result.{IfOk-weaker}
-use Rattle.hunk_base.proofs.StreamsLemmas.{HasRead-weaker}
-use Rattle.hunk_files.specs.FileValue.{kind_of_bytes}
-use Rattle.hunk_lint.proofs.LintedLemmas.{is-linted}
+use Rattle.hunk_words.specs.declared.event.FileKind.TheVariants as kind_is
+use Rattle.hunk_lint.proofs.LintedLemmas.{HasRead-linted}
 use Rattle.hunk_lint.proofs.linted.read_linted.Goals as goal
 
-pub returns-clause-file : goal.returns-clause-file
-returns-clause-file g c =
-    IfOk-weaker c.read_file.result _ _
-    (λ file read. HasRead-weaker _ _ _ _ (λ bytes is. is-linted (kind_of_bytes bytes) file bytes is) read)
-    c.read_file.ensures.file
+pub read_watched-requires-clause-object : goal.read_watched-requires-clause-object
+read_watched-requires-clause-object g c = c.new-object.ensures kind_is.Object
+
+pub read_watched-requires-clause-load : goal.read_watched-requires-clause-load
+read_watched-requires-clause-load g c = c.new-load.ensures kind_is.Load
+
+pub returns-in-Ok-clause-file : goal.returns-in-Ok-clause-file
+returns-in-Ok-clause-file g c = HasRead-linted c.in-Ok.watched _ _ _ c.linted_file.ensures c.in-Ok.ensures.file
