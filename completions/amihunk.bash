@@ -28,7 +28,7 @@ _amihunk() {
     local options
     case "$command" in
         '') options='-h --help -V --version' ;;
-        link) options='-o --out --map -s --strip --short --trim --explain --files-from --lines -h --help' ;;
+        link) options='-o --out --map -s --strip --short --trim --globals --explain --files-from --lines -h --help' ;;
         load | image) options='--at --at-file --srec --symbols --explain -h --help' ;;
         show) options='--json --content --html --names --explain -h --help' ;;
         check) options='--lint --explain -h --help' ;;

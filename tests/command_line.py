@@ -10,7 +10,7 @@ from model import CODE, END, HEADER, RELOC32, RELOC32SHORT, SYMBOL, Hunk, words
 HERE = os.path.dirname(os.path.abspath(__file__))
 # Files, some of which are named as an option or as a command, and the first longword of each one's hunk.
 FILES = {"x": 1, "y": 2, "z": 3, "link": 4, "strip": 5, "--strip": 6, "--short": 7, "--trim": 8, "--at": 9, "--srec": 10,
-         "--at-file": 11, "--map": 12, "--json": 13, "--content": 14, "--html": 15, "--symbols": 16}
+         "--at-file": 11, "--map": 12, "--json": 13, "--content": 14, "--html": 15, "--symbols": 16, "--globals": 17}
 
 
 def write_files(program):
@@ -67,6 +67,10 @@ LINKS = (
     ("--map=m x --out=o y x", "map", "x y x"),
     ("x y -so o --map m", "strip map", "x y"),
     ("--trim --map m -oo --short x y", "short trim map", "x y"),
+    ("--out o --globals x y", "", "x y"),
+    ("x --globals -so o y", "strip", "x y"),
+    ("--trim --globals --short --out=o x", "short trim", "x"),
+    ("--out o -- --globals x", "", "--globals x"),
     ("--out o -- --map x", "", "--map x"),
     ("--map m --out o -- --json --map", "map", "--json --map"),
 )
@@ -163,7 +167,7 @@ def the_words_of_a_show_come_in_any_order(program):
         program.prints(document, "show", *line.split())
     for line, number in (("--json --content x", 1), ("--content x --json", 1), ("y --json --content", 2), ("--content --json -- --html", 15)):
         content = base64.b64encode(words(number, 0)).decode()
-        program.prints(document.replace('"size":2', f'"size":2,"content":"{content}"'), "show", *line.split())
+        program.prints(document.replace('"size":2', f'"size":2,"content":"{content}","content_offset":16'), "show", *line.split())
     page = program.run("show", "--html", "x")
     assert page[1].startswith("<!doctype html>") and document[:-1] not in page[1], page
     for line in ("x --html", "--html -- x"):

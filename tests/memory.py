@@ -5,9 +5,12 @@ import resource
 import subprocess
 
 import model
+import trees
 from harness import DEVICE, DONE, NO_MEMORY, REFUSED, as_nobody, equals, test
+from json_documents import page_ends
 from model import CODE, DEF, END, HEADER, RELOC32, SYMBOL, Hunk, words
 from runs import LOAD_FILE, OBJECT_FILE, RECORDS, REPORT
+from surveys import LOADED
 
 PAGE = resource.getpagesize()
 TOLD = "amihunk: out of memory\n"
@@ -79,10 +82,17 @@ def write_files(program):
     program.write("one.o", OBJECT_FILE)
     program.write("x", LOAD_FILE)
     program.write("bad", LOAD_FILE + words(0x1234))
+    program.write("odd", LOAD_FILE.replace(words(CODE), words(CODE | 1 << 30)))
     symbol = words(SYMBOL, 1) + b"loop" + words(2, 0, END)
     for name, bytes_ in (("named.o", OBJECT_FILE), ("named", LOAD_FILE)):
         program.write(name, bytes_[:-4] + symbol)
     return [[code], [other]]
+
+
+def page_of(document):
+    """The page with this document, which has no less-than sign."""
+    before, behind = page_ends()
+    return (before + document.removesuffix("\n").encode() + behind).decode("latin-1")
 
 
 # How many pages more than the least number there are, one run after another: from 4 MB down, and page by page from 1 MB.
@@ -98,7 +108,7 @@ def with_little_memory_a_text_is_printed_or_none_is(program):
     listing = "load file: 1 hunks\nhunk 0 code any 1 longwords, 1 stored\n"
     document = ('{"hunks":[{"debugs":[],"kind":"code","memory":"any","sites":[],"size":1,"stored":1,"symbols":[]}],'
                 '"kind":"load file"}\n')
-    with_content = document.replace('"symbols"', '"content":"TnVOcQ==","symbols"')
+    with_content = document.replace('"symbols"', '"content":"TnVOcQ==","content_offset":32,"symbols"')
     survey = ["one.o: object file: 1 units, 1 hunks\n", "x: load file: 1 hunks\n",
               "2 files: 1 object files, 1 load files, 0 refused, 0 unreadable\n0 refused, of which 0 are no hunk files\n"]
     # A survey prints what it knows of a file before it opens the next.
@@ -114,12 +124,15 @@ def with_little_memory_a_text_is_printed_or_none_is(program):
         (("image", "--at", "10000", "--symbols", "named.o"), '00010002 hunk 0 "loop"\n', ()),
         (("image", "--at", "10000", "--srec", "--symbols", "named.o"), named, ()),
         (("check", "x"), "load file: 1 hunks\n", ()),
+        (("check", "--lint", "odd"), "load file: 1 hunks\nlongword 6: the upper bits of the type are ignored\n", ()),
         (("show", "x"), listing, ()),
         (("show", "--json", "x"), document, ()),
         (("show", "--json", "--content", "x"), with_content, ()),
+        (("show", "--html", "x"), page_of(with_content), ()),
         (("show", "--names", "x.o", "y.o"), model.names_of(units), ()),
         (("compare", "x", "x"), "", ()),
         (("survey", "one.o", "x"), "".join(survey), parts_of_survey),
+        (("survey", "--digest", "--json", "x"), trees.survey_of([(b"x", LOADED)], ("--digest", "--json"))[1], ()),
     ):
         falls(program, least, STEPS, (DONE, told, ""), words_, also)
 

@@ -177,8 +177,8 @@ def the_help_quotes_what_is_printed(program):
     }
     texts = {line[0]: text for line, text in lines_of("help.txt") if len(line) == 2}
     equals({name: examples_in(text) for name, text in texts.items()}, wanted)
-    member = re.search(r'"content":"[^"]*"', printed(program, "show --json --content half")[0])[0]
-    assert f"Here it is `{member}`, behind `\"stored\":1`." in texts["show"], member
+    members = re.search(r'"content":"[^"]*","content_offset":[0-9]+', printed(program, "show --json --content half")[0])[0]
+    assert f"Here they are `{members}`, behind `\"stored\":1`." in texts["show"], members
 
 
 @test

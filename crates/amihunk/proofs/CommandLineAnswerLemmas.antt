@@ -104,7 +104,7 @@ refuses_fault words kind only no_help no_version nothing asked = tt
 
 -- no request means a call that cannot be made
 means_no_conflict : (request : Request) (call : Call) → meaning request ≡ calls call → call ≡ conflict → ⊥
-means_no_conflict (Link out map options explain files list) call is none = cc
+means_no_conflict (Link out map options globals explain files list) call is none = cc
 means_no_conflict (Load addresses text explain file) call is none = cc
 means_no_conflict (Image addresses form explain files) call is none = cc
 means_no_conflict (Check lint explain file) call is none = cc

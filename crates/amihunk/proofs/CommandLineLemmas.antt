@@ -93,7 +93,7 @@ listed_regular : AllRegular false (drop 3 (built_below survey_shape).rules)
 listed_regular = (option_regular (codes "files-from") refl, (flag_regular None (codes "lines") refl, (is_valued (inr refl) (omega arith) refl refl, (asks_help refl refl refl, tt))))
 
 link_flags : AllRegular false (drop 2 (built_below link_shape).rules)
-link_flags = (flag_regular (Some letter_s) (codes "strip") refl, (flag_regular None (codes "short") refl, (flag_regular None (codes "trim") refl, (flag_regular None (codes "explain") refl, listed_regular))))
+link_flags = (flag_regular (Some letter_s) (codes "strip") refl, (flag_regular None (codes "short") refl, (flag_regular None (codes "trim") refl, (flag_regular None (codes "globals") refl, (flag_regular None (codes "explain") refl, listed_regular)))))
 
 link_regular : AllRegular false (built_below link_shape).rules
 link_regular = (is_valued (inl refl) (omega arith) refl refl, (option_regular (codes "map") refl, link_flags))

@@ -66,7 +66,7 @@ link_held out map options = (walk_on built_link (walk_from (map_held out map)) (
 abbrev IsPlainLink : Text → Option Text → LinkOptions → Type 0
 IsPlainLink out map options = Passes built_link (walk_from (map_held out map)) (option_words options) (walk_from (link_held out map options))
     × Passes built_link (walk_from (map_held out map)) (brief_words options) (walk_from (link_held out map options))
-    × TakesFiles built_link (link_held out map options) (λ files. to_link out map options false files None)
+    × TakesFiles built_link (link_held out map options) (λ files. to_link out map options false false files None)
 
 abbrev choice : Bool → Bool → Bool → LinkOptions
 choice strip short trim = record { strip = strip; short = short; trim = trim }
@@ -105,17 +105,17 @@ module _ (program : Text) (options : LinkOptions) (out : Text) (map : Option Tex
   calls-words : (word : Text) (words : List Text) → IsOption built_link nothing_held word (codes "out")
       → Passes built_link (walk_from (map_held out map)) words (walk_from (link_held out map options))
       → length ((word ∷ out ∷ (map_words map ++ words)) ++ files) ≤ usize_max
-      → Calls (program ∷ codes "link" ∷ ((word ∷ out ∷ (map_words map ++ words)) ++ files)) (to_link out map options false files None)
+      → Calls (program ∷ codes "link" ∷ ((word ∷ out ∷ (map_words map ++ words)) ++ files)) (to_link out map options false false files None)
   calls-words word words is passes =
-      calls-files program built_link (word ∷ out ∷ (map_words map ++ words)) (link_held out map options) (λ files. to_link out map options false files None) is_link (record { needed = false; by_index = refl; by_id = refl })
+      calls-files program built_link (word ∷ out ∷ (map_words map ++ words)) (link_held out map options) (λ files. to_link out map options false false files None) is_link (record { needed = false; by_index = refl; by_id = refl })
       (passes-option built_link nothing_held word (codes "out") out (map_words map ++ words) (walk_from (link_held out map options)) is plain_out
       (passes-map out map words (link_held out map options) plain_map passes))
       (plain-link out map options).2 files some plain_files plain_files
 
-  pub calls-link : length (link_line program options out map files) ≤ usize_max → Calls (link_line program options out map files) (to_link out map options false files None)
+  pub calls-link : length (link_line program options out map files) ≤ usize_max → Calls (link_line program options out map files) (to_link out map options false false files None)
   calls-link fits = calls-words (codes "--out") (option_words options) is_out (plain-link out map options).0 (omega (arith, fits))
 
-  pub calls-brief : length (brief_link_line program options out map files) ≤ usize_max → Calls (brief_link_line program options out map files) (to_link out map options false files None)
+  pub calls-brief : length (brief_link_line program options out map files) ≤ usize_max → Calls (brief_link_line program options out map files) (to_link out map options false false files None)
   calls-brief fits = calls-words (codes "-o") (brief_words options) is_brief_out (plain-link out map options).1 (omega (arith, fits))
 
 -- ---- `load`

@@ -32,7 +32,7 @@ pub record IsFlagRow (r : Row) (given : Bool) : Type 0 where
 
 -- the names of the flags
 abbrev pub is_flag : Text → Bool
-is_flag id = bytes_eq id (codes "strip") || (bytes_eq id (codes "short") || (bytes_eq id (codes "trim") || (bytes_eq id (codes "srec") || (bytes_eq id (codes "symbols") || (bytes_eq id (codes "json") || (bytes_eq id (codes "content") || (bytes_eq id (codes "html") || (bytes_eq id (codes "names") || (bytes_eq id (codes "normal") || (bytes_eq id (codes "lines") || (bytes_eq id (codes "digest") || (bytes_eq id (codes "wait") || (bytes_eq id (codes "lint") || bytes_eq id (codes "explain"))))))))))))))
+is_flag id = bytes_eq id (codes "strip") || (bytes_eq id (codes "short") || (bytes_eq id (codes "trim") || (bytes_eq id (codes "globals") || (bytes_eq id (codes "srec") || (bytes_eq id (codes "symbols") || (bytes_eq id (codes "json") || (bytes_eq id (codes "content") || (bytes_eq id (codes "html") || (bytes_eq id (codes "names") || (bytes_eq id (codes "normal") || (bytes_eq id (codes "lines") || (bytes_eq id (codes "digest") || (bytes_eq id (codes "wait") || (bytes_eq id (codes "lint") || bytes_eq id (codes "explain")))))))))))))))
 
 -- the row has a value, and if it is that of a flag, it is the row of one
 abbrev pub IsFilledRow : Row → Type 0

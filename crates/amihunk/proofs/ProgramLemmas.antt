@@ -50,7 +50,7 @@ none_told options files contents (name ∷ names) printed kept = record {
 module _ {W : Type 0} (run : Run) (taken : W → Option (List ℕ)) (failed : W → Bool) (old new : W) where
   -- the status after a call; a conflict has none
   abbrev pub EndsCall : Call → ℕ → Type 0
-  EndsCall (to_link out map options explain files list) status = Replaces run (λ contents contents_then. EndsLink contents contents_then taken failed old new out map options explain files list status)
+  EndsCall (to_link out map options globals explain files list) status = Replaces run (λ contents contents_then. EndsLink contents contents_then taken failed old new out map options globals explain files list status)
   EndsCall (to_load origin text explain file) status = Reads run (λ contents printed. EndsLoad contents printed taken failed old new origin text explain file status)
   EndsCall (to_image origin form explain files) status = Reads run (λ contents printed. EndsImage contents printed taken failed old new origin form explain files status)
   EndsCall (to_check lint explain file) status = Reads run (λ contents printed. EndsText contents printed taken failed old new (checked lint) explain file status)
@@ -68,12 +68,12 @@ module _ {W : Type 0} (run : Run) (taken : W → Option (List ℕ)) (failed : W 
       (inr (not_begun taken failed (OrExhausted run.printed (IsTextFailure text run.contents file run.printed)) (IfAsked explain (AreTextLines run.contents (file ∷ []))) (file ∷ []) status old new (inl (refl, ends.2)) (none_asked explain (AreTextLines run.contents (file ∷ [])) (Tool (tool_fault.OutOfMemory 0)) refl) ends.0), ends.1)
 
   ends_memory : (call : Call) (status : ℕ) → Ends run taken failed old new OutOfMemory status → EndsCall call status
-  ends_memory (to_link out map options explain files None) status ends = (
-    inr (not_begun taken failed (OrUntouched run.contents run.contents_then (IsUndone options run.contents files out map run.contents_then)) (IfAsked explain (AreLinkLines run.contents_then files)) files status old new
+  ends_memory (to_link out map options globals explain files None) status ends = (
+    inr (not_begun taken failed (OrUntouched run.contents run.contents_then (IsUndone globals options run.contents files out map run.contents_then)) (IfAsked explain (AreLinkLines run.contents_then files)) files status old new
         (inl (refl, ends.1)) (none_asked explain (AreLinkLines run.contents_then files) (Tool (tool_fault.OutOfMemory 0)) refl) ends.0),
     ends.2,
   )
-  ends_memory (to_link out map options explain files (Some list)) status ends = (
+  ends_memory (to_link out map options globals explain files (Some list)) status ends = (
     inr (not_begun taken failed (λ failure. IsListFailure run.contents list failure × AreUnchanged run.contents run.contents_then) (IfAsked explain (AreLinkLines run.contents_then [])) [] status old new
         (refl, ends.1) (none_asked explain (AreLinkLines run.contents_then []) (Tool (tool_fault.OutOfMemory 0)) refl) ends.0),
     ends.2,
@@ -127,7 +127,7 @@ module _ {W : Type 0} (run : Run) (taken : W → Option (List ℕ)) (failed : W 
   ends_nothing nothing status ends = tt
 
   pub ends_asked : (m : Meaning) (request : Request) (status : ℕ) → Means m request → Ends run taken failed old new request status → EndsAsked m status
-  ends_asked m (Link out map options explain files list) status asks ends = subst (λ x. EndsAsked x status) asks ends
+  ends_asked m (Link out map options globals explain files list) status asks ends = subst (λ x. EndsAsked x status) asks ends
   ends_asked m (Load addresses text explain file) status asks ends = subst (λ x. EndsAsked x status) asks ends
   ends_asked m (Image addresses form explain files) status asks ends = subst (λ x. EndsAsked x status) asks ends
   ends_asked m (Check lint explain file) status asks ends = subst (λ x. EndsAsked x status) asks ends

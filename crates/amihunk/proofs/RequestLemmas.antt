@@ -21,10 +21,10 @@ some_files (x ∷ xs) =
     let some : (suc (length xs) == 0) ≡ false = ne_eqb (suc (length xs)) 0 (λ none. absurd (omega (arith, none))) in
     rw some refl
 
-pub same_link : (out own_out : Text) (map own_map : Option Text) (options own_options : LinkOptions) (explain own_explain : Bool) (files own_files : List Text) (list : Option NamedList)
-    → own_out ≡ out → own_map ≡ map → own_options ≡ options → own_explain ≡ explain → own_files ≡ files
-    → to_link out map options explain files list ≡ to_link own_out own_map own_options own_explain own_files list
-same_link out own_out map own_map options own_options explain own_explain files own_files list a b c d e = rw (a, b, c, d, e) refl
+pub same_link : (out own_out : Text) (map own_map : Option Text) (options own_options : LinkOptions) (globals own_globals explain own_explain : Bool) (files own_files : List Text) (list : Option NamedList)
+    → own_out ≡ out → own_map ≡ map → own_options ≡ options → own_globals ≡ globals → own_explain ≡ explain → own_files ≡ files
+    → to_link out map options globals explain files list ≡ to_link own_out own_map own_options own_globals own_explain own_files list
+same_link out own_out map own_map options own_options globals own_globals explain own_explain files own_files list a b c d e f = rw (a, b, c, d, e, f) refl
 
 pub same_survey : (options own_options : SurveyOptions) (files own_files : List Text) (list : Option NamedList) → own_options ≡ options → own_files ≡ files
     → to_survey options files list ≡ to_survey own_options own_files list

@@ -80,9 +80,9 @@ plain_list list plain = ap (λ file. record list { file = file }) (plain_name li
 
 -- such a call is made as it is written
 named_plain : (call : Call) → All IsNoFlag (inputs_of call) → named_call call ≡ call
-named_plain (to_link out map_file options explain files None) plain = ap (λ fs. to_link out map_file options explain fs None) (plain_names files plain)
-named_plain (to_link out map_file options explain files (Some list)) plain =
-    ap₂ (λ fs l. to_link out map_file options explain fs (Some l)) (plain_names files (All-tail IsNoFlag list.file files plain)) (plain_list list (All-head IsNoFlag list.file files plain))
+named_plain (to_link out map_file options globals explain files None) plain = ap (λ fs. to_link out map_file options globals explain fs None) (plain_names files plain)
+named_plain (to_link out map_file options globals explain files (Some list)) plain =
+    ap₂ (λ fs l. to_link out map_file options globals explain fs (Some l)) (plain_names files (All-tail IsNoFlag list.file files plain)) (plain_list list (All-head IsNoFlag list.file files plain))
 named_plain (to_load (in_list list) text explain file) plain = ap (to_load (in_list list) text explain) (plain_name file (All-head IsNoFlag file [] plain))
 named_plain (to_load (in_file name) text explain file) plain =
     ap₂ (λ n f. to_load (in_file n) text explain f) (plain_name name (All-head IsNoFlag name (file ∷ []) plain))

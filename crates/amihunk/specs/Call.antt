@@ -18,7 +18,7 @@ use Rattle.hunk_commands.specs.declared.request.Request.TheVariants.{Link, Load,
 -- a call of a subcommand, with what its arguments say; a conflict is one where arguments exclude each
 -- other, where there are no addresses, no files, contents without a document, or lines without a list
 pub data Call : Type 0 where
-  to_link : (out : Text) (map : Option Text) (options : LinkOptions) (explain : Bool) (files : List Text) (list : Option NamedList) → Call
+  to_link : (out : Text) (map : Option Text) (options : LinkOptions) (globals explain : Bool) (files : List Text) (list : Option NamedList) → Call
   to_load : (origin : Origin) (text : LoadText) (explain : Bool) (file : Text) → Call
   to_image : (origin : Origin) (text : LoadText) (explain : Bool) (files : List Text) → Call
   to_check : (lint explain : Bool) (file : Text) → Call
@@ -40,7 +40,7 @@ pub data Meaning : Type 0 where
   nothing : Meaning
 
 abbrev pub meaning : Request → Meaning
-meaning (Link out map options explain files list) = calls (to_link out.now (given_text map) options explain (texts files.items) (given_list list))
+meaning (Link out map options globals explain files list) = calls (to_link out.now (given_text map) options globals explain (texts files.items) (given_list list))
 meaning (Load addresses text explain file) = calls (to_load (origin_of addresses) text explain file.now)
 meaning (Image addresses text explain files) = calls (to_image (origin_of addresses) text explain (texts files.items))
 meaning (Check lint explain file) = calls (to_check lint explain file.now)

@@ -125,12 +125,12 @@ origin_in rows = origin_by (first_of (codes "at") rows) (first_of (codes "at-fil
 abbrev pub options_in : List Row → LinkOptions
 options_in rows = record { strip = is_given (codes "strip") rows; short = is_given (codes "short") rows; trim = is_given (codes "trim") rows }
 
-abbrev pub link_call : Text → Option Text → LinkOptions → Bool → List Text → Option (Option NamedList) → Call
-link_call out map options explain files (Some list) = to_link out map options explain files list
-link_call out map options explain files None = conflict
+abbrev pub link_call : Text → Option Text → LinkOptions → (globals explain : Bool) → List Text → Option (Option NamedList) → Call
+link_call out map options globals explain files (Some list) = to_link out map options globals explain files list
+link_call out map options globals explain files None = conflict
 
 abbrev pub link_in : List Row → Call
-link_in rows = link_call (value_in (codes "out") rows) (first_of (codes "map") rows) (options_in rows) (is_given (codes "explain") rows)
+link_in rows = link_call (value_in (codes "out") rows) (first_of (codes "map") rows) (options_in rows) (is_given (codes "globals") rows) (is_given (codes "explain") rows)
     (files_in rows) (list_in rows)
 
 -- one of the options is chosen

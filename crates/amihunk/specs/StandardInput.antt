@@ -43,7 +43,7 @@ origin_inputs (in_file name) = name ∷ []
 
 -- the arguments of the call that stand for files to read
 abbrev pub inputs_of : Call → List Text
-inputs_of (to_link out map options explain files list) = list_inputs list ++ files
+inputs_of (to_link out map options globals explain files list) = list_inputs list ++ files
 inputs_of (to_load origin text explain file) = origin_inputs origin ++ file ∷ []
 inputs_of (to_image origin text explain files) = origin_inputs origin ++ files
 inputs_of (to_check lint explain file) = file ∷ []
@@ -56,7 +56,7 @@ inputs_of conflict = []
 
 -- the call with the names of these files in place of the arguments
 abbrev pub named_call : Call → Call
-named_call (to_link out map_file options explain files list) = to_link out map_file options explain (map input_name files) (option_map input_list list)
+named_call (to_link out map_file options globals explain files list) = to_link out map_file options globals explain (map input_name files) (option_map input_list list)
 named_call (to_load origin text explain file) = to_load (input_origin origin) text explain (input_name file)
 named_call (to_image origin text explain files) = to_image (input_origin origin) text explain (map input_name files)
 named_call (to_check lint explain file) = to_check lint explain (input_name file)

@@ -75,10 +75,11 @@ given_flags app = with_rule (with_rule (with_rule app (with_letter letter_s (fla
 abbrev pub given_files : App → App
 given_files app = with_rule (with_rule (with_rule app (option_rule (codes "files-from"))) (flag_rule (codes "lines"))) (files_rule_if false)
 
--- `link --out OUT [--map MAP] [--strip] [--short] [--trim] [--explain] [--files-from LIST] [--lines] [FILE...]`,
--- where `-o` is `--out`
+-- `link --out OUT [--map MAP] [--strip] [--short] [--trim] [--globals] [--explain] [--files-from LIST] [--lines]
+-- [FILE...]`, where `-o` is `--out`
 abbrev pub link_shape : Shape
-link_shape = (given_files (with_rule (given_flags (given_outputs (new_app (codes "link")))) explain_rule)).top
+link_shape =
+    (given_files (with_rule (with_rule (given_flags (given_outputs (new_app (codes "link")))) (flag_rule (codes "globals"))) explain_rule)).top
 
 -- the options by which addresses are given
 abbrev pub given_addresses : App → App

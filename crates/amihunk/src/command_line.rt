@@ -36,10 +36,10 @@ pub fn read_words<'a, S: AsStr>(alloc: Global, words: &'a [S]) -> Request<'a>
     ensures answer { IsAskedBy (map S.text words.entry.now) result }
     ensures link { (program : List ℕ) (options : LinkOptions) (out : List ℕ) (map_file : Option (List ℕ)) (files : List (List ℕ))
         → map S.text words.entry.now ≡ link_line program options out map_file files
-        → IsNoFlag out → IsNoFlagIn map_file → 0 < length files → All IsNoFlag files → Asks (to_link out map_file options false files None) result }
+        → IsNoFlag out → IsNoFlagIn map_file → 0 < length files → All IsNoFlag files → Asks (to_link out map_file options false false files None) result }
     ensures brief { (program : List ℕ) (options : LinkOptions) (out : List ℕ) (map_file : Option (List ℕ)) (files : List (List ℕ))
         → map S.text words.entry.now ≡ brief_link_line program options out map_file files
-        → IsNoFlag out → IsNoFlagIn map_file → 0 < length files → All IsNoFlag files → Asks (to_link out map_file options false files None) result }
+        → IsNoFlag out → IsNoFlagIn map_file → 0 < length files → All IsNoFlag files → Asks (to_link out map_file options false false files None) result }
     ensures load { (program : List ℕ) (origin : Origin) (text : LoadText) (file : List ℕ)
         → map S.text words.entry.now ≡ load_line program origin text file
         → IsNoFlag (text_in origin) → IsNoFlag file → Asks (to_load origin text false file) result }
@@ -132,6 +132,7 @@ fn link_request<'a>(alloc: Global, values: &ArgMatches<'a>) -> Result<Request<'a
             out: value_of(values, "out"),
             map: optional_value(values, "map"),
             options: options_of(values),
+            globals: is_set(values, "globals"),
             explain: is_set(values, "explain"),
             files,
             list,

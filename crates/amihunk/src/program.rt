@@ -122,10 +122,10 @@ pub fn run<S: Store, O: Output, W: Sink, T: AsStr>(
     ensures line { EndsLine (run_between S.content O.taken O.failed O.waiting store.old store.new output.old output.new) W.taken W.failed errors.old errors.new (map T.text words.now) result }
     ensures link { (program : List ℕ) (options : LinkOptions) (out : List ℕ) (map_file : Option (List ℕ)) (files : List (List ℕ))
         → map T.text words.now ≡ link_line program options out map_file files
-        → IsNoFlag out → IsNoFlagIn map_file → 0 < length files → All IsNoFlag files → Replaces (run_between S.content O.taken O.failed O.waiting store.old store.new output.old output.new) (λ contents contents_then. EndsLink contents contents_then W.taken W.failed errors.old errors.new out map_file options false files None result) }
+        → IsNoFlag out → IsNoFlagIn map_file → 0 < length files → All IsNoFlag files → Replaces (run_between S.content O.taken O.failed O.waiting store.old store.new output.old output.new) (λ contents contents_then. EndsLink contents contents_then W.taken W.failed errors.old errors.new out map_file options false false files None result) }
     ensures brief { (program : List ℕ) (options : LinkOptions) (out : List ℕ) (map_file : Option (List ℕ)) (files : List (List ℕ))
         → map T.text words.now ≡ brief_link_line program options out map_file files
-        → IsNoFlag out → IsNoFlagIn map_file → 0 < length files → All IsNoFlag files → Replaces (run_between S.content O.taken O.failed O.waiting store.old store.new output.old output.new) (λ contents contents_then. EndsLink contents contents_then W.taken W.failed errors.old errors.new out map_file options false files None result) }
+        → IsNoFlag out → IsNoFlagIn map_file → 0 < length files → All IsNoFlag files → Replaces (run_between S.content O.taken O.failed O.waiting store.old store.new output.old output.new) (λ contents contents_then. EndsLink contents contents_then W.taken W.failed errors.old errors.new out map_file options false false files None result) }
     ensures load { (program : List ℕ) (origin : Origin) (text : LoadText) (file : List ℕ)
         → map T.text words.now ≡ load_line program origin text file
         → IsNoFlag (text_in origin) → IsNoFlag file → Reads (run_between S.content O.taken O.failed O.waiting store.old store.new output.old output.new) (λ contents printed. EndsLoad contents printed W.taken W.failed errors.old errors.new origin text false file result) }

@@ -5,9 +5,9 @@ ghost use Rattle.clap.specs.declared.builder.command.Command.TheViews.{out-Comma
 ghost use Rattle.amihunk.specs.Syntax.{AreLocal, bare_app, check_shape, command_line, compare_shape, copy_shape, image_shape, link_shape, load_shape, show_shape, survey_shape, with_rules};
 
 use crate::syntax::options::{
-    addresses_argument, at_argument, explain_flag, file_argument, files_argument, flag, lines_flag,
-    list_argument, listed_argument, map_argument, normal_flag, out_argument, records_flag,
-    short_flag, strip_flag, symbols_flag, trim_flag, value_argument,
+    addresses_argument, at_argument, explain_flag, file_argument, files_argument, flag,
+    globals_flag, lines_flag, list_argument, listed_argument, map_argument, normal_flag,
+    out_argument, records_flag, short_flag, strip_flag, symbols_flag, trim_flag, value_argument,
 };
 use clap::{Arg, Command};
 use hunk_commands::VERSION;
@@ -63,8 +63,8 @@ fn with_arguments<'a>(
     command.args(arguments)
 }
 
-/// The subcommand `link --out OUT [--map MAP] [--strip] [--short] [--trim] [--explain] [--files-from LIST]
-/// [--lines] [FILE...]`, where `-o` is `--out`, and `-s` is `--strip`. No rule of `clap` says that `--lines`
+/// The subcommand `link --out OUT [--map MAP] [--strip] [--short] [--trim] [--globals] [--explain]
+/// [--files-from LIST] [--lines] [FILE...]`, where `-o` is `--out`, and `-s` is `--strip`. No rule of `clap` says that `--lines`
 /// goes with `--files-from`, and that there is a FILE without it: the command line is judged after the parse.
 pub fn link_command<'a>(alloc: Global) -> Result<Command<'a>, AllocError>
     ensures shape { IfOk result (λ c. shape_of c ≡ link_shape) }
@@ -76,6 +76,7 @@ pub fn link_command<'a>(alloc: Global) -> Result<Command<'a>, AllocError>
         strip_flag(alloc),
         short_flag(alloc),
         trim_flag(alloc),
+        globals_flag(alloc),
         explain_flag(alloc),
         list_argument(alloc),
         lines_flag(alloc),

@@ -114,7 +114,7 @@ module _ (files : List (List ℕ)) (units : List FileUnit) (us : List ObjectUnit
 
   pub IsLinked-taken : (options : LinkOptions) (linked : List FileHunk) (bytes : List ℕ) → All IsUnit us → Linkable us options.strip → linked ≡ carried us options.strip
       → IsLoadOf (trimmed_if options.trim linked) (bytes_of (written_in (form_of options) (trimmed_if options.trim linked)))
-      → bytes ≡ bytes_of (written_in (form_of options) (trimmed_if options.trim linked)) → IsLinked options (Some []) (Some bytes) files
+      → bytes ≡ bytes_of (written_in (form_of options) (trimmed_if options.trim linked)) → IsLinked false options (Some []) (Some bytes) files
   unfolding objects
   IsLinked-taken options linked bytes typed linkable linked_is load bytes_are = record {
     units = us;

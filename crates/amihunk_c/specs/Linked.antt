@@ -20,5 +20,5 @@ IsKept options files (Some kept) = (options.keep ≡ true) × AreKept options fi
 
 -- The bytes are a load file of these files, and what was asked for is kept.
 pub record IsLinkedFile (options : LinkerOptions) (files : List (List ℕ)) (linked : LinkedFile) : Type 0 where
-  pub bytes : IsLinked options.link (Some []) (Some linked.bytes.items) files
+  pub bytes : IsLinked false options.link (Some []) (Some linked.bytes.items) files
   pub kept : IsKept options files linked.kept

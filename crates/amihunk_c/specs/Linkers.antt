@@ -82,6 +82,6 @@ TellsNames false files refusal told = told ≡ None
 -- known to be neither too many nor too large.
 abbrev pub IsLinkStop : LinkerOptions → List (List ℕ) → Refused → ToolFault Global → Type 0
 IsLinkStop options files refused (Link refusal) =
-    IsNotLinked options.link.strip refusal files × (refusal ≢ link.OutOfMemory) × TellsInput files refusal refused × TellsNames options.keep files refusal refused.undefined
-IsLinkStop options files refused (OutOfMemory written) = IsNotLinked {A = Global} options.link.strip link.OutOfMemory files × (refused ≡ memory_refused)
+    IsNotLinked false options.link.strip refusal files × (refusal ≢ link.OutOfMemory) × TellsInput files refusal refused × TellsNames options.keep files refusal refused.undefined
+IsLinkStop options files refused (OutOfMemory written) = IsNotLinked {A = Global} false options.link.strip link.OutOfMemory files × (refused ≡ memory_refused)
 IsLinkStop options files refused fault = ⊥

@@ -48,6 +48,15 @@ pub static PROGRAM: [u8; 88] = [
     0x75, 0x4E, 0x71, 0, 0, 3, 0xF2,
 ];
 
+/// The same with the definition of `foo` as a symbol.
+pub static WITH_GLOBALS: [u8; 108] = [
+    0, 0, 3, 0xF3, 0, 0, 0, 0, 0, 0, 0, 2, 0, 0, 0, 0, 0, 0, 0, 1, 0, 0, 0, 2, 0, 0, 0, 2, 0, 0, 3,
+    0xE9, 0, 0, 0, 2, 0x4E, 0xB9, 0, 0, 0, 4, 0x4E, 0x75, 0, 0, 3, 0xEC, 0, 0, 0, 1, 0, 0, 0, 1, 0,
+    0, 0, 2, 0, 0, 0, 0, 0, 0, 3, 0xF2, 0, 0, 3, 0xE9, 0, 0, 0, 2, 0x4E, 0x71, 0x4E, 0x71, 0x4E,
+    0x75, 0x4E, 0x71, 0, 0, 3, 0xF0, 0, 0, 0, 1, 0x66, 0x6F, 0x6F, 0, 0, 0, 0, 4, 0, 0, 0, 0, 0, 0,
+    3, 0xF2,
+];
+
 /// An object file whose only hunk has a symbol and defines nothing.
 pub static LOOP: [u8; 44] = [
     0, 0, 3, 0xE7, 0, 0, 0, 0, 0, 0, 3, 0xE9, 0, 0, 0, 1, 0x4E, 0x75, 0x4E, 0x71, 0, 0, 3, 0xF0, 0,

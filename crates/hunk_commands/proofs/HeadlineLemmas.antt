@@ -1,5 +1,5 @@
 -- What was read of files that are known, and what is printed of the file that was linked of them.
-use Rattle.std.proofs.Common.{◌≡◌, ◌∙◌, ℕ, List, [], ◌∷◌, ◌++◌, Option, Some, None, map, refl, sym, ap, subst, append-nil}
+use Rattle.std.proofs.Common.{◌≡◌, ◌∙◌, ℕ, Bool, List, [], ◌∷◌, ◌++◌, Option, Some, None, map, refl, sym, ap, subst, append-nil}
 use Rattle.std.specs.Io.KnownBytes.{Appends, Consumes, IsAtEnd}
 use Rattle.hunk_tool.specs.FileSystem.{FileContent, IsContent, IsReaderOf, OfFile, OfWholeFile}
 use Rattle.hunk_tool.specs.FileSystem.FileContent.{known}
@@ -64,39 +64,39 @@ appended None bytes wrote = absurd wrote
 appended (Some held) bytes wrote = ap Some wrote
 
 -- what was put in the place of OUT, with a map or without
-record IsPut (options : LinkOptions) (contents : Contents) (files : List (List ℕ)) (out : List ℕ) (contents_then : Contents) : Type 0 where
+record IsPut (globals : Bool) (options : LinkOptions) (contents : Contents) (files : List (List ℕ)) (out : List ℕ) (contents_then : Contents) : Type 0 where
   start : Option (List ℕ)
   taken : Option (List ℕ)
   begun : start ≡ Some []
-  links : OfWholeFiles contents files (IsLinked options start taken)
+  links : OfWholeFiles contents files (IsLinked globals options start taken)
   placed : contents_then out ≡ content_of taken
 
-put : (options : LinkOptions) (contents contents_then : Contents) (files : List (List ℕ)) (out : List ℕ) (map_file : Option (List ℕ)) → IsKnown (contents out) → IsDone options contents files out map_file contents_then
-    → IsPut options contents files out contents_then
-put options contents contents_then files out None is_known made =
+put : (globals : Bool) (options : LinkOptions) (contents contents_then : Contents) (files : List (List ℕ)) (out : List ℕ) (map_file : Option (List ℕ)) → IsKnown (contents out) → IsDone globals options contents files out map_file contents_then
+    → IsPut globals options contents files out contents_then
+put globals options contents contents_then files out None is_known made =
     record { start = made.start; taken = made.taken; begun = made.begun is_known; links = made.linked; placed = made.replaced.placed is_known }
-put options contents contents_then files out (Some map_file) is_known (mapped, apart) = record {
+put globals options contents contents_then files out (Some map_file) is_known (mapped, apart) = record {
   start = mapped.start;
   taken = mapped.taken;
   begun = mapped.begun is_known;
-  links = OfWholeFiles-weaker contents files (IsLinkedWithMap options files mapped.start mapped.taken map_file mapped.between contents_then) (IsLinked options mapped.start mapped.taken) (λ read with_map. with_map.linked) mapped.linked;
+  links = OfWholeFiles-weaker contents files (IsLinkedWithMap globals options files mapped.start mapped.taken map_file mapped.between contents_then) (IsLinked globals options mapped.start mapped.taken) (λ read with_map. with_map.linked) mapped.linked;
   placed = mapped.linked.holds.holds.has_map.replaced.others out apart ∙ mapped.replaced.placed is_known;
 }
 
-module _ (options : LinkOptions) (contents contents_then : Contents) (files texts : List (List ℕ)) (out : List ℕ) (texts_are : map contents files ≡ map known texts) (is_put : IsPut options contents files out contents_then) where
-  linked : IsLinked options (Some []) is_put.taken texts
-  linked = subst (λ start. IsLinked options start is_put.taken texts) is_put.begun
-      (of_known_files contents files texts (IsLinked options is_put.start is_put.taken) texts_are is_put.links)
+module _ (globals : Bool) (options : LinkOptions) (contents contents_then : Contents) (files texts : List (List ℕ)) (out : List ℕ) (texts_are : map contents files ≡ map known texts) (is_put : IsPut globals options contents files out contents_then) where
+  linked : IsLinked globals options (Some []) is_put.taken texts
+  linked = subst (λ start. IsLinked globals options start is_put.taken texts) is_put.begun
+      (of_known_files contents files texts (IsLinked globals options is_put.start is_put.taken) texts_are is_put.links)
 
   bytes : List ℕ
-  bytes = linked_bytes linked.units options
+  bytes = linked_bytes linked.units globals options
 
   taken_is : is_put.taken ≡ Some bytes
   unfolding bytes
   taken_is = appended is_put.taken bytes linked.written
 
-  linked_as : IsLinked options (Some []) (Some bytes) texts
-  linked_as = subst (λ taken. IsLinked options (Some []) taken texts) taken_is linked
+  linked_as : IsLinked globals options (Some []) (Some bytes) texts
+  linked_as = subst (λ taken. IsLinked globals options (Some []) taken texts) taken_is linked
 
   -- OUT has these bytes now
   out_is : contents_then out ≡ known bytes
@@ -127,12 +127,12 @@ same_numbers contents contents_then (in_file name) bases other (text, before, af
 
 pub load_prints_the_image : LoadPrintsTheImage
 unfolding linked bytes taken_is linked_as out_is
-load_prints_the_image options form origin contents contents_then files texts out map_file loaded imaged told other of kept is_loaded loads is_imaged images =
+load_prints_the_image globals options form origin contents contents_then files texts out map_file loaded imaged told other of kept is_loaded loads is_imaged images =
     let bases = is_loaded.0.bases in
     let same : is_imaged.0.bases ≡ bases = same_numbers contents contents_then origin is_imaged.0.bases bases kept is_imaged.0.numbers_are is_loaded.0.numbers_are in
-    let is_put : IsPut options contents files out contents_then = put options contents contents_then files out map_file of.out_known of.done in
-    let file = bytes options contents contents_then files texts out of.texts_are is_put in
-    let reported : IsReported form bases loaded.old loaded.new file = of_known_file (contents_then out) file (IsReported form bases loaded.old loaded.new) (out_is options contents contents_then files texts out of.texts_are is_put) is_loaded.0.holds in
+    let is_put : IsPut globals options contents files out contents_then = put globals options contents contents_then files out map_file of.out_known of.done in
+    let file = bytes globals options contents contents_then files texts out of.texts_are is_put in
+    let reported : IsReported form bases loaded.old loaded.new file = of_known_file (contents_then out) file (IsReported form bases loaded.old loaded.new) (out_is globals options contents contents_then files texts out of.texts_are is_put) is_loaded.0.holds in
     let imaged_as : IsImaged form is_imaged.0.bases imaged.old imaged.new texts = of_known_files contents files texts (IsImaged form is_imaged.0.bases imaged.old imaged.new) of.texts_are is_imaged.0.holds in
     let imaged_there : IsImaged form bases (Some images.before) (Some (images.before ++ other)) texts =
     subst (λ b. IsImaged form b (Some images.before) (Some (images.before ++ other)) texts) same
@@ -141,4 +141,4 @@ load_prints_the_image options form origin contents contents_then files texts out
     let reported_there : IsReported form bases (Some loads.before) (Some (loads.before ++ told)) file =
     subst (λ new. IsReported form bases (Some loads.before) new file) loads.new_is
     (subst (λ old. IsReported form bases old loaded.new file) loads.old_is reported) in
-    reports-agree options form texts bases [] file loads.before told images.before other (linked_as options contents contents_then files texts out of.texts_are is_put) reported_there imaged_there
+    reports-agree globals options form texts bases [] file loads.before told images.before other (linked_as globals options contents contents_then files texts out of.texts_are is_put) reported_there imaged_there

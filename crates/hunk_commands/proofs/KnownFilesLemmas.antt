@@ -175,9 +175,9 @@ module _ (contents contents_then : Contents) (printed : Printed) (are_known : Ar
   surveyed options files list failure is why =
       elim why [ inl unopened ↦ not_open list failure is unopened.0 | inr short ↦ cut_short (plan_of options files list) list short.0 failure is short.2 ]
 
-  linked : (options : LinkOptions) (files : List (List ℕ)) (out : List ℕ) (failure : Failure) → IsOfDevice failure → IsLinkFailure options contents files out failure → ⊥
+  linked : (globals : Bool) (options : LinkOptions) (files : List (List ℕ)) (out : List ℕ) (failure : Failure) → IsOfDevice failure → IsLinkFailure globals options contents files out failure → ⊥
   unfolding no_file no_readers
-  linked options files out = by_device (λ failure. IsLinkFailure options contents files out failure → ⊥)
+  linked globals options files out = by_device (λ failure. IsLinkFailure globals options contents files out failure → ⊥)
       (λ name why. elim why [ inl unopened ↦ absurd unopened | inr second ↦ elim second [ inl ran ↦ absurd ran | inr unplaced ↦ absurd unplaced.1 ] ])
       (λ name why. elim why [ inl unopened ↦ absurd unopened | inr second ↦ elim second [ inl ran ↦ absurd ran | inr unplaced ↦ absurd unplaced.1 ] ])
       (λ why. elim why [ inl unopened ↦ absurd unopened | inr second ↦ elim second [ inl ran ↦ absurd ran | inr unplaced ↦ no_file out unplaced.1 ] ])
@@ -190,9 +190,9 @@ module _ (contents contents_then : Contents) (printed : Printed) (are_known : Ar
         | inr second ↦ elim second [ inl ran ↦ no_file out (ran.1 tt) | inr unplaced ↦ output_apart written unplaced.1 ]
       ])
 
-  mapped : (options : LinkOptions) (files : List (List ℕ)) (out map : List ℕ) (failure : Failure) → IsOfDevice failure → IsMapFailure options contents files out map contents_then failure → ⊥
+  mapped : (globals : Bool) (options : LinkOptions) (files : List (List ℕ)) (out map : List ℕ) (failure : Failure) → IsOfDevice failure → IsMapFailure globals options contents files out map contents_then failure → ⊥
   unfolding no_file no_readers
-  mapped options files out map = by_device (λ failure. IsMapFailure options contents files out map contents_then failure → ⊥)
+  mapped globals options files out map = by_device (λ failure. IsMapFailure globals options contents files out map contents_then failure → ⊥)
       (λ name why. elim why [
         | inl before ↦ elim before.0 [ inl taken ↦ absurd taken | inr second ↦ elim second [ inl ran ↦ absurd ran | inr unplaced ↦ absurd unplaced.2 ] ]
         | inr after ↦ absurd after.1
@@ -244,7 +244,7 @@ no_device_fails contents contents_then printed failure are_known are_known_then 
   compare = λ with_symbols first second. compared contents contents_then printed are_known are_known_then whole with_symbols first second failure is;
   survey = λ options files list. surveyed contents contents_then printed are_known are_known_then whole options files list failure is;
   list = λ list. unlisted contents contents_then printed are_known are_known_then whole list failure is;
-  link = λ options files out. linked contents contents_then printed are_known are_known_then whole options files out failure is;
-  link_with_map = λ options files out map. mapped contents contents_then printed are_known are_known_then whole options files out map failure is;
+  link = λ globals options files out. linked contents contents_then printed are_known are_known_then whole globals options files out failure is;
+  link_with_map = λ globals options files out map. mapped contents contents_then printed are_known are_known_then whole globals options files out map failure is;
   copy = λ form file out. copied contents contents_then printed are_known are_known_then whole form file out failure is;
 }

@@ -1,5 +1,5 @@
 -- What was put in the places of OUT and MAP, and why it was not.
-use Rattle.std.proofs.Common.{◌≡◌, ◌∙◌, Bool, Bor, Err, IfErr, inl, inr, List, Ok, OnErr, OnOk, Option, refl, Result, subst, sym, ℕ}
+use Rattle.std.proofs.Common.{◌≡◌, ◌∙◌, ap, Bool, Bor, Err, IfErr, inl, inr, List, Ok, OnErr, OnOk, Option, refl, Result, subst, sym, ℕ}
 use Rattle.std.specs.declared.alloc.Global.{Global}
 use Rattle.std.specs.Io.KnownBytes.{Appends}
 use Rattle.hunk_base.specs.Name.{bytes_of}
@@ -17,12 +17,14 @@ use Rattle.hunk_tool.specs.FileSystem.FileContent.{unknown}
 use Rattle.hunk_tool.specs.Inputs.{HaveRead}
 use Rattle.hunk_tool.specs.Link.{DoLink, IsLinkCutShort, IsLinkFault, IsLinked, LinkTo, Taken}
 use Rattle.hunk_tool.specs.LinkOptions.{form_of, trimmed_if}
-use Rattle.hunk_tool.specs.Map.{LinkFiles}
+use Rattle.hunk_tool.specs.LinkedUnits.{linked_files}
+use Rattle.hunk_tool.specs.Map.{LinkFiles, map_text}
 use Rattle.hunk_tool.specs.ObjectFiles.{FileUnit, units_of}
 use Rattle.hunk_tool.specs.declared.link_options.LinkOptions.{LinkOptions}
 use Rattle.hunk_tool.specs.declared.tool_fault.ToolFault.{ToolFault}
 use Rattle.hunk_tool.specs.declared.tool_fault.ToolFault.TheVariants as tool_fault
 use Rattle.hunk_tool.proofs.LinkLemmas.{linked_bytes-are_load}
+use Rattle.hunk_tool.proofs.LinkedUnitsLemmas.{map_text-linked}
 use Rattle.hunk_commands.specs.Inputs.{OfFiles, OfWholeFiles}
 use Rattle.hunk_commands.specs.Link.{DoLinkAll, DoLinkFiles, DoLinkTo, HasMap, HasRunFault, IsLinkFailure, IsLinkedWithMap, IsMade, IsMapFailure, IsMapped, IsUnmapped, IsUnwritten, IsWrittenOut, map_failure}
 use Rattle.hunk_commands.specs.Store.{AreUnchanged, Contents, HasRun, IsBegun, IsCauseOf, IsReplaced, IsUnplaced, IsWriteFault, run_of}
@@ -30,34 +32,34 @@ use Rattle.hunk_commands.specs.declared.failure.Failure.{Failure}
 use Rattle.hunk_commands.specs.declared.failure.Failure.TheVariants.{BadName, BadNumber, MapOverFile, Opening, Printing, Reading, SameFile, TooLong, TooManyAddresses, Tool, Writing}
 use Rattle.hunk_commands.proofs.InputsLemmas.{OfFiles-weaker, OfWholeFiles-weaker}
 
-module _ (options : LinkOptions) (contents : Contents) (names : List (List ℕ)) (out : List ℕ) (taken : Taken) where
+module _ (globals : Bool) (options : LinkOptions) (contents : Contents) (names : List (List ℕ)) (out : List ℕ) (taken : Taken) where
   -- a write of the run failed, so the files link
-  links_where_written : (fault : ToolFault Global) → IsWriteFault fault → OfFiles contents names (λ inputs. IsLinkFault options inputs taken fault) → DoLinkAll options.strip contents names
+  links_where_written : (fault : ToolFault Global) → IsWriteFault fault → OfFiles contents names (λ inputs. IsLinkFault globals options inputs taken fault) → DoLinkAll globals options.strip contents names
   links_where_written (tool_fault.Output written) is of =
-      OfWholeFiles-weaker contents names (IsLinkCutShort options taken.old taken.new written) (λ files. (units : List ObjectUnit) × DoLink options.strip files units) (λ files cut. (cut.units, cut.link))
-      (OfFiles-weaker contents names (λ inputs. IsLinkFault {A = Global} options inputs taken (tool_fault.Output written)) (λ inputs. HaveRead inputs (IsLinkCutShort options taken.old taken.new written)) (λ inputs why. why.0) of)
+      OfWholeFiles-weaker contents names (IsLinkCutShort globals options taken.old taken.new written) (λ files. (units : List ObjectUnit) × DoLink globals options.strip files units) (λ files cut. (cut.units, cut.link))
+      (OfFiles-weaker contents names (λ inputs. IsLinkFault {A = Global} globals options inputs taken (tool_fault.Output written)) (λ inputs. HaveRead inputs (IsLinkCutShort globals options taken.old taken.new written)) (λ inputs why. why.0) of)
   links_where_written (tool_fault.Input file fault) is of = absurd is
   links_where_written (tool_fault.InputDevice file) is of = absurd is
   links_where_written (tool_fault.Link refusal) is of = absurd is
   links_where_written (tool_fault.Place fault) is of = absurd is
   links_where_written (tool_fault.OutOfMemory written) is of = absurd is
 
-  has_run_fault : (fault : ToolFault Global) → OfFiles contents names (λ inputs. IsLinkFault options inputs taken fault) → (IsWriteFault fault → contents out ≡ unknown) → HasRunFault options contents names out (Tool fault)
-  has_run_fault fault of device = (OfFiles-weaker contents names (λ inputs. IsLinkFault options inputs taken fault) (λ inputs. (taken : Taken) × IsLinkFault options inputs taken fault) (λ inputs why. (taken, why)) of, device)
+  has_run_fault : (fault : ToolFault Global) → OfFiles contents names (λ inputs. IsLinkFault globals options inputs taken fault) → (IsWriteFault fault → contents out ≡ unknown) → HasRunFault globals options contents names out (Tool fault)
+  has_run_fault fault of device = (OfFiles-weaker contents names (λ inputs. IsLinkFault globals options inputs taken fault) (λ inputs. (taken : Taken) × IsLinkFault globals options inputs taken fault) (λ inputs why. (taken, why)) of, device)
 
   -- why `link` failed, from what its run returned
-  pub IsLinkFailure-run : (failure : Failure) (ran : Result (Unit {0}) (ToolFault Global)) → OnOk ran (OfWholeFiles contents names (IsLinked options taken.old taken.new))
-      → IfErr ran (λ fault. OfFiles contents names (λ inputs. IsLinkFault options inputs taken fault)) → IsCauseOf ran (contents out) out failure → IsLinkFailure options contents names out failure
+  pub IsLinkFailure-run : (failure : Failure) (ran : Result (Unit {0}) (ToolFault Global)) → OnOk ran (OfWholeFiles contents names (IsLinked globals options taken.old taken.new))
+      → IfErr ran (λ fault. OfFiles contents names (λ inputs. IsLinkFault globals options inputs taken fault)) → IsCauseOf ran (contents out) out failure → IsLinkFailure globals options contents names out failure
   unfolding links_where_written has_run_fault
   IsLinkFailure-run failure (Ok done) linked why unplaced =
-      inr (inr (OfWholeFiles-weaker contents names (IsLinked options taken.old taken.new) (λ files. (units : List ObjectUnit) × DoLink options.strip files units) (λ files made. (made.units, made.link)) linked, unplaced))
-  IsLinkFailure-run failure (Err fault) linked why (inl cause) = inr (inl (subst (HasRunFault options contents names out) (sym cause.0) (has_run_fault fault why cause.1)))
+      inr (inr (OfWholeFiles-weaker contents names (IsLinked globals options taken.old taken.new) (λ files. (units : List ObjectUnit) × DoLink globals options.strip files units) (λ files made. (made.units, made.link)) linked, unplaced))
+  IsLinkFailure-run failure (Err fault) linked why (inl cause) = inr (inl (subst (HasRunFault globals options contents names out) (sym cause.0) (has_run_fault fault why cause.1)))
   IsLinkFailure-run failure (Err fault) linked why (inr cause) = inr (inr (links_where_written fault cause.0 why, cause.1))
 
   -- the load file that a run made was put in the place of OUT
   pub IsMade-run : (contents_then : Contents) (result : Result (Unit {0}) Failure) (ran : Result (Unit {0}) (ToolFault Global)) → IsBegun (contents out) taken.old
-      → OnOk ran (OfWholeFiles contents names (IsLinked options taken.old taken.new)) → OnOk result (HasRun ran) → OnOk result (IsReplaced out taken.new contents contents_then)
-      → OnOk result (IsMade options contents names out contents_then)
+      → OnOk ran (OfWholeFiles contents names (IsLinked globals options taken.old taken.new)) → OnOk result (HasRun ran) → OnOk result (IsReplaced out taken.new contents contents_then)
+      → OnOk result (IsMade globals options contents names out contents_then)
   IsMade-run contents_then (Err failure) ran begun linked done replaced = tt
   IsMade-run contents_then (Ok unit) (Err fault) begun linked done replaced = absurd done
   IsMade-run contents_then (Ok unit) (Ok end) begun linked done replaced =
@@ -123,9 +125,9 @@ IsUnmapped-cause content map failure (Err fault) (inr cause) = IsUnmapped-unplac
 
 -- ---- OUT
 
-module _ (options : LinkOptions) (linked file : List FileHunk) (short : IsShortEnough linked) (out : List ℕ) (contents between : Contents) (written : IsWrittenOut options linked out contents between file) where
+module _ (globals : Bool) (options : LinkOptions) (linked file : List FileHunk) (short : IsShortEnough linked) (out : List ℕ) (contents between : Contents) (written : IsWrittenOut options linked out contents between file) where
   -- the bytes of OUT are those of the load file that these files make
-  linked_out : (files : List (List ℕ)) → LinkTo options.strip linked files → IsLinked options written.start written.taken files
+  linked_out : (files : List (List ℕ)) → LinkTo globals options.strip linked files → IsLinked globals options written.start written.taken files
   linked_out files to = record {
     units = to.units;
     link = to.link;
@@ -135,53 +137,63 @@ module _ (options : LinkOptions) (linked file : List FileHunk) (short : IsShortE
         (subst (λ hunks. Appends written.start written.taken (bytes_of (written_in (form_of options) hunks))) written.file_is written.written);
   }
 
-  pub IsMade-written : (names : List (List ℕ)) → DoLinkTo options.strip contents names linked → IsMade options contents names out between
+  pub IsMade-written : (names : List (List ℕ)) → DoLinkTo globals options.strip contents names linked → IsMade globals options contents names out between
   IsMade-written names links = record {
     start = written.start;
     taken = written.taken;
     begun = written.begun;
-    linked = OfWholeFiles-weaker contents names (LinkTo options.strip linked) (IsLinked options written.start written.taken) linked_out links;
+    linked = OfWholeFiles-weaker contents names (LinkTo globals options.strip linked) (IsLinked globals options written.start written.taken) linked_out links;
     replaced = written.replaced;
   }
 
 -- ---- MAP
 
 -- the units with their places make the same load file as the units alone
-link_to : (strip : Bool) (units : List FileUnit) (linked : List FileHunk) (files : List (List ℕ)) → LinkFiles strip units linked files → LinkTo strip linked files
-link_to strip units linked files links = record { units = units_of units; link = links.link; file_is = links.file_is }
+link_to : (globals strip : Bool) (units : List FileUnit) (linked : List FileHunk) (files : List (List ℕ)) → LinkFiles globals strip units linked files → LinkTo globals strip linked files
+link_to globals strip units linked files links = record { units = units_of links.units; link = links.link; file_is = links.file_is }
 
-pub DoLinkTo-files : (strip : Bool) (contents : Contents) (units : List FileUnit) (linked : List FileHunk) (names : List (List ℕ)) → DoLinkFiles strip contents names units linked → DoLinkTo strip contents names linked
-DoLinkTo-files strip contents units linked names links =
-    OfWholeFiles-weaker contents names (LinkFiles strip units linked) (LinkTo strip linked) (link_to strip units linked) links
+pub DoLinkTo-files : (globals strip : Bool) (contents : Contents) (units : List FileUnit) (linked : List FileHunk) (names : List (List ℕ)) → DoLinkFiles globals strip contents names units linked → DoLinkTo globals strip contents names linked
+DoLinkTo-files globals strip contents units linked names links =
+    OfWholeFiles-weaker contents names (LinkFiles globals strip units linked) (LinkTo globals strip linked) (link_to globals strip units linked) links
 
-module _ (options : LinkOptions) (units : List FileUnit) (linked file : List FileHunk) (short : IsShortEnough linked) (out map : List ℕ) (contents between contents_then : Contents)
+module _ (globals : Bool) (options : LinkOptions) (units : List FileUnit) (linked file : List FileHunk) (short : IsShortEnough linked) (out map : List ℕ) (contents between contents_then : Contents)
     (written : IsWrittenOut options linked out contents between file) (names : List (List ℕ)) (has_map : HasMap names file units map between contents_then) where
-  with_map : (files : List (List ℕ)) → LinkFiles options.strip units linked files → IsLinkedWithMap options names written.start written.taken map between contents_then files
-  unfolding linked_out link_to
-  with_map files links = record {
-    linked = linked_out options linked file short out contents between written files (link_to options.strip units linked files links);
-    units = units;
-    are = links.are;
-    units_are = refl;
-    has_map = subst (λ hunks. HasMap names (trimmed_if options.trim hunks) units map between contents_then) links.file_is
-        (subst (λ hunks. HasMap names hunks units map between contents_then) written.file_is has_map);
+  -- The map of the units that were read is that of the units that were linked.
+  same_map : (read : List FileUnit) → units ≡ linked_files globals options.strip read → HasMap names file read map between contents_then
+  same_map read are = record {
+    start = has_map.start;
+    taken = has_map.taken;
+    begun = has_map.begun;
+    written = subst (Appends has_map.start has_map.taken) (ap (map_text names file) are ∙ map_text-linked globals options.strip names file read) has_map.written;
+    replaced = has_map.replaced;
   }
 
-  pub IsMapped-written : (files : List (List ℕ)) → DoLinkFiles options.strip contents files units linked → IsMapped options names contents files out map contents_then
+  with_map : (files : List (List ℕ)) → LinkFiles globals options.strip units linked files → IsLinkedWithMap globals options names written.start written.taken map between contents_then files
+  unfolding linked_out link_to same_map
+  with_map files links = record {
+    linked = linked_out globals options linked file short out contents between written files (link_to globals options.strip units linked files links);
+    units = links.units;
+    are = links.are;
+    units_are = refl;
+    has_map = subst (λ hunks. HasMap names (trimmed_if options.trim hunks) links.units map between contents_then) links.file_is
+        (subst (λ hunks. HasMap names hunks links.units map between contents_then) written.file_is (same_map links.units links.linked_are));
+  }
+
+  pub IsMapped-written : (files : List (List ℕ)) → DoLinkFiles globals options.strip contents files units linked → IsMapped globals options names contents files out map contents_then
   IsMapped-written files links = record {
     between = between;
     start = written.start;
     taken = written.taken;
     begun = written.begun;
-    linked = OfWholeFiles-weaker contents files (LinkFiles options.strip units linked) (IsLinkedWithMap options names written.start written.taken map between contents_then) with_map links;
+    linked = OfWholeFiles-weaker contents files (LinkFiles globals options.strip units linked) (IsLinkedWithMap globals options names written.start written.taken map between contents_then) with_map links;
     replaced = written.replaced;
   }
 
 -- ---- a map that is not in its place
 
-module _ (options : LinkOptions) (contents between contents_then : Contents) (names : List (List ℕ)) (out map : List ℕ) (unchanged : AreUnchanged between contents_then) where
+module _ (globals : Bool) (options : LinkOptions) (contents between contents_then : Contents) (names : List (List ℕ)) (out map : List ℕ) (unchanged : AreUnchanged between contents_then) where
   -- what was put in the place of OUT stays there
-  made_still : IsMade options contents names out between → IsMade options contents names out contents_then
+  made_still : IsMade globals options contents names out between → IsMade globals options contents names out contents_then
   made_still made = record {
     start = made.start;
     taken = made.taken;
@@ -193,12 +205,12 @@ module _ (options : LinkOptions) (contents between contents_then : Contents) (na
     };
   }
 
-  map_failure_after : (failure : Failure) → IsMade options contents names out between → IsUnmapped (between map) map failure → IsMapFailure options contents names out map contents_then failure
+  map_failure_after : (failure : Failure) → IsMade globals options contents names out between → IsUnmapped (between map) map failure → IsMapFailure globals options contents names out map contents_then failure
   map_failure_after failure made why = inr (made_still made, subst (λ content. IsUnmapped content map failure) (sym (unchanged map)) why)
 
-pub IsMapFailure-unmapped : (options : LinkOptions) (contents between contents_then : Contents) (names : List (List ℕ)) (out map : List ℕ) (result : Result (Unit {0}) Failure)
-    → OnErr result (AreUnchanged between contents_then) → IfErr result (IsUnmapped (between map) map) → IsMade options contents names out between → IfErr result (IsMapFailure options contents names out map contents_then)
+pub IsMapFailure-unmapped : (globals : Bool) (options : LinkOptions) (contents between contents_then : Contents) (names : List (List ℕ)) (out map : List ℕ) (result : Result (Unit {0}) Failure)
+    → OnErr result (AreUnchanged between contents_then) → IfErr result (IsUnmapped (between map) map) → IsMade globals options contents names out between → IfErr result (IsMapFailure globals options contents names out map contents_then)
 unfolding map_failure_after
-IsMapFailure-unmapped options contents between contents_then names out map (Ok done) unchanged why made = tt
-IsMapFailure-unmapped options contents between contents_then names out map (Err failure) unchanged why made =
-    map_failure_after options contents between contents_then names out map unchanged failure made why
+IsMapFailure-unmapped globals options contents between contents_then names out map (Ok done) unchanged why made = tt
+IsMapFailure-unmapped globals options contents between contents_then names out map (Err failure) unchanged why made =
+    map_failure_after globals options contents between contents_then names out map unchanged failure made why

@@ -1,5 +1,5 @@
 -- What is read once more to explain a failure, and why it is not.
-use Rattle.std.specs.Prelude.{◌≡◌, ◌⊎◌, ℕ, List, length, true, ⊤, Option, Some, None, Contains}
+use Rattle.std.specs.Prelude.{◌≡◌, ◌⊎◌, ℕ, List, length, true, ⊤, Option, Some, None, Contains, false}
 use Rattle.hunk_base.specs.Streams.{HasRead}
 use Rattle.hunk_base.specs.declared.fault.Fault.{Fault}
 use Rattle.hunk_base.specs.declared.fault.ReadFault.{ReadFault}
@@ -93,7 +93,7 @@ AreNoUnitsAgain contents files = IsNotAgain (MayLack contents files) (FailsAgain
 
 -- why the load file of the files is not known again
 abbrev pub IsNotLinkedAgain : Contents → (files : List (List ℕ)) → Unexplained → Type 0
-IsNotLinkedAgain contents files = IsNotAgain (MayLack contents files) (FailsAgain (AreUnlinked true contents files))
+IsNotLinkedAgain contents files = IsNotAgain (MayLack contents files) (FailsAgain (AreUnlinked false true contents files))
 
 -- ---- hunks beside addresses
 

@@ -144,7 +144,7 @@ AreLoadedPlaces contents origin content =
 -- and about those of the load file of object files
 abbrev pub AreLinkedPlaces : Contents → Origin → (files : List (List ℕ)) → (more : List ℕ) → Type 0
 AreLinkedPlaces contents origin files =
-    OrUnexplained (IsNotPlacedAgain contents origin (IsNotLinkedAgain contents files)) (ArePlaceLines contents origin (DoLinkTo true contents files))
+    OrUnexplained (IsNotPlacedAgain contents origin (IsNotLinkedAgain contents files)) (ArePlaceLines contents origin (DoLinkTo false true contents files))
 
 -- the lines about hunks that cannot be placed, for a command and its files
 abbrev pub ArePlaceLinesOf : Contents → Command → (files : List (List ℕ)) → (more : List ℕ) → Type 0

@@ -1,5 +1,5 @@
 -- What `load` prints of a file that `link` wrote is what `image` prints of the files that were linked.
-use Rattle.std.specs.Prelude.{◌≡◌, ℕ, List, ◌++◌, Option, Some, map, ⊤}
+use Rattle.std.specs.Prelude.{◌≡◌, ℕ, Bool, List, ◌++◌, Option, Some, map, ⊤}
 use Rattle.hunk_memory.specs.declared.image_form.ImageForm.{ImageForm}
 use Rattle.hunk_tool.specs.FileSystem.FileContent.{known}
 use Rattle.hunk_tool.specs.declared.link_options.LinkOptions.{LinkOptions}
@@ -20,23 +20,23 @@ pub record PrintsAfter (printed : Printed) (text : List ℕ) : Type 0 where
 
 -- `link`, with a map in this file if one is given, put the load file of files with these bytes in the place of OUT,
 -- whether there was a file or not
-pub record IsMadeOf (options : LinkOptions) (contents : Contents) (files : List (List ℕ)) (texts : List (List ℕ)) (out : List ℕ) (map_file : Option (List ℕ)) (contents_then : Contents) : Type 0 where
+pub record IsMadeOf (globals : Bool) (options : LinkOptions) (contents : Contents) (files : List (List ℕ)) (texts : List (List ℕ)) (out : List ℕ) (map_file : Option (List ℕ)) (contents_then : Contents) : Type 0 where
   pub texts_are : map contents files ≡ map known texts
   pub out_known : IsKnown (contents out)
-  pub done : IsDone options contents files out map_file contents_then
+  pub done : IsDone globals options contents files out map_file contents_then
 
 -- the addresses are in a list, or in a file with the same bytes before and after
 abbrev pub AreKept : (contents contents_then : Contents) → Origin → Type 0
 AreKept contents contents_then (in_list list) = ⊤
 AreKept contents contents_then (in_file name) = (bytes : List ℕ) × (contents name ≡ known bytes) × (contents_then name ≡ known bytes)
 
--- For every choice of options, map and form, and at all addresses: if `link` ended well, and then `load` of OUT and
+-- For every choice of options, with globals or without, and of map and form, and at all addresses: if `link` ended well, and then `load` of OUT and
 -- `image` of the files did, these two printed the same.
 abbrev pub LoadPrintsTheImage : Type 0
 LoadPrintsTheImage =
-    (options : LinkOptions) (form : ImageForm) (origin : Origin) (contents contents_then : Contents) (files texts : List (List ℕ)) (out : List ℕ) (map_file : Option (List ℕ))
+    (globals : Bool) (options : LinkOptions) (form : ImageForm) (origin : Origin) (contents contents_then : Contents) (files texts : List (List ℕ)) (out : List ℕ) (map_file : Option (List ℕ))
     (loaded imaged : Printed) (told other : List ℕ)
-    → IsMadeOf options contents files texts out map_file contents_then → AreKept contents contents_then origin
+    → IsMadeOf globals options contents files texts out map_file contents_then → AreKept contents contents_then origin
     → IsLoaded (Image form) contents_then origin out loaded → PrintsAfter loaded told
     → AreImaged (Image form) contents origin files imaged → PrintsAfter imaged other
     → told ≡ other

@@ -41,8 +41,8 @@ pub record IsNoFailure (contents contents_then : Contents) (printed : Printed) (
   pub compare : (with_symbols : Bool) (first second : List ℕ) → IsCompareFailure with_symbols contents first second printed failure → ⊥
   pub survey : (options : SurveyOptions) (files : List (List ℕ)) (list : Option NamedList) → IsSurveyFailure options contents files list printed failure → ⊥
   pub list : (list : NamedList) → IsListFailure contents list failure → ⊥
-  pub link : (options : LinkOptions) (files : List (List ℕ)) (out : List ℕ) → IsLinkFailure options contents files out failure → ⊥
-  pub link_with_map : (options : LinkOptions) (files : List (List ℕ)) (out map : List ℕ) → IsMapFailure options contents files out map contents_then failure → ⊥
+  pub link : (globals : Bool) (options : LinkOptions) (files : List (List ℕ)) (out : List ℕ) → IsLinkFailure globals options contents files out failure → ⊥
+  pub link_with_map : (globals : Bool) (options : LinkOptions) (files : List (List ℕ)) (out map : List ℕ) → IsMapFailure globals options contents files out map contents_then failure → ⊥
   pub copy : (form : CopyForm) (file out : List ℕ) → IsCopyFailure form contents file out failure → ⊥
 
 -- Where it is known of all files what is in them, and no write of the output has failed, no request failed for a

@@ -21,46 +21,46 @@ use Rattle.hunk_commands.specs.Inputs.{IsOpenFailure, IsUnopened, OfFiles, OfWho
 use Rattle.hunk_commands.specs.Store.{AreUnchanged, Contents, IsBegun, IsKnown, IsReplaced, IsUnplaced, IsWriteFault}
 
 -- the files are object files that link, and this is their load file
-abbrev pub DoLinkTo : (strip : Bool) → Contents → (files : List (List ℕ)) (file : List FileHunk) → Type 0
-DoLinkTo strip contents files file = OfWholeFiles contents files (LinkTo strip file)
+abbrev pub DoLinkTo : (globals strip : Bool) → Contents → (files : List (List ℕ)) (file : List FileHunk) → Type 0
+DoLinkTo globals strip contents files file = OfWholeFiles contents files (LinkTo globals strip file)
 
 -- the files are object files that link, and their load file was put in the place of OUT
-pub record IsMade (options : LinkOptions) (contents : Contents) (files : List (List ℕ)) (out : List ℕ) (contents_then : Contents) : Type 0 where
+pub record IsMade (globals : Bool) (options : LinkOptions) (contents : Contents) (files : List (List ℕ)) (out : List ℕ) (contents_then : Contents) : Type 0 where
   pub start : Option (List ℕ)
   pub taken : Option (List ℕ)
   pub begun : IsBegun (contents out) start
-  pub linked : OfWholeFiles contents files (IsLinked options start taken)
+  pub linked : OfWholeFiles contents files (IsLinked globals options start taken)
   pub replaced : IsReplaced out taken contents contents_then
 
 -- why the files were not linked: one of them cannot be opened, they do not link, or out of memory
-abbrev pub AreUnlinked : Bool → Contents → (files : List (List ℕ)) → Failure → Type 0
-AreUnlinked strip contents files (Opening name reason) = IsUnopened contents files name.now
-AreUnlinked strip contents files (Tool fault) = (fault ≡ OutOfMemory 0) ⊎ OfFiles contents files (λ inputs. IsUnlinked strip inputs fault)
-AreUnlinked strip contents files _ = ⊥
+abbrev pub AreUnlinked : (globals strip : Bool) → Contents → (files : List (List ℕ)) → Failure → Type 0
+AreUnlinked globals strip contents files (Opening name reason) = IsUnopened contents files name.now
+AreUnlinked globals strip contents files (Tool fault) = (fault ≡ OutOfMemory 0) ⊎ OfFiles contents files (λ inputs. IsUnlinked globals strip inputs fault)
+AreUnlinked globals strip contents files _ = ⊥
 
 -- the files are object files that link
-abbrev pub DoLinkAll : (strip : Bool) → Contents → (files : List (List ℕ)) → Type 0
-DoLinkAll strip contents files = OfWholeFiles contents files (λ bytes. (units : List ObjectUnit) × DoLink strip bytes units)
+abbrev pub DoLinkAll : (globals strip : Bool) → Contents → (files : List (List ℕ)) → Type 0
+DoLinkAll globals strip contents files = OfWholeFiles contents files (λ bytes. (units : List ObjectUnit) × DoLink globals strip bytes units)
 
 -- `link_run` returned this fault for readers of the files, and for a writer, of which a write failed only if OUT is
 -- not known
-abbrev pub HasRunFault : LinkOptions → Contents → (files : List (List ℕ)) (out : List ℕ) → Failure → Type 0
-HasRunFault options contents files out (Tool fault) =
-    OfFiles contents files (λ inputs. (taken : Taken) × IsLinkFault options inputs taken fault) × (IsWriteFault fault → contents out ≡ unknown)
-HasRunFault options contents files out _ = ⊥
+abbrev pub HasRunFault : (globals : Bool) → LinkOptions → Contents → (files : List (List ℕ)) (out : List ℕ) → Failure → Type 0
+HasRunFault globals options contents files out (Tool fault) =
+    OfFiles contents files (λ inputs. (taken : Taken) × IsLinkFault globals options inputs taken fault) × (IsWriteFault fault → contents out ≡ unknown)
+HasRunFault globals options contents files out _ = ⊥
 
 -- why `link` failed: the files cannot be opened, the run over them failed, or what it wrote was not put
 -- in the place of OUT, which is not touched before the files have been linked
-abbrev pub IsLinkFailure : LinkOptions → Contents → (files : List (List ℕ)) (out : List ℕ) → Failure → Type 0
-IsLinkFailure options contents files out failure =
+abbrev pub IsLinkFailure : (globals : Bool) → LinkOptions → Contents → (files : List (List ℕ)) (out : List ℕ) → Failure → Type 0
+IsLinkFailure globals options contents files out failure =
     IsOpenFailure contents files failure
-    ⊎ (HasRunFault options contents files out failure ⊎ (DoLinkAll options.strip contents files × IsUnplaced (contents out) out failure))
+    ⊎ (HasRunFault globals options contents files out failure ⊎ (DoLinkAll globals options.strip contents files × IsUnplaced (contents out) out failure))
 
 -- ---- with a map
 
--- the files are object files with these units, which link, and this is their load file
-abbrev pub DoLinkFiles : (strip : Bool) → Contents → (files : List (List ℕ)) (units : List FileUnit) (file : List FileHunk) → Type 0
-DoLinkFiles strip contents files units file = OfWholeFiles contents files (LinkFiles strip units file)
+-- the files are object files that link, with these units as they are linked, and this is their load file
+abbrev pub DoLinkFiles : (globals strip : Bool) → Contents → (files : List (List ℕ)) (units : List FileUnit) (file : List FileHunk) → Type 0
+DoLinkFiles globals strip contents files units file = OfWholeFiles contents files (LinkFiles globals strip units file)
 
 -- the load file as the options have it, which was put in the place of OUT
 pub record IsWrittenOut (options : LinkOptions) (linked : List FileHunk) (out : List ℕ) (contents contents_then : Contents) (file : List FileHunk) : Type 0 where
@@ -82,21 +82,21 @@ pub record HasMap (names : List (List ℕ)) (file : List FileHunk) (units : List
 
 -- the object files link, the bytes of their load file were written, and its map, with these names of the
 -- files, was put in the place of MAP
-pub record IsLinkedWithMap (options : LinkOptions) (names : List (List ℕ)) (start taken : Option (List ℕ)) (map : List ℕ) (contents contents_then : Contents) (files : List (List ℕ)) : Type 0 where
-  pub linked : IsLinked options start taken files
+pub record IsLinkedWithMap (globals : Bool) (options : LinkOptions) (names : List (List ℕ)) (start taken : Option (List ℕ)) (map : List ℕ) (contents contents_then : Contents) (files : List (List ℕ)) : Type 0 where
+  pub linked : IsLinked globals options start taken files
   pub units : List FileUnit
   pub are : AreFileUnits units files
   pub units_are : linked.units ≡ units_of units
-  pub has_map : HasMap names (linked_hunks linked.units options) units map contents contents_then
+  pub has_map : HasMap names (linked_hunks linked.units globals options) units map contents contents_then
 
 -- the files are object files that link, their load file was put in the place of OUT, and then its map in the
 -- place of MAP
-pub record IsMapped (options : LinkOptions) (names : List (List ℕ)) (contents : Contents) (files : List (List ℕ)) (out map : List ℕ) (contents_then : Contents) : Type 0 where
+pub record IsMapped (globals : Bool) (options : LinkOptions) (names : List (List ℕ)) (contents : Contents) (files : List (List ℕ)) (out map : List ℕ) (contents_then : Contents) : Type 0 where
   pub between : Contents
   pub start : Option (List ℕ)
   pub taken : Option (List ℕ)
   pub begun : IsBegun (contents out) start
-  pub linked : OfWholeFiles contents files (IsLinkedWithMap options names start taken map between contents_then)
+  pub linked : OfWholeFiles contents files (IsLinkedWithMap globals options names start taken map between contents_then)
   pub replaced : IsReplaced out taken contents between
 
 -- why a load file is not in the place of OUT: OUT cannot be opened or replaced, a write failed, or out of
@@ -129,29 +129,29 @@ IsTaken contents files out map (MapOverFile name) = (name.now ≡ map) × (IsKno
 IsTaken contents files out map _ = ⊥
 
 -- the load file was made, and is not in the place of OUT
-abbrev pub IsNotPlaced : (strip : Bool) → Contents → (files : List (List ℕ)) (out : List ℕ) → Failure → Type 0
-IsNotPlaced strip contents files out failure = (file : List FileHunk) × DoLinkTo strip contents files file × IsUnwritten (contents out) out failure
+abbrev pub IsNotPlaced : (globals strip : Bool) → Contents → (files : List (List ℕ)) (out : List ℕ) → Failure → Type 0
+IsNotPlaced globals strip contents files out failure = (file : List FileHunk) × DoLinkTo globals strip contents files file × IsUnwritten (contents out) out failure
 
 -- why `link` with a map failed before OUT was in its place: what MAP is comes first
-abbrev pub IsMapFailureBefore : LinkOptions → Contents → (files : List (List ℕ)) (out map : List ℕ) → Failure → Type 0
-IsMapFailureBefore options contents files out map failure =
+abbrev pub IsMapFailureBefore : (globals : Bool) → LinkOptions → Contents → (files : List (List ℕ)) (out map : List ℕ) → Failure → Type 0
+IsMapFailureBefore globals options contents files out map failure =
     IsTaken contents files out map failure
-    ⊎ (AreUnlinked options.strip contents files failure ⊎ IsNotPlaced options.strip contents files out failure)
+    ⊎ (AreUnlinked globals options.strip contents files failure ⊎ IsNotPlaced globals options.strip contents files out failure)
 
 -- why `link` with a map failed: before any file was touched, or once OUT was in its place
-abbrev pub IsMapFailure : LinkOptions → Contents → (files : List (List ℕ)) (out map : List ℕ) → (contents_then : Contents) → Failure → Type 0
-IsMapFailure options contents files out map contents_then failure =
-    (IsMapFailureBefore options contents files out map failure × AreUnchanged contents contents_then)
-    ⊎ (IsMade options contents files out contents_then × IsUnmapped (contents_then map) map failure)
+abbrev pub IsMapFailure : (globals : Bool) → LinkOptions → Contents → (files : List (List ℕ)) (out map : List ℕ) → (contents_then : Contents) → Failure → Type 0
+IsMapFailure globals options contents files out map contents_then failure =
+    (IsMapFailureBefore globals options contents files out map failure × AreUnchanged contents contents_then)
+    ⊎ (IsMade globals options contents files out contents_then × IsUnmapped (contents_then map) map failure)
 
 -- ---- as MAP is given, or not
 
 -- what was done
-abbrev pub IsDone : LinkOptions → Contents → (files : List (List ℕ)) (out : List ℕ) → Option (List ℕ) → (contents_then : Contents) → Type 0
-IsDone options contents files out None contents_then = IsMade options contents files out contents_then
-IsDone options contents files out (Some map) contents_then = IsMapped options files contents files out map contents_then × (out ≢ map)
+abbrev pub IsDone : (globals : Bool) → LinkOptions → Contents → (files : List (List ℕ)) (out : List ℕ) → Option (List ℕ) → (contents_then : Contents) → Type 0
+IsDone globals options contents files out None contents_then = IsMade globals options contents files out contents_then
+IsDone globals options contents files out (Some map) contents_then = IsMapped globals options files contents files out map contents_then × (out ≢ map)
 
 -- and why not
-abbrev pub IsUndone : LinkOptions → Contents → (files : List (List ℕ)) (out : List ℕ) → Option (List ℕ) → (contents_then : Contents) → Failure → Type 0
-IsUndone options contents files out None contents_then failure = IsLinkFailure options contents files out failure × AreUnchanged contents contents_then
-IsUndone options contents files out (Some map) contents_then failure = IsMapFailure options contents files out map contents_then failure
+abbrev pub IsUndone : (globals : Bool) → LinkOptions → Contents → (files : List (List ℕ)) (out : List ℕ) → Option (List ℕ) → (contents_then : Contents) → Failure → Type 0
+IsUndone globals options contents files out None contents_then failure = IsLinkFailure globals options contents files out failure × AreUnchanged contents contents_then
+IsUndone globals options contents files out (Some map) contents_then failure = IsMapFailure globals options contents files out map contents_then failure

@@ -118,19 +118,19 @@ abbrev pub given_text : Option (Bor (List ℕ)) → Option (List ℕ)
 given_text = option_map (λ text. text.now)
 
 -- the status after `link` of these files
-abbrev pub EndsLinkOf : {W : Type 0} → (contents contents_then : Contents) → (taken : W → Option (List ℕ)) (failed : W → Bool) (old new : W) (out : List ℕ) (map : Option (List ℕ)) (options : LinkOptions) (explain : Bool) (files : List (List ℕ)) → ℕ → Type 0
-EndsLinkOf contents contents_then taken failed old new out map options explain files status =
-    ((status ≡ 0) × IsDone options contents files out map contents_then)
-    ⊎ IsFailed taken failed old new (OrUntouched contents contents_then (IsUndone options contents files out map contents_then))
+abbrev pub EndsLinkOf : {W : Type 0} → (contents contents_then : Contents) → (taken : W → Option (List ℕ)) (failed : W → Bool) (old new : W) (out : List ℕ) (map : Option (List ℕ)) (options : LinkOptions) (globals explain : Bool) (files : List (List ℕ)) → ℕ → Type 0
+EndsLinkOf contents contents_then taken failed old new out map options globals explain files status =
+    ((status ≡ 0) × IsDone globals options contents files out map contents_then)
+    ⊎ IsFailed taken failed old new (OrUntouched contents contents_then (IsUndone globals options contents files out map contents_then))
     (IfAsked explain (AreLinkLines contents_then files)) files status
 
 -- the status after `link`: of the files that are given, and of those in a list, if there is one, after them; or the
 -- names in the list are not known, and no file was touched
-abbrev pub EndsLink : {W : Type 0} → (contents contents_then : Contents) → (taken : W → Option (List ℕ)) (failed : W → Bool) (old new : W) (out : List ℕ) (map : Option (List ℕ)) (options : LinkOptions) (explain : Bool) (files : List (List ℕ)) → Option NamedList → ℕ → Type 0
-EndsLink contents contents_then taken failed old new out map options explain files None status =
-    EndsLinkOf contents contents_then taken failed old new out map options explain files status
-EndsLink contents contents_then taken failed old new out map options explain files (Some list) status =
-    ((listed : List (List ℕ)) × AreNamesIn (contents list.file) list.end listed × EndsLinkOf contents contents_then taken failed old new out map options explain (files ++ listed) status)
+abbrev pub EndsLink : {W : Type 0} → (contents contents_then : Contents) → (taken : W → Option (List ℕ)) (failed : W → Bool) (old new : W) (out : List ℕ) (map : Option (List ℕ)) (options : LinkOptions) (globals explain : Bool) (files : List (List ℕ)) → Option NamedList → ℕ → Type 0
+EndsLink contents contents_then taken failed old new out map options globals explain files None status =
+    EndsLinkOf contents contents_then taken failed old new out map options globals explain files status
+EndsLink contents contents_then taken failed old new out map options globals explain files (Some list) status =
+    ((listed : List (List ℕ)) × AreNamesIn (contents list.file) list.end listed × EndsLinkOf contents contents_then taken failed old new out map options globals explain (files ++ listed) status)
     ⊎ IsFailed taken failed old new (λ failure. IsListFailure contents list failure × AreUnchanged contents contents_then)
     (IfAsked explain (AreLinkLines contents_then [])) [] status
 
@@ -181,8 +181,8 @@ Ends run taken failed old new (Survey options files list) status =
     Reads run (λ contents printed. EndsSurvey options contents printed taken failed old new (file_names files.items) (given_list list) status)
 Ends run taken failed old new (Compare with_symbols first second) status =
     Reads run (λ contents printed. EndsCompare contents printed taken failed old new with_symbols first.now second.now status)
-Ends run taken failed old new (Link out map options explain files list) status =
-    Replaces run (λ contents contents_then. EndsLink contents contents_then taken failed old new out.now (given_text map) options explain (file_names files.items) (given_list list) status)
+Ends run taken failed old new (Link out map options globals explain files list) status =
+    Replaces run (λ contents contents_then. EndsLink contents contents_then taken failed old new out.now (given_text map) options globals explain (file_names files.items) (given_list list) status)
 Ends run taken failed old new (Copy out form explain file) status =
     Replaces run (λ contents contents_then. EndsCopy contents contents_then taken failed old new out.now form explain file.now status)
 Ends run taken failed old new Version status = Reads run (λ contents printed. EndsVersion printed taken failed old new status)

@@ -23,8 +23,8 @@ text_of Line = of_value check_text
 text_of Lint = lint_text
 text_of (Shown Listing) = of_value show_text
 text_of (Shown Json) = of_value json_text
-text_of (Shown JsonWithContent) = of_value (json_text_in WithContent)
-text_of (Shown Page) = of_value page_text
+text_of (Shown JsonWithContent) = json_text_in WithContent
+text_of (Shown Page) = page_text
 
 -- what `check` prints
 abbrev pub checked : (lint : Bool) → Text

@@ -94,11 +94,11 @@ pub(crate) fn linked_again<S: Store>(
     store: &S,
     files: &[&str],
 ) -> Result<LoadFile, Unexplained>
-    ensures linked { IfOk result (DoLinkTo true (S.content store.now) (file_names files.now)) }
+    ensures linked { IfOk result (DoLinkTo false true (S.content store.now) (file_names files.now)) }
     ensures err { IfErr result (IsNotLinkedAgain (S.content store.now) (file_names files.now)) }
 {
     all_regular(store, files)?;
-    Ok(linked(alloc, store, true, files)?)
+    Ok(linked(alloc, store, true, false, files)?)
 }
 
 /// The addresses, from their file read again if they are in one.

@@ -1,6 +1,6 @@
 //! What is told of a failure after its line, if `--explain` is given: the files are read once more for
 //! it.
-ghost use Rattle.std.specs.Prelude.{◌≡◌, [], true, IfErr, IfOk, IfSome, IsTrue, get_or};
+ghost use Rattle.std.specs.Prelude.{◌≡◌, [], true, IfErr, IfOk, IfSome, IsTrue, get_or, false};
 ghost use Rattle.hunk_base.specs.Streams.{HasRead};
 ghost use Rattle.hunk_files.specs.Explanation.{IsEnd, IsExplained, IsUnexplained};
 ghost use Rattle.hunk_memory.specs.PlacesText.{places_text};
@@ -311,7 +311,7 @@ fn explain_linked_places<S: Store, W: Sink>(
     addresses: Addresses<'_>,
     files: &[&str],
 ) -> Result<(), Unexplained>
-    ensures { TellsUnless W.taken W.failed errors.old errors.new (ArePlaceLines (S.content store.now) (origin_of addresses.entry) (DoLinkTo true (S.content store.now) (file_names files.now))) (IsNotPlacedAgain (S.content store.now) (origin_of addresses.entry) (IsNotLinkedAgain (S.content store.now) (file_names files.now))) result }
+    ensures { TellsUnless W.taken W.failed errors.old errors.new (ArePlaceLines (S.content store.now) (origin_of addresses.entry) (DoLinkTo false true (S.content store.now) (file_names files.now))) (IsNotPlacedAgain (S.content store.now) (origin_of addresses.entry) (IsNotLinkedAgain (S.content store.now) (file_names files.now))) result }
 {
     let bases = addresses_again(alloc, store, addresses)?;
     let loaded = linked_again(alloc, store, files)?;

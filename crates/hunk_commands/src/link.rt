@@ -21,7 +21,8 @@ use hunk_words::{Sink, Text, WriteFault};
 use std::alloc::Global;
 
 /// Links the object files named `files`, and puts their load file in the place of the file named `out`,
-/// as `options` say: [`link_run_with`], over what replaces `out`.
+/// as `options` say, with the names that hunks define at offsets as symbols if `globals` is set:
+/// [`link_run_with`], over what replaces `out`.
 ///
 /// Nothing is done to `out` before the files have been linked, so it may be one of them. Whatever fails,
 /// it is what it was, or the whole load file: unless it is a device or a pipe, or its directory takes no
@@ -38,16 +39,24 @@ pub fn link<'a, S: Store>(
     store: &mut S,
     out: &'a str,
     options: LinkOptions,
+    globals: bool,
     files: &[&'a str],
 ) -> Result<(), Failure<'a>>
-    ensures ok { OnOk result (IsMade options (S.content store.old) (file_names files.entry.now) out.entry.now (S.content store.new)) }
-    ensures err { IfErr result (IsLinkFailure options (S.content store.old) (file_names files.entry.now) out.entry.now) }
+    ensures ok { OnOk result (IsMade globals options (S.content store.old) (file_names files.entry.now) out.entry.now (S.content store.new)) }
+    ensures err { IfErr result (IsLinkFailure globals options (S.content store.old) (file_names files.entry.now) out.entry.now) }
     ensures unchanged { OnErr result (AreUnchanged (S.content store.old) (S.content store.new)) }
 {
     let mut inputs = open_inputs(alloc, store, files)?;
     let mut new = begin(store, out)?;
     let hasher = store.name_hasher();
-    let ran = link_run_with(alloc, inputs.as_mut_slice(), options, hasher, &mut new);
+    let ran = link_run_with(
+        alloc,
+        inputs.as_mut_slice(),
+        options,
+        globals,
+        hasher,
+        &mut new,
+    );
     drop(inputs);
     store.finish(out, new, ran)
 }
@@ -72,12 +81,13 @@ pub fn link_with_map<'a, S: Store>(
     out: &'a str,
     map_file: &'a str,
     options: LinkOptions,
+    globals: bool,
     files: &[&'a str],
     names: &[String],
 ) -> Result<(), Failure<'a>>
-    ensures ok { OnOk result (IsMapped options (map string_bytes names.now) (S.content store.old) (file_names files.entry.now) out.entry.now map_file.entry.now (S.content store.new)) }
+    ensures ok { OnOk result (IsMapped globals options (map string_bytes names.now) (S.content store.old) (file_names files.entry.now) out.entry.now map_file.entry.now (S.content store.new)) }
     ensures one { out.entry.now ≡ map_file.entry.now → result ≡ Err (Failure.SameFile map_file.entry) }
-    ensures err { IfErr result (IsMapFailure options (S.content store.old) (file_names files.entry.now) out.entry.now map_file.entry.now (S.content store.new)) }
+    ensures err { IfErr result (IsMapFailure globals options (S.content store.old) (file_names files.entry.now) out.entry.now map_file.entry.now (S.content store.new)) }
 {
     if store.is_one_file(out, map_file) {
         return Err(Failure::SameFile(map_file));
@@ -85,7 +95,7 @@ pub fn link_with_map<'a, S: Store>(
     if is_among(store, map_file, files) {
         return Err(Failure::MapOverFile(map_file));
     }
-    let (units, linked) = linked_files(alloc, store, options.strip, files)?;
+    let (units, linked) = linked_files(alloc, store, options.strip, globals, files)?;
     let file = write_out(alloc, store, out, options, linked)?;
     write_map_file(store, map_file, &units, names, &file)
 }
@@ -98,37 +108,39 @@ fn is_among<S: Store>(store: &S, name: &str, files: &[&str]) -> bool
 }
 
 /// The load file of the object files named `files`. With `strip`, symbols and debug blocks are left
-/// out.
+/// out, and with `globals`, definitions stay as symbols.
 pub(crate) fn linked<'a, S: Store>(
     alloc: Global,
     store: &S,
     strip: bool,
+    globals: bool,
     files: &[&'a str],
 ) -> Result<LoadFile, Failure<'a>>
-    ensures ok { IfOk result (λ file. DoLinkTo strip (S.content store.now) (file_names files.entry.now) file) }
+    ensures ok { IfOk result (λ file. DoLinkTo globals strip (S.content store.now) (file_names files.entry.now) file) }
     ensures short { IfOk result (λ file. IsShortEnough file) }
-    ensures err { IfErr result (AreUnlinked strip (S.content store.now) (file_names files.entry.now)) }
+    ensures err { IfErr result (AreUnlinked globals strip (S.content store.now) (file_names files.entry.now)) }
 {
     let mut inputs = open_inputs(alloc, store, files)?;
     let hasher = store.name_hasher();
-    Ok(link_inputs(alloc, inputs.as_mut_slice(), strip, hasher)?)
+    Ok(link_inputs(alloc, inputs.as_mut_slice(), strip, globals, hasher)?)
 }
 
-/// The same load file, with the units of the object files.
+/// The same load file, with the units of the object files as they are linked.
 fn linked_files<'a, S: Store>(
     alloc: Global,
     store: &S,
     strip: bool,
+    globals: bool,
     files: &[&'a str],
 ) -> Result<(ObjectFiles, LoadFile), Failure<'a>>
-    ensures ok { IfOk result (λ linked. DoLinkFiles strip (S.content store.now) (file_names files.entry.now) linked.0 linked.1) }
+    ensures ok { IfOk result (λ linked. DoLinkFiles globals strip (S.content store.now) (file_names files.entry.now) linked.0 linked.1) }
     ensures short { IfOk result (λ linked. IsShortEnough linked.1) }
     ensures matched { IfOk result (λ linked. length (origins linked.0) ≡ length linked.1) }
-    ensures err { IfErr result (AreUnlinked strip (S.content store.now) (file_names files.entry.now)) }
+    ensures err { IfErr result (AreUnlinked globals strip (S.content store.now) (file_names files.entry.now)) }
 {
     let mut inputs = open_inputs(alloc, store, files)?;
     let hasher = store.name_hasher();
-    Ok(link_files(alloc, inputs.as_mut_slice(), strip, hasher)?)
+    Ok(link_files(alloc, inputs.as_mut_slice(), strip, globals, hasher)?)
 }
 
 /// Puts a load file in the place of the file named `out`, as `options` say, and returns it as it was

@@ -25,19 +25,24 @@ pub(crate) fn answer_link<S: Store, W: Sink>(
     out: &str,
     map_file: Option<&str>,
     options: LinkOptions,
+    globals: bool,
     explain: bool,
     files: &[&str],
     list: Option<FileList<'_>>,
 ) -> u8
-    ensures { EndsLink (S.content store.old) (S.content store.new) W.taken W.failed errors.old errors.new out.now (given_text map_file.entry) options explain (file_names files.now) (given_list list.entry) result }
+    ensures { EndsLink (S.content store.old) (S.content store.new) W.taken W.failed errors.old errors.new out.now (given_text map_file.entry) options globals explain (file_names files.now) (given_list list.entry) result }
 {
     let Some(list) = list else {
-        return answer_link_of_given(alloc, store, errors, out, map_file, options, explain, files);
+        return answer_link_of_given(
+            alloc, store, errors, out, map_file, options, globals, explain, files,
+        );
     };
     match all_names(alloc, store, files, list) {
         Ok(names) => {
             let names = names.as_slice();
-            answer_link_of(alloc, store, errors, out, map_file, options, explain, names)
+            answer_link_of(
+                alloc, store, errors, out, map_file, options, globals, explain, names,
+            )
         }
         Err(failure) => {
             let command = Command::Link;
@@ -54,16 +59,19 @@ fn answer_link_of_given<S: Store, W: Sink>(
     out: &str,
     map_file: Option<&str>,
     options: LinkOptions,
+    globals: bool,
     explain: bool,
     files: &[&str],
 ) -> u8
-    ensures { EndsLinkOf (S.content store.old) (S.content store.new) W.taken W.failed errors.old errors.new out.now (given_text map_file.entry) options explain (file_names files.now) result }
+    ensures { EndsLinkOf (S.content store.old) (S.content store.new) W.taken W.failed errors.old errors.new out.now (given_text map_file.entry) options globals explain (file_names files.now) result }
 {
     let Ok(names) = names_of(alloc, files) else {
         return report_failure(errors, &[], &Failure::out_of_memory());
     };
     let names = names.as_slice();
-    answer_link_of(alloc, store, errors, out, map_file, options, explain, names)
+    answer_link_of(
+        alloc, store, errors, out, map_file, options, globals, explain, names,
+    )
 }
 
 /// The names of the files that are given, and after them those in the list.
@@ -100,16 +108,17 @@ fn answer_link_of<S: Store, W: Sink>(
     out: &str,
     map_file: Option<&str>,
     options: LinkOptions,
+    globals: bool,
     explain: bool,
     names: &[String],
 ) -> u8
-    ensures { EndsLinkOf (S.content store.old) (S.content store.new) W.taken W.failed errors.old errors.new out.now (given_text map_file.entry) options explain (map string_bytes names.now) result }
+    ensures { EndsLinkOf (S.content store.old) (S.content store.new) W.taken W.failed errors.old errors.new out.now (given_text map_file.entry) options globals explain (map string_bytes names.now) result }
 {
     let Ok(texts) = texts_of(alloc, names) else {
         return report_failure(errors, &[], &Failure::out_of_memory());
     };
     let files = texts.as_slice();
-    match link_as_asked(alloc, store, out, map_file, options, files, names) {
+    match link_as_asked(alloc, store, out, map_file, options, globals, files, names) {
         Ok(()) => DONE,
         Err(failure) => {
             let command = Command::Link;
@@ -138,15 +147,18 @@ fn link_as_asked<'a, S: Store>(
     out: &'a str,
     map_file: Option<&'a str>,
     options: LinkOptions,
+    globals: bool,
     files: &[&'a str],
     names: &[String],
 ) -> Result<(), Failure<'a>>
     requires { map string_bytes names.now ≡ file_names files.now }
-    ensures ok { OnOk result (IsDone options (S.content store.old) (file_names files.entry.now) out.entry.now (given_text map_file.entry) (S.content store.new)) }
-    ensures err { IfErr result (IsUndone options (S.content store.old) (file_names files.entry.now) out.entry.now (given_text map_file.entry) (S.content store.new)) }
+    ensures ok { OnOk result (IsDone globals options (S.content store.old) (file_names files.entry.now) out.entry.now (given_text map_file.entry) (S.content store.new)) }
+    ensures err { IfErr result (IsUndone globals options (S.content store.old) (file_names files.entry.now) out.entry.now (given_text map_file.entry) (S.content store.new)) }
 {
     match map_file {
-        None => link(alloc, store, out, options, files),
-        Some(map_file) => link_with_map(alloc, store, out, map_file, options, files, names),
+        None => link(alloc, store, out, options, globals, files),
+        Some(map_file) => link_with_map(
+            alloc, store, out, map_file, options, globals, files, names,
+        ),
     }
 }

@@ -21,9 +21,9 @@ use std::alloc::Global;
 /// What the arguments of a command line ask for.
 #[derive(Drop)]
 pub enum Request<'a> {
-    /// `link --out OUT [--map MAP] [--strip] [--short] [--trim] [--explain] [--files-from LIST] FILE...`: the
-    /// load file of the object files FILE... and of those in LIST, written to OUT, and the map of it, written to
-    /// MAP.
+    /// `link --out OUT [--map MAP] [--strip] [--globals] [--short] [--trim] [--explain] [--files-from LIST]
+    /// FILE...`: the load file of the object files FILE... and of those in LIST, written to OUT, and the map of
+    /// it, written to MAP.
     Link {
         /// The argument OUT.
         out: &'a str,
@@ -31,6 +31,8 @@ pub enum Request<'a> {
         map: Option<&'a str>,
         /// Which of `--strip`, `--short` and `--trim` are given.
         options: LinkOptions,
+        /// Whether `--globals` is given.
+        globals: bool,
         /// Whether `--explain` is given.
         explain: bool,
         /// The arguments FILE..., in the order given, of which there is at least one, or a list.
@@ -146,13 +148,14 @@ pub fn answer<S: Store, O: Output, W: Sink>(
             out,
             map,
             options,
+            globals,
             explain,
             files,
             list,
         } => {
             let files = files.as_slice();
             answer_link(
-                alloc, store, errors, out, map, options, explain, files, list,
+                alloc, store, errors, out, map, options, globals, explain, files, list,
             )
         }
         Request::Load {

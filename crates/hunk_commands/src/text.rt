@@ -34,7 +34,7 @@ pub enum ShowText {
     Listing,
     /// What the listing tells, as one JSON document.
     Json,
-    /// Likewise, with the stored bytes of each hunk.
+    /// Likewise, with the stored bytes of each hunk, and where they stand in the file.
     JsonWithContent,
     /// A page of HTML that shows all of this.
     Page,

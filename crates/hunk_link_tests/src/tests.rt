@@ -10,6 +10,7 @@
 //! - `far_sites`: sites about the first offset that 16 bits do not hold.
 //! - `files`: units that link.
 //! - `forms`: one object file, and its load file for every choice of options.
+//! - `globals`: links that keep the names of definitions.
 //! - `growths`: allocations that fail.
 //! - `hashers`: names that are hashed in other ways.
 //! - `limits`: as many hunks as a link may have, and as large ones.
@@ -38,6 +39,7 @@ mod dice;
 mod far_sites;
 mod files;
 mod forms;
+mod globals;
 mod growths;
 mod hashers;
 mod limits;

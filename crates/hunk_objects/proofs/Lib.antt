@@ -2,3 +2,4 @@ pub mod OpenHunkLemmas
 pub mod UnitHunkLemmas
 pub mod UnitBuilderLemmas
 pub mod PartialLemmas
+pub mod GlobalsLemmas

@@ -5,4 +5,5 @@ pub mod OpenUnit
 pub mod UnitBuilder
 pub mod Partial
 pub mod ObjectDecoder
+pub mod Globals
 pub mod Laws

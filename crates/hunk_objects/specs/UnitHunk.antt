@@ -45,12 +45,13 @@ IsAmong count (adds.Hunk h) = Unit {0}
 IsAmong count (adds.Reference i) = i < count
 
 -- Its content is whole, its sites lie inside it and are disjoint, each reference of a site is one of
--- its references, and a symbol's name is no longer than a file can have it.
+-- its references, and the names of definitions and symbols are no longer than a file can have them.
 pub record IsUnitHunk (hunk : ObjectHunk) : Type 0 where
   pub whole : length hunk.content ≡ content_bytes hunk.kind hunk.size
   pub limit : hunk.sites.limit ≡ length hunk.content
   pub apart : AreApart hunk.sites
   pub adds : All (IsAmong (length hunk.references)) (values_of hunk.sites.entries)
+  pub defined : All (λ definition. length definition.0 ≤ most_name) hunk.definitions
   pub names : All (λ symbol. length symbol.0 ≤ most_name) hunk.symbols
 
 -- ---- of the hunk of a file, in which names and content are longwords

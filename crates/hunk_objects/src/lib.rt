@@ -6,11 +6,13 @@
 //! - `open_unit`: the current unit of an object file.
 //! - `unit_builder`: a builder of program units from the events of their longwords.
 //! - `object_decoder`: program units from bytes.
+//! - `globals`: program units whose hunks have the names that they define as symbols too.
 //! - `laws`: laws about object files.
 //!
 //! The kinds of hunks and of memory, which load files have too, are those of `hunk_words`.
 #![tactic(auto)]
 
+pub mod globals;
 pub mod laws;
 pub mod object_decoder;
 mod open_hunk;
@@ -19,6 +21,7 @@ pub mod program_unit;
 pub mod unit_builder;
 pub mod unit_hunk;
 
+pub use globals::with_globals;
 pub use hunk_words::{HunkKind, Memory};
 pub use object_decoder::{ObjectDecoder, read_object};
 pub use program_unit::{ProgramUnit, hunk_total};

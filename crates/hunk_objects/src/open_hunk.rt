@@ -14,7 +14,7 @@ use std::alloc::{AllocError, Allocator};
 use std::marker::Model;
 use std::mem;
 
-// The most bytes of a symbol's name: its longwords are counted in 24 bits.
+// The most bytes of the name of a symbol or a definition: its longwords are counted in 24 bits.
 const MOST_NAME: usize = 0x03FF_FFFC;
 
 /// What a name in a block after the content is the name of.
@@ -57,6 +57,7 @@ impl<A: Allocator + Copy> Model for OpenHunk<A> {
 
     // what it hands on to the hunk that it becomes
     ghost invariant = { λ h. All (IsAmong (length h.references.items)) (values_of h.partial.sites.entries)
+        × All (λ definition. length definition.0 ≤ most_name) h.definitions.items
         × All (λ symbol. length symbol.0 ≤ most_name) h.debug_info.symbols };
 }
 
@@ -178,7 +179,7 @@ impl<A: Allocator + Copy> OpenHunk<A> {
     }
 
     /// Takes the value of what has this name, which is left without longwords. Also fails for a
-    /// reference, which has none, and for a symbol with a longer name than one has in a file.
+    /// reference, which has none, and for a name that is longer than one is in a file.
     pub(crate) fn add_value(
         &mut self,
         alloc: A,
@@ -243,6 +244,9 @@ impl<A: Allocator + Copy> OpenHunk<A> {
         ensures refused { OnErr result (self.new ≡ self.old) }
         ensures name { OnErr result (name.new ≡ name.old) }
     {
+        if name.len() > MOST_NAME {
+            return Err(AllocError);
+        }
         self.definitions.reserve(1)?;
         let whole = mem::replace(name, OpenName::new(alloc));
         self.definitions.push_reserved((whole.close(), definition));

@@ -32,8 +32,8 @@ pub enum Definition {
 /// made only by reading an object file.
 ///
 /// Its content is whole. Its sites lie inside the content, no two of them share a byte, and each
-/// that refers to a name names one of the hunk's references. The name of a symbol has at most
-/// 2^26 - 4 bytes.
+/// that refers to a name names one of the hunk's references. The names of definitions and symbols
+/// have at most 2^26 - 4 bytes.
 ///
 /// Contracts see it as the record of what its readers return, with names and content as bytes, the
 /// sites as a map, and all else as lists.

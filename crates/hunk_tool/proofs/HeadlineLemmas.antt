@@ -22,7 +22,7 @@ use Rattle.hunk_loadfile.specs.Patching.{patched_bytes}
 use Rattle.hunk_loadfile.proofs.PatchingTwiceLemmas.{patched_bytes-twice}
 use Rattle.hunk_link.specs.Addend.{addend_of, defined_addend, definition_addend, name_addend, nothing, reference_addends}
 use Rattle.hunk_link.specs.Carried.{carried, carried_ranked}
-use Rattle.hunk_link.specs.Ranks.{RankedHunk, hunks_of}
+use Rattle.hunk_link.specs.Ranks.{IsUnit, RankedHunk, hunks_of}
 use Rattle.hunk_link.specs.SymbolTable.{Table, look_up, table_of}
 use Rattle.hunk_link.specs.declared.symbol_table.Defined.{Defined}
 use Rattle.hunk_link.proofs.CarriedLawsLemmas.{sizes-carried}
@@ -37,9 +37,11 @@ use Rattle.hunk_tool.specs.Headline.{LinkedIsReported, LoadedIsDirect, MemoryIsD
 use Rattle.hunk_tool.specs.Image.{ranked_sizes}
 use Rattle.hunk_tool.specs.Inputs.{AreObjects}
 use Rattle.hunk_tool.specs.Link.{linked_bytes, linked_hunks}
+use Rattle.hunk_tool.specs.LinkedUnits.{carried_with, linked_units, strips}
 use Rattle.hunk_memory.specs.ImageText.{image_text}
 use Rattle.hunk_tool.specs.declared.link_options.LinkOptions.{LinkOptions}
 use Rattle.hunk_tool.proofs.LawsLemmas.{one-value}
+use Rattle.hunk_tool.proofs.LinkedUnitsLemmas.{IsUnit-linked, direct-linked, sizes-linked_units}
 
 -- ---- what is added at a site
 
@@ -94,14 +96,21 @@ map-zip P make f g same (a ∷ firsts) [] all = refl
 map-zip P make f g same (a ∷ firsts) (b ∷ seconds) all =
     ap₂ (λ x xs. x ∷ xs) (same a b (All-head P b seconds all)) (map-zip P make f g same firsts seconds (All-tail P b seconds all))
 
-pub loaded-is-direct : LoadedIsDirect
-loaded-is-direct units strip bases typed =
+loaded-carried : (units : List ObjectUnit) (strip : Bool) (bases : List ℕ) → All IsUnit units → loaded (carried units strip) bases ≡ direct units bases
+loaded-carried units strip bases typed =
     let table : Table = table_of (hunks_of units) in
     map-zip IsTyped (carried_ranked table strip) (λ placed. (placed.0, loaded_bytes bases placed.1)) (λ placed. (placed.0, direct_bytes bases table placed.1))
     (λ base ranked is. ap (λ bytes. (base, bytes)) (bytes-direct bases table strip ranked is)) bases (hunks_of units) (All-hunks_of IsUnitHunk units typed)
 
+pub loaded-with : (units : List ObjectUnit) (globals strip : Bool) (bases : List ℕ) → All IsUnit (linked_units globals strip units) → loaded (carried_with globals strip units) bases ≡ direct units bases
+loaded-with units globals strip bases typed =
+    loaded-carried (linked_units globals strip units) (strips globals strip) bases typed ∙ direct-linked globals strip units bases
+
+pub loaded-is-direct : LoadedIsDirect
+loaded-is-direct units globals strip bases typed = loaded-with units globals strip bases (IsUnit-linked globals strip units typed)
+
 pub memory-is-direct : MemoryIsDirect
-memory-is-direct units strip bases address typed = ap (λ hunks. memory_map hunks address) (loaded-is-direct units strip bases typed)
+memory-is-direct units globals strip bases address typed = ap (λ hunks. memory_map hunks address) (loaded-is-direct units globals strip bases typed)
 
 -- ---- the bytes that are linked
 
@@ -114,37 +123,38 @@ one-units (bytes ∷ files) one other (some, rest, is, are, parts) (also, left, 
     ∙ sym halves
 
 -- trimming changes neither the memory nor the sizes
-loaded-linked : (units : List ObjectUnit) (options : LinkOptions) (bases : List ℕ) → loaded (linked_hunks units options) bases ≡ loaded (carried units options.strip) bases
-loaded-linked units options bases = elim (cases_Bool options.trim) [
-  | inl trim ↦ rw trim (loaded-trimmed bases bases (carried units options.strip))
+loaded-linked : (units : List ObjectUnit) (globals : Bool) (options : LinkOptions) (bases : List ℕ) → loaded (linked_hunks units globals options) bases ≡ loaded (carried_with globals options.strip units) bases
+loaded-linked units globals options bases = elim (cases_Bool options.trim) [
+  | inl trim ↦ rw trim (loaded-trimmed bases bases (carried_with globals options.strip units))
   | inr whole ↦ rw whole refl
 ]
 
-sizes-linked : (units : List ObjectUnit) (options : LinkOptions) → sizes_of (linked_hunks units options) ≡ sizes_of (carried units options.strip)
-sizes-linked units options = elim (cases_Bool options.trim) [
-  | inl trim ↦ rw trim (sizes_of-trimmed (carried units options.strip))
+sizes-linked : (units : List ObjectUnit) (globals : Bool) (options : LinkOptions) → sizes_of (linked_hunks units globals options) ≡ sizes_of (carried_with globals options.strip units)
+sizes-linked units globals options = elim (cases_Bool options.trim) [
+  | inl trim ↦ rw trim (sizes_of-trimmed (carried_with globals options.strip units))
   | inr whole ↦ rw whole refl
 ]
 
 pub linked-is-reported : LinkedIsReported
-linked-is-reported options form files bases file linked image told link imaged =
+linked-is-reported globals options form files bases file linked image told link imaged =
     let units : List ObjectUnit = link.units in
     let same : imaged.units ≡ units = one-units files imaged.units units imaged.link.are link.link.are in
-    let bytes : linked ≡ linked_bytes units options = append_cancel_left file linked (linked_bytes units options) link.written in
-    let sizes : ranked_sizes imaged.units ≡ sizes_of (linked_hunks units options) =
-    ap ranked_sizes same ∙ sym (sizes-linked units options ∙ sizes-carried units options.strip) in
-    let memory : direct imaged.units bases ≡ loaded (linked_hunks units options) bases =
-    ap (λ us. direct us bases) same ∙ sym (loaded-linked units options bases ∙ loaded-is-direct units options.strip bases link.link.typed) in
+    let bytes : linked ≡ linked_bytes units globals options = append_cancel_left file linked (linked_bytes units globals options) link.written in
+    let carried_sizes = sizes-carried (linked_units globals options.strip units) (strips globals options.strip) ∙ sizes-linked_units globals options.strip units in
+    let sizes : ranked_sizes imaged.units ≡ sizes_of (linked_hunks units globals options) =
+    ap ranked_sizes same ∙ sym (sizes-linked units globals options ∙ carried_sizes) in
+    let memory : direct imaged.units bases ≡ loaded (linked_hunks units globals options) bases =
+    ap (λ us. direct us bases) same ∙ sym (loaded-linked units globals options bases ∙ loaded-with units globals options.strip bases link.link.typed) in
     record {
-      hunks = linked_hunks units options;
-      is_file = subst (IsLoadOf (linked_hunks units options)) (sym bytes) link.is_load;
+      hunks = linked_hunks units globals options;
+      is_file = subst (IsLoadOf (linked_hunks units globals options)) (sym bytes) link.is_load;
       placed = subst (λ counts. Placed counts bases) sizes imaged.placed;
       written = imaged.written ∙ ap (λ hunks. image ++ image_text form hunks) memory;
     }
 
 pub reports-agree : ReportsAgree
-reports-agree options form files bases file linked before told image other link reported imaged =
-    let also = linked-is-reported options form files bases file linked image other link imaged in
+reports-agree globals options form files bases file linked before told image other link reported imaged =
+    let also = linked-is-reported globals options form files bases file linked image other link imaged in
     let same = one-value reported.hunks also.hunks linked reported.is_file also.is_file in
     append_cancel_left before told (image_text form (loaded reported.hunks bases)) reported.written
     ∙ ap (λ hunks. image_text form (loaded hunks bases)) same

@@ -49,7 +49,7 @@ TellsUnits strip text bases file told = (units : List ObjectUnit) → All IsUnit
 -- the image of a load file without symbols and debug blocks is the memory that its units define
 pub image-tells : (form : ImageForm) (bases : List ℕ) (file : List FileHunk) (image : List (ℕ × List ℕ)) → image ≡ loaded file bases → TellsUnits true (direct_text form) bases file (image_text form image)
 image-tells form bases file image made units typed is =
-    ap (image_text form) (made ∙ ap (λ hunks. loaded hunks bases) is ∙ loaded-is-direct units true bases typed)
+    ap (image_text form) (made ∙ ap (λ hunks. loaded hunks bases) is ∙ loaded-is-direct units false true bases typed)
 
 pub LoadsAs-written : (file : List FileHunk) (bases : List ℕ) (image : List (ℕ × List ℕ)) → IsLoadFile file → IsShortEnough file → Placed (sizes_of file) bases → image ≡ loaded file bases
     → LoadsAs bases (bytes_of (written_form file)) image
@@ -57,10 +57,10 @@ LoadsAs-written file bases image valid short placed made = record { hunks = file
 
 -- ---- what was written
 
-pub HaveRead-written : (inputs : List Input) (strip : Bool) (text : List ObjectUnit → List ℕ → List ℕ) (bases : List ℕ) (file : List FileHunk) (told : List ℕ) (old new : Option (List ℕ)) → HaveRead inputs (LinkTo strip file)
+pub HaveRead-written : (inputs : List Input) (strip : Bool) (text : List ObjectUnit → List ℕ → List ℕ) (bases : List ℕ) (file : List FileHunk) (told : List ℕ) (old new : Option (List ℕ)) → HaveRead inputs (LinkTo false strip file)
     → Placed (sizes_of file) bases → TellsUnits strip text bases file told → Appends old new told → HaveRead inputs (IsUnitsText strip text bases old new)
 HaveRead-written inputs strip text bases file told old new read placed tells written =
-    HaveRead-weaker inputs (LinkTo strip file) (IsUnitsText strip text bases old new) (λ files to. record {
+    HaveRead-weaker inputs (LinkTo false strip file) (IsUnitsText strip text bases old new) (λ files to. record {
       units = to.units;
       link = to.link;
       placed = Placed-carried to.units strip file bases to.file_is placed;
@@ -71,7 +71,7 @@ HaveRead-written inputs strip text bases file told old new read placed tells wri
 
 -- If the inputs were not linked, nothing was written.
 pub IsUnitsFault-unlinked : {A : Type 0} (strip : Bool) (text : List ObjectUnit → List ℕ → List ℕ) (bases : List ℕ) (inputs : List Input) (taken : Option (List ℕ)) (failed : Bool) (fault : ToolFault A)
-    → IsUnlinked strip inputs fault → IsUnitsFault strip text bases inputs (record { old = taken; new = taken; failed = failed }) fault
+    → IsUnlinked false strip inputs fault → IsUnitsFault strip text bases inputs (record { old = taken; new = taken; failed = failed }) fault
 IsUnitsFault-unlinked strip text bases inputs taken failed (tool_fault.Input file fault) is = (is, Keeps-refl taken)
 IsUnitsFault-unlinked strip text bases inputs taken failed (tool_fault.InputDevice file) is = (is, Keeps-refl taken)
 IsUnitsFault-unlinked strip text bases inputs taken failed (tool_fault.Link refusal) is = (is, Keeps-refl taken)
@@ -80,16 +80,16 @@ IsUnitsFault-unlinked strip text bases inputs taken failed (tool_fault.Output wr
 IsUnitsFault-unlinked strip text bases inputs taken failed (tool_fault.OutOfMemory written) is = (is, Keeps-refl taken)
 
 -- Where their hunks cannot be placed.
-pub HaveRead-not_placed : (inputs : List Input) (strip : Bool) (bases : List ℕ) (file : List FileHunk) (fault : PlaceFault) → HaveRead inputs (LinkTo strip file)
+pub HaveRead-not_placed : (inputs : List Input) (strip : Bool) (bases : List ℕ) (file : List FileHunk) (fault : PlaceFault) → HaveRead inputs (LinkTo false strip file)
     → IsFirstRefusal (sizes_of file) bases fault → HaveRead inputs (AreNotPlaced strip bases fault)
 HaveRead-not_placed inputs strip bases file fault read first =
-    HaveRead-weaker inputs (LinkTo strip file) (AreNotPlaced strip bases fault)
+    HaveRead-weaker inputs (LinkTo false strip file) (AreNotPlaced strip bases fault)
     (λ files to. record { units = to.units; link = to.link; first = FirstRefusal-carried to.units strip file bases fault to.file_is first }) read
 
-HaveRead-cut_short : (inputs : List Input) (strip : Bool) (text : List ObjectUnit → List ℕ → List ℕ) (bases : List ℕ) (file : List FileHunk) (told : List ℕ) (old new : Option (List ℕ)) (written : ℕ) → HaveRead inputs (LinkTo strip file)
+HaveRead-cut_short : (inputs : List Input) (strip : Bool) (text : List ObjectUnit → List ℕ → List ℕ) (bases : List ℕ) (file : List FileHunk) (told : List ℕ) (old new : Option (List ℕ)) (written : ℕ) → HaveRead inputs (LinkTo false strip file)
     → Placed (sizes_of file) bases → TellsUnits strip text bases file told → TookFront old new told written → HaveRead inputs (AreCutShort strip text bases old new written)
 HaveRead-cut_short inputs strip text bases file told old new written read placed tells front =
-    HaveRead-weaker inputs (LinkTo strip file) (AreCutShort strip text bases old new written) (λ files to. record {
+    HaveRead-weaker inputs (LinkTo false strip file) (AreCutShort strip text bases old new written) (λ files to. record {
       units = to.units;
       link = to.link;
       placed = Placed-carried to.units strip file bases to.file_is placed;
@@ -98,7 +98,7 @@ HaveRead-cut_short inputs strip text bases file told old new written read placed
 
 -- Where writing the text stopped.
 pub IsUnitsFault-written : (A : Type 0) {W : Type 0} (taken : W → Option (List ℕ)) (failed : W → Bool) (old new : W) (strip : Bool) (text : List ObjectUnit → List ℕ → List ℕ) (bases : List ℕ) (inputs : List Input) (file : List FileHunk) (told : List ℕ) (fault : WriteFault)
-    → HaveRead inputs (LinkTo strip file) → Placed (sizes_of file) bases → TellsUnits strip text bases file told → IsDevice fault → WriteStopped taken failed old new told fault
+    → HaveRead inputs (LinkTo false strip file) → Placed (sizes_of file) bases → TellsUnits strip text bases file told → IsDevice fault → WriteStopped taken failed old new told fault
     → IsUnitsFault strip text bases inputs (record { old = taken old; new = taken new; failed = failed new }) (tool_fault_of_write {A = A} fault)
 IsUnitsFault-written A taken failed old new strip text bases inputs file told (write_fault.Device written) read placed tells device stopped =
     (HaveRead-cut_short inputs strip text bases file told (taken old) (taken new) written read placed tells stopped.0, stopped.1)
@@ -111,13 +111,13 @@ symbols-tell form bases file units typed is = ap (λ hunks. symbols_text form hu
 
 -- The symbols of the load file that units make were written, or why they were not.
 pub IsUnitsText-placed : {A : Type 0} (inputs : List Input) (form : SymbolForm) (bases : List ℕ) (file : List FileHunk) (taken : Taken) (result : Result Unit A)
-    → HaveRead inputs (LinkTo false file) → OnOk result (IsPlacedText (symbols_text form) file bases taken) → OnOk result (HaveRead inputs (IsUnitsText false (unit_symbols_text form) bases taken.old taken.new))
+    → HaveRead inputs (LinkTo false false file) → OnOk result (IsPlacedText (symbols_text form) file bases taken) → OnOk result (HaveRead inputs (IsUnitsText false (unit_symbols_text form) bases taken.old taken.new))
 IsUnitsText-placed inputs form bases file taken (Ok done) read (placed, written) =
     HaveRead-written inputs false (unit_symbols_text form) bases file (symbols_text form file bases) taken.old taken.new read placed (symbols-tell form bases file) written
 IsUnitsText-placed inputs form bases file taken (Err fault) read is = is
 
 pub IsUnitsFault-placed : (A : Type 0) (inputs : List Input) (form : SymbolForm) (bases : List ℕ) (file : List FileHunk) (taken : Taken) (fault : ToolFault A)
-    → HaveRead inputs (LinkTo false file) → IsPlacedFault (symbols_text form) file bases taken fault → IsUnitsFault false (unit_symbols_text form) bases inputs taken fault
+    → HaveRead inputs (LinkTo false false file) → IsPlacedFault (symbols_text form) file bases taken fault → IsUnitsFault false (unit_symbols_text form) bases inputs taken fault
 IsUnitsFault-placed A inputs form bases file taken (tool_fault.Input at fault) read is = absurd is
 IsUnitsFault-placed A inputs form bases file taken (tool_fault.InputDevice at) read is = absurd is
 IsUnitsFault-placed A inputs form bases file taken (tool_fault.Link refusal) read is = absurd is

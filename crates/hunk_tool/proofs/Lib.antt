@@ -15,6 +15,7 @@ pub mod CopyLawsLemmas
 pub mod CompareLawsLemmas
 pub mod ImageLemmas
 pub mod ObjectFilesLemmas
+pub mod LinkedUnitsLemmas
 pub mod MapLemmas
 pub mod OriginsLemmas
 pub mod OriginLemmas

@@ -33,8 +33,9 @@ use Rattle.hunk_link.specs.Linkable.{IsLinkRefusal, Linkable}
 use Rattle.hunk_link.specs.declared.refusal.LinkRefusal.{LinkRefusal}
 use Rattle.hunk_link.specs.declared.refusal.LinkRefusal.TheVariants as link_refusal
 use Rattle.hunk_tool.specs.Inputs.{AreObjects, HaveRead, Input, IsInputFault}
-use Rattle.hunk_tool.specs.Link.{IsLinkCutShort, IsLinkFault, IsLinked, IsNotLinked, IsUnlinked, LinkTo}
+use Rattle.hunk_tool.specs.Link.{DoLink, IsLinkCutShort, IsLinkFault, IsLinked, IsNotLinked, IsUnlinked, LinkTo}
 use Rattle.hunk_tool.specs.LinkOptions.{form_of, trimmed_if}
+use Rattle.hunk_tool.specs.LinkedUnits.{linked_units, strips}
 use Rattle.hunk_tool.specs.declared.link_options.LinkOptions.{LinkOptions}
 use Rattle.hunk_tool.specs.ToolFault.{tool_fault_of_link, tool_fault_of_write}
 use Rattle.hunk_tool.specs.declared.tool_fault.ToolFault.{ToolFault}
@@ -76,16 +77,25 @@ bytes-chosen options file hunks form form_is hunks_are = ap₂ (λ f hs. bytes_o
 
 -- ---- the load file of inputs
 
-pub HaveRead-link_to : (inputs : List Input) (strip : Bool) (units : List ObjectUnit) (file : List FileHunk) → HaveRead inputs (λ files. AreObjects files units)
-    → All IsUnit units → Linkable units strip → file ≡ carried units strip → HaveRead inputs (LinkTo strip file)
-HaveRead-link_to inputs strip units file read typed linkable is =
-    HaveRead-weaker inputs (λ files. AreObjects files units) (LinkTo strip file)
-    (λ files are. record { units = units; link = record { are = are; typed = typed; linkable = linkable }; file_is = is }) read
+-- The units link as they are linked.
+pub DoLink-as : (globals strip : Bool) (units linked : List ObjectUnit) (how : Bool) → linked ≡ linked_units globals strip units → how ≡ strips globals strip
+    → (files : List (List ℕ)) → AreObjects files units → All IsUnit linked → Linkable linked how → DoLink globals strip files units
+DoLink-as globals strip units linked how linked_are how_is files are typed linkable = record {
+  are = are;
+  typed = subst (All IsUnit) linked_are typed;
+  linkable = subst (λ h. Linkable (linked_units globals strip units) h) how_is (subst (λ (us : List ObjectUnit). Linkable us how) linked_are linkable);
+}
 
-pub IsLinked-written : (inputs : List Input) (options : LinkOptions) (file : List FileHunk) (old new : Option (List ℕ)) → HaveRead inputs (LinkTo options.strip file)
-    → IsLoadFile (trimmed_if options.trim file) → IsShortEnough file → Appends old new (bytes_of (written_in (form_of options) (trimmed_if options.trim file))) → HaveRead inputs (IsLinked options old new)
-IsLinked-written inputs options file old new read valid short written =
-    HaveRead-weaker inputs (LinkTo options.strip file) (IsLinked options old new) (λ files to. record {
+pub HaveRead-link_to : (inputs : List Input) (globals strip : Bool) (units linked : List ObjectUnit) (how : Bool) (file : List FileHunk) → linked ≡ linked_units globals strip units → how ≡ strips globals strip
+    → HaveRead inputs (λ files. AreObjects files units) → All IsUnit linked → Linkable linked how → file ≡ carried linked how → HaveRead inputs (LinkTo globals strip file)
+HaveRead-link_to inputs globals strip units linked how file linked_are how_is read typed linkable is =
+    HaveRead-weaker inputs (λ files. AreObjects files units) (LinkTo globals strip file)
+    (λ files are. record { units = units; link = DoLink-as globals strip units linked how linked_are how_is files are typed linkable; file_is = is ∙ ap₂ carried linked_are how_is }) read
+
+pub IsLinked-written : (inputs : List Input) (globals : Bool) (options : LinkOptions) (file : List FileHunk) (old new : Option (List ℕ)) → HaveRead inputs (LinkTo globals options.strip file)
+    → IsLoadFile (trimmed_if options.trim file) → IsShortEnough file → Appends old new (bytes_of (written_in (form_of options) (trimmed_if options.trim file))) → HaveRead inputs (IsLinked globals options old new)
+IsLinked-written inputs globals options file old new read valid short written =
+    HaveRead-weaker inputs (LinkTo globals options.strip file) (IsLinked globals options old new) (λ files to. record {
       units = to.units;
       link = to.link;
       is_load = subst (λ hunks. IsLoadOf (trimmed_if options.trim hunks) (bytes_of (written_in (form_of options) (trimmed_if options.trim hunks)))) to.file_is (linked_bytes-are_load (form_of options) options.trim file valid short);
@@ -94,21 +104,23 @@ IsLinked-written inputs options file old new read valid short written =
 
 -- ---- faults
 
-pub IsUnlinked-read : {A : Type 0} (strip : Bool) (inputs : List Input) (fault : ToolFault A) → IsInputFault inputs fault → IsUnlinked strip inputs fault
-IsUnlinked-read strip inputs (tool_fault.Input file fault) is = is
-IsUnlinked-read strip inputs (tool_fault.InputDevice file) is = is
-IsUnlinked-read strip inputs (tool_fault.Link refusal) is = absurd is
-IsUnlinked-read strip inputs (tool_fault.Place fault) is = is
-IsUnlinked-read strip inputs (tool_fault.Output written) is = is
-IsUnlinked-read strip inputs (tool_fault.OutOfMemory written) is = is
+pub IsUnlinked-read : {A : Type 0} (globals strip : Bool) (inputs : List Input) (fault : ToolFault A) → IsInputFault inputs fault → IsUnlinked globals strip inputs fault
+IsUnlinked-read globals strip inputs (tool_fault.Input file fault) is = is
+IsUnlinked-read globals strip inputs (tool_fault.InputDevice file) is = is
+IsUnlinked-read globals strip inputs (tool_fault.Link refusal) is = absurd is
+IsUnlinked-read globals strip inputs (tool_fault.Place fault) is = is
+IsUnlinked-read globals strip inputs (tool_fault.Output written) is = is
+IsUnlinked-read globals strip inputs (tool_fault.OutOfMemory written) is = is
 
 -- The units that were read do not link.
-pub IsUnlinked-link : {A : Type 0} (strip : Bool) (inputs : List Input) (units : List ObjectUnit) (refusal : LinkRefusal A) → HaveRead inputs (λ files. AreObjects files units)
-    → IsLinkRefusal units strip refusal → IsUnlinked strip inputs (tool_fault_of_link refusal)
-IsUnlinked-link {A = A} strip inputs units refusal read first =
-    go refusal (HaveRead-weaker inputs (λ files. AreObjects files units) (IsNotLinked strip refusal) (λ files are. record { units = units; are = are; first = first }) read)
+pub IsUnlinked-link : {A : Type 0} (globals strip : Bool) (inputs : List Input) (units linked : List ObjectUnit) (how : Bool) (refusal : LinkRefusal A) → linked ≡ linked_units globals strip units → how ≡ strips globals strip
+    → HaveRead inputs (λ files. AreObjects files units) → IsLinkRefusal linked how refusal → IsUnlinked globals strip inputs (tool_fault_of_link refusal)
+IsUnlinked-link {A = A} globals strip inputs units linked how refusal linked_are how_is read first =
+    let first_as : IsLinkRefusal (linked_units globals strip units) (strips globals strip) refusal =
+    subst (λ h. IsLinkRefusal (linked_units globals strip units) h refusal) how_is (subst (λ (us : List ObjectUnit). IsLinkRefusal us how refusal) linked_are first) in
+    go refusal (HaveRead-weaker inputs (λ files. AreObjects files units) (IsNotLinked globals strip refusal) (λ files are. record { units = units; are = are; first = first_as }) read)
   where
-    go : (refusal : LinkRefusal A) → HaveRead inputs (IsNotLinked strip refusal) → IsUnlinked strip inputs (tool_fault_of_link refusal)
+    go : (refusal : LinkRefusal A) → HaveRead inputs (IsNotLinked globals strip refusal) → IsUnlinked globals strip inputs (tool_fault_of_link refusal)
     go link_refusal.OutOfMemory is = refl
     go link_refusal.NoHunks is = (is, λ same. cc)
     go link_refusal.TooManyHunks is = (is, λ same. cc)
@@ -118,30 +130,30 @@ IsUnlinked-link {A = A} strip inputs units refusal read first =
     go (link_refusal.UndefinedName unit hunk name) is = (is, λ same. cc)
 
 -- Then nothing was written.
-pub IsLinkFault-unlinked : {A : Type 0} (options : LinkOptions) (inputs : List Input) (taken : Option (List ℕ)) (failed : Bool) (fault : ToolFault A)
-    → IsUnlinked options.strip inputs fault → IsLinkFault options inputs (record { old = taken; new = taken; failed = failed }) fault
-IsLinkFault-unlinked options inputs taken failed (tool_fault.Input file fault) is = (is, Keeps-refl taken)
-IsLinkFault-unlinked options inputs taken failed (tool_fault.InputDevice file) is = (is, Keeps-refl taken)
-IsLinkFault-unlinked options inputs taken failed (tool_fault.Link refusal) is = (is, Keeps-refl taken)
-IsLinkFault-unlinked options inputs taken failed (tool_fault.Place fault) is = absurd is
-IsLinkFault-unlinked options inputs taken failed (tool_fault.Output written) is = absurd is
-IsLinkFault-unlinked options inputs taken failed (tool_fault.OutOfMemory written) is = inl (is, Keeps-refl taken)
+pub IsLinkFault-unlinked : {A : Type 0} (globals : Bool) (options : LinkOptions) (inputs : List Input) (taken : Option (List ℕ)) (failed : Bool) (fault : ToolFault A)
+    → IsUnlinked globals options.strip inputs fault → IsLinkFault globals options inputs (record { old = taken; new = taken; failed = failed }) fault
+IsLinkFault-unlinked globals options inputs taken failed (tool_fault.Input file fault) is = (is, Keeps-refl taken)
+IsLinkFault-unlinked globals options inputs taken failed (tool_fault.InputDevice file) is = (is, Keeps-refl taken)
+IsLinkFault-unlinked globals options inputs taken failed (tool_fault.Link refusal) is = (is, Keeps-refl taken)
+IsLinkFault-unlinked globals options inputs taken failed (tool_fault.Place fault) is = absurd is
+IsLinkFault-unlinked globals options inputs taken failed (tool_fault.Output written) is = absurd is
+IsLinkFault-unlinked globals options inputs taken failed (tool_fault.OutOfMemory written) is = inl (is, Keeps-refl taken)
 
-cut_short : (inputs : List Input) (options : LinkOptions) (file : List FileHunk) (old new : Option (List ℕ)) (written : ℕ) → HaveRead inputs (LinkTo options.strip file)
-    → TookFront old new (bytes_of (written_in (form_of options) (trimmed_if options.trim file))) written → HaveRead inputs (IsLinkCutShort options old new written)
-cut_short inputs options file old new written read front =
-    HaveRead-weaker inputs (LinkTo options.strip file) (IsLinkCutShort options old new written) (λ files to. record {
+cut_short : (inputs : List Input) (globals : Bool) (options : LinkOptions) (file : List FileHunk) (old new : Option (List ℕ)) (written : ℕ) → HaveRead inputs (LinkTo globals options.strip file)
+    → TookFront old new (bytes_of (written_in (form_of options) (trimmed_if options.trim file))) written → HaveRead inputs (IsLinkCutShort globals options old new written)
+cut_short inputs globals options file old new written read front =
+    HaveRead-weaker inputs (LinkTo globals options.strip file) (IsLinkCutShort globals options old new written) (λ files to. record {
       units = to.units;
       link = to.link;
       front = subst (λ hunks. TookFront old new (bytes_of (written_in (form_of options) (trimmed_if options.trim hunks))) written) to.file_is front;
     }) read
 
 -- Where writing the load file stopped.
-pub IsLinkFault-written : (A : Type 0) {W : Type 0} (taken : W → Option (List ℕ)) (failed : W → Bool) (old new : W) (options : LinkOptions) (inputs : List Input) (file : List FileHunk) (fault : WriteFault)
-    → HaveRead inputs (LinkTo options.strip file) → WriteStopped taken failed old new (bytes_of (written_in (form_of options) (trimmed_if options.trim file))) fault
-    → IsLinkFault options inputs (record { old = taken old; new = taken new; failed = failed new }) (tool_fault_of_write {A = A} fault)
-IsLinkFault-written A taken failed old new options inputs file (write_fault.Device written) read stopped = (cut_short inputs options file (taken old) (taken new) written read stopped.0, stopped.1)
-IsLinkFault-written A taken failed old new options inputs file (write_fault.OutOfMemory written) read stopped = inr (cut_short inputs options file (taken old) (taken new) written read stopped.0)
+pub IsLinkFault-written : (A : Type 0) {W : Type 0} (taken : W → Option (List ℕ)) (failed : W → Bool) (old new : W) (globals : Bool) (options : LinkOptions) (inputs : List Input) (file : List FileHunk) (fault : WriteFault)
+    → HaveRead inputs (LinkTo globals options.strip file) → WriteStopped taken failed old new (bytes_of (written_in (form_of options) (trimmed_if options.trim file))) fault
+    → IsLinkFault globals options inputs (record { old = taken old; new = taken new; failed = failed new }) (tool_fault_of_write {A = A} fault)
+IsLinkFault-written A taken failed old new globals options inputs file (write_fault.Device written) read stopped = (cut_short inputs globals options file (taken old) (taken new) written read stopped.0, stopped.1)
+IsLinkFault-written A taken failed old new globals options inputs file (write_fault.OutOfMemory written) read stopped = inr (cut_short inputs globals options file (taken old) (taken new) written read stopped.0)
 
 -- ---- trimming
 

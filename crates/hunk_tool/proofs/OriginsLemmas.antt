@@ -2,13 +2,16 @@
 use Rattle.std.proofs.Common.{◌≡◌, ◌∙◌, ℕ, suc, ◌+◌, List, [], ◌∷◌, ◌++◌, Bool, length, map, refl, sym, ap, ap₂}
 use Rattle.std.proofs.lemmas.List.{map-append}
 use Rattle.hunk_objects.specs.UnitHunk.{ObjectHunk}
-use Rattle.hunk_link.specs.Carried.{carried_ranked}
+use Rattle.hunk_objects.specs.ProgramUnit.{ObjectUnit}
+use Rattle.hunk_link.specs.Carried.{carried, carried_ranked}
 use Rattle.hunk_link.specs.Ranks.{RankedHunk, hunks_from, hunks_of, unit_hunks}
 use Rattle.hunk_link.specs.SymbolTable.{Table, table_of}
 use Rattle.hunk_link.proofs.RanksLemmas.{hunks_behind}
 use Rattle.hunk_tool.specs.Laws.{Form, HunksAreOfOrigins, linked_form, origin_form}
+use Rattle.hunk_tool.specs.LinkedUnits.{linked_files, strips}
 use Rattle.hunk_tool.specs.ObjectFiles.{FileUnit, units_of}
 use Rattle.hunk_tool.specs.Origins.{origins, origins_from, unit_origins}
+use Rattle.hunk_tool.proofs.LinkedUnitsLemmas.{origins-linked, units_of-linked}
 
 abbrev form_of : ObjectHunk → Form
 form_of hunk = (hunk.kind, hunk.memory, hunk.size)
@@ -34,4 +37,8 @@ all-forms unit first (u ∷ units) =
     ∙ sym (map-append origin_form (unit_origins u) (origins units))
 
 pub hunks_are_of_origins : HunksAreOfOrigins
-hunks_are_of_origins units strip = carried-forms (table_of (hunks_of (units_of units))) strip (hunks_of (units_of units)) ∙ all-forms 0 0 units
+hunks_are_of_origins units globals strip =
+    let linked = linked_files globals strip units in
+    ap (λ (us : List ObjectUnit). map linked_form (carried us (strips globals strip))) (sym (units_of-linked globals strip units))
+    ∙ carried-forms (table_of (hunks_of (units_of linked))) (strips globals strip) (hunks_of (units_of linked)) ∙ all-forms 0 0 linked
+    ∙ origins-linked origin_form (λ stripped origin. refl) globals strip units

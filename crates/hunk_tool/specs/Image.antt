@@ -1,5 +1,5 @@
 -- What it means that the memory that object files define was written, or why it was not.
-use Rattle.std.specs.Prelude.{ℕ, List, map, Bool, true, IsTrue, Option}
+use Rattle.std.specs.Prelude.{ℕ, List, map, Bool, true, false, IsTrue, Option}
 use Rattle.std.specs.Io.KnownBytes.{Appends, Keeps}
 use Rattle.hunk_base.specs.Streams.{TookFront}
 use Rattle.hunk_objects.specs.ProgramUnit.{ObjectUnit}
@@ -22,21 +22,21 @@ ranked_sizes units = map (λ ranked. ranked.hunk.size) (hunks_of units)
 -- their units at these placed bases was written.
 pub record IsUnitsText (strip : Bool) (text : List ObjectUnit → List ℕ → List ℕ) (bases : List ℕ) (old new : Option (List ℕ)) (files : List (List ℕ)) : Type 0 where
   pub units : List ObjectUnit
-  pub link : DoLink strip files units
+  pub link : DoLink false strip files units
   pub placed : Placed (ranked_sizes units) bases
   pub written : Appends old new (text units bases)
 
 -- They link and are placed, and the writer took exactly the first `written` bytes of the text.
 pub record AreCutShort (strip : Bool) (text : List ObjectUnit → List ℕ → List ℕ) (bases : List ℕ) (old new : Option (List ℕ)) (written : ℕ) (files : List (List ℕ)) : Type 0 where
   pub units : List ObjectUnit
-  pub link : DoLink strip files units
+  pub link : DoLink false strip files units
   pub placed : Placed (ranked_sizes units) bases
   pub front : TookFront old new (text units bases) written
 
 -- They link, and their hunks cannot be placed at the bases, with this as the first fault.
 pub record AreNotPlaced (strip : Bool) (bases : List ℕ) (fault : PlaceFault) (files : List (List ℕ)) : Type 0 where
   pub units : List ObjectUnit
-  pub link : DoLink strip files units
+  pub link : DoLink false strip files units
   pub first : IsFirstRefusal (ranked_sizes units) bases fault
 
 -- Why the text was not written, or not in full. Nothing was written before all inputs were read, their units
@@ -45,7 +45,7 @@ abbrev pub IsUnitsFault : {A : Type 0} → (strip : Bool) → (text : List Objec
 IsUnitsFault strip text bases inputs taken (Place fault) = HaveRead inputs (AreNotPlaced strip bases fault) × Keeps taken.old taken.new
 IsUnitsFault strip text bases inputs taken (Output written) =
     HaveRead inputs (AreCutShort strip text bases taken.old taken.new written) × IsTrue taken.failed
-IsUnitsFault strip text bases inputs taken fault = IsUnlinked strip inputs fault × Keeps taken.old taken.new
+IsUnitsFault strip text bases inputs taken fault = IsUnlinked false strip inputs fault × Keeps taken.old taken.new
 
 -- ---- the memory
 

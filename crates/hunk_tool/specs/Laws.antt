@@ -6,12 +6,12 @@ use Rattle.hunk_words.specs.declared.kinds.HunkKind.{HunkKind}
 use Rattle.hunk_words.specs.declared.kinds.Memory.{Memory}
 use Rattle.hunk_loadfile.specs.LoadHunk.{FileHunk}
 use Rattle.hunk_loadfile.specs.LoadFile.{IsLoadOf}
-use Rattle.hunk_link.specs.Carried.{carried}
 use Rattle.hunk_loader.specs.ImageLoader.{IsNotPlaced, LoadsAs}
 use Rattle.hunk_loader.specs.declared.places.PlaceFault.{PlaceFault}
 use Rattle.hunk_loader.specs.ImageReader.{IsRefused}
 use Rattle.hunk_files.specs.FileDecoder.{IsRefused as IsFileRefused}
 use Rattle.hunk_files.specs.FileValue.{FileValue, IsOfItsKind}
+use Rattle.hunk_tool.specs.LinkedUnits.{carried_with}
 use Rattle.hunk_tool.specs.Load.{IsReported}
 use Rattle.hunk_tool.specs.ObjectFiles.{FileUnit, units_of}
 use Rattle.hunk_tool.specs.Origins.{Origin, origins}
@@ -80,4 +80,4 @@ origin_form origin = (origin.hunk.kind, origin.hunk.memory, origin.hunk.size)
 
 -- The hunks of a load file have the kinds, the memories and the sizes of the hunks that they are from.
 abbrev pub HunksAreOfOrigins : Type 0
-HunksAreOfOrigins = (units : List FileUnit) (strip : Bool) → map linked_form (carried (units_of units) strip) ≡ map origin_form (origins units)
+HunksAreOfOrigins = (units : List FileUnit) (globals strip : Bool) → map linked_form (carried_with globals strip (units_of units)) ≡ map origin_form (origins units)

@@ -16,6 +16,7 @@ pub mod Compare
 pub mod CopyLaws
 pub mod Image
 pub mod ObjectFiles
+pub mod LinkedUnits
 pub mod Origins
 pub mod ShownName
 pub mod OriginText

@@ -2,10 +2,10 @@
 use Rattle.std.specs.Prelude.{◌≡◌, ℕ, Bool, List, ◌++◌, codes}
 use Rattle.std.specs.List.{enumerate_from, flat_map, zip}
 use Rattle.hunk_loadfile.specs.LoadHunk.{FileHunk}
-use Rattle.hunk_link.specs.Carried.{carried}
 use Rattle.hunk_text.specs.Listing.{definition_line, hunk_front}
 use Rattle.hunk_base.specs.Text.{line}
 use Rattle.hunk_tool.specs.Link.{DoLink}
+use Rattle.hunk_tool.specs.LinkedUnits.{carried_with, linked_files}
 use Rattle.hunk_tool.specs.ObjectFiles.{AreFileUnits, FileUnit, units_of}
 use Rattle.hunk_tool.specs.OriginText.{origin_text}
 use Rattle.hunk_tool.specs.Origins.{Origin, origins}
@@ -31,9 +31,11 @@ map_text names file units = map_from names 0 file (origins units)
 
 -- ---- what linking tells
 
--- The files are object files with these units, which link, and this is the load file of them, before
--- it is trimmed.
-pub record LinkFiles (strip : Bool) (units : List FileUnit) (file : List FileHunk) (files : List (List ℕ)) : Type 0 where
+-- The files are object files whose units link, these are the units as they are linked, and this is the load file of
+-- them, before it is trimmed.
+pub record LinkFiles (globals strip : Bool) (linked : List FileUnit) (file : List FileHunk) (files : List (List ℕ)) : Type 0 where
+  pub units : List FileUnit
   pub are : AreFileUnits units files
-  pub link : DoLink strip files (units_of units)
-  pub file_is : file ≡ carried (units_of units) strip
+  pub linked_are : linked ≡ linked_files globals strip units
+  pub link : DoLink globals strip files (units_of units)
+  pub file_is : file ≡ carried_with globals strip (units_of units)

@@ -61,7 +61,7 @@ pub fn image_run_with<A: Allocator + Copy, R: Source, W: Sink>(
     ensures err { IfErr result (IsImageFault form bases.now (inputs_of R.left R.failed R.ended inputs.old inputs.new)
         (record { old = W.taken writer.old; new = W.taken writer.new; failed = W.failed writer.new })) }
 {
-    let file = link_inputs(alloc, inputs, true, hasher)?;
+    let file = link_inputs(alloc, inputs, true, false, hasher)?;
     // What `write_image` requires of the image follows from the rules for load files, which `hunks`
     // states for this one.
     let _hunks = file.hunks();

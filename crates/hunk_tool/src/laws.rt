@@ -36,13 +36,14 @@ pub fn hunks_are_of_origins()
 {}
 
 /// The headline, over values: the load file that units make, with or without their symbols and debug
-/// blocks, has in memory, at any bases, exactly what the units define directly.
+/// blocks, and with their definitions as symbols or not, has in memory, at any bases, exactly what the
+/// units define directly.
 pub fn loaded_is_direct()
     ensures bytes { LoadedIsDirect }
     ensures memory { MemoryIsDirect }
 {}
 
-/// The headline, over bytes: whatever [`link_run`](crate::link_run) appends, read in any pieces and
+/// The headline, over bytes: whatever [`link_run_with`](crate::link_run_with) appends, read in any pieces and
 /// loaded by [`load_run_with`](crate::load_run_with), has the image, in each form, that
 /// [`image_run_with`](crate::image_run_with) writes of the same inputs, and no other.
 pub fn linked_is_reported()

@@ -10,6 +10,7 @@
 //! - `link`: links object files and writes the load file.
 //! - `link_options`: how object files are linked, and how their load file is written.
 //! - `object_files`: the object files that an operation reads: their units, with their places.
+//! - `linked_units`: the units that are linked: those that were read, or with the names that they define as symbols.
 //! - `origins`: where the hunks of a link are from; `origin_text`: the text of that.
 //! - `map`: the map of a link: where each hunk is from.
 //! - `copy`: copies a load file, in another form.
@@ -44,6 +45,7 @@ pub mod link_explanation;
 mod link_explanation_text;
 mod link_line;
 pub mod link_options;
+mod linked_units;
 pub mod load;
 pub mod map;
 pub mod named_files;

@@ -9,6 +9,7 @@ ghost use Rattle.hunk_base.specs.Text.{Puts};
 ghost use Rattle.hunk_tool.specs.Origins.{origins, unit_origins};
 
 use crate::file_name::FileName;
+use crate::linked_units::strips;
 use crate::object_files::{ObjectFiles, UnitPlace, read_object_files};
 use crate::origin_text::write_origin;
 use crate::origins::Origin;
@@ -20,8 +21,9 @@ use hunk_text::{write_definitions, write_hunk_front};
 use hunk_words::{Sink, Source, Text};
 use std::alloc::Allocator;
 
-/// Reads and links as [`link_inputs`](crate::link_inputs) does, and keeps the units that it read, for
-/// [`write_map`]. The load file has a copy of what they contain.
+/// Reads and links as [`link_inputs`](crate::link_inputs) does, and keeps the units that it linked, for
+/// [`write_map`]. The load file has a copy of what they contain. The map of the units that were read is
+/// the same, since it tells no symbols.
 ///
 /// # Errors
 ///
@@ -30,14 +32,17 @@ pub fn link_files<A: Allocator + Copy, R: Source>(
     alloc: A,
     inputs: &mut [R],
     strip: bool,
+    globals: bool,
     hasher: NameHasher,
 ) -> Result<(ObjectFiles<A>, LoadFile<A>), ToolFault<A>>
-    ensures linked { IfOk result (λ linked. HaveRead (inputs_of R.left R.failed R.ended inputs.old inputs.new) (LinkFiles strip linked.0 linked.1)) }
+    ensures linked { IfOk result (λ linked. HaveRead (inputs_of R.left R.failed R.ended inputs.old inputs.new) (LinkFiles globals strip linked.0 linked.1)) }
     ensures short { IfOk result (λ linked. IsShortEnough linked.1) }
     ensures matched { IfOk result (λ linked. length (origins linked.0) ≡ length linked.1) }
-    ensures unlinked { IfErr result (IsUnlinked strip (inputs_of R.left R.failed R.ended inputs.old inputs.new)) }
+    ensures unlinked { IfErr result (IsUnlinked globals strip (inputs_of R.left R.failed R.ended inputs.old inputs.new)) }
 {
-    let files = read_object_files(alloc, inputs)?;
+    let read = read_object_files(alloc, inputs)?;
+    let files = read.linked(alloc, globals, strip, hasher)?;
+    let strip = strips(globals, strip);
     let file = link_with(alloc, files.units(), strip, hasher)?;
     Ok((files, file))
 }

@@ -2,9 +2,12 @@
 
 ghost use Rattle.std.specs.Prelude.{◌≡◌, ◌++◌, [], map, IfOk, IfErr};
 ghost use Rattle.hunk_tool.specs.Inputs.{HaveRead, IsInputFault, inputs_of};
+ghost use Rattle.hunk_tool.specs.LinkedUnits.{linked_files};
 ghost use Rattle.hunk_tool.specs.ObjectFiles.{AreFileUnits, placed, places_of, units_of};
 
+use crate::linked_units::linked_units;
 use crate::tool_fault::ToolFault;
+use hunk_link::NameHasher;
 use hunk_objects::{ProgramUnit, read_object};
 use hunk_words::Source;
 use std::alloc::{AllocError, Allocator, Global};
@@ -80,6 +83,25 @@ impl<A: Allocator + Copy> ObjectFiles<A> {
         ensures { result.items ≡ units_of self }
     {
         self.units
+    }
+
+    /// The units as they are linked, at the same places. Names are hashed so.
+    ///
+    /// # Errors
+    ///
+    /// [`AllocError`] only if an allocation failed. All units are dropped then.
+    pub(crate) fn linked(
+        self,
+        alloc: A,
+        globals: bool,
+        strip: bool,
+        hasher: NameHasher,
+    ) -> Result<Self, AllocError>
+        ensures { IfOk result (λ files. files ≡ linked_files globals strip self) }
+    {
+        let ObjectFiles { places, units } = self;
+        let units = linked_units(alloc, units, globals, strip, hasher)?;
+        Ok(ObjectFiles { places, units })
     }
 
     /// The places of the units.

@@ -87,7 +87,7 @@ pub fn image_symbols_run<A: Allocator + Copy, R: Source, W: Sink>(
     ensures err { IfErr result (IsUnitsFault false (unit_symbols_text form) bases.now (inputs_of R.left R.failed R.ended inputs.old inputs.new)
         (record { old = W.taken writer.old; new = W.taken writer.new; failed = W.failed writer.new })) }
 {
-    let file = link_inputs(alloc, inputs, false, hasher)?;
+    let file = link_inputs(alloc, inputs, false, false, hasher)?;
     write_symbols(alloc, &file, bases, form, writer)
 }
 

@@ -79,7 +79,7 @@ IsNoObject-next objects count object units fault within is are refused =
 
 -- The bytes are the load file of the units.
 pub IsLinked-written : (files : List (List ℕ)) (units : List ObjectUnit) (program : List FileHunk) (bytes : List ℕ) → AreObjects files units → All IsUnit units → Linkable units false
-    → program ≡ carried units false → IsLoadFile program → IsShortEnough program → bytes ≡ bytes_of (written_in Plain program) → IsLinked plain (Some []) (Some bytes) files
+    → program ≡ carried units false → IsLoadFile program → IsShortEnough program → bytes ≡ bytes_of (written_in Plain program) → IsLinked false plain (Some []) (Some bytes) files
 IsLinked-written files units program bytes are typed linkable program_is valid short bytes_are = record {
   units = units;
   link = record { are = are; typed = typed; linkable = linkable };
@@ -91,7 +91,7 @@ IsLinked-written files units program bytes are typed linkable program_is valid s
 pub IsNotLinked-refused : (files : List (List ℕ)) (units : List ObjectUnit) (refusal : LinkRefusal Global) → AreObjects files units → IsLinkRefusal units false refusal → IsNotLinked files (tool_fault_of_link refusal)
 IsNotLinked-refused files units refusal are first = go refusal (record { units = units; are = are; first = first })
   where
-    go : (refusal : LinkRefusal Global) → AreNotLinked false refusal files → IsNotLinked files (tool_fault_of_link refusal)
+    go : (refusal : LinkRefusal Global) → AreNotLinked false false refusal files → IsNotLinked files (tool_fault_of_link refusal)
     go link_refusal.OutOfMemory is = refl
     go link_refusal.NoHunks is = (is, λ same. cc)
     go link_refusal.TooManyHunks is = (is, λ same. cc)

@@ -33,6 +33,6 @@ pub record IsNoObject (files : List (List ℕ)) (number : ℕ) (fault : Fault) :
 -- units do not link; or an allocation failed.
 abbrev pub IsNotLinked : List (List ℕ) → ToolFault Global → Type 0
 IsNotLinked files (Input file fault) = IsNoObject files file fault
-IsNotLinked files (Link refusal) = AreNotLinked false refusal files × (refusal ≢ link_refusal.OutOfMemory)
+IsNotLinked files (Link refusal) = AreNotLinked false false refusal files × (refusal ≢ link_refusal.OutOfMemory)
 IsNotLinked files (OutOfMemory written) = written ≡ 0
 IsNotLinked files _ = ⊥

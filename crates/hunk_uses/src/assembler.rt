@@ -1,5 +1,5 @@
 //! An assembler that links what it has assembled, in memory.
-ghost use Rattle.std.specs.Prelude.{[], Some, IfOk, IfErr};
+ghost use Rattle.std.specs.Prelude.{[], Some, IfOk, IfErr, false};
 ghost use Rattle.hunk_words.specs.Decoder.{RefusesInput};
 ghost use Rattle.hunk_words.specs.declared.event.FileKind.TheVariants.{Object};
 ghost use Rattle.hunk_objects.specs.ProgramUnit.{IsObjectOf};
@@ -22,7 +22,7 @@ use std::alloc::Global;
 /// - [`ToolFault::Link`] with the first reason why the units do not link.
 /// - [`ToolFault::OutOfMemory`] if an allocation failed.
 pub fn link_objects(alloc: Global, objects: &[Vec<u8>]) -> Result<Vec<u8>, ToolFault>
-    ensures linked { IfOk result (λ program. IsLinked plain (Some []) (Some program.items) (bytes_of_each objects.now)) }
+    ensures linked { IfOk result (λ program. IsLinked false plain (Some []) (Some program.items) (bytes_of_each objects.now)) }
     ensures refused { IfErr result (IsNotLinked (bytes_of_each objects.now)) }
 {
     let mut units = Vec::new(alloc);

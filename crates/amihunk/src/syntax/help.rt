@@ -8,6 +8,9 @@ files in the order given, the units in the order of a file, and the hunks in the
 Neither `--short` nor `--trim` changes the bytes of the hunks in memory, but not every old loader
 reads the short form, which has blocks of type 1020.
 
+With `--globals`, each name that a hunk defines at an offset stays in OUT as a symbol of that hunk, after
+its own symbols, unless it is one of them already. With `--strip` these are the only symbols.
+
 With `--map` it writes to MAP, after OUT, a line for each hunk of the load file, with the file, the
 unit and the hunk that it is from, and below it a line for each name that the hunk defines:
   hunk 0 code any 2 longwords main.o unit 0 \"test\" hunk 0 \"CODE\"
@@ -134,8 +137,9 @@ and values are hexadecimal, and offsets and addresses count bytes.
 With `--json` it prints what the listing tells as one JSON document, on one line, in which all numbers
 are decimal. For example, `amihunk show --json FILE` prints for that load file
   {\"hunks\":[{\"debugs\":[],\"kind\":\"code\",\"memory\":\"any\",\"sites\":[],\"size\":2,\"stored\":1,\"symbols\":[]}],\"kind\":\"load file\"}
-With `--content` as well, each hunk has one more member: the bytes that the file stores of it, in base64.
-Here it is `\"content\":\"TnVOcQ==\"`, behind `\"stored\":1`.
+With `--content` as well, each hunk has two more members: the bytes that the file stores of it, in base64,
+and the offset in the file at which they begin.
+Here they are `\"content\":\"TnVOcQ==\",\"content_offset\":32`, behind `\"stored\":1`.
 
 With `--html` it prints a page for a browser, which needs nothing from outside, and shows the hunks, their
 bytes, their sites, and all names. For example, this makes a page of a program:

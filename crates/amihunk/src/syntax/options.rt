@@ -62,6 +62,15 @@ pub(super) fn trim_flag<'a>(alloc: Global) -> Arg<'a>
     flag(alloc, "trim", help)
 }
 
+/// The flag `--globals`.
+pub(super) fn globals_flag<'a>(alloc: Global) -> Arg<'a>
+    ensures rule { rule_of result ≡ flag_rule (codes "globals") }
+    ensures local { result.global ≡ false }
+{
+    let help = "Keeps the names that hunks define, as symbols of these hunks";
+    flag(alloc, "globals", help)
+}
+
 /// The flag `--srec`.
 pub(super) fn records_flag<'a>(alloc: Global) -> Arg<'a>
     ensures rule { rule_of result ≡ flag_rule (codes "srec") }

@@ -198,6 +198,7 @@ fn link_of(out: &'static str, explain: bool, files: Vec<&'static str>) -> Reques
         out,
         map: None,
         options: PLAIN,
+        globals: false,
         explain,
         files,
         list: None,

@@ -25,6 +25,7 @@ fn link_of<'a>(
         out,
         map: None,
         options: PLAIN,
+        globals: false,
         explain: false,
         files: files.to_vec(alloc)?,
         list,

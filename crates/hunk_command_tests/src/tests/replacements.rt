@@ -289,6 +289,7 @@ fn long_ends(
         out: "out",
         map: None,
         options: PLAIN,
+        globals: false,
         explain: false,
         files: ["loop"; 300].to_vec(alloc)?,
         list: None,

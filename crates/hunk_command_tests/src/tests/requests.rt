@@ -28,6 +28,7 @@ fn link_ends<'a>(
         out,
         map,
         options: PLAIN,
+        globals: false,
         explain: false,
         files: files.to_vec(alloc)?,
         list: None,

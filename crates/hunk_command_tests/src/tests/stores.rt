@@ -1,7 +1,7 @@
 //! Commands over files in memory.
 
 use super::asserts::{equals, equals_at, holds};
-use crate::samples::{CALLEE, CALLER, ONE_HUNK, ONE_SYMBOL, PLAIN, PROGRAM};
+use crate::samples::{CALLEE, CALLER, ONE_HUNK, ONE_SYMBOL, PLAIN, PROGRAM, WITH_GLOBALS};
 use bumpalo::Bump;
 use hunk_commands::copy::copy;
 use hunk_commands::image::image;
@@ -16,10 +16,12 @@ use std::alloc::{AllocError, Global};
 use std::process::Abort;
 use std::test::Fail;
 
-const STRIPPED: CopyForm = CopyForm::Written(LinkOptions {
+const STRIP: LinkOptions = LinkOptions {
     strip: true,
     ..PLAIN
-});
+};
+
+const STRIPPED: CopyForm = CopyForm::Written(STRIP);
 
 /// An output that keeps nothing back.
 #[derive(Drop)]
@@ -91,7 +93,14 @@ fn links_files_to_one_beside_them(rt: HostRuntime) -> Result<(), Fail> {
     let arena = Bump::new(rt.alloc());
     let mut store = store_in(rt.alloc(), &arena)?;
     for out in ["out", "out", "callee"] {
-        let linked = link(rt.alloc(), &mut store, out, PLAIN, &["caller", "callee"]);
+        let linked = link(
+            rt.alloc(),
+            &mut store,
+            out,
+            PLAIN,
+            false,
+            &["caller", "callee"],
+        );
         equals_at(&rt, &out, linked, Ok(()));
         equals_at(&rt, &out, store.bytes(out), Some(PROGRAM.as_slice()));
         are_unchanged_but(&rt, &store, out);
@@ -105,22 +114,52 @@ fn prints_of_a_linked_file_what_it_prints_of_its_object_files(rt: HostRuntime) -
     let arena = Bump::new(alloc);
     let mut store = store_in(alloc, &arena)?;
     let files = ["caller", "callee"];
-    equals(&rt, link(alloc, &mut store, "out", PLAIN, &files), Ok(()));
+    for globals in [false, true] {
+        let linked = link(alloc, &mut store, "out", PLAIN, globals, &files);
+        equals_at(&rt, &globals, linked, Ok(()));
+        prints_the_image(&rt, alloc, &store, &files)?;
+    }
+    Ok(())
+}
+
+// What `load` prints of `out` is what `image` prints of these files.
+fn prints_the_image(
+    rt: &impl Abort,
+    alloc: Global,
+    store: &MemoryStore<'_>,
+    files: &[&'static str],
+) -> Result<(), Fail> {
     let addresses = Addresses::List("10000,20000");
     for form in [ImageForm::Report, ImageForm::SRecords] {
         let mut loaded = new_output(alloc);
         let text = LoadText::Image(form);
-        let ended = load(alloc, &store, &mut loaded, addresses, text, "out");
-        equals(&rt, ended, Ok(()));
+        let ended = load(alloc, store, &mut loaded, addresses, text, "out");
+        equals(rt, ended, Ok(()));
         let mut imaged = new_output(alloc);
         let text = LoadText::Image(form);
-        let ended = image(alloc, &store, &mut imaged, addresses, text, &files);
-        equals(&rt, ended, Ok(()));
+        let ended = image(alloc, store, &mut imaged, addresses, text, files);
+        equals(rt, ended, Ok(()));
         let text = loaded.sink.into_inner();
-        holds(&rt, &"something is printed", !text.is_empty());
-        equals(&rt, imaged.sink.into_inner().as_slice(), text.as_slice());
+        holds(rt, &"something is printed", !text.is_empty());
+        equals(rt, imaged.sink.into_inner().as_slice(), text.as_slice());
     }
     Ok(())
+}
+
+// The hunk that defines `foo` at 4 has it as a symbol, also without the symbols of the units.
+#[test]
+fn links_files_with_globals(rt: HostRuntime) -> Result<(), Fail> {
+    let alloc = rt.alloc();
+    let arena = Bump::new(alloc);
+    let mut store = store_in(alloc, &arena)?;
+    let files = ["caller", "callee"];
+    for options in [PLAIN, STRIP] {
+        let linked = link(alloc, &mut store, "out", options, true, &files);
+        equals(&rt, linked, Ok(()));
+        equals(&rt, store.bytes("out"), Some(WITH_GLOBALS.as_slice()));
+    }
+    are_unchanged_but(&rt, &store, "out");
+    prints_the_image(&rt, alloc, &store, &files)
 }
 
 #[test]
@@ -140,21 +179,28 @@ fn a_link_that_fails_leaves_every_file_as_it_was(rt: HostRuntime) -> Result<(), 
     let arena = Bump::new(alloc);
     let mut store = store_in(alloc, &arena)?;
     for out in ["callee", "out"] {
-        let unlinked = link(alloc, &mut store, out, PLAIN, &["caller"]);
+        let unlinked = link(alloc, &mut store, out, PLAIN, false, &["caller"]);
         let is_unlinked = matches!(unlinked, Err(Failure::Tool(ToolFault::Link(_))));
         holds(&rt, &out, is_unlinked);
-        let refused = link(alloc, &mut store, out, PLAIN, &["callee", "one-hunk"]);
+        let refused = link(
+            alloc,
+            &mut store,
+            out,
+            PLAIN,
+            false,
+            &["callee", "one-hunk"],
+        );
         let fault = Fault {
             place: 0,
             reason: Reason::WrongStart,
         };
         let input = Failure::Tool(ToolFault::Input { file: 1, fault });
         equals_at(&rt, &out, refused, Err(input));
-        let missing = link(alloc, &mut store, out, PLAIN, &["caller", "x"]);
+        let missing = link(alloc, &mut store, out, PLAIN, false, &["caller", "x"]);
         let unopened = Failure::Opening("x", OpenFault::NotFound);
         equals_at(&rt, &out, missing, Err(unopened));
         let files = ["caller", "callee"];
-        let mapped = link_with_map(alloc, &mut store, out, out, PLAIN, &files, &[]);
+        let mapped = link_with_map(alloc, &mut store, out, out, PLAIN, false, &files, &[]);
         equals_at(&rt, &out, mapped, Err(Failure::SameFile(out)));
         are_unchanged_but(&rt, &store, "");
         equals(&rt, store.bytes("out"), None);
@@ -169,11 +215,11 @@ fn every_file_is_what_it_was_where_memory_runs_out(rt: HostRuntime) -> Result<()
     let arena = Bump::new(alloc);
     let mut store = store_in(alloc, &arena)?;
     let files = ["caller", "callee"];
-    let linked = link(alloc, &mut store, "callee", PLAIN, &files);
+    let linked = link(alloc, &mut store, "callee", PLAIN, false, &files);
     if linked.is_err() {
         equals(&rt, linked, Err(Failure::out_of_memory()));
         are_unchanged_but(&rt, &store, "");
-        let again = link(alloc, &mut store, "callee", PLAIN, &files);
+        let again = link(alloc, &mut store, "callee", PLAIN, false, &files);
         equals(&rt, again, Ok(()));
     }
     equals(&rt, store.bytes("callee"), Some(PROGRAM.as_slice()));

@@ -38,7 +38,7 @@ pub(super) fn link<'a, R: Files + Print + AllocGlobal>(
     files: &[&'a str],
 ) -> Result<(), Failure<'a>> {
     let mut store = store_of(system);
-    link::link(system.alloc(), &mut store, out, options, files)
+    link::link(system.alloc(), &mut store, out, options, false, files)
 }
 
 /// Links files to OUT, and writes the map to MAP.
@@ -57,6 +57,7 @@ pub(super) fn link_with_map<'a, R: Files + Print + AllocGlobal>(
         out,
         map_file,
         options,
+        false,
         files,
         names,
     )

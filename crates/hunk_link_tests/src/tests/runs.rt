@@ -4,7 +4,8 @@ use super::answers::bytes_of;
 use super::asserts::{equals, equals_at, holds};
 use hunk_test_support::KEY;
 use hunk_tool::{
-    LinkOptions, NameHasher, ToolFault, image_run, link_run, link_to_vec, load_run, status_of,
+    LinkOptions, NameHasher, ToolFault, image_run, link_run, link_run_with, link_to_vec, load_run,
+    status_of,
 };
 use hunk_words::{Pieces, Room, Sink, Text};
 use std::alloc::{AllocError, Allocator, Global};
@@ -16,8 +17,12 @@ use std::test::Fail;
 pub(crate) enum Run<'a> {
     /// They are linked as the options say.
     Link { options: LinkOptions },
-    /// They are linked so to a list of bytes, which is written then. Names are hashed with another key.
+    /// They are linked so, and definitions stay as symbols.
+    LinkGlobals { options: LinkOptions },
+    /// They are linked to a list of bytes, which is written then. Names are hashed with another key.
     LinkToVec { options: LinkOptions },
+    /// The same, and definitions stay as symbols.
+    LinkGlobalsToVec { options: LinkOptions },
     /// Their memory at these addresses is reported.
     Image { bases: &'a [u32] },
 }
@@ -32,16 +37,30 @@ impl Run<'_> {
     ) -> Result<(), ToolFault<A>> {
         match self {
             Run::Link { options } => link_run(alloc, inputs, options, writer),
+            Run::LinkGlobals { options } => {
+                let hasher = NameHasher::new(KEY);
+                link_run_with(alloc, inputs, options, true, hasher, writer)
+            }
             Run::LinkToVec { options } => {
                 let hasher = NameHasher::new(KEY);
-                let bytes = link_to_vec(alloc, inputs, options, hasher)?;
-                let mut text = Text::new(writer);
-                text.put(&bytes);
-                Ok(text.finish()?)
+                let bytes = link_to_vec(alloc, inputs, options, false, hasher)?;
+                put(writer, &bytes)
+            }
+            Run::LinkGlobalsToVec { options } => {
+                let hasher = NameHasher::new(KEY);
+                let bytes = link_to_vec(alloc, inputs, options, true, hasher)?;
+                put(writer, &bytes)
             }
             Run::Image { bases } => image_run(alloc, inputs, bases, writer),
         }
     }
+}
+
+// Writes these bytes.
+fn put<A: Allocator + Copy>(writer: &mut Room, bytes: &[u8]) -> Result<(), ToolFault<A>> {
+    let mut text = Text::new(writer);
+    text.put(bytes);
+    Ok(text.finish()?)
 }
 
 /// Readers of these files, at most `most` bytes per read. Of the file with this index, the read with

@@ -87,7 +87,7 @@ fn is_mapped(
         String::from_str(alloc, "t: w/o")?,
     ];
     let mut writer = Room::new(alloc, most, room, false)?;
-    let (files, file) = match link_files(alloc, &mut inputs, strip, NameHasher::new(KEY)) {
+    let (files, file) = match link_files(alloc, &mut inputs, strip, false, NameHasher::new(KEY)) {
         Ok(linked) => linked,
         Err(fault) => panic!(rt; "{fault:?}"),
     };
@@ -132,7 +132,7 @@ fn is_linked(rt: &impl Abort, alloc: Global, refused: u64) -> Result<bool, Fail>
         Pieces::new(bytes_of(alloc, &ONE, &END)?, 64, None),
         Pieces::new(bytes_of(alloc, &TWO, &CODE)?, 64, None),
     ];
-    let got = link_files(&heap, &mut inputs, false, NameHasher::new(KEY));
+    let got = link_files(&heap, &mut inputs, false, false, NameHasher::new(KEY));
     if heap.asked() <= refused {
         holds(rt, &("growth", refused), got.is_ok());
         return Ok(true);

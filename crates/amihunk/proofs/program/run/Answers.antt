@@ -16,9 +16,9 @@ returns g c =
     record {
       line = record { request = request; asked = asked.answer; ends = c.answer.ensures };
       link = λ program options out map_file files is_line plain_out plain_map some plain.
-          ends (calls (to_link out map_file options false files None)) request status (asked.link program options out map_file files is_line plain_out plain_map some plain) c.answer.ensures;
+          ends (calls (to_link out map_file options false false files None)) request status (asked.link program options out map_file files is_line plain_out plain_map some plain) c.answer.ensures;
       brief = λ program options out map_file files is_line plain_out plain_map some plain.
-          ends (calls (to_link out map_file options false files None)) request status (asked.brief program options out map_file files is_line plain_out plain_map some plain) c.answer.ensures;
+          ends (calls (to_link out map_file options false false files None)) request status (asked.brief program options out map_file files is_line plain_out plain_map some plain) c.answer.ensures;
       load = λ program origin text file is_line plain_value plain.
           ends (calls (to_load origin text false file)) request status (asked.load program origin text file is_line plain_value plain) c.answer.ensures;
       image = λ program origin form files is_line plain_value some plain.

@@ -13,7 +13,7 @@ returns-in-Ok g c =
     rw c.in-Some.is (inl (
       known.0,
       known.1,
-      subst (λ files. EndsLinkOf (g.S.FileSystem.content c.args.store.now) (g.S.FileSystem.content c.answer_link_of.new.store) g.W.Sink.taken g.W.Sink.failed c.args.errors.now c.answer_link_of.new.errors c.args.out.now (given_text c.args.map_file) c.args.options c.args.explain files c.answer_link_of.result)
+      subst (λ files. EndsLinkOf (g.S.FileSystem.content c.args.store.now) (g.S.FileSystem.content c.answer_link_of.new.store) g.W.Sink.taken g.W.Sink.failed c.args.errors.now c.answer_link_of.new.errors c.args.out.now (given_text c.args.map_file) c.args.options c.args.globals c.args.explain files c.answer_link_of.result)
           (ap (map string_bytes) c.as_slice-names.ensures.value ∙ known.2) c.answer_link_of.ensures,
     ))
 

@@ -11,7 +11,7 @@ pub returns-in_err-linked-clause-err : goal.returns-in_err-linked-clause-err
 returns-in_err-linked-clause-err g c =
     let p = err_from_is_err_and c.from_residual.result c.from_residual.ensures.1 in
     rw (p.1, p.2)
-    (IsLinkFault-unlinked c.args.options _ (g.W.Sink.taken c.args.writer.now) (g.W.Sink.failed c.args.writer.now) _ c.in_err-linked.ensures.unlinked)
+    (IsLinkFault-unlinked c.args.globals c.args.options _ (g.W.Sink.taken c.args.writer.now) (g.W.Sink.failed c.args.writer.now) _ c.in_err-linked.ensures.unlinked)
 
 pub returns-in_err-write_load_with-clause-err : goal.returns-in_err-write_load_with-clause-err
 returns-in_err-write_load_with-clause-err g c =
@@ -19,11 +19,11 @@ returns-in_err-write_load_with-clause-err g c =
     let fault = c.in_err-write_load_with.field-0.0 in
     let bytes = bytes-chosen c.args.options c.in_ok-linked.linked c.trimmed-file.result c.form.result c.form.ensures c.trimmed-file.ensures in
     rw (p.1, p.2)
-    (IsLinkFault-written g.row.A.Denot g.W.Sink.taken g.W.Sink.failed c.args.writer.now c.write_load_with.new.writer c.args.options _ c.in_ok-linked.linked fault c.in_ok-linked.ensures.linked
+    (IsLinkFault-written g.row.A.Denot g.W.Sink.taken g.W.Sink.failed c.args.writer.now c.write_load_with.new.writer c.args.globals c.args.options _ c.in_ok-linked.linked fault c.in_ok-linked.ensures.linked
     (subst (λ text. WriteStopped g.W.Sink.taken g.W.Sink.failed c.args.writer.now c.write_load_with.new.writer text fault) bytes c.in_err-write_load_with.ensures.wrote))
 
 pub returns-clause-ok : goal.returns-clause-ok
 returns-clause-ok g c =
     let bytes = bytes-chosen c.args.options c.in_ok-linked.linked c.trimmed-file.result c.form.result c.form.ensures c.trimmed-file.ensures in
-    IsLinked-written _ c.args.options c.in_ok-linked.linked _ _ c.in_ok-linked.ensures.linked (subst IsLoadFile c.trimmed-file.ensures (subst IsLoadFile c.file.view_is c.file.invariant)) c.in_ok-linked.ensures.short
+    IsLinked-written _ c.args.globals c.args.options c.in_ok-linked.linked _ _ c.in_ok-linked.ensures.linked (subst IsLoadFile c.trimmed-file.ensures (subst IsLoadFile c.file.view_is c.file.invariant)) c.in_ok-linked.ensures.short
     (subst (λ text. Appends (g.W.Sink.taken c.args.writer.now) (g.W.Sink.taken c.write_load_with.new.writer) text) bytes c.in_ok-write_load_with.ensures.wrote.0)

@@ -12,7 +12,7 @@ invariant_of-self g c =
     let count = length c.self.inside.references.items in
     let among : c.in-Ok.last < count = omega (arith, c.in-Ok.ensures.1, c.in-Some.ensures.0, c.in-Some.ensures.1, c.len.ensures, c.self.inside.references.ok.0) in
     let has = HasSites-site count c.self.inside.partial c.add_site.new.self c.args.offset (adds.Reference c.in-Ok.last) c.add_site.result among e.adds e.refused held.0 in
-    (has, held.1)
+    (has, held.1, held.2)
 
 pub returns-in-Ok-clause-judges : goal.returns-in-Ok-clause-judges
 returns-in-Ok-clause-judges g c = λ limit seen holds.

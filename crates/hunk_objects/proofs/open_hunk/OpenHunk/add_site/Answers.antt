@@ -10,7 +10,7 @@ invariant_of-self g c =
     let e = c.add_site.ensures in
     let held = c.self.invariant in
     let has = HasSites-site (length c.self.inside.references.items) c.self.inside.partial c.add_site.new.self c.args.offset (adds.Hunk c.args.hunk) c.add_site.result tt e.adds e.refused held.0 in
-    (has, held.1)
+    (has, held.1, held.2)
 
 pub returns-clause-judges : goal.returns-clause-judges
 returns-clause-judges g c = λ limit seen holds.

@@ -4,4 +4,4 @@ use Rattle.std.proofs.lemmas.Grind.{common_steps}
 use Rattle.hunk_objects.proofs.open_hunk.OpenHunk.add_symbol.Goals as goal
 
 pub invariant_of-self : goal.invariant_of-self
-invariant_of-self g c = (c.self.invariant.0, grind (arith, common_steps))
+invariant_of-self g c = (c.self.invariant.0, c.self.invariant.1, grind (arith, common_steps))

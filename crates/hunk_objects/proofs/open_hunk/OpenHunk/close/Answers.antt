@@ -20,7 +20,8 @@ invariant_of-result g c =
       limit = ap (λ (s : SiteMap Adds). s.limit) parts.sites ∙ sym whole ∙ ap length (sym parts.content);
       apart = subst AreApart (sym parts.sites) apart;
       adds = subst (λ (s : SiteMap Adds). All (IsAmong (length c.self.inside.references.items)) (values_of s.entries)) (sym parts.sites) held.0;
-      names = subst (λ (xs : List (List ℕ × ℕ)). All (λ symbol. length symbol.0 ≤ most_name) xs) (sym c.into_lists-symbols.ensures.symbols) held.1;
+      defined = held.1;
+      names = subst (λ (xs : List (List ℕ × ℕ)). All (λ symbol. length symbol.0 ≤ most_name) xs) (sym c.into_lists-symbols.ensures.symbols) held.2;
     }
 
 pub returns-clause-valid : goal.returns-clause-valid
