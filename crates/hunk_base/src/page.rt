@@ -19,14 +19,14 @@ pub const SITE_BYTES: u32 = 4;
 /// How many bytes of the hunk a page has.
 pub const PAGE_BYTES: u32 = 4096;
 
-// How many sites the first allocation of a page has room for at least.
+/// How many sites the first allocation of a page has room for at least.
 const FIRST_SITES: usize = 3;
 
-// How many more sites a full page gets room for, where the pages beside it have `near` sites. The first
-// allocation has room for one more than these have, since most files spread their sites evenly. Later
-// ones double it; or they make room for half as many again as the pages beside it have, up to three
-// times what it has itself: in a file that has its offsets target by target, a page gets as many sites
-// from each target as those beside it have got, and they are one target ahead.
+/// How many more sites a full page gets room for, where the pages beside it have `near` sites. The first
+/// allocation has room for one more than these have, since most files spread their sites evenly. Later
+/// ones double it; or they make room for half as many again as the pages beside it have, up to three
+/// times what it has itself: in a file that has its offsets target by target, a page gets as many sites
+/// from each target as those beside it have got, and they are one target ahead.
 fn more_room(sites: usize, near: usize) -> usize {
     if sites == 0 {
         return FIRST_SITES.max(near.saturating_add(1));
@@ -38,7 +38,7 @@ fn more_room(sites: usize, near: usize) -> usize {
         .max(sites)
 }
 
-// How many sites of a page begin before the offset, where they are spread evenly over the page.
+/// How many sites of a page begin before the offset, where they are spread evenly over the page.
 fn likely_count(sites: usize, offset: u32) -> usize
     requires { 4 * sites < 2 ^ 33 }
     ensures { result ≤ sites }
@@ -46,10 +46,10 @@ fn likely_count(sites: usize, offset: u32) -> usize
     sites * (offset % PAGE_BYTES) as usize / PAGE_BYTES as usize
 }
 
-// How many sites of a page begin before the offset. Most files spread them evenly, so a search from the
-// likely count takes a few steps, and reads sites that lie side by side. A binary search reads all over
-// the page, and in files whose relocations stand in no order it waits for memory at most of its steps.
-// The first site is looked at before: in files whose offsets fall, none begins before the offset.
+/// How many sites of a page begin before the offset. Most files spread them evenly, so a search from the
+/// likely count takes a few steps, and reads sites that lie side by side. A binary search reads all over
+/// the page, and in files whose relocations stand in no order it waits for memory at most of its steps.
+/// The first site is looked at before: in files whose offsets fall, none begins before the offset.
 fn count_below<T>(sites: &[(u32, T)], offset: u32) -> usize
     requires { AreSpaced sites.now }
     ensures within { result ≤ length sites.now }
@@ -69,7 +69,7 @@ fn count_below<T>(sites: &[(u32, T)], offset: u32) -> usize
     count
 }
 
-// Whether a site at the offset shares no byte with the two sites beside its place.
+/// Whether a site at the offset shares no byte with the two sites beside its place.
 fn is_apart<T>(sites: &[(u32, T)], place: usize, offset: u32) -> bool
     requires spaced { AreSpaced sites.now }
     requires within { place ≤ length sites.now }
@@ -121,8 +121,8 @@ impl<T, A: Allocator + Copy> Page<T, A> {
 }
 
 impl<T: Copy, A: Allocator + Copy> Page<T, A> {
-    // The number of sites that begin before the offset. In most files sites come by rising offset,
-    // so the last one is looked at first.
+    /// The number of sites that begin before the offset. In most files sites come by rising offset,
+    /// so the last one is looked at first.
     fn count_before(&self, offset: u32) -> usize
         ensures within { result ≤ length self.now }
         ensures parts { IsPartitionPoint (λ (site : ℕ × T). site.0 < offset) (λ (site : ℕ × T). offset ≤ site.0) self.now result }

@@ -15,18 +15,18 @@ use crate::page::{PAGE_BYTES, Page, SITE_BYTES};
 use crate::sites::SiteRefusal;
 use std::alloc::{AllocError, Allocator};
 
-// How far the last byte of a site lies from its first one.
+/// How far the last byte of a site lies from its first one.
 const LAST_BYTE: u64 = SITE_BYTES as u64 - 1;
 
-// The number of the page that a byte of the hunk belongs to.
+/// The number of the page that a byte of the hunk belongs to.
 fn page_number(byte: u64) -> usize
     ensures { result ≡ byte / 4096 }
 {
     (byte / u64::from(PAGE_BYTES)) as usize
 }
 
-// The place for a site at the offset among the sites of one page, or `None` where it would share a
-// byte with one of them.
+/// The place for a site at the offset among the sites of one page, or `None` where it would share a
+/// byte with one of them.
 fn place_in<T: Copy, A: Allocator + Copy>(
     pages: &[Page<T, A>],
     number: usize,
@@ -40,7 +40,7 @@ fn place_in<T: Copy, A: Allocator + Copy>(
     }
 }
 
-// The same among the sites of a page beside that of the offset, which is seldom asked for.
+/// The same among the sites of a page beside that of the offset, which is seldom asked for.
 #[inline(never)]
 fn place_beside<T: Copy, A: Allocator + Copy>(
     pages: &[Page<T, A>],
@@ -52,8 +52,8 @@ fn place_beside<T: Copy, A: Allocator + Copy>(
     place_in(pages, number, offset)
 }
 
-// Whether a site at the offset shares no byte with the sites of the pages beside its own. It can share
-// one with them only within three bytes of either end of its page.
+/// Whether a site at the offset shares no byte with the sites of the pages beside its own. It can share
+/// one with them only within three bytes of either end of its page.
 fn is_free_beside<T: Copy, A: Allocator + Copy>(pages: &[Page<T, A>], offset: u32) -> bool
     requires { LieInPages 0 pages.now }
     ensures free { OnTrue result (Meets (all_sites pages.now) offset → Meets (page_at pages.now (offset / 4096)) offset) }
@@ -71,8 +71,8 @@ fn is_free_beside<T: Copy, A: Allocator + Copy>(pages: &[Page<T, A>], offset: u3
     true
 }
 
-// Appends empty pages up to the one with the number. Where they are moved, room is made for a quarter
-// more: they are seldom moved, and a page takes at most 30 bytes beside its sites.
+/// Appends empty pages up to the one with the number. Where they are moved, room is made for a quarter
+/// more: they are seldom moved, and a page takes at most 30 bytes beside its sites.
 fn grow_to<T: Copy, A: Allocator + Copy>(
     pages: &mut Vec<Page<T, A>, A>,
     number: usize,
@@ -92,7 +92,7 @@ fn grow_to<T: Copy, A: Allocator + Copy>(
     Ok(())
 }
 
-// How many sites a page has, or 0 where there is no such page.
+/// How many sites a page has, or 0 where there is no such page.
 fn count_in<T: Copy, A: Allocator + Copy>(pages: &[Page<T, A>], number: usize) -> usize {
     match pages.get(number) {
         Some(page) => page.iter().len(),
@@ -100,10 +100,10 @@ fn count_in<T: Copy, A: Allocator + Copy>(pages: &[Page<T, A>], number: usize) -
     }
 }
 
-// How many sites the pages beside a page have, by which it gets its room: as many as the page before
-// has. In a file whose offsets fall it is the pages after that have sites: there it is the fewer of
-// what the next two have. So a page with many sites and few in the page after it is the measure of that
-// one alone, and all pages together have memory for at most three times their sites.
+/// How many sites the pages beside a page have, by which it gets its room: as many as the page before
+/// has. In a file whose offsets fall it is the pages after that have sites: there it is the fewer of
+/// what the next two have. So a page with many sites and few in the page after it is the measure of that
+/// one alone, and all pages together have memory for at most three times their sites.
 fn count_beside<T: Copy, A: Allocator + Copy>(pages: &[Page<T, A>], number: usize) -> usize {
     let before = count_in(pages, number.wrapping_sub(1));
     let next = count_in(pages, number.wrapping_add(1));
@@ -111,7 +111,7 @@ fn count_beside<T: Copy, A: Allocator + Copy>(pages: &[Page<T, A>], number: usiz
     before.max(next.min(second))
 }
 
-// Appends empty pages up to the one with the number, and makes room for more sites in that one.
+/// Appends empty pages up to the one with the number, and makes room for more sites in that one.
 #[inline(never)]
 fn grow<T: Copy, A: Allocator + Copy>(
     pages: &mut Vec<Page<T, A>, A>,
@@ -126,8 +126,8 @@ fn grow<T: Copy, A: Allocator + Copy>(
     pages[number].make_room(near)
 }
 
-// Adds a site to the page with the number, which is full or not there yet. An overlap is told before
-// memory is asked for.
+/// Adds a site to the page with the number, which is full or not there yet. An overlap is told before
+/// memory is asked for.
 #[inline(never)]
 fn grow_and_add<T: Copy, A: Allocator + Copy>(
     pages: &mut Vec<Page<T, A>, A>,

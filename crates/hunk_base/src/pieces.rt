@@ -89,7 +89,7 @@ impl<A: Allocator> Source for Pieces<A> {
     }
 }
 
-// Copies the first bytes: as many as there are, as there is room for, and at most `most`.
+/// Copies the first bytes: as many as there are, as there is room for, and at most `most`.
 fn copy_front(buffer: &mut [u8], bytes: &[u8], most: usize) -> usize
     ensures count { result ≡ min (min (length buffer.old) (length bytes.now)) most }
     ensures front { take result buffer.new ≡ take result bytes.now }

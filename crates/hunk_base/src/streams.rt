@@ -84,10 +84,10 @@ pub trait Feed {
         ensures bounded { OnOk result ((bytes : List ℕ) → stands_for self.new bytes → length bytes < 2 ^ 30 + 4) };
 }
 
-// Each read but the last one brings at least a byte, and a file has fewer bytes than this.
+/// Each read but the last one brings at least a byte, and a file has fewer bytes than this.
 const MOST_READS: u32 = 0x4000_0004;
 
-// Bytes per read.
+/// Bytes per read.
 const PIECE: usize = 65536;
 
 /// Feeds everything that `reader` has to a new `decoder`, until the reader ends, a read fails, or

@@ -39,7 +39,7 @@ impl Taker for Count {
 
     const KIND: FileKind = FileKind::Object;
 
-    // It keeps no sites, so it is out of memory for one.
+    /// It keeps no sites, so it is out of memory for one.
     #[inline]
     fn take(&mut self, event: Event) -> Result<(), SiteRefusal> {
         match event {

@@ -8,10 +8,10 @@ use std::time::Instant;
 
 const HUNKS: u32 = 65_535;
 
-// The greatest number of a hunk; the least is 0.
+/// The greatest number of a hunk; the least is 0.
 const LAST: u32 = HUNKS - 1;
 
-// Bytes per read.
+/// Bytes per read.
 const PIECE: usize = 16384;
 
 /// The order in which the bases of the hunks stand, which share no address but in the last of them.
@@ -46,7 +46,7 @@ impl Order {
         }
     }
 
-    // The place of the base of this hunk among 65,536.
+    /// The place of the base of this hunk among 65,536.
     fn place(self, number: u16) -> u16 {
         match self {
             Order::Rising => number,
@@ -64,7 +64,7 @@ impl Order {
     }
 }
 
-// Another number for each number, without a visible rule.
+/// Another number for each number, without a visible rule.
 fn scattered(number: u16) -> u16 {
     let first = (number ^ number >> 7).wrapping_mul(0x9E35);
     (first ^ first >> 9).wrapping_mul(0x6C8D)
@@ -96,7 +96,7 @@ pub fn measure(rt: &HostRuntime, order: Order) -> io::Result<()> {
     ))
 }
 
-// Each base is a multiple of 8.
+/// Each base is a multiple of 8.
 fn bases_in(alloc: Global, order: Order) -> Result<Vec<u32>, AllocError> {
     let mut bases = Vec::with_capacity(alloc, HUNKS as usize)?;
     for number in 0..u16::MAX {
@@ -105,7 +105,7 @@ fn bases_in(alloc: Global, order: Order) -> Result<Vec<u32>, AllocError> {
     Ok(bases)
 }
 
-// A load file of code hunks of one longword.
+/// A load file of code hunks of one longword.
 fn file_of_hunks(alloc: Global) -> Result<Vec<u8>, AllocError> {
     let mut file = Vec::new(alloc);
     for word in [0x3F3, 0, HUNKS, 0, LAST] {

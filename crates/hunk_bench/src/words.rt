@@ -6,10 +6,10 @@ use hunk_words::{Decoder, Feed, Refusal};
 use std::io;
 use std::time::Instant;
 
-// An object file of one unit with one hunk, up to its content of 2^24 longwords.
+/// An object file of one unit with one hunk, up to its content of 2^24 longwords.
 const START: [u8; 16] = [0, 0, 3, 0xE7, 0, 0, 0, 0, 0, 0, 3, 0xE9, 1, 0, 0, 0];
 
-// The bytes of its content, and of each piece that is fed.
+/// The bytes of its content, and of each piece that is fed.
 const CONTENT: usize = 0x0400_0000;
 
 const PIECE: usize = 65536;
@@ -31,7 +31,7 @@ pub fn measure(rt: &HostRuntime) -> io::Result<()> {
     }
 }
 
-// The sum of the longwords.
+/// The sum of the longwords.
 #[inline(never)]
 fn sum_all(content: &[u8]) -> u64 {
     let mut total = 0u64;
@@ -41,7 +41,7 @@ fn sum_all(content: &[u8]) -> u64 {
     total
 }
 
-// The number of longwords that a taker counts, and their sum.
+/// The number of longwords that a taker counts, and their sum.
 #[inline(never)]
 fn decode_all(content: &[u8]) -> Result<(u64, u64), Refusal> {
     let mut decoder = Decoder::new(Count::new());

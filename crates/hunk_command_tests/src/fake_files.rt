@@ -24,7 +24,7 @@ fn failed<T>(kind: ErrorKind) -> io::Result<T> {
     Err(io::Error::from(kind))
 }
 
-// What a name leads to.
+/// What a name leads to.
 fn followed(name: &str) -> &str {
     match link_at(name) {
         Some(target) => target,
@@ -49,7 +49,7 @@ impl<'a> FakeFiles<'a> {
         Ok(Some(copy))
     }
 
-    // What the file with this name is, if there is one.
+    /// What the file with this name is, if there is one.
     fn kind(&self, name: &str) -> io::Result<Option<Kind>> {
         let disk = self.log.disk.try_borrow()?;
         Ok(match disk.place_of(name) {
@@ -59,7 +59,7 @@ impl<'a> FakeFiles<'a> {
         })
     }
 
-    // The number of the file with this name, which it gets if it has none yet.
+    /// The number of the file with this name, which it gets if it has none yet.
     fn number(&self, name: &str) -> io::Result<usize> {
         let mut disk = self.log.disk.try_borrow_mut()?;
         match disk.place_of(name) {
@@ -74,7 +74,7 @@ impl<'a> FakeFiles<'a> {
         }
     }
 
-    // Opens a file to be read.
+    /// Opens a file to be read.
     fn read(&self, name: &str) -> io::Result<Handle<'a>> {
         let opened = self.log.opened.get();
         if opened >= self.openings {
@@ -93,7 +93,7 @@ impl<'a> FakeFiles<'a> {
         Ok(Handle::new(self.log, kind, bytes))
     }
 
-    // Opens a file to be written.
+    /// Opens a file to be written.
     fn write(&self, how: &OpenOptions, name: &str) -> io::Result<Handle<'a>> {
         let Some(kind) = self.kind(name)? else {
             return self.write_new(how, name);
@@ -106,7 +106,7 @@ impl<'a> FakeFiles<'a> {
         Ok(Handle::new(self.log, kind, Bytes::Written(number, 0)))
     }
 
-    // Opens a file that is not there to be written.
+    /// Opens a file that is not there to be written.
     fn write_new(&self, how: &OpenOptions, name: &str) -> io::Result<Handle<'a>> {
         if how.asks_create() {
             return self.create(name);
@@ -114,7 +114,7 @@ impl<'a> FakeFiles<'a> {
         failed(ErrorKind::NotFound)
     }
 
-    // Begins to write a file: it is emptied, or keeps its bytes.
+    /// Begins to write a file: it is emptied, or keeps its bytes.
     fn begin(&self, how: &OpenOptions, number: usize, name: &str) -> io::Result<()> {
         if how.asks_truncate() {
             return self.truncate(number, name);
@@ -122,14 +122,14 @@ impl<'a> FakeFiles<'a> {
         self.log.tell("open", &[name])
     }
 
-    // Empties a file.
+    /// Empties a file.
     fn truncate(&self, number: usize, name: &str) -> io::Result<()> {
         let mut disk = self.log.disk.try_borrow_mut()?;
         disk.clear(number);
         self.log.tell("truncate", &[name])
     }
 
-    // Creates a file under a name that no file may have.
+    /// Creates a file under a name that no file may have.
     fn create_new(&self, name: &str) -> io::Result<Handle<'a>> {
         if let Some(kind) = self.log.faults.new_file.get() {
             return failed(kind);
@@ -140,7 +140,7 @@ impl<'a> FakeFiles<'a> {
         self.create(name)
     }
 
-    // Creates a file under a name that no file has.
+    /// Creates a file under a name that no file has.
     fn create(&self, name: &str) -> io::Result<Handle<'a>> {
         // There is no such directory.
         if name.starts_with("nowhere/") {

@@ -32,7 +32,7 @@ impl<'a> Handle<'a> {
         Handle { log, kind, bytes }
     }
 
-    // The number of the file, if it is open to be written.
+    /// The number of the file, if it is open to be written.
     fn number_written(&self) -> io::Result<usize> {
         match self.bytes {
             Bytes::Written(number, _) => Ok(number),

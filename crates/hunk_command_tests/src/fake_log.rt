@@ -52,7 +52,7 @@ pub fn add_one(count: &Cell<usize>) {
 }
 
 impl Faults {
-    // Nothing is to fail but the first write to the standard output.
+    /// Nothing is to fail but the first write to the standard output.
     fn none() -> Faults {
         Faults {
             good_reads: Cell::new(usize::MAX),

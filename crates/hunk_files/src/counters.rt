@@ -13,7 +13,7 @@ ghost use Rattle.hunk_files.specs.Counters.{CountsLoad, CountsObject, LoadStands
 use hunk_words::{Builder, Event, FileKind, HunkKind, PartialHunk, SiteRefusal, Taker};
 use std::alloc::{AllocError, Allocator, Global};
 
-// The content begins: the sites must lie in this many bytes. In a file no site comes before.
+/// The content begins: the sites must lie in this many bytes. In a file no site comes before.
 fn begin<A: Allocator + Copy>(
     hunk: &mut PartialHunk<u32, A>,
     alloc: A,
@@ -30,7 +30,7 @@ fn begin<A: Allocator + Copy>(
     }
 }
 
-// The hunk ends: it has no sites any more.
+/// The hunk ends: it has no sites any more.
 fn end<A: Allocator + Copy>(hunk: &mut PartialHunk<u32, A>, alloc: A)
     ensures { (limit : ℕ) (seen : List ℕ) → HoldsSites limit seen hunk.old → HoldsSites limit [] hunk.new }
 {
@@ -75,7 +75,7 @@ impl<A: Allocator + Copy> ObjectCounter<A> {
         self.hunks
     }
 
-    // A hunk of the current unit ends. In a file a unit has begun.
+    /// A hunk of the current unit ends. In a file a unit has begun.
     fn end_hunk(&mut self) -> Result<(), SiteRefusal>
         ensures takes { (told : List Event) → ObjectStandsFor self.old told → length told < 2 ^ 29 → OnOk result (ObjectStandsFor self.new (told ++ Event.HunkEnd ∷ [])) }
         ensures refuses { OnErr result (self.new ≡ self.old) }
@@ -90,7 +90,7 @@ impl<A: Allocator + Copy> ObjectCounter<A> {
     }
 }
 
-// The number of bytes in which the sites of an object file's hunk must lie.
+/// The number of bytes in which the sites of an object file's hunk must lie.
 fn content_bytes(kind: u32, size: u32) -> u64
     ensures { result ≡ content_limit Object 0 (hunk_kind_of kind) size }
 {
@@ -179,7 +179,7 @@ impl<A: Allocator + Copy> LoadCounter<A> {
         self.sizes.len() as u64
     }
 
-    // The size of this hunk in the header, in longwords.
+    /// The size of this hunk in the header, in longwords.
     fn size(&self) -> u32
         ensures { result ≡ slice_index self.now.sizes.items self.now.ended }
     {

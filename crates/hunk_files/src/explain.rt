@@ -81,7 +81,7 @@ pub fn explain_file<A: Allocator + Copy, R: Source>(
     }
 }
 
-// The same with a follower before the first byte.
+/// The same with a follower before the first byte.
 fn explain_with<T: Taker, R: Source>(
     reader: &mut R,
     follower: Follower<T>,
@@ -96,8 +96,8 @@ fn explain_with<T: Taker, R: Source>(
     Ok(follower.explanation()?)
 }
 
-// Feeds what the reader has to a new decoder, up to the end or to a fault, which the decoder keeps.
-// Returns whether it came to the end.
+/// Feeds what the reader has to a new decoder, up to the end or to a fault, which the decoder keeps.
+/// Returns whether it came to the end.
 fn read_through<R: Source, D: Feed>(reader: &mut R, decoder: &mut D) -> Result<bool, ReadFault>
     requires { D.stands_for decoder.old [] }
     ensures read { OnOk result (HasRead (R.left reader.old) (R.left reader.new) (D.stands_for decoder.new)) }

@@ -5,7 +5,7 @@ ghost use Rattle.std.specs.Prelude.{◌≡◌, ◌≤◌, ◌*◌, ◌^◌};
 use crate::path::Path;
 use hunk_words::{Due, Fault};
 
-// More longwords than a file has.
+/// More longwords than a file has.
 const LONGWORDS: u64 = 0x4000_0000;
 
 /// What is in the place of an offence.

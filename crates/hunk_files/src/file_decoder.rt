@@ -96,7 +96,7 @@ impl<T> File<T, T> {
     }
 }
 
-// The kind of file that begins with these bytes.
+/// The kind of file that begins with these bytes.
 fn kind_of(bytes: &[u8]) -> FileKind
     ensures { result ≡ kind_of_bytes bytes.now }
 {
@@ -115,7 +115,7 @@ pub(crate) struct Decoders<O, L> {
 }
 
 impl<O: KindDecoder, L: KindDecoder> Decoders<O, L> {
-    // Takes the next bytes of a file of this kind.
+    /// Takes the next bytes of a file of this kind.
     fn feed(&mut self, kind: FileKind, piece: &[u8]) -> Result<(), Refusal>
         ensures stands { (bytes : List ℕ) → KindStandsFor O.KIND O.stands_for L.KIND L.stands_for kind self.old bytes → KindStandsFor O.KIND O.stands_for L.KIND L.stands_for kind self.new (bytes ++ piece.now) }
         ensures front { OnOk result ((bytes : List ℕ) → KindStandsFor O.KIND O.stands_for L.KIND L.stands_for kind self.new bytes → KindBegins O.begins L.begins kind bytes) }
@@ -128,7 +128,7 @@ impl<O: KindDecoder, L: KindDecoder> Decoders<O, L> {
         }
     }
 
-    // What the whole file of this kind is.
+    /// What the whole file of this kind is.
     fn finish(self, kind: FileKind) -> Result<File<O::Value, L::Value>, Refusal>
         ensures value { IfOk result (λ file. (bytes : List ℕ) → KindStandsFor O.KIND O.stands_for L.KIND L.stands_for kind self bytes → IsFileOf O.is_value L.is_value kind file bytes) }
         ensures refused { IfErr result (λ refusal. (bytes : List ℕ) → KindStandsFor O.KIND O.stands_for L.KIND L.stands_for kind self bytes → RefusesInput kind bytes refusal) }

@@ -41,7 +41,7 @@ impl<T: Taker> Follower<T> {
         }
     }
 
-    // Takes the next longword.
+    /// Takes the next longword.
     fn word(&mut self, word: u32) -> Result<(), Refusal>
         requires { refusal_of self.old ≡ None }
         ensures stands { (ws : List ℕ) → FollowsWords T.KIND T.stands_for self.old ws → FollowsWords T.KIND T.stands_for self.new (ws ++ word ∷ []) }
@@ -60,7 +60,7 @@ impl<T: Taker> Follower<T> {
         }
     }
 
-    // Takes one byte.
+    /// Takes one byte.
     fn push(&mut self, byte: u8) -> Result<(), Refusal>
         requires { refusal_of self.old ≡ None }
         ensures stands { (bytes : List ℕ) → StandsFor T.KIND T.stands_for self.old bytes → StandsFor T.KIND T.stands_for self.new (bytes ++ byte ∷ []) }
@@ -115,7 +115,7 @@ impl<T: Taker> Follower<T> {
         }
     }
 
-    // The same where no longword was refused.
+    /// The same where no longword was refused.
     fn at_end(self) -> Result<Option<Explanation>, Refusal>
         requires { refusal_of self ≡ None }
         ensures ok { IfOk result (λ given. (bytes : List ℕ) → StandsFor T.KIND T.stands_for self bytes → IsExplained T.KIND given bytes) }

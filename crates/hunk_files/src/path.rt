@@ -56,7 +56,7 @@ impl Path {
         }
     }
 
-    // After one more block.
+    /// After one more block.
     fn with_block(self, block: BlockType) -> Path
         ensures { (types : List BlockType) → length types < 2 ^ 29 → IsPathOf self types → IsPathOf result (block ∷ types) }
     {

@@ -37,7 +37,7 @@ impl<W: Watcher, B: Builder> WatchedReader<W, B> {
         }
     }
 
-    // Keeps an error.
+    /// Keeps an error.
     fn refuse(&mut self, refusal: Refusal) -> Result<(), Refusal>
         ensures kept { self.new ≡ record self.old { refusal = Some refusal } }
         ensures told { result ≡ Err refusal }
@@ -46,7 +46,7 @@ impl<W: Watcher, B: Builder> WatchedReader<W, B> {
         Err(refusal)
     }
 
-    // Takes the next longword.
+    /// Takes the next longword.
     fn word(&mut self, word: u32) -> Result<(), Refusal>
         requires { self.old.refusal ≡ None }
         ensures stands { (ws : List ℕ) → Reads B.KIND B.stands_for W.stands_for self.old ws → WordsStand B.KIND B.stands_for W.stands_for self.new (ws ++ word ∷ []) }
@@ -63,7 +63,7 @@ impl<W: Watcher, B: Builder> WatchedReader<W, B> {
         }
     }
 
-    // Takes one byte.
+    /// Takes one byte.
     fn push(&mut self, byte: u8) -> Result<(), Refusal>
         requires { self.old.refusal ≡ None }
         ensures stands { (bytes : List ℕ) → StandsFor B.KIND B.stands_for W.stands_for self.old bytes → StandsFor B.KIND B.stands_for W.stands_for self.new (bytes ++ byte ∷ []) }

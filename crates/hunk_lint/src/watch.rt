@@ -174,7 +174,7 @@ impl<A: Allocator + Copy> Watch<A> {
         self.begun.is_some() && counts_none(due, word)
     }
 
-    // The size of the hunk in the header, in longwords.
+    /// The size of the hunk in the header, in longwords.
     fn size_in_header(&self) -> u32
         ensures { result ≡ slice_index self.now.sizes.items self.now.hunk }
     {
@@ -184,7 +184,7 @@ impl<A: Allocator + Copy> Watch<A> {
         }
     }
 
-    // Whether the last longword began a BSS block.
+    /// Whether the last longword began a BSS block.
     fn begins_bss(&self) -> bool
         ensures { result ≡ odd.is_bss self.now.begun }
     {

@@ -174,7 +174,7 @@ impl<A: Allocator + Copy> Taker for Comparer<A> {
         }
     }
 
-    // Content is most of a file, so the bytes of a run of it are compared at once.
+    /// Content is most of a file, so the bytes of a run of it are compared at once.
     fn take_words(&mut self, bytes: &[u8]) -> Result<bool, AllocError> {
         if !self.current.takes_content() {
             return Ok(false);

@@ -47,7 +47,7 @@ impl<A: Allocator + Copy> Taker for LoadBuilder<A> {
 
     const KIND: FileKind = FileKind::Load;
 
-    // Each relocation is an event, so a run of them should make no call for its event.
+    /// Each relocation is an event, so a run of them should make no call for its event.
     #[inline(always)]
     fn take(&mut self, event: Event) -> Result<(), SiteRefusal> {
         match event {
@@ -60,7 +60,7 @@ impl<A: Allocator + Copy> Taker for LoadBuilder<A> {
         }
     }
 
-    // Content is most of a file, so the bytes of a run of it are copied at once.
+    /// Content is most of a file, so the bytes of a run of it are copied at once.
     fn take_words(&mut self, bytes: &[u8]) -> Result<bool, AllocError> {
         self.current.add_bytes(bytes)
     }

@@ -14,13 +14,13 @@ use hunk_words::{DeviceFault, Source};
 use std::alloc::Allocator;
 use thiserror::Error;
 
-// The most bytes of a file: 16 MiB.
+/// The most bytes of a file: 16 MiB.
 const MOST_BYTES: usize = 0x100_0000;
 
-// Each read but the last one brings at least a byte.
+/// Each read but the last one brings at least a byte.
 const MOST_READS: usize = MOST_BYTES + 1;
 
-// Bytes per read.
+/// Bytes per read.
 const PIECE: usize = 16384;
 
 /// Why the addresses in a file are not known.

@@ -2,7 +2,7 @@
 
 ghost use Rattle.std.specs.Prelude.{◌≡◌, ◌<◌, ◌≤◌, ◌^◌, ◌++◌, ℕ, List, [], ◌∷◌, MatchOption, None};
 
-// The digits of an address, at most.
+/// The digits of an address, at most.
 const MOST_DIGITS: u32 = 8;
 
 const HEXADECIMAL: u32 = 16;

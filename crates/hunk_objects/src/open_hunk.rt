@@ -14,7 +14,7 @@ use std::alloc::{AllocError, Allocator};
 use std::marker::Model;
 use std::mem;
 
-// The most bytes of the name of a symbol or a definition: its longwords are counted in 24 bits.
+/// The most bytes of the name of a symbol or a definition: its longwords are counted in 24 bits.
 const MOST_NAME: usize = 0x03FF_FFFC;
 
 /// What a name in a block after the content is the name of.

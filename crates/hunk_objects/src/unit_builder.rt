@@ -12,7 +12,7 @@ use hunk_words::doshunks::{EXT_ABS, EXT_DEF, EXT_REF32};
 use hunk_words::{Builder, Event, FileKind, HunkKind, Memory, OpenName, SiteRefusal, Taker};
 use std::alloc::{AllocError, Allocator, Global};
 
-// What takes the next word.
+/// What takes the next word.
 #[derive(Drop)]
 enum Receiver<A: Allocator + Copy> {
     /// The name of the unit.
@@ -94,7 +94,7 @@ impl<A: Allocator + Copy> UnitBuilder<A> {
         }
     }
 
-    // The next words are a name in an entry.
+    /// The next words are a name in an entry.
     fn begin_named(&mut self, named: Named)
         ensures { (told : EventValue) (context : SiteContext) → Holds self.old told context → Holds self.new (record told { receiver = receiver_of named [] }) context }
     {
@@ -122,7 +122,7 @@ impl<A: Allocator + Copy> UnitBuilder<A> {
         Ok(())
     }
 
-    // Takes the value of what the name before it is the name of.
+    /// Takes the value of what the name before it is the name of.
     fn add_value(&mut self, value: u32) -> Result<(), AllocError>
         ensures { Steps self.old self.new result (Event.Value value) }
     {
@@ -139,7 +139,7 @@ impl<A: Allocator + Copy> UnitBuilder<A> {
         Ok(())
     }
 
-    // Takes the number of offsets that refer to the name before it.
+    /// Takes the number of offsets that refer to the name before it.
     fn add_count(&mut self, count: u32) -> Result<(), AllocError>
         ensures { Steps self.old self.new result (Event.Count count) }
     {
@@ -183,7 +183,7 @@ impl<A: Allocator + Copy> UnitBuilder<A> {
         Ok(())
     }
 
-    // Takes an event that is not a site.
+    /// Takes an event that is not a site.
     fn build(&mut self, event: Event) -> Result<(), AllocError>
         ensures steps { Steps self.old self.new result event }
         ensures no_reference { (offset : ℕ) → event ≡ Event.RefSite offset → IsErr result }
@@ -206,7 +206,7 @@ impl<A: Allocator + Copy> UnitBuilder<A> {
     }
 }
 
-// No object file has this event at this point. Returns an error and changes nothing.
+/// No object file has this event at this point. Returns an error and changes nothing.
 fn never_told() -> Result<(), AllocError>
     ensures { result ≡ Err alloc_error }
 {
@@ -222,7 +222,7 @@ impl<A: Allocator + Copy> Taker for UnitBuilder<A> {
 
     const KIND: FileKind = FileKind::Object;
 
-    // Each relocation is an event, so a run of them should make no call for its event.
+    /// Each relocation is an event, so a run of them should make no call for its event.
     #[inline(always)]
     fn take(&mut self, event: Event) -> Result<(), SiteRefusal> {
         match event {
@@ -235,8 +235,8 @@ impl<A: Allocator + Copy> Taker for UnitBuilder<A> {
         }
     }
 
-    // Content is most of a file, and names are most of one with many symbols, so the bytes of a run of
-    // either are copied at once.
+    /// Content is most of a file, and names are most of one with many symbols, so the bytes of a run of
+    /// either are copied at once.
     fn take_words(&mut self, bytes: &[u8]) -> Result<bool, AllocError> {
         match &mut self.receiver {
             Receiver::Hunk => self.hunk.add_bytes(bytes)?,
@@ -270,7 +270,7 @@ impl<A: Allocator + Copy> Builder for UnitBuilder<A> {
         }
     }
 
-    // The current unit is the last one.
+    /// The current unit is the last one.
     fn into_value(self) -> Vec<ProgramUnit<A>, A> {
         let mut units = self.units;
         let unit = self.unit;

@@ -12,7 +12,7 @@ struct Growths {
 }
 
 impl Growths {
-    // Counts one more allocation, and returns whether it is one that is to fail.
+    /// Counts one more allocation, and returns whether it is one that is to fail.
     fn refuses_next(&self) -> bool {
         let number = self.asked.get();
         self.asked.set(number.saturating_add(1));

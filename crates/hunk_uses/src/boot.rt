@@ -20,7 +20,7 @@ struct Front<'b> {
 }
 
 impl<'b> Front<'b> {
-    // Takes the next bytes of the file. Once the header is whole, there is a loader of all bytes.
+    /// Takes the next bytes of the file. Once the header is whole, there is a loader of all bytes.
     fn feed(
         &mut self,
         budget: &'b LocalHeap,
@@ -42,7 +42,7 @@ impl<'b> Front<'b> {
     }
 }
 
-// A loader of the bytes of a file: those of its header, and then these.
+/// A loader of the bytes of a file: those of its header, and then these.
 fn start<'b>(
     budget: &'b LocalHeap,
     first: u32,
@@ -61,7 +61,7 @@ fn start<'b>(
     Ok(loader)
 }
 
-// What is wrong with the bytes of a file.
+/// What is wrong with the bytes of a file.
 fn of_file(refusal: LoadRefusal) -> Refusal
     ensures { (bytes : List ℕ) → Fed bytes (Err refusal) → RefusesBytes Load bytes result }
 {

@@ -11,7 +11,7 @@ use crate::kinds::{EntryType, HunkKind, entry, entry_length, entry_type, low};
 use crate::state::{AfterWords, Expected, State, Step};
 use hunk_base::fault::Reason;
 
-// What is expected when this many words follow.
+/// What is expected when this many words follow.
 fn words(count: u32, then: AfterWords) -> Expected
     ensures due { (a : Around) → expected_view result a ≡ times count word (after_words_view then a) }
     ensures file { (file : FileKind) → IsAfterWordsIn then file → IsExpectedIn result file }

@@ -35,7 +35,7 @@ impl<T: Taker> Decoder<T> {
         }
     }
 
-    // Takes one byte.
+    /// Takes one byte.
     fn push(&mut self, byte: u8) -> Result<(), Refusal>
         requires { refusal_of self.old ≡ None }
         ensures stands { (bytes : List ℕ) → StandsFor T.KIND T.stands_for self.old bytes → StandsFor T.KIND T.stands_for self.new (bytes ++ byte ∷ []) }
@@ -48,7 +48,7 @@ impl<T: Taker> Decoder<T> {
         }
     }
 
-    // Takes bytes one by one.
+    /// Takes bytes one by one.
     fn push_all(&mut self, piece: &[u8]) -> Result<(), Refusal>
         requires { refusal_of self.old ≡ None }
         ensures stands { (bytes : List ℕ) → StandsFor T.KIND T.stands_for self.old bytes → StandsFor T.KIND T.stands_for self.new (bytes ++ piece.now) }
@@ -64,7 +64,7 @@ impl<T: Taker> Decoder<T> {
         Ok(())
     }
 
-    // Takes bytes: whole longwords if none is unfinished, then the bytes left over.
+    /// Takes bytes: whole longwords if none is unfinished, then the bytes left over.
     fn push_longwords(&mut self, piece: &[u8]) -> Result<(), Refusal>
         requires { refusal_of self.old ≡ None }
         ensures stands { (bytes : List ℕ) → StandsFor T.KIND T.stands_for self.old bytes → StandsFor T.KIND T.stands_for self.new (bytes ++ piece.now) }

@@ -18,7 +18,7 @@ use crate::taker::Taker;
 use byteorder::{BigEndian, ByteOrder};
 use hunk_base::fault::{Fault, Reason, Refusal};
 
-// The most longwords that a file may have.
+/// The most longwords that a file may have.
 const MOST_LONGWORDS: u64 = 0x1000_0000;
 
 /// What a core keeps apart from its taker: what is expected, the place, and an error.
@@ -37,7 +37,7 @@ pub struct Core<T> {
     state: CoreState,
 }
 
-// What is expected at the start of a file.
+/// What is expected at the start of a file.
 fn initial_state(file: FileKind) -> State
     ensures file { result.file ≡ file }
     ensures due { view result [] ≡ start_of file ∷ [] }
@@ -56,7 +56,7 @@ fn initial_state(file: FileKind) -> State
     }
 }
 
-// The state after one more longword, if no error is kept.
+/// The state after one more longword, if no error is kept.
 fn advance<T: Taker>(taker: &mut T, core: CoreState, word: u32) -> CoreState
     ensures stands { (ws : List ℕ) → Behind T.KIND (T.stands_for taker.old) core ws → StandsBy T.KIND (T.stands_for taker.new) result (ws ++ word ∷ []) }
     ensures given { T.given taker.new ≡ T.given taker.old }
@@ -78,7 +78,7 @@ fn advance<T: Taker>(taker: &mut T, core: CoreState, word: u32) -> CoreState
     }
 }
 
-// The error for a longword that is refused at its place.
+/// The error for a longword that is refused at its place.
 fn refusal_at(place: u64, stop: NumberRefusal) -> Refusal
     ensures { result ≡ refused_at place stop }
 {
@@ -88,7 +88,7 @@ fn refusal_at(place: u64, stop: NumberRefusal) -> Refusal
     }
 }
 
-// How many of these longwords can be taken at once, in a run of which so many more follow the next.
+/// How many of these longwords can be taken at once, in a run of which so many more follow the next.
 fn run_length(place: u64, more: u32, bytes: &[u8]) -> usize
     ensures few { result ≤ more }
     ensures within { 4 * result ≤ length bytes.now }
@@ -98,7 +98,7 @@ fn run_length(place: u64, more: u32, bytes: &[u8]) -> usize
     (room as usize).min(bytes.len() / 4)
 }
 
-// The state after a run of this many longwords.
+/// The state after a run of this many longwords.
 fn after_run(state: State, due: Expected, place: u64, count: usize) -> CoreState
     requires room { place + count ≤ most_longwords }
     ensures { result ≡ record { state = record state { due = due }; place = place + count; refusal = None } }
@@ -110,7 +110,7 @@ fn after_run(state: State, due: Expected, place: u64, count: usize) -> CoreState
     }
 }
 
-// Takes offsets to one hunk. Another offset follows the last, so only the taker judges them.
+/// Takes offsets to one hunk. Another offset follows the last, so only the taker judges them.
 fn take_offsets<T: Taker>(
     taker: &mut T,
     place: u64,
@@ -139,7 +139,7 @@ fn fault(place: u64, reason: Reason) -> Refusal
     Refusal::Fault(Fault { place, reason })
 }
 
-// Keeps this fault of the longword at its place.
+/// Keeps this fault of the longword at its place.
 fn refused(core: CoreState, reason: Reason) -> CoreState
     ensures { result ≡ record core { refusal = Some (Refusal.Fault (record { place = core.place; reason = reason })) } }
 {
@@ -149,7 +149,7 @@ fn refused(core: CoreState, reason: Reason) -> CoreState
     }
 }
 
-// Whether a file may end here.
+/// Whether a file may end here.
 fn is_complete(due: Expected) -> bool
     ensures yes { IsTrue result → (a : Around) → IsComplete (expected_view due a) }
     ensures no { IsFalse result → (a : Around) → IsComplete (expected_view due a) → ⊥ }
@@ -203,7 +203,7 @@ impl<T: Taker> Core<T> {
         }
     }
 
-    // Takes the first longword of these bytes, and returns the number taken.
+    /// Takes the first longword of these bytes, and returns the number taken.
     fn take_one(&mut self, bytes: &[u8]) -> Result<usize, Refusal>
         requires some { 4 ≤ length bytes.now }
         ensures stands { (ws : List ℕ) → StandsFor T.KIND T.stands_for self.old ws → SomeTaken T.KIND T.stands_for self.new ws bytes.now result }
@@ -217,8 +217,8 @@ impl<T: Taker> Core<T> {
         }
     }
 
-    // Takes longwords of these bytes in a run of words, without looking up what is expected for
-    // each of them.
+    /// Takes longwords of these bytes in a run of words, without looking up what is expected for
+    /// each of them.
     fn take_run(&mut self, more: u32, then: AfterWords, bytes: &[u8]) -> Result<usize, Refusal>
         requires some { 4 ≤ length bytes.now }
         requires due { self.old.state.state.due ≡ Expected.Word more then }
@@ -250,8 +250,8 @@ impl<T: Taker> Core<T> {
         }
     }
 
-    // Takes longwords of these bytes in a run of offsets to one hunk, without looking up what is
-    // expected for each of them.
+    /// Takes longwords of these bytes in a run of offsets to one hunk, without looking up what is
+    /// expected for each of them.
     fn take_sites(&mut self, more: u32, target: u32, bytes: &[u8]) -> Result<usize, Refusal>
         requires some { 4 ≤ length bytes.now }
         requires due { self.old.state.state.due ≡ Expected.Offset more target }
@@ -283,7 +283,7 @@ impl<T: Taker> Core<T> {
         }
     }
 
-    // Takes at least one longword of these bytes.
+    /// Takes at least one longword of these bytes.
     fn take_some(&mut self, bytes: &[u8]) -> Result<usize, Refusal>
         requires some { 4 ≤ length bytes.now }
         requires none { kept self.old ≡ None }

@@ -9,7 +9,7 @@ use crate::kinds::{low, memory_bits};
 use crate::state::{Expected, State, Step};
 use hunk_base::fault::Reason;
 
-// The most longwords of all sizes in a header.
+/// The most longwords of all sizes in a header.
 const ROOM: u32 = 0x100_0000;
 
 pub fn load_start(state: State, number: u32) -> Result<Step, Reason>

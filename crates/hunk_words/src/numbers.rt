@@ -29,7 +29,7 @@ pub enum NumberRefusal {
     OutOfMemory,
 }
 
-// The size of this hunk in the header, if the size of its content is expected.
+/// The size of this hunk in the header, if the size of its content is expected.
 fn size_asked<T: Taker>(taker: &T, state: State) -> u32
     ensures { (told : List Event) → T.stands_for taker.now told → state.file ≡ T.KIND → IsState state (sizes_told T.KIND told) →
         SizeIsGiven state (sizes_told T.KIND told) result }
@@ -43,7 +43,7 @@ fn size_asked<T: Taker>(taker: &T, state: State) -> u32
     }
 }
 
-// Why a number is refused whose site a taker refuses.
+/// Why a number is refused whose site a taker refuses.
 fn refused_site(number: u32, refusal: SiteRefusal) -> NumberRefusal
     ensures { result ≡ site_refused number refusal }
 {
@@ -54,7 +54,7 @@ fn refused_site(number: u32, refusal: SiteRefusal) -> NumberRefusal
     }
 }
 
-// Sends the taker the event of a number, if it has one.
+/// Sends the taker the event of a number, if it has one.
 fn tell<T: Taker>(taker: &mut T, event: Option<Event>) -> Result<(), SiteRefusal>
     ensures takes { (told : List Event) → T.stands_for taker.old told → length told < 2 ^ 29 → OnOk result (T.stands_for taker.new (told ++ with_event event [])) }
     ensures judges { (told : List Event) → T.stands_for taker.old told → length told < 2 ^ 29 → JudgesEvent (context_of T.KIND told) event result }
@@ -98,7 +98,7 @@ pub fn take_offset<T: Taker>(taker: &mut T, target: u32, offset: u32) -> Result<
     }
 }
 
-// Whether two halves are expected: 16-bit words of a list of relocations.
+/// Whether two halves are expected: 16-bit words of a list of relocations.
 fn is_halved(due: Expected) -> bool
     ensures { (a : Around) → result ≡ is_half (width (first_due (expected_view due a))) }
 {
@@ -127,7 +127,7 @@ pub fn take_word<T: Taker>(taker: &mut T, state: State, word: u32) -> Result<Sta
     }
 }
 
-// Takes the longwords of a run of words, one after the other.
+/// Takes the longwords of a run of words, one after the other.
 fn take_each_word<T: Taker>(taker: &mut T, bytes: &[u8]) -> Result<(), NumberRefusal>
     ensures takes { (told : List Event) → T.stands_for taker.old told → length told + length (longwords bytes.now) < 2 ^ 29 → OnOk result (T.stands_for taker.new (told ++ word_events (longwords bytes.now))) }
     ensures memory { IfErr result (λ stop. stop ≡ NumberRefusal.OutOfMemory) }

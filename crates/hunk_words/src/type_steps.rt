@@ -10,8 +10,8 @@ use crate::kinds::{BlockType, Half, block_type, is_unsupported, low, memory_bits
 use crate::state::{AfterWords, Expected, State, Step};
 use hunk_base::fault::Reason;
 
-// Why a block type is rejected where it is not allowed. 1020 is known only in a load file after the
-// header.
+/// Why a block type is rejected where it is not allowed. 1020 is known only in a load file after the
+/// header.
 fn refused(known: bool, block: BlockType, number: u32) -> Reason
     ensures { result ≡ refused_type known block number }
 {
@@ -96,7 +96,7 @@ pub fn content_type(state: State, number: u32) -> Result<Step, Reason>
     }
 }
 
-// What is expected after a hunk.
+/// What is expected after a hunk.
 fn hunk_end(state: State) -> Step
     ensures { EndsHunk state (Ok result) }
 {

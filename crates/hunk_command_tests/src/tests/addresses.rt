@@ -30,7 +30,7 @@ static FAILURES: [(&str, u8, &str, usize); 4] = [
     ("addresses", 3, "amihunk: y: cannot be opened\n", 1),
 ];
 
-// The request for the report of a load file.
+/// The request for the report of a load file.
 fn load_of<'a>(addresses: Addresses<'a>, file: &'a str) -> Request<'a> {
     Request::Load {
         addresses,
@@ -40,7 +40,7 @@ fn load_of<'a>(addresses: Addresses<'a>, file: &'a str) -> Request<'a> {
     }
 }
 
-// The request for the report of object files.
+/// The request for the report of object files.
 fn image_of<'a>(
     alloc: Global,
     addresses: Addresses<'a>,

@@ -12,7 +12,7 @@ use std::alloc::Global;
 use std::process::Abort;
 use std::test::Fail;
 
-// Comparing two files ends so, once this line is printed.
+/// Comparing two files ends so, once this line is printed.
 fn is_compared<'a>(
     rt: &impl Abort,
     alloc: Global,
@@ -27,7 +27,7 @@ fn is_compared<'a>(
     was_printed(rt, log, line)
 }
 
-// What is printed of two files, and whether nothing differs.
+/// What is printed of two files, and whether nothing differs.
 fn is_told(
     rt: &impl Abort,
     alloc: Global,
@@ -57,8 +57,8 @@ fn tells_where_files_differ(rt: HostRuntime) -> Result<(), Fail> {
     is_told(&rt, alloc, ("one-symbol", "trimmed"), false, size)
 }
 
-// Comparing two files without symbols fails so, over files that are read so often and an output that takes so
-// many bytes.
+/// Comparing two files without symbols fails so, over files that are read so often and an output that takes so
+/// many bytes.
 fn is_refused(
     rt: &impl Abort,
     alloc: Global,
@@ -99,8 +99,8 @@ fn tells_why_files_are_not_compared(rt: HostRuntime) -> Result<(), Fail> {
     Ok(())
 }
 
-// `compare [--symbols] A B` ends with this status and this line on standard error, once it has printed this. No
-// file is open any more.
+/// `compare [--symbols] A B` ends with this status and this line on standard error, once it has printed this. No
+/// file is open any more.
 fn compare_ends(
     rt: &impl Abort,
     alloc: Global,

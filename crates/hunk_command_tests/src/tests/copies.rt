@@ -25,7 +25,7 @@ const TRIM: CopyForm = CopyForm::Written(LinkOptions {
     ..PLAIN
 });
 
-// The copy of the file, put under the name `out`, is these bytes.
+/// The copy of the file, put under the name `out`, is these bytes.
 fn is_copied(
     rt: &impl Abort,
     alloc: Global,
@@ -54,7 +54,7 @@ fn writes_a_load_file_again(rt: HostRuntime) -> Result<(), Fail> {
     is_copied(&rt, alloc, CopyForm::Normal, "one-symbol", &ONE_HUNK)
 }
 
-// Why the file is not copied. Nothing is left under the name `out`, and this was done.
+/// Why the file is not copied. Nothing is left under the name `out`, and this was done.
 fn is_refused(
     rt: &impl Abort,
     alloc: Global,
@@ -100,7 +100,7 @@ fn replaces_the_file_that_is_copied(rt: HostRuntime) -> Result<(), Fail> {
     is_under(&rt, alloc, system, "one-symbol", Some(&ONE_HUNK))
 }
 
-// `copy --out OUT FILE` ends with this status and this line.
+/// `copy --out OUT FILE` ends with this status and this line.
 fn copy_ends(
     rt: &impl Abort,
     alloc: Global,

@@ -144,7 +144,7 @@ static UNLINKED: [Row; 3] = [
     ),
 ];
 
-// Failures that are not explained, since a file is not read again, and why.
+/// Failures that are not explained, since a file is not read again, and why.
 static UNEXPLAINED: [Row; 6] = [
     (
         Asked::Link(&["pipe", "caller"]),
@@ -182,7 +182,7 @@ const NOT_REGULAR: &str = "  not explained: only regular files can be read again
 
 const CHANGED: &str = "  not explained: a file has changed, or cannot be read again\n";
 
-// Failures of which nothing is told after their lines.
+/// Failures of which nothing is told after their lines.
 static WITHOUT_MORE: [(Asked, u8, &str); 2] = [
     (
         Asked::Load(Addresses::List("0,x"), "program"),
@@ -192,7 +192,7 @@ static WITHOUT_MORE: [(Asked, u8, &str); 2] = [
     (Asked::Check("caller"), 3, "amihunk: output: write failed\n"),
 ];
 
-// The request for a link of these files.
+/// The request for a link of these files.
 fn link_of(out: &'static str, explain: bool, files: Vec<&'static str>) -> Request<'static> {
     Request::Link {
         out,
@@ -205,7 +205,7 @@ fn link_of(out: &'static str, explain: bool, files: Vec<&'static str>) -> Reques
     }
 }
 
-// The request for it, with `--explain` or without.
+/// The request for it, with `--explain` or without.
 fn request_of(alloc: Global, asked: Asked, explain: bool) -> Result<Request<'static>, AllocError> {
     Ok(match asked {
         Asked::Link(files) => link_of("out", explain, files.to_vec(alloc)?),
@@ -235,7 +235,7 @@ fn request_of(alloc: Global, asked: Asked, explain: bool) -> Result<Request<'sta
     })
 }
 
-// The status of the request, over files that can be opened so often, and as many good reads.
+/// The status of the request, over files that can be opened so often, and as many good reads.
 fn status_of<W: Sink>(
     alloc: Global,
     errors: &mut W,
@@ -328,7 +328,7 @@ fn is_not_read_again(
     ends(rt, alloc, asked, true, good, 1, told.as_slice())
 }
 
-// Each file is opened twice, and read in two reads at most: the addresses, the file, and both again.
+/// Each file is opened twice, and read in two reads at most: the addresses, the file, and both again.
 #[test]
 fn tells_that_a_file_cannot_be_read_again(rt: HostRuntime) -> Result<(), Fail> {
     let alloc = rt.alloc();
@@ -341,7 +341,7 @@ fn tells_that_a_file_cannot_be_read_again(rt: HostRuntime) -> Result<(), Fail> {
     is_not_read_again(&rt, alloc, asked, (2, 9), line)
 }
 
-// Of hunks that cannot be placed, the addresses are read again, and then the file.
+/// Of hunks that cannot be placed, the addresses are read again, and then the file.
 #[test]
 fn tells_that_a_read_fails_the_second_time(rt: HostRuntime) -> Result<(), Fail> {
     let alloc = rt.alloc();
@@ -359,7 +359,7 @@ fn tells_that_a_read_fails_the_second_time(rt: HostRuntime) -> Result<(), Fail> 
     Ok(())
 }
 
-// Of a line and more, the first bytes are told, and nothing is written after a write that failed.
+/// Of a line and more, the first bytes are told, and nothing is written after a write that failed.
 #[test]
 fn tells_the_first_bytes_where_a_write_fails(rt: HostRuntime) -> Result<(), Fail> {
     let alloc = rt.alloc();

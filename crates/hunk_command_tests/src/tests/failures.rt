@@ -22,7 +22,7 @@ static REASONS: [OpenFault; 10] = [
     OpenFault::Unknown,
 ];
 
-// The failure of a request for the file `x` is told in this line.
+/// The failure of a request for the file `x` is told in this line.
 fn is_told(
     rt: &impl Abort,
     alloc: Global,

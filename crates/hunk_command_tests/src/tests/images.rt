@@ -13,7 +13,7 @@ use std::test::Fail;
 
 const REPORT: LoadText = LoadText::Image(ImageForm::Report);
 
-// The end of printing this text of these files at these addresses.
+/// The end of printing this text of these files at these addresses.
 fn printed<'a>(
     alloc: Global,
     log: &Log,
@@ -46,7 +46,7 @@ fn writes_the_records_of_object_files(rt: HostRuntime) -> Result<(), Fail> {
     )
 }
 
-// The same of three files, of which the last has a symbol.
+/// The same of three files, of which the last has a symbol.
 #[test]
 fn writes_the_symbols_of_object_files(rt: HostRuntime) -> Result<(), Fail> {
     let lines = "00030002 hunk 2 \"loop\"\n";
@@ -65,8 +65,8 @@ fn writes_the_symbols_of_object_files(rt: HostRuntime) -> Result<(), Fail> {
     )
 }
 
-// Of a hunk that calls the other, at 10000 and 20000, this text is printed, or the first bytes of it where the
-// output takes no more. For a text of symbols there is a third hunk, at 30000.
+/// Of a hunk that calls the other, at 10000 and 20000, this text is printed, or the first bytes of it where the
+/// output takes no more. For a text of symbols there is a third hunk, at 30000.
 fn prints(rt: &impl Abort, alloc: Global, text: LoadText, wanted: &str) -> Result<(), Fail> {
     let (list, files) = match text {
         LoadText::Image(_) => ("10000,20000", ["caller", "callee"].as_slice()),
@@ -86,7 +86,7 @@ fn prints(rt: &impl Abort, alloc: Global, text: LoadText, wanted: &str) -> Resul
     was_printed(rt, &log, wanted.as_bytes())
 }
 
-// There is no report of these files at these addresses, and nothing is printed.
+/// There is no report of these files at these addresses, and nothing is printed.
 fn fails<'a>(
     rt: &impl Abort,
     alloc: Global,

@@ -11,7 +11,7 @@ use std::process::Abort;
 use std::rt::Files;
 use std::test::Fail;
 
-// Of 40 files with this name, so many are open before they are read.
+/// Of 40 files with this name, so many are open before they are read.
 fn opens<R: Files + Print + AllocGlobal>(
     rt: &impl Abort,
     system: &R,
@@ -44,7 +44,7 @@ fn a_regular_file_after_the_first_32_is_closed_until_it_is_read(
     Ok(())
 }
 
-// The last of 33 files is opened by its first read, and closed by the one that finds its end.
+/// The last of 33 files is opened by its first read, and closed by the one that finds its end.
 fn opens_the_last<R: Files + Print + AllocGlobal>(
     rt: &impl Abort,
     system: &R,
@@ -78,7 +78,7 @@ fn an_input_is_open_from_its_first_read_to_its_end(rt: HostRuntime) -> Result<()
     opens_the_last(&rt, &(files, rt.alloc()), &log)
 }
 
-// Why these files are not opened.
+/// Why these files are not opened.
 fn failure_of<'a, R: Files + Print + AllocGlobal>(
     system: &R,
     names: &[&'a str],

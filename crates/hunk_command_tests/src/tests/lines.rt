@@ -12,7 +12,7 @@ use std::io::{ErrorKind, Write};
 use std::process::Abort;
 use std::test::Fail;
 
-// The bytes of the longest line that is one write.
+/// The bytes of the longest line that is one write.
 const LONGEST: usize = 8192;
 
 /// The writes that a writer took.
@@ -57,7 +57,7 @@ impl Write for Logged<'_> {
     }
 }
 
-// These writes were taken so far.
+/// These writes were taken so far.
 fn were_taken(rt: &impl Abort, writes: &Writes, wanted: &[u8]) -> Result<(), Fail> {
     let taken = writes.taken.try_borrow()?;
     equals(rt, taken.as_slice(), wanted);
@@ -98,7 +98,7 @@ fn the_line_of_a_failure_is_one_write(rt: HostRuntime) -> Result<(), Fail> {
     )
 }
 
-// A line of the most bytes, put in pieces of this length.
+/// A line of the most bytes, put in pieces of this length.
 fn longest_is_one_write(rt: &impl Abort, alloc: Global, length: usize) -> Result<(), Fail>
     requires { 0 < length }
 {
@@ -136,7 +136,7 @@ fn a_text_without_an_end_of_line_is_written_at_the_end(rt: HostRuntime) -> Resul
     were_taken(&rt, &writes, b"one\ntwo| three|")
 }
 
-// What a write did not take is written before the next line.
+/// What a write did not take is written before the next line.
 #[test]
 fn a_write_that_fails_loses_no_line(rt: HostRuntime) -> Result<(), Fail> {
     let writes = Writes::new(rt.alloc(), 2);

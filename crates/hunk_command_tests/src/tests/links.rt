@@ -27,7 +27,7 @@ const TRIM: LinkOptions = LinkOptions {
     ..PLAIN
 };
 
-// The load file of the files, put under the name `out`, is these bytes.
+/// The load file of the files, put under the name `out`, is these bytes.
 fn is_written(
     rt: &impl Abort,
     alloc: Global,
@@ -105,7 +105,7 @@ fn trim_leaves_out_zeros_at_the_end(rt: HostRuntime) -> Result<(), Fail> {
     is_written(&rt, rt.alloc(), options, &["zeros"], &compact)
 }
 
-// Linking the files to `out` fails for this reason, and nothing is done to a file.
+/// Linking the files to `out` fails for this reason, and nothing is done to a file.
 fn fails<'a>(
     rt: &impl Abort,
     alloc: Global,

@@ -9,12 +9,12 @@ use hunk_commands::{FileList, NameEnd, Request};
 use std::alloc::{AllocError, Global};
 use std::test::Fail;
 
-// A list with this name, whose names end as is told.
+/// A list with this name, whose names end as is told.
 const fn list_in(file: &str, end: NameEnd) -> FileList<'_> {
     FileList { file, end }
 }
 
-// The request for a link of these files and those in a list.
+/// The request for a link of these files and those in a list.
 fn link_of<'a>(
     alloc: Global,
     out: &'a str,
@@ -54,7 +54,7 @@ fn links_the_files_in_a_list_after_the_others(rt: HostRuntime) -> Result<(), Fai
     Ok(())
 }
 
-// No file is touched if the names in the list are not known.
+/// No file is touched if the names in the list are not known.
 #[test]
 fn tells_why_the_names_in_a_list_are_not_known(rt: HostRuntime) -> Result<(), Fail> {
     let alloc = rt.alloc();
@@ -86,7 +86,7 @@ fn writes_a_load_file_to_the_standard_output(rt: HostRuntime) -> Result<(), Fail
     was_done(&rt, &log, "")
 }
 
-// A link that fails prints nothing, and one that is not printed whole says so.
+/// A link that fails prints nothing, and one that is not printed whole says so.
 #[test]
 fn tells_why_nothing_is_on_the_standard_output(rt: HostRuntime) -> Result<(), Fail> {
     let alloc = rt.alloc();

@@ -10,7 +10,7 @@ use std::alloc::Global;
 use std::io::Read;
 use std::process::Abort;
 
-// What is written of a file at an address, and what the call returns.
+/// What is written of a file at an address, and what the call returns.
 fn load_at<I: Read + Drop>(
     alloc: Global,
     input: I,
@@ -22,7 +22,7 @@ fn load_at<I: Read + Drop>(
     (writer.into_inner(), got)
 }
 
-// Whether these lines are written of a file at the address 10000.
+/// Whether these lines are written of a file at the address 10000.
 fn has_text(rt: &impl Abort, alloc: Global, file: &[u8], text: LoadText, lines: &str) {
     let (bytes, got) = load_at(alloc, file, text, 0x1_0000);
     equals(rt, got, Ok(()));

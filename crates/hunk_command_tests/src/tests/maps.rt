@@ -13,18 +13,18 @@ use std::io::ErrorKind;
 use std::process::Abort;
 use std::test::Fail;
 
-// The map of the load file of `caller` and `callee`.
+/// The map of the load file of `caller` and `callee`.
 static MAP: &str = "hunk 0 code any 2 longwords caller unit 0 \"\" hunk 0 \"\"\n\
                     hunk 1 code any 2 longwords callee unit 0 \"\" hunk 0 \"\"\n  \
                     define \"foo\" at 00000004\n";
 
-// What is done to put a new map under the name `map`.
+/// What is done to put a new map under the name `map`.
 static NEW_MAP: &str = "create .amihunk-0\nsync .amihunk-0\nrename .amihunk-0 map\n";
 
-// What is done with a new map that is not whole.
+/// What is done with a new map that is not whole.
 static NO_NEW_MAP: &str = "create .amihunk-0\nremove .amihunk-0\n";
 
-// The names `caller` and `callee`.
+/// The names `caller` and `callee`.
 fn names_of(alloc: Global) -> Result<[String; 2], AllocError> {
     Ok([
         String::from_str(alloc, "caller")?,
@@ -32,7 +32,7 @@ fn names_of(alloc: Global) -> Result<[String; 2], AllocError> {
     ])
 }
 
-// How a link with a map ends.
+/// How a link with a map ends.
 #[derive(Drop)]
 struct End<'a, 'e, 'o, 'm> {
     ended: Result<(), Failure<'a>>,
@@ -43,8 +43,8 @@ struct End<'a, 'e, 'o, 'm> {
     map: Option<&'m [u8]>,
 }
 
-// Linking these files to OUT and MAP, with the names `caller` and `callee`, ends so, and no new file is
-// left.
+/// Linking these files to OUT and MAP, with the names `caller` and `callee`, ends so, and no new file is
+/// left.
 fn is_linked<'a>(
     rt: &impl Abort,
     alloc: Global,
@@ -63,8 +63,8 @@ fn is_linked<'a>(
     is_under(rt, alloc, system, ".amihunk-0", None)
 }
 
-// Linking `caller` and `callee` to `out` and MAP puts the load file there, and then ends so, after this was
-// done for MAP; then this text is under the name MAP.
+/// Linking `caller` and `callee` to `out` and MAP puts the load file there, and then ends so, after this was
+/// done for MAP; then this text is under the name MAP.
 fn is_mapped<'a>(
     rt: &impl Abort,
     alloc: Global,
@@ -127,7 +127,7 @@ fn tells_why_the_map_is_not_written(rt: HostRuntime) -> Result<(), Fail> {
     is_mapped(&rt, alloc, &log, "full", unwritten, "open full\n", empty)
 }
 
-// The load file has 88 bytes, which files take before those of the map.
+/// The load file has 88 bytes, which files take before those of the map.
 #[test]
 fn the_map_is_what_it_was_where_a_write_fails(rt: HostRuntime) -> Result<(), Fail> {
     let alloc = rt.alloc();
@@ -149,7 +149,7 @@ fn the_map_is_what_it_was_where_a_write_fails(rt: HostRuntime) -> Result<(), Fai
     is_mapped(&rt, alloc, &log, "map", Ok(()), NEW_MAP, text)
 }
 
-// A line of the map is longer than the buffer in front of it, so that it is written at once.
+/// A line of the map is longer than the buffer in front of it, so that it is written at once.
 #[test]
 fn tells_that_a_write_of_the_map_failed(rt: HostRuntime) -> Result<(), Fail> {
     let alloc = rt.alloc();
@@ -186,8 +186,8 @@ fn tells_that_a_write_of_the_map_failed(rt: HostRuntime) -> Result<(), Fail> {
     Ok(())
 }
 
-// OUT and MAP of links of `caller`, `callee` and `x` that are refused: for one file of both, or else for a
-// MAP that is linked.
+/// OUT and MAP of links of `caller`, `callee` and `x` that are refused: for one file of both, or else for a
+/// MAP that is linked.
 static REFUSED: [(&str, &str, bool); 5] = [
     ("out", "out", true),
     ("callee", "callee", true),
@@ -196,7 +196,7 @@ static REFUSED: [(&str, &str, bool); 5] = [
     ("out", "x", false),
 ];
 
-// No file is opened or created.
+/// No file is opened or created.
 #[test]
 fn refuses_a_map_over_another_file(rt: HostRuntime) -> Result<(), Fail> {
     let alloc = rt.alloc();
@@ -225,7 +225,7 @@ fn refuses_a_map_over_another_file(rt: HostRuntime) -> Result<(), Fail> {
     Ok(())
 }
 
-// Linking these files to OUT and `map` fails for this reason, after this was done; no map is begun.
+/// Linking these files to OUT and `map` fails for this reason, after this was done; no map is begun.
 fn begins_no_map<'a>(
     rt: &impl Abort,
     alloc: Global,

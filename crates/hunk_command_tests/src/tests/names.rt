@@ -9,21 +9,21 @@ use std::alloc::Global;
 use std::process::Abort;
 use std::test::Fail;
 
-// The line of the name that `callee` defines and `caller` refers to, if both are given.
+/// The line of the name that `callee` defines and `caller` refers to, if both are given.
 const DEFINED: &str = "00000004 T \"foo\" unit 1 hunk 0\n";
 
-// And if `caller` is given alone.
+/// And if `caller` is given alone.
 const UNDEFINED: &str = "         U \"foo\" unit 0 hunk 0\n";
 
-// `show --names FILE...`.
+/// `show --names FILE...`.
 fn request_for<'a>(alloc: Global, names: &[&'a str]) -> Result<Request<'a>, Fail> {
     Ok(Request::Names {
         files: Vec::from_slice(alloc, names)?,
     })
 }
 
-// `show --names FILE...` ends with this status and this line on standard error, once it has printed this. No file
-// is open any more.
+/// `show --names FILE...` ends with this status and this line on standard error, once it has printed this. No file
+/// is open any more.
 fn names_end(
     rt: &impl Abort,
     alloc: Global,

@@ -4,7 +4,7 @@ use super::explanations::{ALL, Asked, Row, both, ends};
 use hunk_commands::Addresses;
 use std::test::Fail;
 
-// Failures of status 3, and the reason of each.
+/// Failures of status 3, and the reason of each.
 static REASONS: [Row; 18] = [
     (
         Asked::Check("x"),
@@ -111,7 +111,7 @@ fn tells_the_reason_if_it_is_asked_to(rt: HostRuntime) -> Result<(), Fail> {
     Ok(())
 }
 
-// A read that fails of what is no directory.
+/// A read that fails of what is no directory.
 #[test]
 fn tells_no_reason_of_another_read_that_failed(rt: HostRuntime) -> Result<(), Fail> {
     let line = b"amihunk: caller: read failed\n".as_slice();

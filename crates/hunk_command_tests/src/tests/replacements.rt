@@ -13,7 +13,7 @@ use std::io::ErrorKind;
 use std::process::Abort;
 use std::test::Fail;
 
-// OUT, what is done to put the load file there, and the name that it is under then.
+/// OUT, what is done to put the load file there, and the name that it is under then.
 static WAYS: [(&str, &str, &str); 6] = [
     // A regular file, which is one of those that are linked.
     ("callee", OVER_CALLEE, "callee"),
@@ -37,7 +37,7 @@ static WAYS: [(&str, &str, &str); 6] = [
     ("pipe", "open pipe\n", "pipe"),
 ];
 
-// OUT, and why it cannot be opened or created.
+/// OUT, and why it cannot be opened or created.
 static UNOPENED: [(&str, OpenFault); 11] = [
     ("directory", OpenFault::Directory),
     ("out/", OpenFault::Directory),
@@ -52,23 +52,23 @@ static UNOPENED: [(&str, OpenFault); 11] = [
     ("unknown", OpenFault::Unknown),
 ];
 
-// Why no file can be created beside OUT, and the reason that is told of an OUT that is not there. With
-// the last one, each name for it is taken.
+/// Why no file can be created beside OUT, and the reason that is told of an OUT that is not there. With
+/// the last one, each name for it is taken.
 static NO_NEW_FILE: [(ErrorKind, OpenFault); 3] = [
     (ErrorKind::PermissionDenied, OpenFault::NotAllowed),
     (ErrorKind::ReadOnlyFilesystem, OpenFault::ReadOnly),
     (ErrorKind::AlreadyExists, OpenFault::Unknown),
 ];
 
-// What is done with a file that no other can be made beside.
+/// What is done with a file that no other can be made beside.
 static IN_PLACE: &str = "open callee\ntruncate callee\n";
 
-// What is done with `callee` if the new file is not whole.
+/// What is done with `callee` if the new file is not whole.
 static NOT_WHOLE: &str =
     "open callee\ncreate .amihunk-0\npermissions .amihunk-0\nremove .amihunk-0\n";
 
-// The link of `caller` and `callee` to `out` ends so, after this was done; then these bytes are under the
-// name `out`, and no new file is left.
+/// The link of `caller` and `callee` to `out` ends so, after this was done; then these bytes are under the
+/// name `out`, and no new file is left.
 fn ends<'a>(
     rt: &impl Abort,
     alloc: Global,
@@ -179,7 +179,7 @@ fn out_is_what_it_was_where_a_write_fails(rt: HostRuntime) -> Result<(), Fail> {
     ends(&rt, alloc, &log, "callee", Ok(()), OVER_CALLEE, program)
 }
 
-// A device takes the first bytes, and so does a file that no other can be made beside.
+/// A device takes the first bytes, and so does a file that no other can be made beside.
 #[test]
 fn tells_that_a_write_to_a_device_failed(rt: HostRuntime) -> Result<(), Fail> {
     let alloc = rt.alloc();
@@ -269,8 +269,8 @@ fn out_is_what_it_was_where_a_new_file_cannot_be_renamed(rt: HostRuntime) -> Res
     ends(&rt, alloc, &log, "out", unplaced, events, None)
 }
 
-// How `link --out out` of 300 files `loop` ends, if files take so many bytes: its status and the line, what
-// was done, and how many bytes are under the name `out` then.
+/// How `link --out out` of 300 files `loop` ends, if files take so many bytes: its status and the line, what
+/// was done, and how many bytes are under the name `out` then.
 fn long_ends(
     rt: &impl Abort,
     alloc: Global,
@@ -301,8 +301,8 @@ fn long_ends(
     Ok(())
 }
 
-// Longer than a buffer of 8,192 bytes, so that writes fail during the run and at its end: a header of 5
-// longwords, 300 sizes, and 300 hunks of 9 longwords.
+/// Longer than a buffer of 8,192 bytes, so that writes fail during the run and at its end: a header of 5
+/// longwords, 300 sizes, and 300 hunks of 9 longwords.
 #[test]
 fn out_is_what_it_was_where_a_write_of_a_long_file_fails(rt: HostRuntime) -> Result<(), Fail> {
     let alloc = rt.alloc();
@@ -313,7 +313,7 @@ fn out_is_what_it_was_where_a_write_of_a_long_file_fails(rt: HostRuntime) -> Res
     long_ends(&rt, alloc, 12020, (0, ""), NEW_OUT, Some(12020))
 }
 
-// If an allocation fails, `callee` is what it was, and the next link replaces it.
+/// If an allocation fails, `callee` is what it was, and the next link replaces it.
 #[test]
 fn out_is_what_it_was_where_memory_runs_out(rt: HostRuntime) -> Result<(), Fail> {
     let alloc = rt.alloc();

@@ -10,7 +10,7 @@ use std::alloc::Global;
 use std::process::Abort;
 use std::test::Fail;
 
-// `link --out OUT FILE...`, with `--map MAP` or without, ends with this status and this line.
+/// `link --out OUT FILE...`, with `--map MAP` or without, ends with this status and this line.
 fn link_ends<'a>(
     rt: &impl Abort,
     alloc: Global,

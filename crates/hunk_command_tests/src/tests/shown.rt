@@ -11,7 +11,7 @@ use std::alloc::Global;
 use std::process::Abort;
 use std::test::Fail;
 
-// The texts about `one-hunk` that are no page.
+/// The texts about `one-hunk` that are no page.
 static TEXTS: [(ShowText, &str); 3] = [
     (
         ShowText::Listing,
@@ -30,21 +30,21 @@ static TEXTS: [(ShowText, &str); 3] = [
     ),
 ];
 
-// Room for every text.
+/// Room for every text.
 const ENOUGH: usize = 0x4_0000;
 
-// The most bytes of each write.
+/// The most bytes of each write.
 const CHUNK: usize = 4096;
 
-// An output with room for this many bytes. After that it takes nothing if `zero` is set, and fails otherwise.
+/// An output with room for this many bytes. After that it takes nothing if `zero` is set, and fails otherwise.
 #[derive(Clone, Copy)]
 struct Device {
     room: usize,
     zero: bool,
 }
 
-// What is printed on the device of `one-hunk`, where the request ends with this status and this line on
-// standard error.
+/// What is printed on the device of `one-hunk`, where the request ends with this status and this line on
+/// standard error.
 fn printed(
     rt: &impl Abort,
     alloc: Global,
@@ -75,7 +75,7 @@ fn printed(
     Ok(output.sink.bytes().to_vec(alloc)?)
 }
 
-// What is printed on a device that takes all of it.
+/// What is printed on a device that takes all of it.
 fn printed_whole(rt: &impl Abort, alloc: Global, text: ShowText) -> Result<Vec<u8>, Fail> {
     let device = Device {
         room: ENOUGH,
@@ -104,7 +104,7 @@ fn prints_the_page_of_a_file(rt: HostRuntime) -> Result<(), Fail> {
     Ok(())
 }
 
-// A device with less room takes so much of the text, and that is told.
+/// A device with less room takes so much of the text, and that is told.
 fn takes_front(
     rt: &impl Abort,
     alloc: Global,

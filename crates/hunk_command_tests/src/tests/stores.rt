@@ -53,14 +53,14 @@ impl<W: Sink> Output for Unbuffered<W> {
     }
 }
 
-// An output to memory.
+/// An output to memory.
 fn new_output(alloc: Global) -> Unbuffered<Watched<Vec<u8>>> {
     Unbuffered {
         sink: Watched::new(Vec::new(alloc)),
     }
 }
 
-// The files that a store has from the start.
+/// The files that a store has from the start.
 fn all_files() -> [(&'static str, &'static [u8]); 4] {
     [
         ("caller", &CALLER),
@@ -70,7 +70,7 @@ fn all_files() -> [(&'static str, &'static [u8]); 4] {
     ]
 }
 
-// A store of these files.
+/// A store of these files.
 pub(super) fn store_in(alloc: Global, arena: &Bump) -> Result<MemoryStore<'_>, AllocError> {
     let mut store = MemoryStore::new(alloc, arena);
     for (name, bytes) in all_files() {
@@ -79,7 +79,7 @@ pub(super) fn store_in(alloc: Global, arena: &Bump) -> Result<MemoryStore<'_>, A
     Ok(store)
 }
 
-// The files are what they were, but for the one with this name.
+/// The files are what they were, but for the one with this name.
 pub(super) fn are_unchanged_but(rt: &impl Abort, store: &MemoryStore<'_>, changed: &str) {
     for (name, bytes) in all_files() {
         if name != changed {
@@ -122,7 +122,7 @@ fn prints_of_a_linked_file_what_it_prints_of_its_object_files(rt: HostRuntime) -
     Ok(())
 }
 
-// What `load` prints of `out` is what `image` prints of these files.
+/// What `load` prints of `out` is what `image` prints of these files.
 fn prints_the_image(
     rt: &impl Abort,
     alloc: Global,
@@ -146,7 +146,7 @@ fn prints_the_image(
     Ok(())
 }
 
-// The hunk that defines `foo` at 4 has it as a symbol, also without the symbols of the units.
+/// The hunk that defines `foo` at 4 has it as a symbol, also without the symbols of the units.
 #[test]
 fn links_files_with_globals(rt: HostRuntime) -> Result<(), Fail> {
     let alloc = rt.alloc();
@@ -208,7 +208,7 @@ fn a_link_that_fails_leaves_every_file_as_it_was(rt: HostRuntime) -> Result<(), 
     Ok(())
 }
 
-// With an allocation that fails, `callee` is what it was, and the next link replaces it.
+/// With an allocation that fails, `callee` is what it was, and the next link replaces it.
 #[test]
 fn every_file_is_what_it_was_where_memory_runs_out(rt: HostRuntime) -> Result<(), Fail> {
     let alloc = rt.alloc();

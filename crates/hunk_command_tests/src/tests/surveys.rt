@@ -29,7 +29,7 @@ const fn names_in(file: &str) -> Option<FileList<'_>> {
     })
 }
 
-// The end of a survey of these files.
+/// The end of a survey of these files.
 fn surveyed<'a>(
     alloc: Global,
     log: &Log,
@@ -41,8 +41,8 @@ fn surveyed<'a>(
     survey(&system, options, files, list)
 }
 
-// A survey of the files prints these lines, ends with this status, and has at most two of them open: the list,
-// and the one that is read.
+/// A survey of the files prints these lines, ends with this status, and has at most two of them open: the list,
+/// and the one that is read.
 fn is_told(
     rt: &impl Abort,
     alloc: Global,
@@ -111,7 +111,7 @@ fn tells_what_each_file_is_in_json(rt: HostRuntime) -> Result<(), Fail> {
     is_told(&rt, rt.alloc(), JSON, &files, None, (lines, 3))
 }
 
-// What is no regular file is waited for if it is the only one, or if that is asked for.
+/// What is no regular file is waited for if it is the only one, or if that is asked for.
 #[test]
 fn waits_for_no_file_but_an_only_one(rt: HostRuntime) -> Result<(), Fail> {
     let alloc = rt.alloc();
@@ -161,7 +161,7 @@ fn tells_of_the_files_in_a_list_after_the_others(rt: HostRuntime) -> Result<(), 
     is_told(&rt, alloc, TEXT, &[], list, (lines, 0))
 }
 
-// Nothing is printed of a list that cannot be opened, and the lines before it of one that cannot be read.
+/// Nothing is printed of a list that cannot be opened, and the lines before it of one that cannot be read.
 #[test]
 fn ends_with_a_list_that_cannot_be_read(rt: HostRuntime) -> Result<(), Fail> {
     let alloc = rt.alloc();
@@ -196,7 +196,7 @@ fn tells_that_a_survey_was_not_printed(rt: HostRuntime) -> Result<(), Fail> {
     Ok(())
 }
 
-// The standard output takes no byte.
+/// The standard output takes no byte.
 #[test]
 fn ends_with_the_status_of_a_failed_write(rt: HostRuntime) -> Result<(), Fail> {
     let log = Log::new(rt.alloc());

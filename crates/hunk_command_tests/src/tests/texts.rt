@@ -10,7 +10,7 @@ use std::alloc::Global;
 use std::io::Read;
 use std::process::Abort;
 
-// All texts about a file.
+/// All texts about a file.
 const TEXTS: [Text; 6] = [
     Text::Line,
     Text::Lint,
@@ -20,7 +20,7 @@ const TEXTS: [Text; 6] = [
     Text::Shown(ShowText::Page),
 ];
 
-// What is written about a file, and what the call returns.
+/// What is written about a file, and what the call returns.
 fn text_about<I: Read + Drop>(
     alloc: Global,
     text: Text,
@@ -31,7 +31,7 @@ fn text_about<I: Read + Drop>(
     (writer.into_inner(), got)
 }
 
-// Whether this is written about a file.
+/// Whether this is written about a file.
 fn has_text(rt: &impl Abort, alloc: Global, file: &[u8], text: Text, lines: &str) {
     let (bytes, got) = text_about(alloc, text, file);
     holds(rt, &lines, got.is_ok());

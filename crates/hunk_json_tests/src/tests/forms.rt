@@ -11,10 +11,10 @@ use std::alloc::Global;
 use std::process::Abort;
 use std::test::Fail;
 
-// All forms. They tell the same of a file without hunks.
+/// All forms. They tell the same of a file without hunks.
 const FORMS: [JsonForm; 3] = [JsonForm::Plain, JsonForm::WithContent, JsonForm::InPage];
 
-// The limits of a reader and of a writer.
+/// The limits of a reader and of a writer.
 #[derive(Clone, Copy)]
 struct Devices {
     // The most bytes for each read and each write.
@@ -23,7 +23,7 @@ struct Devices {
     room: usize,
 }
 
-// A run over these longwords ends so, and writes this text.
+/// A run over these longwords ends so, and writes this text.
 fn is_run(
     rt: &impl Abort,
     alloc: Global,
@@ -42,7 +42,7 @@ fn is_run(
     Ok(())
 }
 
-// The document of these longwords in this form is this text, however they are read.
+/// The document of these longwords in this form is this text, however they are read.
 fn is_written(
     rt: &impl Abort,
     alloc: Global,
@@ -61,8 +61,8 @@ fn is_written(
     Ok(())
 }
 
-// Units without hunks, and what stands for the characters of their names: those that a terminal
-// obeys, the characters beside them, and the end of a script.
+/// Units without hunks, and what stands for the characters of their names: those that a terminal
+/// obeys, the characters beside them, and the end of a script.
 static NAMES: [(&[u32], &str); 2] = [
     (
         &[0x3E7, 4, 0x617FC285, 0xE280AED8, 0x9CE281A6, 0xC29F417E],
@@ -87,7 +87,7 @@ fn escapes_what_a_terminal_obeys(rt: HostRuntime) -> Result<(), Fail> {
     Ok(())
 }
 
-// A unit whose name ends a script, and what stands for the name outside a page and in it.
+/// A unit whose name ends a script, and what stands for the name outside a page and in it.
 static TAG: [u32; 5] = [0x3E7, 3, 0x3C2F7363, 0x72697074, 0x3E000000];
 
 #[test]
@@ -105,8 +105,8 @@ fn escapes_what_begins_a_tag_in_a_page(rt: HostRuntime) -> Result<(), Fail> {
     Ok(())
 }
 
-// The contents of hunks, and these in base64: of every length up to four longwords, and of more than
-// is encoded at once.
+/// The contents of hunks, and these in base64: of every length up to four longwords, and of more than
+/// is encoded at once.
 static CONTENTS: [(&[u32], &str); 6] = [
     (&[], ""),
     (&[0xFB020910], "+wIJEA=="),
@@ -133,7 +133,7 @@ static CONTENTS: [(&[u32], &str); 6] = [
     ),
 ];
 
-// An object file of one hunk with this content.
+/// An object file of one hunk with this content.
 fn object_words(alloc: Global, content: &[u32]) -> Result<Vec<u32>, Fail> {
     let size = u32::try_from(content.len()).ok().ok_or("too long")?;
     let mut words = vec![in alloc; 0x3E7, 0, 0x3EA, size]?;
@@ -142,7 +142,7 @@ fn object_words(alloc: Global, content: &[u32]) -> Result<Vec<u32>, Fail> {
     Ok(words)
 }
 
-// What is told of it.
+/// What is told of it.
 fn object_text(alloc: Global, size: usize, content: &str) -> Result<String, Fail> {
     Ok(format!(in alloc;
         "{{\"kind\":\"object file\",\"units\":[{{\"hunks\":[\
@@ -151,7 +151,7 @@ fn object_text(alloc: Global, size: usize, content: &str) -> Result<String, Fail
     )?)
 }
 
-// A load file of one hunk with this content, and one more longword of memory.
+/// A load file of one hunk with this content, and one more longword of memory.
 fn load_words(alloc: Global, content: &[u32]) -> Result<Vec<u32>, Fail> {
     let stored = u32::try_from(content.len()).ok().ok_or("too long")?;
     let size = stored.saturating_add(1);
@@ -161,7 +161,7 @@ fn load_words(alloc: Global, content: &[u32]) -> Result<Vec<u32>, Fail> {
     Ok(words)
 }
 
-// What is told of it.
+/// What is told of it.
 fn load_text(alloc: Global, stored: usize, content: &str) -> Result<String, Fail> {
     let size = stored.saturating_add(1);
     Ok(format!(in alloc;
@@ -192,7 +192,7 @@ fn tells_contents(rt: HostRuntime) -> Result<(), Fail> {
     Ok(())
 }
 
-// The members about a content in this form.
+/// The members about a content in this form.
 fn member(alloc: Global, form: JsonForm, symbols: &str, offset: u32) -> Result<String, Fail> {
     match form {
         JsonForm::Plain => Ok(String::new(alloc)),
@@ -202,8 +202,8 @@ fn member(alloc: Global, form: JsonForm, symbols: &str, offset: u32) -> Result<S
     }
 }
 
-// Two units with a hunk each, the second of which has a name and is not stored. Their contents begin
-// behind longwords 3 and 11.
+/// Two units with a hunk each, the second of which has a name and is not stored. Their contents begin
+/// behind longwords 3 and 11.
 static TWO_CONTENTS: [u32; 13] = [
     0x3E7, 0, 0x3EA, 1, 0xFB020910, 0x3F2, //
     0x3E7, 0, 0x3E8, 0, 0x400003EB, 7, 0x3F2,
@@ -223,7 +223,7 @@ fn counts_hunks_over_all_units(rt: HostRuntime) -> Result<(), Fail> {
     Ok(())
 }
 
-// Three hunks with the addresses of others: their contents begin behind longwords 9, 14 and 23.
+/// Three hunks with the addresses of others: their contents begin behind longwords 9, 14 and 23.
 static THREE_HUNKS_TEXT: &str = "{\"hunks\":[\
      {\"debugs\":[],\"kind\":\"code\",\"memory\":\"any\",\"sites\":[],\"size\":2,\"stored\":2,\
      \"content\":\"TnFOcU51TnE=\",\"content_offset\":40,\"symbols\":[]},\
@@ -240,10 +240,10 @@ fn tells_where_each_content_begins(rt: HostRuntime) -> Result<(), Fail> {
     Ok(())
 }
 
-// More allocations than a run makes.
+/// More allocations than a run makes.
 const MOST_GROWTHS: u64 = 64;
 
-// Whether a run in which this allocation is to fail makes fewer; otherwise it has written nothing.
+/// Whether a run in which this allocation is to fail makes fewer; otherwise it has written nothing.
 fn is_made_without(
     rt: &impl Abort,
     alloc: Global,
@@ -264,7 +264,7 @@ fn is_made_without(
     Ok(false)
 }
 
-// How many allocations a run over these longwords makes, each of which was refused in turn.
+/// How many allocations a run over these longwords makes, each of which was refused in turn.
 fn growths(rt: &impl Abort, alloc: Global, words: &[u32]) -> Result<u64, Fail> {
     for refused in 0..MOST_GROWTHS {
         if is_made_without(rt, alloc, words, refused)? {

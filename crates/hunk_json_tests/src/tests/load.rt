@@ -10,8 +10,8 @@ use hunk_words::{Pieces, Room, Text};
 use std::alloc::Global;
 use std::test::Fail;
 
-// Load files and their texts: sites of both kinds of relocation, symbols and debug blocks, and
-// content that is shorter than its hunk; and a hunk of which every list is empty.
+/// Load files and their texts: sites of both kinds of relocation, symbols and debug blocks, and
+/// content that is shorter than its hunk; and a hunk of which every list is empty.
 pub(super) static FILES: [(&[u32], &str); 2] = [
     (
         &TWO_HUNKS,
@@ -33,10 +33,10 @@ pub(super) static FILES: [(&[u32], &str); 2] = [
     ),
 ];
 
-// The most bytes that are taken by each write.
+/// The most bytes that are taken by each write.
 const CHUNK: usize = 64;
 
-// The load file of these longwords.
+/// The load file of these longwords.
 fn file_of(alloc: Global, words: &[u32]) -> Result<LoadFile, Fail> {
     let mut reader = Pieces::new(bytes_of(alloc, words, &[])?, ROOM, None);
     Ok(read_load(alloc, &mut reader)?)
@@ -55,8 +55,8 @@ fn writes_load_files(rt: HostRuntime) -> Result<(), Fail> {
     Ok(())
 }
 
-// The first of these files with its contents, and with these offsets: one for each hunk, too few and
-// too many.
+/// The first of these files with its contents, and with these offsets: one for each hunk, too few and
+/// too many.
 static PLACED: [(&[u32], [u32; 2]); 4] = [
     (&[36, 160], [36, 160]),
     (&[4294967295], [4294967295, 0]),
@@ -64,7 +64,7 @@ static PLACED: [(&[u32], [u32; 2]); 4] = [
     (&[1, 2, 3], [1, 2]),
 ];
 
-// The document of the file of two hunks with these offsets.
+/// The document of the file of two hunks with these offsets.
 fn placed_text(alloc: Global, [code, data]: [u32; 2]) -> Result<String, Fail> {
     Ok(format!(in alloc;
         "{{\"hunks\":[\

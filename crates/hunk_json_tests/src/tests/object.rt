@@ -9,10 +9,10 @@ use hunk_words::{Pieces, Room, Text};
 use std::alloc::Global;
 use std::test::Fail;
 
-// Two units. The first has a hunk with a site that adds a hunk and two that add names, one with a
-// quote, a backslash and a newline, and one that is not UTF-8; a name at an offset, and a name of two
-// bytes that are one character, for the greatest number; a symbol with control characters; and a
-// debug block. Its second hunk and the one of the second unit have nothing but a kind and a memory.
+/// Two units. The first has a hunk with a site that adds a hunk and two that add names, one with a
+/// quote, a backslash and a newline, and one that is not UTF-8; a name at an offset, and a name of two
+/// bytes that are one character, for the greatest number; a symbol with control characters; and a
+/// debug block. Its second hunk and the one of the second unit have nothing but a kind and a memory.
 const TWO_UNITS: [u32; 47] = [
     0x3E7, 1, 0x6D61696E, //
     0x3E8, 1, 0x434F4445, //
@@ -26,10 +26,10 @@ const TWO_UNITS: [u32; 47] = [
     0x3E7, 0,
 ];
 
-// A unit without hunks.
+/// A unit without hunks.
 const NO_HUNKS: [u32; 2] = [0x3E7, 0];
 
-// Object files and their texts.
+/// Object files and their texts.
 pub(super) static FILES: [(&[u32], &str); 3] = [
     (
         &TWO_UNITS,
@@ -61,10 +61,10 @@ pub(super) static FILES: [(&[u32], &str); 3] = [
     ),
 ];
 
-// The most bytes that are taken by each write.
+/// The most bytes that are taken by each write.
 const CHUNK: usize = 64;
 
-// The units of the object file of these longwords.
+/// The units of the object file of these longwords.
 fn units_of(alloc: Global, words: &[u32]) -> Result<Vec<ProgramUnit>, Fail> {
     let mut reader = Pieces::new(bytes_of(alloc, words, &[])?, ROOM, None);
     Ok(read_object(alloc, &mut reader)?)
@@ -83,14 +83,14 @@ fn writes_object_files(rt: HostRuntime) -> Result<(), Fail> {
     Ok(())
 }
 
-// Three units: one with two hunks, one without hunks, and one with a hunk.
+/// Three units: one with two hunks, one without hunks, and one with a hunk.
 const THREE_UNITS: [u32; 18] = [
     0x3E7, 0, 0x3EB, 1, 0x3F2, 0x3E9, 1, 0x4E754E71, 0x3F2, //
     0x3E7, 0, //
     0x3E7, 1, 0x61000000, 0x3EA, 1, 0xFF000000, 0x3F2,
 ];
 
-// Offsets for its hunks, and those that are told.
+/// Offsets for its hunks, and those that are told.
 static PLACED: [(&[u32], [u32; 3]); 4] = [
     (&[16, 28, 64], [16, 28, 64]),
     (&[5, 6], [5, 6, 0]),
@@ -98,7 +98,7 @@ static PLACED: [(&[u32], [u32; 3]); 4] = [
     (&[1, 2, 3, 4], [1, 2, 3]),
 ];
 
-// Its document with these offsets.
+/// Its document with these offsets.
 fn placed_text(alloc: Global, [zeros, code, data]: [u32; 3]) -> Result<String, Fail> {
     Ok(format!(in alloc;
         "{{\"kind\":\"object file\",\"units\":[\

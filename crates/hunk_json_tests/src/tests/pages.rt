@@ -9,24 +9,24 @@ use std::alloc::Global;
 use std::process::Abort;
 use std::test::Fail;
 
-// Room for every page.
+/// Room for every page.
 const ENOUGH: usize = 0x4_0000;
 
-// The most bytes of each read and each write.
+/// The most bytes of each read and each write.
 const CHUNK: usize = 4096;
 
-// A unit without a name, and its document.
+/// A unit without a name, and its document.
 static UNNAMED: [u32; 2] = [0x3E7, 0];
 
 static UNNAMED_TEXT: &str = "{\"kind\":\"object file\",\"units\":[{\"hunks\":[],\"name\":\"\"}]}";
 
-// A unit whose name ends a script, and its document in a page.
+/// A unit whose name ends a script, and its document in a page.
 static TAG: [u32; 5] = [0x3E7, 3, 0x3C2F7363, 0x72697074, 0x3E000000];
 
 static TAG_TEXT: &str =
     "{\"kind\":\"object file\",\"units\":[{\"hunks\":[],\"name\":\"\\u003c/script>\"}]}";
 
-// A run over these longwords ends so, and its writer has room for this many bytes; what it took.
+/// A run over these longwords ends so, and its writer has room for this many bytes; what it took.
 fn taken(
     rt: &impl Abort,
     alloc: Global,
@@ -41,7 +41,7 @@ fn taken(
     Ok(writer.bytes().to_vec(alloc)?)
 }
 
-// What stands before the document in its page, and behind it.
+/// What stands before the document in its page, and behind it.
 fn around<'p>(page: &'p [u8], document: &str) -> Result<(&'p [u8], &'p [u8]), Fail> {
     for start in 0..page.len() {
         if let Some(behind) = page[start..].strip_prefix(document.as_bytes()) {
@@ -78,7 +78,7 @@ fn refuses_what_is_no_file(rt: HostRuntime) -> Result<(), Fail> {
     Ok(())
 }
 
-// A writer with room for this many bytes takes so many of this page.
+/// A writer with room for this many bytes takes so many of this page.
 fn takes_front(rt: &impl Abort, alloc: Global, page: &[u8], room: usize) -> Result<(), Fail> {
     let written = room as u64;
     let front = taken(rt, alloc, &TAG, room, Err(ToolFault::Output { written }))?;
@@ -102,10 +102,10 @@ fn tells_what_a_writer_took(rt: HostRuntime) -> Result<(), Fail> {
     Ok(())
 }
 
-// More allocations than a run makes.
+/// More allocations than a run makes.
 const MOST_GROWTHS: u64 = 64;
 
-// Whether a run in which this allocation is to fail makes fewer; otherwise it has written nothing.
+/// Whether a run in which this allocation is to fail makes fewer; otherwise it has written nothing.
 fn is_made_without(rt: &impl Abort, alloc: Global, refused: u64) -> Result<bool, Fail> {
     let heap = Refusing::new(alloc, refused);
     let mut reader = Pieces::new(bytes_of(alloc, &TAG, &[])?, CHUNK, None);

@@ -10,16 +10,16 @@ use std::alloc::Global;
 use std::process::Abort;
 use std::test::Fail;
 
-// A file of three longwords, and its line. The bytes of its unit's name are not UTF-8.
+/// A file of three longwords, and its line. The bytes of its unit's name are not UTF-8.
 static NAMED: [u32; 3] = [0x3E7, 1, 0x41225CFF];
 
 static LINE: &[u8] =
     b"{\"kind\":\"object file\",\"units\":[{\"hunks\":[],\"name\":[65,34,92,255]}]}\n";
 
-// Room for every line.
+/// Room for every line.
 pub(super) const ENOUGH: usize = 2048;
 
-// The limits of a reader and of a writer.
+/// The limits of a reader and of a writer.
 #[derive(Clone, Copy)]
 struct Devices {
     // The most bytes for each read and each write.
@@ -36,7 +36,7 @@ const WHOLE: Devices = Devices {
     room: ENOUGH,
 };
 
-// A run over these longwords ends so, and writes this text.
+/// A run over these longwords ends so, and writes this text.
 fn is_run(
     rt: &impl Abort,
     alloc: Global,
@@ -55,7 +55,7 @@ fn is_run(
     Ok(())
 }
 
-// The line of these longwords is this text and its end, however they are read.
+/// The line of these longwords is this text and its end, however they are read.
 fn is_written(rt: &impl Abort, alloc: Global, words: &[u32], text: &str) -> Result<(), Fail> {
     let mut line = String::from_str(alloc, text)?;
     line.push_str("\n")?;
@@ -122,10 +122,10 @@ fn tells_what_a_writer_took(rt: HostRuntime) -> Result<(), Fail> {
     Ok(())
 }
 
-// More allocations than a run makes.
+/// More allocations than a run makes.
 const MOST_GROWTHS: u64 = 64;
 
-// Whether a run in which this allocation is to fail makes fewer; otherwise it has written nothing.
+/// Whether a run in which this allocation is to fail makes fewer; otherwise it has written nothing.
 fn is_made_without(rt: &impl Abort, alloc: Global, refused: u64) -> Result<bool, Fail> {
     let heap = Refusing::new(alloc, refused);
     let mut reader = Pieces::new(bytes_of(alloc, &NAMED, &[])?, 64, None);

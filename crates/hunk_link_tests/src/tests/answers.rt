@@ -14,7 +14,7 @@ use std::test::Fail;
 /// What a link is to give: the longwords of a load file, or why there is none.
 pub(crate) type Answer<'a> = Result<&'a [u32], &'a LinkRefusal>;
 
-// Bytes per read and per write.
+/// Bytes per read and per write.
 const PIECE: usize = 4096;
 
 /// The bytes of these longwords.
@@ -59,7 +59,7 @@ pub(crate) fn is_file<A: Allocator + Copy>(
     Ok(())
 }
 
-// This is the answer, as the options say.
+/// This is the answer, as the options say.
 fn is_answer(
     rt: &impl Abort,
     alloc: Global,

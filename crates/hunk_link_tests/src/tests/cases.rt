@@ -13,7 +13,7 @@ use std::test::Fail;
 /// Where the hunks of most cases are placed.
 pub(crate) static BASES: [u32; 2] = [0x0001_0000, 0x0002_0000];
 
-// Bytes per read and per write: all at once, or in pieces.
+/// Bytes per read and per write: all at once, or in pieces.
 static PIECES: [usize; 4] = [4096, 1, 3, 5];
 
 /// Object files that link.
@@ -65,7 +65,7 @@ pub(crate) fn runs_to(
     loads_to(rt, alloc, &linked, bases, most, report)
 }
 
-// Linked with these options, the object files have the same report.
+/// Linked with these options, the object files have the same report.
 fn loads_alike(
     rt: &impl Abort,
     alloc: Global,

@@ -13,10 +13,10 @@ use std::alloc::Global;
 use std::process::Abort;
 use std::test::Fail;
 
-// The files that are linked.
+/// The files that are linked.
 const OBJECTS: [&[u32]; 2] = [&REFERS, &DEFINES];
 
-// Runs the files, at most `most` bytes per read and one of the reads failing. Nothing is written then.
+/// Runs the files, at most `most` bytes per read and one of the reads failing. Nothing is written then.
 fn fails_to_read(
     rt: &impl Abort,
     alloc: Global,
@@ -32,7 +32,7 @@ fn fails_to_read(
     Ok(())
 }
 
-// The files have 52 and 48 bytes. One more read tells the end.
+/// The files have 52 and 48 bytes. One more read tells the end.
 #[test]
 fn tells_which_input_failed(rt: HostRuntime) -> Result<(), Fail> {
     for run in [
@@ -63,7 +63,7 @@ fn tells_which_input_failed(rt: HostRuntime) -> Result<(), Fail> {
     Ok(())
 }
 
-// Runs the files into a writer that takes this many bytes, at most seven per write.
+/// Runs the files into a writer that takes this many bytes, at most seven per write.
 fn fails_to_write(
     rt: &impl Abort,
     alloc: Global,
@@ -82,7 +82,7 @@ fn fails_to_write(
     Ok(())
 }
 
-// The same into writers that take each number of bytes of the text but all of them.
+/// The same into writers that take each number of bytes of the text but all of them.
 fn fails_at_each_byte(
     rt: &impl Abort,
     alloc: Global,

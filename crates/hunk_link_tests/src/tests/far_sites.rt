@@ -11,22 +11,22 @@ use std::alloc::{AllocError, Global};
 use std::process::Abort;
 use std::test::Fail;
 
-// The number of longwords of the hunk with the sites.
+/// The number of longwords of the hunk with the sites.
 const SIZE: u32 = 16_400;
 
-// The longword that it begins with. Zeros follow it.
+/// The longword that it begins with. Zeros follow it.
 const FIRST: u32 = 0x4E71_4E75;
 
-// The number of longwords of the hunk after it.
+/// The number of longwords of the hunk after it.
 const NEXT_SIZE: u32 = 4;
 
-// Bytes per read and per write.
+/// Bytes per read and per write.
 const PIECE: usize = 4096;
 
-// Where the two hunks are placed.
+/// Where the two hunks are placed.
 static FAR_BASES: [u32; 2] = [0x0010_0000, 0x0020_0000];
 
-// Sites of the first hunk, and what the load file has of them.
+/// Sites of the first hunk, and what the load file has of them.
 #[derive(Clone, Copy)]
 struct Far<'a> {
     // The offset of each, and the number of the hunk whose base is added.
@@ -39,7 +39,7 @@ struct Far<'a> {
     short: &'a [u32],
 }
 
-// The last offset of a longword that 16 bits hold is 65,532, and the first that they do not is 65,536.
+/// The last offset of a longword that 16 bits hold is 65,532, and the first that they do not is 65,536.
 const ALIGNED: Far<'static> = Far {
     sites: &[(4, 1), (65_532, 0), (65_536, 1)],
     kept: 16_385,
@@ -58,7 +58,7 @@ const ALIGNED: Far<'static> = Far {
     ],
 };
 
-// The last offset of all that 16 bits hold.
+/// The last offset of all that 16 bits hold.
 const ODD: Far<'static> = Far {
     sites: &[(65_535, 0), (65_539, 0)],
     kept: 16_386,
@@ -66,7 +66,7 @@ const ODD: Far<'static> = Far {
     short: &[0x3FC, 0x0001_0000, 0xFFFF_0000, 0x3EC, 1, 0, 65_539, 0],
 };
 
-// Without a site that 16 bits hold there is no short block.
+/// Without a site that 16 bits hold there is no short block.
 const BEHIND: Far<'static> = Far {
     sites: &[(65_536, 0)],
     kept: 16_385,
@@ -74,7 +74,7 @@ const BEHIND: Far<'static> = Far {
     short: &[0x3EC, 1, 0, 65_536, 0],
 };
 
-// A hunk in which nothing is, with this number and this many longwords.
+/// A hunk in which nothing is, with this number and this many longwords.
 fn empty_hunk(alloc: Global, number: u32, kind: HunkKind, size: u32) -> Plan {
     Plan {
         unit: 0,
@@ -91,7 +91,7 @@ fn empty_hunk(alloc: Global, number: u32, kind: HunkKind, size: u32) -> Plan {
     }
 }
 
-// The first longword and zeros, this many in all.
+/// The first longword and zeros, this many in all.
 fn content_of(alloc: Global, count: u32) -> Result<Vec<u32>, AllocError> {
     let mut content = Vec::from_slice(alloc, &[FIRST])?;
     for _ in 1..count {
@@ -100,7 +100,7 @@ fn content_of(alloc: Global, count: u32) -> Result<Vec<u32>, AllocError> {
     Ok(content)
 }
 
-// Both hunks, of which the first one has these sites.
+/// Both hunks, of which the first one has these sites.
 fn hunks_of(alloc: Global, sites: &[(u32, u32)]) -> Result<Vec<Plan>, AllocError> {
     let mut first = empty_hunk(alloc, 0, HunkKind::Code, SIZE);
     first.content = content_of(alloc, SIZE)?;
@@ -113,7 +113,7 @@ fn hunks_of(alloc: Global, sites: &[(u32, u32)]) -> Result<Vec<Plan>, AllocError
     Ok(plans)
 }
 
-// The load file of both hunks.
+/// The load file of both hunks.
 fn linked_far(alloc: Global, far: Far<'_>, options: LinkOptions) -> Result<Vec<u32>, AllocError> {
     let mut words = Vec::from_slice(alloc, &[0x3F3, 0, 2, 0, 1, SIZE, NEXT_SIZE])?;
     let count = if options.trim { far.kept } else { SIZE };
@@ -124,7 +124,7 @@ fn linked_far(alloc: Global, far: Far<'_>, options: LinkOptions) -> Result<Vec<u
     Ok(words)
 }
 
-// Both hunks link to this load file with each of these options, and their memory is the same.
+/// Both hunks link to this load file with each of these options, and their memory is the same.
 fn becomes_far(rt: &impl Abort, alloc: Global, far: Far<'_>) -> Result<(), Fail> {
     let plans = hunks_of(alloc, far.sites)?;
     let object = object_words(alloc, 0, 1, &plans)?;

@@ -21,7 +21,7 @@ fn links_two_units(rt: HostRuntime) -> Result<(), Fail> {
     becomes(&rt, rt.alloc(), &case)
 }
 
-// A number is added modulo 2^32, and nothing is left for the loader to add.
+/// A number is added modulo 2^32, and nothing is left for the loader to add.
 #[test]
 fn adds_a_number_that_has_a_name(rt: HostRuntime) -> Result<(), Fail> {
     let mut refers = REFERS;
@@ -41,7 +41,7 @@ fn adds_a_number_that_has_a_name(rt: HostRuntime) -> Result<(), Fail> {
     becomes(&rt, rt.alloc(), &case)
 }
 
-// A name may stand for an offset far behind its hunk.
+/// A name may stand for an offset far behind its hunk.
 #[test]
 fn adds_an_offset_modulo_2_to_the_32(rt: HostRuntime) -> Result<(), Fail> {
     let mut refers = REFERS;
@@ -83,7 +83,7 @@ fn numbers_hunks_over_all_units(rt: HostRuntime) -> Result<(), Fail> {
     becomes(&rt, rt.alloc(), &case)
 }
 
-// Without an offset, a reference to a name that no hunk defines is none.
+/// Without an offset, a reference to a name that no hunk defines is none.
 #[test]
 fn links_a_reference_without_offsets(rt: HostRuntime) -> Result<(), Fail> {
     let refers = [

@@ -15,12 +15,12 @@ use std::alloc::{AllocError, Global};
 use std::process::Abort;
 use std::test::Fail;
 
-// More allocations than the calls of these tests make.
+/// More allocations than the calls of these tests make.
 const MOST_GROWTHS: u64 = 64;
 
-// Two units. The first one has code with the symbols `foo` at 2 and `bar` at 4 and a debug block, which
-// defines `foo` and `bar` at 4, `baz` as the number 7, and `far` past its end; and a BSS that defines
-// `roomname` at its start. The second one has data that ends with a zero, and defines `b` and `a`.
+/// Two units. The first one has code with the symbols `foo` at 2 and `bar` at 4 and a debug block, which
+/// defines `foo` and `bar` at 4, `baz` as the number 7, and `far` past its end; and a BSS that defines
+/// `roomname` at its start. The second one has data that ends with a zero, and defines `b` and `a`.
 static OBJECT: [u32; 56] = [
     999, 0, 0x3E9, 2, 0x4E714E71, 0x4E754E71, //
     0x3EF, 0x01000001, 0x666F6F00, 4, 0x01000001, 0x62617200, 4, //
@@ -31,7 +31,7 @@ static OBJECT: [u32; 56] = [
     0x3EF, 0x01000001, 0x62000000, 0xFFFFFFFF, 0x01000001, 0x61000000, 1, 0, 0x3F2,
 ];
 
-// Its load file with the offsets as symbols: `foo` has another value than the symbol, and `bar` is there.
+/// Its load file with the offsets as symbols: `foo` has another value than the symbol, and `bar` is there.
 static LINKED: [u32; 52] = [
     0x3F3, 0, 3, 0, 2, 2, 1, 2, //
     0x3E9, 2, 0x4E714E71, 0x4E754E71, //
@@ -42,7 +42,7 @@ static LINKED: [u32; 52] = [
     0x3F0, 1, 0x62000000, 0xFFFFFFFF, 1, 0x61000000, 1, 0, 0x3F2,
 ];
 
-// The same, trimmed.
+/// The same, trimmed.
 static TRIMMED: [u32; 51] = [
     0x3F3, 0, 3, 0, 2, 2, 1, 2, //
     0x3E9, 2, 0x4E714E71, 0x4E754E71, //
@@ -53,7 +53,7 @@ static TRIMMED: [u32; 51] = [
     0x3F0, 1, 0x62000000, 0xFFFFFFFF, 1, 0x61000000, 1, 0, 0x3F2,
 ];
 
-// Without the symbols and debug blocks of the units.
+/// Without the symbols and debug blocks of the units.
 static STRIPPED: [u32; 46] = [
     0x3F3, 0, 3, 0, 2, 2, 1, 2, //
     0x3E9, 2, 0x4E714E71, 0x4E754E71, //
@@ -63,7 +63,7 @@ static STRIPPED: [u32; 46] = [
     0x3F0, 1, 0x62000000, 0xFFFFFFFF, 1, 0x61000000, 1, 0, 0x3F2,
 ];
 
-// And trimmed.
+/// And trimmed.
 static STRIPPED_TRIMMED: [u32; 45] = [
     0x3F3, 0, 3, 0, 2, 2, 1, 2, //
     0x3E9, 2, 0x4E714E71, 0x4E754E71, //
@@ -93,7 +93,7 @@ fn keeps_definitions_as_symbols(rt: HostRuntime) -> Result<(), Fail> {
     Ok(())
 }
 
-// The load file of which a map tells.
+/// The load file of which a map tells.
 #[test]
 fn keeps_them_beside_a_map(rt: HostRuntime) -> Result<(), Fail> {
     let alloc = rt.alloc();
@@ -109,7 +109,7 @@ fn keeps_them_beside_a_map(rt: HostRuntime) -> Result<(), Fail> {
     Ok(())
 }
 
-// Also if all names have the same hash.
+/// Also if all names have the same hash.
 #[test]
 fn makes_symbols_with_any_hasher(rt: HostRuntime) -> Result<(), Fail> {
     let alloc = rt.alloc();
@@ -125,7 +125,7 @@ fn makes_symbols_with_any_hasher(rt: HostRuntime) -> Result<(), Fail> {
     Ok(())
 }
 
-// The units link to this file.
+/// The units link to this file.
 fn is_linked(
     rt: &impl Abort,
     alloc: Global,

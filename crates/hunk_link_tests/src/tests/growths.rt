@@ -11,17 +11,17 @@ use std::alloc::{Allocator, Global};
 use std::process::Abort;
 use std::test::Fail;
 
-// More allocations than a link of the tests makes.
+/// More allocations than a link of the tests makes.
 const MOST_GROWTHS: u64 = 64;
 
-// What is called.
+/// What is called.
 #[derive(Clone, Copy, Debug)]
 enum Call {
     Copies,
     Moves,
 }
 
-// What is wanted of a link: a load file, or the refusal of a name, which is `foo`.
+/// What is wanted of a link: a load file, or the refusal of a name, which is `foo`.
 #[derive(Clone, Copy)]
 enum Wanted<'a> {
     File(&'a [u32]),
@@ -39,8 +39,8 @@ fn linked<A: Allocator + Copy>(
     }
 }
 
-// Whether the link of the units of these files ended as it is wanted, with this allocation failing. If
-// not, memory ran out. The units are read, and the load file is written, without a failure.
+/// Whether the link of the units of these files ended as it is wanted, with this allocation failing. If
+/// not, memory ran out. The units are read, and the load file is written, without a failure.
 fn is_linked(
     rt: &impl Abort,
     alloc: Global,
@@ -71,8 +71,8 @@ fn is_linked(
     Ok(!ran_out)
 }
 
-// The number of allocations of the call: it runs out of memory with each of them failing, and
-// succeeds once none fails.
+/// The number of allocations of the call: it runs out of memory with each of them failing, and
+/// succeeds once none fails.
 fn growths_of(
     rt: &impl Abort,
     alloc: Global,

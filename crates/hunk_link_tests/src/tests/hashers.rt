@@ -12,7 +12,7 @@ use hunk_loadfile::LoadForm;
 use std::hash::{BuildHasher, Hasher};
 use std::test::Fail;
 
-// How many units are linked, each with a key of its own.
+/// How many units are linked, each with a key of its own.
 const KEYS: u32 = 100;
 
 const SEED: u32 = 7;

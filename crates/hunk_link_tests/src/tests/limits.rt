@@ -10,11 +10,11 @@ use std::alloc::{AllocError, Global};
 use std::process::Abort;
 use std::test::Fail;
 
-// The most longwords of all hunks.
+/// The most longwords of all hunks.
 const MOST_SIZE: u32 = 0x0100_0000;
 
-// An object file of units that are made of zeros, which take no memory: for each unit, how many
-// hunks it has, and the size of each.
+/// An object file of units that are made of zeros, which take no memory: for each unit, how many
+/// hunks it has, and the size of each.
 fn zeros(alloc: Global, units: &[(u32, u32)]) -> Result<Vec<u32>, AllocError> {
     let mut words = Vec::new(alloc);
     for (count, size) in units {
@@ -26,7 +26,7 @@ fn zeros(alloc: Global, units: &[(u32, u32)]) -> Result<Vec<u32>, AllocError> {
     Ok(words)
 }
 
-// The load file of such hunks of one size.
+/// The load file of such hunks of one size.
 fn linked_zeros(alloc: Global, count: u32, size: u32) -> Result<Vec<u32>, AllocError> {
     let mut words = Vec::from_slice(alloc, &[0x3F3, 0, count, 0, count.wrapping_sub(1)])?;
     for _ in 0..count {
@@ -38,8 +38,8 @@ fn linked_zeros(alloc: Global, count: u32, size: u32) -> Result<Vec<u32>, AllocE
     Ok(words)
 }
 
-// The units link to this file, and so they do in runs with these options. Such hunks have neither
-// content nor sites, so each choice gives the same bytes, and with them the same memory.
+/// The units link to this file, and so they do in runs with these options. Such hunks have neither
+/// content nor sites, so each choice gives the same bytes, and with them the same memory.
 fn links_alike(
     rt: &impl Abort,
     alloc: Global,

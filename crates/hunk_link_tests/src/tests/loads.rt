@@ -10,14 +10,14 @@ use std::alloc::{Allocator, Global};
 use std::process::Abort;
 use std::test::Fail;
 
-// Bytes per read.
+/// Bytes per read.
 const PIECE: usize = 4096;
 
-// More allocations than a call of these tests makes.
+/// More allocations than a call of these tests makes.
 const MOST_ALLOCATIONS: u64 = 16;
 
-// The longwords of a load file: code with zeros after its content, among them the address of the
-// second hunk; data with the address of the first one; and zeros alone.
+/// The longwords of a load file: code with zeros after its content, among them the address of the
+/// second hunk; data with the address of the first one; and zeros alone.
 static WORDS: [u32; 29] = [
     0x3F3, 0, 3, 0, 2, 3, 1, 2, //
     0x3E9, 1, 0x4E714E75, 0x3EC, 1, 1, 8, 0, 0x3F2, //
@@ -25,37 +25,37 @@ static WORDS: [u32; 29] = [
     0x3EB, 2, 0x3F2,
 ];
 
-// Where its hunks are loaded.
+/// Where its hunks are loaded.
 static BASES: [u32; 3] = [0x0001_0000, 0x0002_0000, 0x0003_0000];
 
-// Their bytes there.
+/// Their bytes there.
 static MEMORY: [&[u8]; 3] = [
     &[0x4E, 0x71, 0x4E, 0x75, 0, 0, 0, 0, 0, 2, 0, 0],
     &[0, 1, 0, 8],
     &[0; 8],
 ];
 
-// What is called.
+/// What is called.
 #[derive(Clone, Copy, Debug)]
 enum Call {
     Copies,
     Moves,
 }
 
-// The load file, allocated from `heap`.
+/// The load file, allocated from `heap`.
 fn file_of<A: Allocator + Copy>(global: Global, heap: A) -> Result<LoadFile<A>, Fail> {
     let mut reader = Pieces::new(bytes_of(global, &WORDS)?, PIECE, None);
     Ok(read_load(heap, &mut reader)?)
 }
 
-// The number of allocations to read it.
+/// The number of allocations to read it.
 fn allocations_of_reading(alloc: Global) -> Result<u64, Fail> {
     let heap = Refusing::new(alloc, u64::MAX);
     let _file = file_of(alloc, &heap)?;
     Ok(heap.asked())
 }
 
-// The image is the memory of the load file.
+/// The image is the memory of the load file.
 fn is_memory<A: Allocator + Copy>(rt: &impl Abort, image: &Image<A>) {
     let hunks = image.hunks();
     equals(rt, hunks.len(), MEMORY.len());
@@ -65,7 +65,7 @@ fn is_memory<A: Allocator + Copy>(rt: &impl Abort, image: &Image<A>) {
     }
 }
 
-// Whether the load file was loaded with this allocation failing. If not, memory ran out.
+/// Whether the load file was loaded with this allocation failing. If not, memory ran out.
 fn is_loaded(rt: &impl Abort, alloc: Global, call: Call, refused: u64) -> Result<bool, Fail> {
     let heap = Refusing::new(alloc, refused);
     let file = file_of(alloc, &heap)?;
@@ -87,8 +87,8 @@ fn is_loaded(rt: &impl Abort, alloc: Global, call: Call, refused: u64) -> Result
     }
 }
 
-// The number of allocations of the call, after those to read the load file: it runs out of memory
-// with each of them failing, and succeeds once none fails.
+/// The number of allocations of the call, after those to read the load file: it runs out of memory
+/// with each of them failing, and succeeds once none fails.
 fn allocations_of(rt: &impl Abort, alloc: Global, call: Call) -> Result<u64, Fail> {
     let before = allocations_of_reading(alloc)?;
     for number in 0..MOST_ALLOCATIONS {

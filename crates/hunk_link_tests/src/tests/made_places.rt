@@ -4,10 +4,10 @@ use super::dice::Dice;
 use super::plans::Plan;
 use std::alloc::{AllocError, Global};
 
-// The end of all addresses.
+/// The end of all addresses.
 const END: u64 = 0x1_0000_0000;
 
-// More bytes than all hunks of the tests have, and what is between them.
+/// More bytes than all hunks of the tests have, and what is between them.
 const MOST_BYTES: u64 = 4096;
 
 /// An address for each hunk, so that no two share a byte. Half of the time the last one ends where
@@ -39,7 +39,7 @@ pub(crate) fn made_bases(
     Ok(bases)
 }
 
-// The numbers below this one, in any order.
+/// The numbers below this one, in any order.
 fn shuffled(alloc: Global, dice: &mut Dice, count: usize) -> Result<Vec<usize>, AllocError> {
     let mut numbers = Vec::new(alloc);
     for number in 0..count {

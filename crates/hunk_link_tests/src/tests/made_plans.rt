@@ -6,10 +6,10 @@ use super::plans::{Added, Plan};
 use hunk_objects::{Definition, HunkKind, Memory};
 use std::alloc::{AllocError, Global};
 
-// A unit has fewer hunks than this.
+/// A unit has fewer hunks than this.
 const MOST_HUNKS: u32 = 4;
 
-// A hunk has fewer longwords than this.
+/// A hunk has fewer longwords than this.
 const MOST_SIZE: u32 = 7;
 
 /// The number of units of each of a few files.
@@ -48,7 +48,7 @@ pub(crate) fn made_plans(
     Ok(plans)
 }
 
-// A hunk in which nothing is yet.
+/// A hunk in which nothing is yet.
 fn empty_plan(alloc: Global, dice: &mut Dice, unit: usize, number: u32, rank: u32) -> Plan {
     Plan {
         unit,
@@ -73,7 +73,7 @@ fn empty_plan(alloc: Global, dice: &mut Dice, unit: usize, number: u32, rank: u3
     }
 }
 
-// Fills a hunk, whose unit has `count` hunks, and all units have `total`.
+/// Fills a hunk, whose unit has `count` hunks, and all units have `total`.
 fn fill_plan(
     alloc: Global,
     dice: &mut Dice,
@@ -100,7 +100,7 @@ fn fill_plan(
     Ok(())
 }
 
-// Content of this many longwords. Half of the time some of them, or all, are zeros up to the end.
+/// Content of this many longwords. Half of the time some of them, or all, are zeros up to the end.
 fn made_content(alloc: Global, dice: &mut Dice, size: u32) -> Result<Vec<u32>, AllocError> {
     let mut content = made_words(alloc, dice, size)?;
     if dice.roll(2) == 0 {
@@ -122,7 +122,7 @@ fn made_words(alloc: Global, dice: &mut Dice, count: u32) -> Result<Vec<u32>, Al
     Ok(words)
 }
 
-// Offsets in so many longwords, in ascending order and apart. They are odd as often as not.
+/// Offsets in so many longwords, in ascending order and apart. They are odd as often as not.
 fn made_offsets(alloc: Global, dice: &mut Dice, longwords: u32) -> Result<Vec<u32>, AllocError> {
     let mut offsets = Vec::new(alloc);
     let shift = dice.roll(4);
@@ -147,7 +147,7 @@ fn made_added(alloc: Global, dice: &mut Dice, count: u32, total: u32) -> Result<
     }
 }
 
-// Mostly the name with this number, and now and then another one.
+/// Mostly the name with this number, and now and then another one.
 fn made_definitions(
     alloc: Global,
     dice: &mut Dice,

@@ -16,10 +16,10 @@ use std::alloc::{Allocator, Global};
 use std::process::Abort;
 use std::test::Fail;
 
-// More allocations than a run of these tests makes.
+/// More allocations than a run of these tests makes.
 const MOST_GROWTHS: u64 = 128;
 
-// What is run, and the text that it writes.
+/// What is run, and the text that it writes.
 #[derive(Clone, Copy)]
 struct Job<'a> {
     objects: &'a [&'a [u32]],
@@ -27,8 +27,8 @@ struct Job<'a> {
     text: &'a [u8],
 }
 
-// Whether all of the text was written. If not, memory ran out, and what was written is a beginning of
-// the text, as long as the fault tells.
+/// Whether all of the text was written. If not, memory ran out, and what was written is a beginning of
+/// the text, as long as the fault tells.
 fn is_whole<A: Allocator + Copy>(
     rt: &impl Abort,
     got: Result<(), ToolFault<A>>,
@@ -48,8 +48,8 @@ fn is_whole<A: Allocator + Copy>(
     false
 }
 
-// Whether the job was done on this heap. If not, memory ran out, and only a link to a writer may have
-// written a beginning.
+/// Whether the job was done on this heap. If not, memory ran out, and only a link to a writer may have
+/// written a beginning.
 fn is_done<A: Allocator + Copy>(
     rt: &impl Abort,
     alloc: Global,
@@ -67,8 +67,8 @@ fn is_done<A: Allocator + Copy>(
     Ok(done)
 }
 
-// Whether the job was done with allocation number `refused` failing, and each one after it: at most
-// two more are asked for.
+/// Whether the job was done with allocation number `refused` failing, and each one after it: at most
+/// two more are asked for.
 fn is_done_from_there(
     rt: &impl Abort,
     alloc: Global,
@@ -85,8 +85,8 @@ fn is_done_from_there(
     Ok(done)
 }
 
-// The number of allocations of the job: memory runs out with each of them failing, alone or with all
-// after it, and the job is done once none fails.
+/// The number of allocations of the job: memory runs out with each of them failing, alone or with all
+/// after it, and the job is done once none fails.
 fn growths_of(rt: &impl Abort, alloc: Global, job: Job<'_>) -> Result<u64, Fail> {
     for number in 0..MOST_GROWTHS {
         let heap = Refusing::new(alloc, number);
@@ -131,7 +131,7 @@ fn refuses_each_growth_of_a_run(rt: HostRuntime) -> Result<(), Fail> {
     Ok(())
 }
 
-// Contents are trimmed in place.
+/// Contents are trimmed in place.
 #[test]
 fn refuses_each_growth_with_every_choice(rt: HostRuntime) -> Result<(), Fail> {
     let mut counts = Vec::new(rt.alloc());
@@ -158,8 +158,8 @@ fn refuses_each_growth_with_every_choice(rt: HostRuntime) -> Result<(), Fail> {
     Ok(())
 }
 
-// Whether the job was done on this heap, and then the load file loaded at these addresses with this
-// report. If not, memory ran out.
+/// Whether the job was done on this heap, and then the load file loaded at these addresses with this
+/// report. If not, memory ran out.
 fn is_loaded<A: Allocator + Copy>(
     rt: &impl Abort,
     alloc: Global,
@@ -179,8 +179,8 @@ fn is_loaded<A: Allocator + Copy>(
     Ok(done)
 }
 
-// Memory runs out with each allocation of the job and of the load failing, and the file is loaded once
-// none fails.
+/// Memory runs out with each allocation of the job and of the load failing, and the file is loaded once
+/// none fails.
 fn loads_once_none_fails(
     rt: &impl Abort,
     alloc: Global,

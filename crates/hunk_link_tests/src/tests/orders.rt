@@ -11,7 +11,7 @@ use std::alloc::Global;
 use std::process::Abort;
 use std::test::Fail;
 
-// Each run refuses these files, for what stands at this place of one of them.
+/// Each run refuses these files, for what stands at this place of one of them.
 fn refuses_input(
     rt: &impl Abort,
     alloc: Global,
@@ -38,7 +38,7 @@ fn refuses_input(
     Ok(())
 }
 
-// The name that `REFERS` needs would not be defined either.
+/// The name that `REFERS` needs would not be defined either.
 #[test]
 fn tells_the_first_input_that_is_refused(rt: HostRuntime) -> Result<(), Fail> {
     let alloc = rt.alloc();
@@ -72,7 +72,7 @@ fn tells_the_link_before_the_places(rt: HostRuntime) -> Result<(), Fail> {
     Ok(())
 }
 
-// Each hunk has two longwords.
+/// Each hunk has two longwords.
 #[test]
 fn tells_where_hunks_cannot_be_placed(rt: HostRuntime) -> Result<(), Fail> {
     let pair: [&[u32]; 2] = [&REFERS, &DEFINES];

@@ -38,8 +38,8 @@ pub(crate) fn load_words(
     Ok(words)
 }
 
-// The sites of a hunk where the loader adds the base of a hunk, and the number of that hunk over all
-// units.
+/// The sites of a hunk where the loader adds the base of a hunk, and the number of that hunk over all
+/// units.
 fn based_sites(alloc: Global, plans: &[Plan], plan: &Plan) -> Result<Vec<(u32, u32)>, AllocError> {
     let mut sites = Vec::new(alloc);
     for (offset, added) in &plan.sites {
@@ -50,7 +50,7 @@ fn based_sites(alloc: Global, plans: &[Plan], plan: &Plan) -> Result<Vec<(u32, u
     Ok(sites)
 }
 
-// The content of a hunk, with the number that the linker knows added at each site.
+/// The content of a hunk, with the number that the linker knows added at each site.
 fn linked_content(alloc: Global, plans: &[Plan], plan: &Plan) -> Result<Vec<u32>, AllocError> {
     let mut bytes = bytes_of(alloc, &plan.content)?;
     for (offset, added) in &plan.sites {
@@ -66,7 +66,7 @@ fn linked_content(alloc: Global, plans: &[Plan], plan: &Plan) -> Result<Vec<u32>
     Ok(words)
 }
 
-// The number of longwords up to the last one that is not zero or has a byte of a site.
+/// The number of longwords up to the last one that is not zero or has a byte of a site.
 fn kept_longwords(content: &[u32], sites: &[(u32, u32)]) -> usize {
     let mut kept = 0;
     for (index, word) in content.iter().enumerate() {
@@ -77,13 +77,13 @@ fn kept_longwords(content: &[u32], sites: &[(u32, u32)]) -> usize {
     kept
 }
 
-// Whether one of the four bytes from this offset on is in the longword with this index.
+/// Whether one of the four bytes from this offset on is in the longword with this index.
 fn touches(offset: u32, index: usize) -> bool {
     let last = offset.saturating_add(3);
     offset as usize / 4 == index || last as usize / 4 == index
 }
 
-// Adds the content block of a hunk. Zeros that the file does not have are told by their number.
+/// Adds the content block of a hunk. Zeros that the file does not have are told by their number.
 fn push_content(words: &mut Vec<u32>, plan: &Plan, content: &[u32]) -> Result<(), AllocError> {
     let count = match plan.kind {
         HunkKind::Bss => plan.size,
@@ -94,8 +94,8 @@ fn push_content(words: &mut Vec<u32>, plan: &Plan, content: &[u32]) -> Result<()
     Ok(())
 }
 
-// The relocations of these sites: for each hunk whose base is added, how often, its number over all
-// units, and the offsets.
+/// The relocations of these sites: for each hunk whose base is added, how often, its number over all
+/// units, and the offsets.
 fn groups_of(alloc: Global, plans: &[Plan], sites: &[(u32, u32)]) -> Result<Vec<u32>, AllocError> {
     let mut groups = Vec::new(alloc);
     for target in plans {
@@ -114,9 +114,9 @@ fn groups_of(alloc: Global, plans: &[Plan], sites: &[(u32, u32)]) -> Result<Vec<
     Ok(groups)
 }
 
-// Adds the relocation block of a hunk, which ends with a zero. In the short form each longword has
-// two numbers, and the last one may have none in its lower half. Without relocations there is no
-// block of them.
+/// Adds the relocation block of a hunk, which ends with a zero. In the short form each longword has
+/// two numbers, and the last one may have none in its lower half. Without relocations there is no
+/// block of them.
 fn push_relocations(words: &mut Vec<u32>, groups: &[u32], short: bool) -> Result<(), AllocError> {
     if groups.is_empty() {
         return Ok(());

@@ -23,7 +23,7 @@ pub(crate) fn plain_link(
     Ok(load_words(alloc, plans, options)?)
 }
 
-// The number over all units of a hunk of this unit.
+/// The number over all units of a hunk of this unit.
 fn rank_of(plans: &[Plan], unit: usize, number: u32) -> Option<u32> {
     let found = plans
         .iter()
@@ -31,7 +31,7 @@ fn rank_of(plans: &[Plan], unit: usize, number: u32) -> Option<u32> {
     found.map(|plan| plan.rank)
 }
 
-// The first definition of a name, and the number over all units of its hunk.
+/// The first definition of a name, and the number over all units of its hunk.
 fn definition_of(plans: &[Plan], name: u32) -> Option<(u32, Definition)> {
     for plan in plans {
         for (other, definition) in &plan.definitions {
@@ -43,7 +43,7 @@ fn definition_of(plans: &[Plan], name: u32) -> Option<(u32, Definition)> {
     None
 }
 
-// Each base that is added is that of a hunk of the same unit.
+/// Each base that is added is that of a hunk of the same unit.
 fn check_bases(plans: &[Plan]) -> Result<(), LinkRefusal> {
     for plan in plans {
         for (_, added) in &plan.sites {
@@ -61,7 +61,7 @@ fn check_bases(plans: &[Plan]) -> Result<(), LinkRefusal> {
     Ok(())
 }
 
-// No name is defined twice.
+/// No name is defined twice.
 fn check_definitions(alloc: Global, plans: &[Plan]) -> Result<(), LinkRefusal> {
     let mut names = Vec::new(alloc);
     for plan in plans {
@@ -75,8 +75,8 @@ fn check_definitions(alloc: Global, plans: &[Plan]) -> Result<(), LinkRefusal> {
     Ok(())
 }
 
-// Each name that is referred to is defined. In the file, the references of a hunk come in descending
-// order of offset.
+/// Each name that is referred to is defined. In the file, the references of a hunk come in descending
+/// order of offset.
 fn check_references(alloc: Global, plans: &[Plan]) -> Result<(), LinkRefusal> {
     for plan in plans {
         for (_, added) in plan.sites.iter().rev() {

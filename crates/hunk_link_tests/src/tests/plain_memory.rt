@@ -20,13 +20,13 @@ pub(crate) fn direct_report(
     Ok(report)
 }
 
-// The address of the hunk with this number over all units.
+/// The address of the hunk with this number over all units.
 fn base_of(bases: &[u32], rank: u32) -> u32 {
     bases.get(rank as usize).copied().unwrap_or(0)
 }
 
-// The bytes of a hunk in memory: its content and zeros, with a number and an address added at each
-// site.
+/// The bytes of a hunk in memory: its content and zeros, with a number and an address added at each
+/// site.
 fn direct_bytes(
     alloc: Global,
     plans: &[Plan],
@@ -62,7 +62,7 @@ pub(crate) fn add_at(bytes: &mut [u8], offset: u32, number: u32) {
     }
 }
 
-// Adds the lines of a hunk.
+/// Adds the lines of a hunk.
 fn push_lines(report: &mut String, rank: u32, base: u32, bytes: &[u8]) -> Result<(), AllocError> {
     let size = bytes.len();
     write!(report, "hunk {rank} at {base:08x} size {size}\n")?;

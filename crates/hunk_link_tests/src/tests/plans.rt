@@ -91,7 +91,7 @@ pub(crate) fn object_words(
     Ok(words)
 }
 
-// Adds the longwords of a hunk.
+/// Adds the longwords of a hunk.
 fn push_hunk(words: &mut Vec<u32>, plan: &Plan) -> Result<(), AllocError> {
     words.extend_from_slice(&[plan.block_type() | plan.memory_bits(), plan.size])?;
     words.extend_from_slice(&plan.content)?;
@@ -102,7 +102,7 @@ fn push_hunk(words: &mut Vec<u32>, plan: &Plan) -> Result<(), AllocError> {
     Ok(())
 }
 
-// The sites stand in descending order of offset, so that this order is not that of the offsets.
+/// The sites stand in descending order of offset, so that this order is not that of the offsets.
 fn push_relocations(words: &mut Vec<u32>, plan: &Plan) -> Result<(), AllocError> {
     words.push(0x3EC)?;
     for (offset, added) in plan.sites.iter().rev() {
@@ -114,7 +114,7 @@ fn push_relocations(words: &mut Vec<u32>, plan: &Plan) -> Result<(), AllocError>
     Ok(())
 }
 
-// Likewise the references.
+/// Likewise the references.
 fn push_external_symbols(words: &mut Vec<u32>, plan: &Plan) -> Result<(), AllocError> {
     words.push(0x3EF)?;
     for (name, definition) in &plan.definitions {

@@ -19,18 +19,18 @@ use std::alloc::{AllocError, Global};
 use std::process::Abort;
 use std::test::Fail;
 
-// The object files that are linked by both calls that link, the sets of files that are run, and what
-// all of them are made from.
+/// The object files that are linked by both calls that link, the sets of files that are run, and what
+/// all of them are made from.
 const OBJECTS: u32 = 200;
 
 const SETS: u32 = 2000;
 
 const SEED: u32 = 1;
 
-// How many links of object files have each answer, at least. Of sets there are five times as many.
+/// How many links of object files have each answer, at least. Of sets there are five times as many.
 const LEAST: u32 = 8;
 
-// How many links had each answer, and how many load files were smaller in the short form, and trimmed.
+/// How many links had each answer, and how many load files were smaller in the short form, and trimmed.
 #[derive(Debug, Default, Drop)]
 struct Tally {
     files: u32,
@@ -43,7 +43,7 @@ struct Tally {
 }
 
 impl Tally {
-    // Counts one more answer.
+    /// Counts one more answer.
     fn count(&mut self, answer: &Result<Vec<u32>, LinkRefusal>) {
         let number = match answer {
             Ok(_) => &mut self.files,
@@ -56,7 +56,7 @@ impl Tally {
         *number = number.wrapping_add(1);
     }
 
-    // Counts the load file of these hunks if it is smaller in the short form, or trimmed.
+    /// Counts the load file of these hunks if it is smaller in the short form, or trimmed.
     fn count_smaller(&mut self, alloc: Global, plans: &[Plan]) {
         let whole = linked_length(alloc, plans, PLAIN);
         if linked_length(alloc, plans, SHORT) < whole {
@@ -67,12 +67,12 @@ impl Tally {
         }
     }
 
-    // Whether load files were smaller in the short form, and trimmed, this often.
+    /// Whether load files were smaller in the short form, and trimmed, this often.
     fn has_smaller(&self, least: u32) -> bool {
         least <= self.shorter && least <= self.trimmed
     }
 
-    // Whether each answer came this often.
+    /// Whether each answer came this often.
     fn is_mixed(&self, least: u32) -> bool {
         let counts = [
             self.files,
@@ -85,7 +85,7 @@ impl Tally {
     }
 }
 
-// The number of longwords of the load file of these hunks, or 0 if they do not link.
+/// The number of longwords of the load file of these hunks, or 0 if they do not link.
 fn linked_length(alloc: Global, plans: &[Plan], options: LinkOptions) -> usize {
     plain_link(alloc, plans, options).map_or(0, |words| words.len())
 }
@@ -110,7 +110,7 @@ fn links_units_made_at_random(rt: HostRuntime) -> Result<(), Fail> {
     Ok(())
 }
 
-// The files, lent.
+/// The files, lent.
 fn lent<'a>(alloc: Global, objects: &'a [Vec<u32>]) -> Result<Vec<&'a [u32]>, AllocError> {
     let mut slices = Vec::new(alloc);
     for words in objects {
@@ -119,7 +119,7 @@ fn lent<'a>(alloc: Global, objects: &'a [Vec<u32>]) -> Result<Vec<&'a [u32]>, Al
     Ok(slices)
 }
 
-// A set of files.
+/// A set of files.
 #[derive(Clone, Copy)]
 struct Set<'a> {
     // What is in them.
@@ -132,7 +132,7 @@ struct Set<'a> {
     most: usize,
 }
 
-// The files are linked as wanted with these options, and loaded with this report, or refused.
+/// The files are linked as wanted with these options, and loaded with this report, or refused.
 fn links_as_wanted(
     rt: &impl Abort,
     alloc: Global,
@@ -160,7 +160,7 @@ fn links_as_wanted(
     }
 }
 
-// An image of the files has this report, or they are refused.
+/// An image of the files has this report, or they are refused.
 fn reports_as_wanted(
     rt: &impl Abort,
     alloc: Global,
@@ -175,8 +175,8 @@ fn reports_as_wanted(
     }
 }
 
-// The files are linked and loaded as wanted, or refused. Whatever the options, the memory that is
-// wanted is the same. An image has no options, so it is made once.
+/// The files are linked and loaded as wanted, or refused. Whatever the options, the memory that is
+/// wanted is the same. An image has no options, so it is made once.
 fn runs_as_wanted(
     rt: &impl Abort,
     alloc: Global,
@@ -194,7 +194,7 @@ fn runs_as_wanted(
     Ok(())
 }
 
-// The most bytes per read and per write: more than a set has, or a few.
+/// The most bytes per read and per write: more than a set has, or a few.
 fn made_most(dice: &mut Dice) -> usize {
     match dice.roll(8) {
         0 => 4096,
@@ -202,7 +202,7 @@ fn made_most(dice: &mut Dice) -> usize {
     }
 }
 
-// All sets are linked with these options, and their memory is as it is to be.
+/// All sets are linked with these options, and their memory is as it is to be.
 fn reports_sets(rt: &impl Abort, alloc: Global, options: LinkOptions) -> Result<(), Fail> {
     let mut dice = Dice::new(SEED);
     let mut tally = Tally::default();
@@ -227,8 +227,8 @@ fn reports_sets(rt: &impl Abort, alloc: Global, options: LinkOptions) -> Result<
     Ok(())
 }
 
-// The sets are made anew for each test, always the same ones, so together the tests link each set with
-// every choice of options. They are eight since a test has a limit of time.
+/// The sets are made anew for each test, always the same ones, so together the tests link each set with
+/// every choice of options. They are eight since a test has a limit of time.
 #[test]
 fn reports_files_made_at_random(rt: HostRuntime) -> Result<(), Fail> {
     reports_sets(&rt, rt.alloc(), PLAIN)

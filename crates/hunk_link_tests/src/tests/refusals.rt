@@ -12,7 +12,7 @@ use std::alloc::Global;
 use std::process::Abort;
 use std::test::Fail;
 
-// The longword of the name `foo`.
+/// The longword of the name `foo`.
 const FOO: u32 = 0x666F6F00;
 
 /// The units of these files do not link, for this reason: by both calls that link, and by runs, which
@@ -60,7 +60,7 @@ fn refuses_units_without_hunks(rt: HostRuntime) -> Result<(), Fail> {
     is_refused(&rt, rt.alloc(), &[&NO_HUNKS], LinkRefusal::NoHunks)
 }
 
-// In the order of reasons it comes before a name that is defined twice.
+/// In the order of reasons it comes before a name that is defined twice.
 #[test]
 fn tells_a_hunk_that_its_unit_does_not_have(rt: HostRuntime) -> Result<(), Fail> {
     let alone: [&[u32]; 1] = [&FOREIGN];

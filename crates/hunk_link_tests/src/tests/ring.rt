@@ -6,21 +6,21 @@ use super::names::name_word;
 use std::alloc::{AllocError, Global};
 use std::test::Fail;
 
-// The number of units.
+/// The number of units.
 const UNITS: u32 = 500;
 
-// The last unit refers to the first one.
+/// The last unit refers to the first one.
 fn next_of(unit: u32) -> u32 {
     let next = unit.wrapping_add(1);
     if next == UNITS { 0 } else { next }
 }
 
-// The two longwords of a unit's code. What is added to the second one makes half of them wrap.
+/// The two longwords of a unit's code. What is added to the second one makes half of them wrap.
 fn code_of(unit: u32) -> [u32; 2] {
     [unit, 0xFFFF_FE00u32.wrapping_add(unit)]
 }
 
-// Each unit defines a name at the offset that is its own number.
+/// Each unit defines a name at the offset that is its own number.
 fn ring(alloc: Global) -> Result<Vec<u32>, AllocError> {
     let mut words = Vec::new(alloc);
     for unit in 0..UNITS {
@@ -34,7 +34,7 @@ fn ring(alloc: Global) -> Result<Vec<u32>, AllocError> {
     Ok(words)
 }
 
-// All definitions: each name, and its hunk, which is also its offset.
+/// All definitions: each name, and its hunk, which is also its offset.
 fn definitions_of(alloc: Global) -> Result<Vec<(u32, u32)>, AllocError> {
     let mut definitions = Vec::new(alloc);
     for unit in 0..UNITS {
@@ -43,7 +43,7 @@ fn definitions_of(alloc: Global) -> Result<Vec<(u32, u32)>, AllocError> {
     Ok(definitions)
 }
 
-// The load file of the units. Each name is sought from the front of the definitions.
+/// The load file of the units. Each name is sought from the front of the definitions.
 fn linked_ring(alloc: Global) -> Result<Vec<u32>, Fail> {
     let definitions = definitions_of(alloc)?;
     let mut words = Vec::from_slice(alloc, &[0x3F3, 0, UNITS, 0, UNITS - 1])?;
@@ -61,12 +61,12 @@ fn linked_ring(alloc: Global) -> Result<Vec<u32>, Fail> {
     Ok(words)
 }
 
-// Where the hunk of a unit is placed.
+/// Where the hunk of a unit is placed.
 fn base_of(unit: u32) -> u32 {
     0x0100_0000u32.wrapping_add(unit.wrapping_mul(16))
 }
 
-// The memory of the units: the second longword of each has the address of what the next one defines.
+/// The memory of the units: the second longword of each has the address of what the next one defines.
 fn ring_report(alloc: Global) -> Result<String, AllocError> {
     let mut report = String::new(alloc);
     for unit in 0..UNITS {

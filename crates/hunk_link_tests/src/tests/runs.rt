@@ -56,7 +56,7 @@ impl Run<'_> {
     }
 }
 
-// Writes these bytes.
+/// Writes these bytes.
 fn put<A: Allocator + Copy>(writer: &mut Room, bytes: &[u8]) -> Result<(), ToolFault<A>> {
     let mut text = Text::new(writer);
     text.put(bytes);

@@ -3,7 +3,7 @@
 use super::runs::is_written;
 use std::test::Fail;
 
-// Files with their texts.
+/// Files with their texts.
 static FILES: [(&[u32], &str); 14] = [
     // Nothing is odd in it. The header asks for memory.
     (

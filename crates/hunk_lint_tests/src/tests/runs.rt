@@ -9,7 +9,7 @@ use std::alloc::Global;
 use std::process::Abort;
 use std::test::Fail;
 
-// A load file in which bits are ignored, with a second group for a hunk and a symbol past the hunk, and its text.
+/// A load file in which bits are ignored, with a second group for a hunk and a symbol past the hunk, and its text.
 static ODD: [u32; 24] = [
     0x8000_03F3,
     0,
@@ -42,13 +42,13 @@ static TEXT: &[u8] = b"load file: 1 hunks\n\
     longword 13: a second group of relocations for hunk 0\n\
     hunk 0: symbol \"abcd\" 00000009 is past the hunk, which has 8 bytes\n";
 
-// Room for every text.
+/// Room for every text.
 const ENOUGH: usize = 2048;
 
-// More allocations than a run makes.
+/// More allocations than a run makes.
 const MOST_GROWTHS: u64 = 64;
 
-// The limits of a reader and of a writer.
+/// The limits of a reader and of a writer.
 #[derive(Clone, Copy)]
 struct Devices {
     // The most bytes for each read and each write.
@@ -65,7 +65,7 @@ const WHOLE: Devices = Devices {
     room: ENOUGH,
 };
 
-// A run over these longwords ends so, and writes this text.
+/// A run over these longwords ends so, and writes this text.
 fn is_run(
     rt: &impl Abort,
     alloc: Global,
@@ -84,7 +84,7 @@ fn is_run(
     Ok(())
 }
 
-// The text of these longwords is this one, however they are read.
+/// The text of these longwords is this one, however they are read.
 pub(super) fn is_written(
     rt: &impl Abort,
     alloc: Global,
@@ -137,7 +137,7 @@ fn tells_what_a_writer_took(rt: HostRuntime) -> Result<(), Fail> {
     Ok(())
 }
 
-// Whether a run in which this allocation is to fail makes fewer; otherwise it has written nothing.
+/// Whether a run in which this allocation is to fail makes fewer; otherwise it has written nothing.
 fn is_made_without(rt: &impl Abort, alloc: Global, refused: u64) -> Result<bool, Fail> {
     let heap = Refusing::new(alloc, refused);
     let mut reader = Pieces::new(bytes_of(alloc, &ODD, &[])?, 64, None);

@@ -11,8 +11,8 @@ use std::alloc::Global;
 use std::process::Abort;
 use std::test::Fail;
 
-// Two hunks: three longwords of code in chip memory, with a site, a symbol and a debug block; and a
-// longword of zeros.
+/// Two hunks: three longwords of code in chip memory, with a site, a symbol and a debug block; and a
+/// longword of zeros.
 const WHOLE: [u32; 24] = [
     0x3F3, 0, 2, 0, 1, 0x40000003, 1, //
     0x3E9, 3, 0x01020304, 0, 0, //
@@ -21,7 +21,7 @@ const WHOLE: [u32; 24] = [
     0x3EB, 1, 0x3F2,
 ];
 
-// The same with a symbol, a short relocation block, and a name, but without a longword of zeros.
+/// The same with a symbol, a short relocation block, and a name, but without a longword of zeros.
 const NAMED: [u32; 26] = [
     0x3F3, 0, 2, 0, 1, 0x40000003, 1, //
     0x3E8, 1, 0x6E616D65, //
@@ -31,7 +31,7 @@ const NAMED: [u32; 26] = [
     0x3EB, 1, 0x3F2,
 ];
 
-// Its normal form.
+/// Its normal form.
 const NORMAL: [u32; 19] = [
     0x3F3, 0, 2, 0, 1, 0x40000003, 1, //
     0x3E9, 1, 0x01020304, //
@@ -41,10 +41,10 @@ const NORMAL: [u32; 19] = [
 
 const NORMAL_DIGITS: &str = "6130c2dc278ce3b46a38ee55108ab2a4cb8bb473fddd2fafabd239c24bad7656";
 
-// Code that is zeros alone.
+/// Code that is zeros alone.
 const ZERO_CODE: [u32; 11] = [0x3F3, 0, 1, 0, 0, 2, 0x3E9, 2, 0, 0, 0x3F2];
 
-// Load files, the number of their hunks, and the digests of their normal forms.
+/// Load files, the number of their hunks, and the digests of their normal forms.
 static ROWS: [(&[u32], u64, &str); 7] = [
     (&WHOLE, 2, NORMAL_DIGITS),
     (&NAMED, 2, NORMAL_DIGITS),
@@ -71,12 +71,12 @@ static ROWS: [(&[u32], u64, &str); 7] = [
     ),
 ];
 
-// The line about the load file of a row, with its digest.
+/// The line about the load file of a row, with its digest.
 fn line_of(alloc: Global, digits: &str, hunks: u64) -> Result<String, Fail> {
     Ok(format!(in alloc; "a: load file: {hunks} hunks, SHA-256 {digits}\n")?)
 }
 
-// The line about what was found, if it was found.
+/// The line about what was found, if it was found.
 fn told(alloc: Global, finding: Finding) -> Result<Vec<u8>, Fail> {
     let mut writer = Room::new(alloc, 128, 128, false)?;
     let mut text = Text::new(&mut writer);

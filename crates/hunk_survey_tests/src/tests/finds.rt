@@ -10,7 +10,7 @@ use std::alloc::{AllocError, Global};
 use std::process::Abort;
 use std::test::Fail;
 
-// More allocations than a survey of a file makes.
+/// More allocations than a survey of a file makes.
 const MOST_GROWTHS: u64 = 64;
 
 const EMPTY: Finding = Finding::Refused(Fault {
@@ -18,7 +18,7 @@ const EMPTY: Finding = Finding::Refused(Fault {
     reason: Reason::UnexpectedEnd,
 });
 
-// Longwords and bytes of files, and what they are.
+/// Longwords and bytes of files, and what they are.
 static FILES: [(&[u32], &[u8], Finding); 6] = [
     (&ASSEMBLED, &[], OBJECT),
     (&LINKED_ALONE, &[], LOAD),
@@ -28,7 +28,7 @@ static FILES: [(&[u32], &[u8], Finding); 6] = [
     (&[], &[], EMPTY),
 ];
 
-// What is found of a file, but for its digest.
+/// What is found of a file, but for its digest.
 fn without_digest(finding: Finding) -> Finding {
     match finding {
         Finding::Load { hunks, digest: _ } => Finding::Load {
@@ -39,7 +39,7 @@ fn without_digest(finding: Finding) -> Finding {
     }
 }
 
-// This is found of the file, at most `chunk` bytes per read.
+/// This is found of the file, at most `chunk` bytes per read.
 fn is_found(
     rt: &impl Abort,
     alloc: Global,
@@ -81,8 +81,8 @@ fn finds_that_a_read_failed(rt: HostRuntime) -> Result<(), Fail> {
     Ok(())
 }
 
-// The number of allocations: the survey is out of memory with each of them failing, and finds what
-// the file is once none fails.
+/// The number of allocations: the survey is out of memory with each of them failing, and finds what
+/// the file is once none fails.
 fn growths_of(
     rt: &impl Abort,
     alloc: Global,

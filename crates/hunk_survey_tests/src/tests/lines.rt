@@ -8,7 +8,7 @@ use std::alloc::Global;
 use std::process::Abort;
 use std::test::Fail;
 
-// What is refused at a later place, for reasons with and without a number.
+/// What is refused at a later place, for reasons with and without a number.
 const LONG: Finding = Finding::Refused(Fault {
     place: 7,
     reason: Reason::ContentTooLong,
@@ -29,7 +29,7 @@ const OVERLAP: Finding = Finding::Refused(Fault {
     reason: Reason::SiteOverlap(16),
 });
 
-// Names of files, what was found of them, and the line about each.
+/// Names of files, what was found of them, and the line about each.
 static LINES: [(&[u8], Finding, &str); 13] = [
     (b"a.o", OBJECT, "a.o: object file: 1 units, 2 hunks\n"),
     (b"c/Dir", LOAD, "c/Dir: load file: 2 hunks\n"),
@@ -66,7 +66,7 @@ static LINES: [(&[u8], Finding, &str); 13] = [
     (b"fifo", Finding::NotRegular, "fifo: not a regular file\n"),
 ];
 
-// The same as JSON.
+/// The same as JSON.
 static JSON: [(&[u8], Finding, &str); 15] = [
     (
         b"a.o",
@@ -148,7 +148,7 @@ static JSON: [(&[u8], Finding, &str); 15] = [
     ),
 ];
 
-// The form of a line.
+/// The form of a line.
 #[derive(Clone, Copy, Debug)]
 enum Form {
     Plain,
@@ -156,7 +156,7 @@ enum Form {
 }
 
 impl Form {
-    // Writes the line, and returns how many bytes were written.
+    /// Writes the line, and returns how many bytes were written.
     fn write(
         self,
         name: &[u8],
@@ -174,7 +174,7 @@ impl Form {
     }
 }
 
-// The line is written, and as much of it as there is room for, at most 7 bytes per write.
+/// The line is written, and as much of it as there is room for, at most 7 bytes per write.
 fn is_written(
     rt: &impl Abort,
     alloc: Global,

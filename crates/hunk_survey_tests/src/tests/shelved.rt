@@ -18,7 +18,7 @@ const WAITING: FindOptions = FindOptions {
     wait: true,
 };
 
-// Names, and what is found there without and with waiting.
+/// Names, and what is found there without and with waiting.
 static ROWS: [(&[u8], Finding, Finding); 11] = [
     (b"a.o", OBJECT, OBJECT),
     (b"\xC3\x9Cber", OBJECT, OBJECT),

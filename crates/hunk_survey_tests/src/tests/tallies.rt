@@ -8,7 +8,7 @@ use std::alloc::Global;
 use std::process::Abort;
 use std::test::Fail;
 
-// What was found of files, the last lines of the survey, and its status.
+/// What was found of files, the last lines of the survey, and its status.
 static ROWS: [(&[Finding], &str, u8); 7] = [
     (
         &[],
@@ -54,7 +54,7 @@ static ROWS: [(&[Finding], &str, u8); 7] = [
     ),
 ];
 
-// The tally of these findings.
+/// The tally of these findings.
 fn tally_of(findings: &[Finding]) -> Tally {
     let mut tally = Tally::new();
     for finding in findings {
@@ -63,7 +63,7 @@ fn tally_of(findings: &[Finding]) -> Tally {
     tally
 }
 
-// Writes the lines, and returns how many bytes were written.
+/// Writes the lines, and returns how many bytes were written.
 fn write(tally: Tally, writer: &mut Room<Global>) -> Result<u64, WriteFault> {
     let mut text = Text::new(writer);
     write_totals(&mut text, tally);
@@ -72,7 +72,7 @@ fn write(tally: Tally, writer: &mut Room<Global>) -> Result<u64, WriteFault> {
     Ok(written)
 }
 
-// The lines are written, and as much of them as there is room for, at most 7 bytes per write.
+/// The lines are written, and as much of them as there is room for, at most 7 bytes per write.
 fn is_written(rt: &impl Abort, alloc: Global, tally: Tally, lines: &str) -> Result<(), Fail> {
     for room in 0..lines.len() {
         let mut writer = Room::new(alloc, 7, room, false)?;

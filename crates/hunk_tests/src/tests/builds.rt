@@ -7,8 +7,8 @@ use std::alloc::{AllocError, Global};
 use std::process::Abort;
 use std::test::Fail;
 
-// A hunk to build: its size, the number of its zero bytes of content, and the target of its site at
-// 0.
+/// A hunk to build: its size, the number of its zero bytes of content, and the target of its site at
+/// 0.
 #[derive(Clone, Copy, Debug, PartialEq)]
 struct Plan {
     kind: HunkKind,
@@ -32,7 +32,7 @@ const ZEROS: Plan = Plan {
     ..GOOD
 };
 
-// As large as all hunks of a file may be together.
+/// As large as all hunks of a file may be together.
 const LARGE: Plan = Plan {
     size: 0x0100_0000,
     content: 0,
@@ -40,7 +40,7 @@ const LARGE: Plan = Plan {
     ..GOOD
 };
 
-// Content that is not a whole number of longwords, is too long, or belongs to a BSS hunk.
+/// Content that is not a whole number of longwords, is too long, or belongs to a BSS hunk.
 const UNEVEN: Plan = Plan { content: 7, ..GOOD };
 
 const LONG: Plan = Plan {
@@ -54,18 +54,18 @@ const STORED: Plan = Plan {
     ..GOOD
 };
 
-// Sites with a limit lower or higher than the bytes of the hunk.
+/// Sites with a limit lower or higher than the bytes of the hunk.
 const TIGHT: Plan = Plan { limit: 4, ..GOOD };
 
 const WIDE: Plan = Plan { limit: 12, ..GOOD };
 
-// A site for the fourth hunk.
+/// A site for the fourth hunk.
 const FAR: Plan = Plan {
     target: Some(3),
     ..GOOD
 };
 
-// The hunk of a plan.
+/// The hunk of a plan.
 fn hunk_of(rt: &impl Abort, alloc: Global, plan: &Plan) -> Result<LoadHunk, AllocError> {
     let mut sites = Sites::new(alloc, plan.limit);
     if let Some(target) = plan.target {
@@ -82,7 +82,7 @@ fn hunk_of(rt: &impl Abort, alloc: Global, plan: &Plan) -> Result<LoadHunk, Allo
     })
 }
 
-// These hunks are those of the plans.
+/// These hunks are those of the plans.
 fn are_planned(rt: &impl Abort, hunks: &[LoadHunk], plans: &[Plan]) {
     equals(rt, hunks.len(), plans.len());
     for (index, hunk) in hunks.iter().enumerate() {
@@ -97,8 +97,8 @@ fn are_planned(rt: &impl Abort, hunks: &[LoadHunk], plans: &[Plan]) {
     }
 }
 
-// The hunks of these plans make a load file if there is no fault, and are handed back if there is
-// one.
+/// The hunks of these plans make a load file if there is no fault, and are handed back if there is
+/// one.
 fn is_built(
     rt: &impl Abort,
     alloc: Global,
@@ -122,7 +122,7 @@ fn is_built(
     Ok(())
 }
 
-// A hunk without bytes.
+/// A hunk without bytes.
 const BARE: Plan = Plan {
     size: 0,
     content: 0,
@@ -136,7 +136,7 @@ const LARGER: Plan = Plan {
     ..LARGE
 };
 
-// Hunks, and the first rule that they break.
+/// Hunks, and the first rule that they break.
 static LISTS: [(&[Plan], Option<BuildFault>); 20] = [
     (&[GOOD], None),
     (&[BARE], None),
@@ -187,7 +187,7 @@ fn counts_hunks(rt: HostRuntime) -> Result<(), Fail> {
     Ok(())
 }
 
-// A hunk with a symbol whose name is `words` longwords of letters and then `last`.
+/// A hunk with a symbol whose name is `words` longwords of letters and then `last`.
 fn named(rt: &impl Abort, alloc: Global, words: usize, last: u32) -> Result<LoadHunk, Fail> {
     let mut longwords = vec![in alloc; 0x4141_4141; words]?;
     longwords.push(last)?;
@@ -197,7 +197,7 @@ fn named(rt: &impl Abort, alloc: Global, words: usize, last: u32) -> Result<Load
     Ok(hunk)
 }
 
-// The longwords of a name are counted in 24 bits.
+/// The longwords of a name are counted in 24 bits.
 #[test]
 fn counts_the_bytes_of_a_name(rt: HostRuntime) -> Result<(), Fail> {
     let alloc = rt.alloc();

@@ -11,7 +11,7 @@ use std::alloc::{Allocator, Global};
 use std::process::Abort;
 use std::test::Fail;
 
-// Code of three longwords: the file has two of them, and the second one is zero and has a site.
+/// Code of three longwords: the file has two of them, and the second one is zero and has a site.
 const CODE: Hunk<'static> = Hunk {
     memory: Memory::Chip,
     size: 3,
@@ -26,7 +26,7 @@ const BSS: Hunk<'static> = Hunk {
     ..EMPTY
 };
 
-// Code that is compared with the first one, and where it differs.
+/// Code that is compared with the first one, and where it differs.
 static ROWS: [(Hunk<'static>, Option<Difference>); 12] = [
     (CODE, None),
     // Zeros are in the file or after its content, at a site too.
@@ -191,7 +191,7 @@ fn tells_the_hunk_that_differs(rt: HostRuntime) -> Result<(), Fail> {
     Ok(())
 }
 
-// The file of the code and the zeros, each with these symbols and these debug blocks.
+/// The file of the code and the zeros, each with these symbols and these debug blocks.
 fn file_with<A: Allocator + Copy>(
     alloc: A,
     symbols: &[(u32, u32)],
@@ -204,12 +204,12 @@ fn file_with<A: Allocator + Copy>(
     file_of_parts(hunks)
 }
 
-// The names `A` and `B`, as longwords.
+/// The names `A` and `B`, as longwords.
 const A: u32 = 0x4100_0000;
 
 const B: u32 = 0x4200_0000;
 
-// Where the file with the symbols A and B and one debug block first differs from this one.
+/// Where the file with the symbols A and B and one debug block first differs from this one.
 fn info_difference(
     rt: &impl Abort,
     alloc: Global,
@@ -266,7 +266,7 @@ fn tells_the_first_symbol_or_debug_block(rt: HostRuntime) -> Result<(), Fail> {
     Ok(())
 }
 
-// Leaves out of the file what means nothing, at an allocator that counts in `heap`.
+/// Leaves out of the file what means nothing, at an allocator that counts in `heap`.
 fn leaves_out<A: Allocator + Copy>(rt: &impl Abort, heap: &Refusing, alloc: A) -> Result<(), Fail> {
     let (stripped, normal) = (
         file_with(alloc, &[(A, 2)], &[&[7, 0]])?,

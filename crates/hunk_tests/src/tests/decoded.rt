@@ -48,7 +48,7 @@ pub(crate) fn read(
     Ok(read_load(alloc, &mut reader)?)
 }
 
-// These longwords are the file of these hunks, in pieces of each size and from a reader.
+/// These longwords are the file of these hunks, in pieces of each size and from a reader.
 fn is_decoded(
     rt: &impl Abort,
     alloc: Global,
@@ -63,14 +63,14 @@ fn is_decoded(
     Ok(())
 }
 
-// A file and its written form have the same hunks.
+/// A file and its written form have the same hunks.
 #[test]
 fn reads_a_file_that_is_not_in_written_form(rt: HostRuntime) -> Result<(), Fail> {
     is_decoded(&rt, rt.alloc(), &SCATTERED, &SCATTERED_HUNKS)?;
     is_decoded(&rt, rt.alloc(), &WRITTEN, &SCATTERED_HUNKS)
 }
 
-// The hunk with relocations in 16-bit words.
+/// The hunk with relocations in 16-bit words.
 const SHORT_HUNK: Hunk<'static> = Hunk {
     size: 2,
     content: &[0, 0, 0, 4, 0, 0, 0, 0],
@@ -78,7 +78,7 @@ const SHORT_HUNK: Hunk<'static> = Hunk {
     ..EMPTY
 };
 
-// The hunks of the example.
+/// The hunks of the example.
 static EXAMPLE_HUNKS: [Hunk<'static>; 2] = [
     Hunk {
         size: 4,
@@ -106,14 +106,14 @@ fn reads_relocations_in_words(rt: HostRuntime) -> Result<(), Fail> {
     is_decoded(&rt, rt.alloc(), &TWO_HUNKS, &EXAMPLE_HUNKS)
 }
 
-// The hunk of the file of most tests.
+/// The hunk of the file of most tests.
 const CODE_HUNK: Hunk<'static> = Hunk {
     size: 1,
     content: &[0x4E, 0x75, 0x4E, 0x71],
     ..EMPTY
 };
 
-// The same as data in fast memory.
+/// The same as data in fast memory.
 const DATA_HUNK: Hunk<'static> = Hunk {
     kind: HunkKind::Data,
     memory: Memory::Fast,
@@ -126,7 +126,7 @@ const ZEROS_HUNK: Hunk<'static> = Hunk {
     ..EMPTY
 };
 
-// Code, an address and zeros.
+/// Code, an address and zeros.
 static THREE: [Hunk<'static>; 3] = [
     Hunk {
         size: 2,

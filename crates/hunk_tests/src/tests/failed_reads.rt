@@ -10,8 +10,8 @@ use std::alloc::Global;
 use std::process::Abort;
 use std::test::Fail;
 
-// Reads a file of this kind, at most `chunk` bytes per read. The read with this number fails, if it
-// comes.
+/// Reads a file of this kind, at most `chunk` bytes per read. The read with this number fails, if it
+/// comes.
 fn fails_to_read(
     rt: &impl Abort,
     alloc: Global,
@@ -36,8 +36,8 @@ fn fails_to_read(
     Ok(())
 }
 
-// Each read fails in turn, including the one that would report the end. Each row has the most bytes
-// of a read, and how many reads there are.
+/// Each read fails in turn, including the one that would report the end. Each row has the most bytes
+/// of a read, and how many reads there are.
 fn each_read_fails(
     rt: &impl Abort,
     alloc: Global,

@@ -14,16 +14,16 @@ use std::alloc::{Allocator, Global};
 use std::process::Abort;
 use std::test::Fail;
 
-// More allocations than a call of the tests makes.
+/// More allocations than a call of the tests makes.
 const MOST_GROWTHS: u64 = 64;
 
-// Where the hunks are loaded.
+/// Where the hunks are loaded.
 const BASES: [u32; 2] = [0x0000_1000, 0x0000_2000];
 
-// Their bytes there.
+/// Their bytes there.
 const MEMORY: [&[u8]; 2] = [&[0, 0, 0x20, 0, 0, 0, 0x10, 0, 0, 0, 0x20, 4], &[0; 4]];
 
-// What is called.
+/// What is called.
 #[derive(Clone, Copy, Debug)]
 enum Call {
     Read,
@@ -40,7 +40,7 @@ pub(crate) fn growths_of_reading(alloc: Global, bytes: &[u8]) -> Result<u64, Fai
     Ok(heap.asked())
 }
 
-// Whether the file was read. If not, memory ran out; likewise for the other calls.
+/// Whether the file was read. If not, memory ran out; likewise for the other calls.
 fn is_read<A: Allocator + Copy>(
     rt: &impl Abort,
     alloc: Global,
@@ -124,8 +124,8 @@ fn is_written<A: Allocator + Copy>(
     Ok(true)
 }
 
-// The number of allocations of the call: it runs out of memory with each of them failing, and
-// succeeds once none fails. The allocations to read the file that is loaded or written come before.
+/// The number of allocations of the call: it runs out of memory with each of them failing, and
+/// succeeds once none fails. The allocations to read the file that is loaded or written come before.
 fn growths_of(rt: &impl Abort, alloc: Global, call: Call, bytes: &[u8]) -> Result<u64, Fail> {
     let before = match call {
         Call::Read | Call::Image | Call::Sized => 0,

@@ -13,7 +13,7 @@ use std::alloc::{Allocator, Global};
 use std::process::Abort;
 use std::test::Fail;
 
-// A load file, the addresses of its hunks, and the bytes of each hunk there.
+/// A load file, the addresses of its hunks, and the bytes of each hunk there.
 type Row<'a> = (&'a [u32], &'a [u32], &'a [&'a [u8]]);
 
 /// The image has these bytes at these addresses.
@@ -37,7 +37,7 @@ pub(crate) fn has_bytes<A: Allocator + Copy>(
     }
 }
 
-// The image by `ImageLoader`.
+/// The image by `ImageLoader`.
 fn streamed<A: Allocator + Copy>(
     rt: &impl Abort,
     alloc: A,
@@ -53,7 +53,7 @@ fn streamed<A: Allocator + Copy>(
     Ok(loader.finish()?)
 }
 
-// The image of the bytes of a reader, without a file in between.
+/// The image of the bytes of a reader, without a file in between.
 fn image_of(
     rt: &impl Abort,
     alloc: Global,
@@ -65,7 +65,7 @@ fn image_of(
     Ok(read_image(alloc, &mut reader, bases)?)
 }
 
-// The file has these bytes at these addresses.
+/// The file has these bytes at these addresses.
 fn is_in_memory(
     rt: &impl Abort,
     alloc: Global,
@@ -77,7 +77,7 @@ fn is_in_memory(
     Ok(())
 }
 
-// In each way and in any pieces, these bytes are loaded to these hunks.
+/// In each way and in any pieces, these bytes are loaded to these hunks.
 fn is_loaded(
     rt: &impl Abort,
     alloc: Global,
@@ -100,7 +100,7 @@ fn is_loaded(
     Ok(())
 }
 
-// These files are loaded to these hunks.
+/// These files are loaded to these hunks.
 fn are_loaded(rt: &impl Abort, alloc: Global, rows: &[Row<'_>]) -> Result<(), Fail> {
     for (words, bases, wanted) in rows {
         let bytes = bytes_of(alloc, words, &[])?;
@@ -119,7 +119,7 @@ fn ignores_memory_bits_of_blocks(rt: HostRuntime) -> Result<(), Fail> {
     Ok(())
 }
 
-// The bytes of hunks in memory.
+/// The bytes of hunks in memory.
 const RETURN: [u8; 4] = [0x4E, 0x75, 0x4E, 0x71];
 
 const RELOCATED: [u8; 12] = [0, 0, 0x20, 0, 0, 0, 0x10, 0, 0, 0, 0x20, 4];
@@ -136,7 +136,7 @@ const EXAMPLE: [u8; 16] = [
     0x20, 0x7C, 0, 2, 0, 0, 0x4E, 0xB9, 0, 1, 0, 0x0E, 0x4E, 0x75, 0x4E, 0x75,
 ];
 
-// Load files of one hunk.
+/// Load files of one hunk.
 static ONE_HUNK: [Row<'static>; 6] = [
     (&FILE, &[BASE], &[&RETURN]),
     (&BEHIND_CONTENT, &[BASE], &[&STRETCHED]),
@@ -151,7 +151,7 @@ fn loads_one_hunk(rt: HostRuntime) -> Result<(), Fail> {
     are_loaded(&rt, rt.alloc(), &ONE_HUNK)
 }
 
-// Load files of two or three hunks. The last one is the repository's example.
+/// Load files of two or three hunks. The last one is the repository's example.
 static SOME_HUNKS: [Row<'static>; 6] = [
     (&SCATTERED, &[0x1000, 0x2000], &[&RELOCATED, &[0; 4]]),
     (&WRITTEN, &[0x1000, 0x2000], &[&RELOCATED, &[0; 4]]),

@@ -7,7 +7,7 @@ use super::values::{EMPTY, Hunk};
 use hunk_loader::{LoadRefusal, PlaceFault, load, load_file};
 use std::test::Fail;
 
-// Code of so many longwords, its content and its sites.
+/// Code of so many longwords, its content and its sites.
 fn code<'a>(size: u32, content: &'a [u8], sites: &'a [(u32, u32)]) -> Hunk<'a> {
     Hunk {
         size,

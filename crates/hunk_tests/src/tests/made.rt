@@ -6,7 +6,7 @@ use hunk_words::{Name, SiteRefusal, Sites};
 use std::alloc::{AllocError, Allocator};
 use std::test::Fail;
 
-// The sites of a hunk.
+/// The sites of a hunk.
 fn sites_of<A: Allocator + Copy>(alloc: A, hunk: &Hunk<'_>) -> Result<Sites<u32, A>, SiteRefusal> {
     let mut sites = Sites::new(alloc, 4 * u64::from(hunk.size));
     for (offset, target) in hunk.sites {
@@ -15,7 +15,7 @@ fn sites_of<A: Allocator + Copy>(alloc: A, hunk: &Hunk<'_>) -> Result<Sites<u32,
     Ok(sites)
 }
 
-// These symbols, each a name of one longword and a value.
+/// These symbols, each a name of one longword and a value.
 fn symbols_of<A: Allocator + Copy>(
     alloc: A,
     rows: &[(u32, u32)],
@@ -27,7 +27,7 @@ fn symbols_of<A: Allocator + Copy>(
     Ok(symbols)
 }
 
-// These debug blocks.
+/// These debug blocks.
 fn debugs_of<A: Allocator + Copy>(
     alloc: A,
     rows: &[&[u32]],
@@ -58,7 +58,7 @@ pub(crate) fn hunk_with<A: Allocator + Copy>(
     })
 }
 
-// The hunks of these fields, without symbols and debug blocks.
+/// The hunks of these fields, without symbols and debug blocks.
 fn hunks_of<A: Allocator + Copy>(alloc: A, rows: &[Hunk<'_>]) -> Result<Vec<LoadHunk<A>, A>, Fail> {
     let mut hunks = Vec::new(alloc);
     for row in rows {

@@ -68,7 +68,7 @@ fn takes_longwords_at_once_and_one_by_one(rt: HostRuntime) -> Result<(), Fail> {
     Ok(())
 }
 
-// Opens a name at an allocator that counts in `heap`.
+/// Opens a name at an allocator that counts in `heap`.
 fn opens_once<A: Allocator + Copy>(rt: &impl Abort, heap: &Refusing, alloc: A) -> Result<(), Fail> {
     let mut name = OpenName::new(alloc);
     name.push_bytes(b"_start_of_")?;
@@ -85,7 +85,7 @@ fn allocates_once_for_a_run_and_the_longword_after_it(rt: HostRuntime) -> Result
     opens_once(&rt, &heap, &heap)
 }
 
-// Opens a name whose second allocation fails.
+/// Opens a name whose second allocation fails.
 fn stays_as_it_was<A: Allocator + Copy>(rt: &impl Abort, alloc: A) -> Result<(), Fail> {
     let mut name = OpenName::new(alloc);
     name.push_bytes(b"_start_of_")?;
@@ -107,7 +107,7 @@ fn stays_as_it_was_where_a_run_of_a_name_has_no_memory(rt: HostRuntime) -> Resul
     stays_as_it_was(&rt, &Refusing::new(rt.alloc(), 1))
 }
 
-// Makes a name, whose first allocation fails.
+/// Makes a name, whose first allocation fails.
 fn has_no_bytes<A: Allocator + Copy>(rt: &impl Abort, alloc: A) -> Result<(), Fail> {
     let refused = Name::from_words(alloc, &[0x666F_6F00]).is_err();
     holds(rt, &"the first name", refused);
@@ -121,7 +121,7 @@ fn is_out_of_memory_where_the_bytes_of_a_name_have_none(rt: HostRuntime) -> Resu
     has_no_bytes(&rt, &Refusing::new(rt.alloc(), 0))
 }
 
-// Makes a name and its longwords, whose first allocation fails.
+/// Makes a name and its longwords, whose first allocation fails.
 fn has_no_longwords<A: Allocator + Copy>(rt: &impl Abort, alloc: A) -> Result<(), Fail> {
     let name = Name::from_words(alloc, &[0x666F_6F00])?;
     holds(rt, &"the first longwords", name.words(alloc).is_err());

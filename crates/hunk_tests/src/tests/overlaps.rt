@@ -9,7 +9,7 @@ use std::alloc::{AllocError, Allocator, Global};
 use std::process::Abort;
 use std::test::Fail;
 
-// The search with memory answers as the one without.
+/// The search with memory answers as the one without.
 fn agree<A: Allocator + Copy>(rt: &impl Abort, alloc: A, sizes: &[u32], bases: &[u32]) {
     let got = check_places_with(alloc, sizes, bases);
     equals_at(rt, &(sizes, "at", bases), got, check_places(sizes, bases));
@@ -47,7 +47,7 @@ fn answers_the_worked_rows(rt: HostRuntime) {
     }
 }
 
-// Sizes and bases of small hunks: apart, touching, overlapping and empty.
+/// Sizes and bases of small hunks: apart, touching, overlapping and empty.
 const SIZES: [u32; 3] = [0, 1, 2];
 
 const BASES: [u32; 5] = [0, 2, 4, 8, 12];
@@ -68,12 +68,12 @@ fn answers_alike_for_every_list_of_four_small_hunks(rt: HostRuntime) {
     }
 }
 
-// The next number of a linear congruential generator. Its high bits are the random ones.
+/// The next number of a linear congruential generator. Its high bits are the random ones.
 fn random_after(state: u32) -> u32 {
     state.wrapping_mul(1_664_525).wrapping_add(1_013_904_223)
 }
 
-// So many hunks of at most 3 longwords, below 64, 4096 or 65536.
+/// So many hunks of at most 3 longwords, below 64, 4096 or 65536.
 fn check_random_list(rt: &impl Abort, alloc: Global, seed: u32, count: u32) -> Result<(), Fail> {
     let bits = [10, 4, 0][seed as usize % 3];
     let mut state = seed.wrapping_mul(0x9E37_79B9);
@@ -100,7 +100,7 @@ fn answers_alike_for_random_lists(rt: HostRuntime) -> Result<(), Fail> {
     Ok(())
 }
 
-// Bases of so many hunks, each 16 above the one before.
+/// Bases of so many hunks, each 16 above the one before.
 fn rising_bases(alloc: Global, count: u32) -> Result<Vec<u32>, AllocError> {
     let mut bases = Vec::with_capacity(alloc, count as usize)?;
     for number in 0..count {
@@ -165,17 +165,17 @@ fn answers_alike_where_no_memory_is_given(rt: HostRuntime) {
     }
 }
 
-// A hunk of one longword.
+/// A hunk of one longword.
 const LONGWORD: Hunk<'static> = Hunk { size: 1, ..EMPTY };
 
-// Allocations of making a file of three such hunks.
+/// Allocations of making a file of three such hunks.
 fn allocations_of_making(alloc: Global) -> Result<u64, Fail> {
     let heap = Refusing::new(alloc, u64::MAX);
     let _file = file_of_hunks(&heap, &[LONGWORD; 3])?;
     Ok(heap.asked())
 }
 
-// Loads such a file at these bases, and returns why it is refused.
+/// Loads such a file at these bases, and returns why it is refused.
 fn refusal_at<A: Allocator + Copy>(alloc: A, bases: &[u32]) -> Result<Option<LoadRefusal>, Fail> {
     let file = file_of_hunks(alloc, &[LONGWORD; 3])?;
     Ok(load(alloc, &file, bases).err())

@@ -48,7 +48,7 @@ fn content_stays_below_the_limit(rt: HostRuntime) -> Result<(), Fail> {
     Ok(())
 }
 
-// Fills a hunk whose first allocation fails.
+/// Fills a hunk whose first allocation fails.
 fn stays_as_it_was<A: Allocator + Copy>(rt: &impl Abort, alloc: A) -> Result<(), Fail> {
     let mut hunk = PartialHunk::<u32, A>::new(alloc, 0);
     holds(rt, &"not begun", hunk.begin_content(alloc, 8));

@@ -12,8 +12,8 @@ use std::alloc::{AllocError, Allocator, Global};
 use std::process::Abort;
 use std::test::Fail;
 
-// The longwords of the file of two hunks below: the header, the first hunk's data, its sites
-// by target, its four symbols and its two debug blocks, and the second hunk.
+/// The longwords of the file of two hunks below: the header, the first hunk's data, its sites
+/// by target, its four symbols and its two debug blocks, and the second hunk.
 const FILE: [&[u32]; 12] = [
     &[1011, 0, 2, 0, 1, 0x8000_0003, 0x4000_0005],
     &[1002, 3, 0x4E71_0000, 0x0000_0001, 0x0000_4E75],
@@ -29,7 +29,7 @@ const FILE: [&[u32]; 12] = [
     &[1003, 5, 1010],
 ];
 
-// The first hunk's sites in 16-bit words.
+/// The first hunk's sites in 16-bit words.
 const SHORT_SITES: [u32; 5] = [1020, 0x0001_0000, 0x0008_0002, 0x0001_0000, 0x0004_0000];
 
 fn symbols<A: Allocator + Copy>(alloc: A) -> Result<Vec<(Name<A>, u32), A>, Fail> {
@@ -122,8 +122,8 @@ fn writes_a_file_into_memory_that_holds_it_exactly(rt: HostRuntime) -> Result<()
     Ok(())
 }
 
-// A device that takes fewer bytes than this text, the file's in this form, took as many as it has
-// room for.
+/// A device that takes fewer bytes than this text, the file's in this form, took as many as it has
+/// room for.
 fn tells_how_much_was_taken(
     rt: &impl Abort,
     alloc: Global,

@@ -31,7 +31,7 @@ fn answers_the_worked_rows(rt: HostRuntime) {
     }
 }
 
-// Faults, and what is told of each.
+/// Faults, and what is told of each.
 static FAULTS: [(PlaceFault, &str); 3] = [
     (
         PlaceFault::WrongCount,
@@ -53,8 +53,8 @@ fn tells_each_fault(rt: HostRuntime) -> Result<(), Fail> {
     Ok(())
 }
 
-// What a reader of the longwords of `LINKED` answers at these addresses: the first so many of its
-// bytes, at most 25 a read, one of which may fail.
+/// What a reader of the longwords of `LINKED` answers at these addresses: the first so many of its
+/// bytes, at most 25 a read, one of which may fail.
 static READS: [(&[u32], usize, Option<u64>, ImageFault); 7] = [
     (
         &[],

@@ -13,8 +13,8 @@ use std::alloc::{AllocError, Global};
 use std::process::Abort;
 use std::test::Fail;
 
-// A hunk of so many longwords without content, its sites in ascending order of offset, and its
-// relocation blocks. Two hunks without longwords follow it.
+/// A hunk of so many longwords without content, its sites in ascending order of offset, and its
+/// relocation blocks. Two hunks without longwords follow it.
 #[derive(Clone, Copy)]
 struct Row<'a> {
     size: u32,
@@ -22,7 +22,7 @@ struct Row<'a> {
     blocks: &'a [u32],
 }
 
-// Sites of one target: an even number of words, and an odd one, with a zero word at the end.
+/// Sites of one target: an even number of words, and an odd one, with a zero word at the end.
 static ONE_TARGET: [Row<'static>; 3] = [
     Row {
         size: 4,
@@ -41,8 +41,8 @@ static ONE_TARGET: [Row<'static>; 3] = [
     },
 ];
 
-// Sites of several targets, which are in ascending order. The second one begins in the lower half of
-// a longword, or in the upper one.
+/// Sites of several targets, which are in ascending order. The second one begins in the lower half of
+/// a longword, or in the upper one.
 static SOME_TARGETS: [Row<'static>; 3] = [
     Row {
         size: 4,
@@ -69,7 +69,7 @@ static SOME_TARGETS: [Row<'static>; 3] = [
     },
 ];
 
-// Offsets up to 65,535 are in the first block, and those from 65,536 on in the second one.
+/// Offsets up to 65,535 are in the first block, and those from 65,536 on in the second one.
 static LARGE_OFFSETS: [Row<'static>; 4] = [
     Row {
         size: 16_385,
@@ -109,7 +109,7 @@ const LONG_AND_SHORT: Row<'static> = Row {
     ],
 };
 
-// The hunks of a row.
+/// The hunks of a row.
 fn hunks_of_row<'a>(row: &Row<'a>) -> [Hunk<'a>; 3] {
     let first = Hunk {
         size: row.size,
@@ -123,7 +123,7 @@ fn hunks_of_row<'a>(row: &Row<'a>) -> [Hunk<'a>; 3] {
     [first, zeros, zeros]
 }
 
-// The bytes of the load file of a row.
+/// The bytes of the load file of a row.
 fn bytes_of_row(alloc: Global, row: &Row<'_>) -> Result<Vec<u8>, AllocError> {
     let front = [0x3F3, 0, 3, 0, 2, row.size, 0, 0, 0x3E9, 0];
     let back = [0x3F2, 0x3EB, 0, 0x3F2, 0x3EB, 0, 0x3F2];
@@ -131,7 +131,7 @@ fn bytes_of_row(alloc: Global, row: &Row<'_>) -> Result<Vec<u8>, AllocError> {
     bytes_of(alloc, &words, &[])
 }
 
-// The file is written as these bytes, and its length is known before.
+/// The file is written as these bytes, and its length is known before.
 fn is_written_at_once(rt: &impl Abort, alloc: Global, text: Text<'_>) -> Result<(), Fail> {
     let length = text.bytes.len() as u64;
     equals(rt, written_length(alloc, text.file, text.form), Ok(length));
@@ -141,7 +141,7 @@ fn is_written_at_once(rt: &impl Abort, alloc: Global, text: Text<'_>) -> Result<
     Ok(())
 }
 
-// The load file of a row is written in these words, its length is known before, and it is read back.
+/// The load file of a row is written in these words, its length is known before, and it is read back.
 fn is_written(rt: &impl Abort, alloc: Global, row: &Row<'_>) -> Result<(), Fail> {
     let hunks = hunks_of_row(row);
     let file = file_of_hunks(alloc, &hunks)?;
@@ -157,7 +157,7 @@ fn is_written(rt: &impl Abort, alloc: Global, row: &Row<'_>) -> Result<(), Fail>
     Ok(())
 }
 
-// The load files of these rows are written so.
+/// The load files of these rows are written so.
 fn are_written(rt: &impl Abort, alloc: Global, rows: &[Row<'_>]) -> Result<(), Fail> {
     for row in rows {
         is_written(rt, alloc, row)?;
@@ -180,7 +180,7 @@ fn writes_offsets_above_16_bits_in_longwords(rt: HostRuntime) -> Result<(), Fail
     are_written(&rt, rt.alloc(), &LARGE_OFFSETS)
 }
 
-// The block of sites in each of 16,384 longwords, which name so many targets in turn.
+/// The block of sites in each of 16,384 longwords, which name so many targets in turn.
 fn block_of_all(alloc: Global, targets: u32) -> Result<Vec<u32>, AllocError> {
     let mut numbers = Vec::new(alloc);
     for target in 0..targets {
@@ -225,7 +225,7 @@ fn writes_16_384_sites(rt: HostRuntime) -> Result<(), Fail> {
     Ok(())
 }
 
-// The linked file of most tests, in this form.
+/// The linked file of most tests, in this form.
 static LINKED_SHORT: [u32; 20] = [
     0x3F3,
     0,
@@ -276,14 +276,14 @@ fn tells_what_a_writer_took_of_each_block(rt: HostRuntime) -> Result<(), Fail> {
     Ok(())
 }
 
-// The header and the type and size of the first hunk are written whichever allocation fails.
+/// The header and the type and size of the first hunk are written whichever allocation fails.
 #[test]
 fn sorts_both_blocks_before_it_writes_them(rt: HostRuntime) -> Result<(), Fail> {
     let bytes = bytes_of_row(rt.alloc(), &LONG_AND_SHORT)?;
     is_written_up_to(&rt, rt.alloc(), LoadForm::Short, &bytes, 40, 2)
 }
 
-// A trimmed load file in each form: its longwords from the first hunk on.
+/// A trimmed load file in each form: its longwords from the first hunk on.
 fn is_trimmed_to(
     rt: &impl Abort,
     alloc: Global,

@@ -77,15 +77,15 @@ fn adds_sites_that_touch_across_the_end_of_a_page(rt: HostRuntime) -> Result<(),
     Ok(())
 }
 
-// A hunk of 200 pages, whose last page is not whole.
+/// A hunk of 200 pages, whose last page is not whole.
 const LIMIT: u32 = 204_000;
 
-// The next number of a linear congruential generator. Its high bits are the random ones.
+/// The next number of a linear congruential generator. Its high bits are the random ones.
 fn random_after(state: u32) -> u32 {
     state.wrapping_mul(1_664_525).wrapping_add(1_013_904_223)
 }
 
-// Adds a site to a plain map, by the rule for its neighbours.
+/// Adds a site to a plain map, by the rule for its neighbours.
 fn add_plainly(
     plain: &mut BTreeMap<u32, u32>,
     offset: u32,

@@ -13,7 +13,7 @@ use std::test::Fail;
 // The tests of a header are generic in its allocator: a call of its methods takes a fifth of the proof there that
 // it takes at the global allocator.
 
-// Feeds these bytes in pieces of this size, and returns how many were taken.
+/// Feeds these bytes in pieces of this size, and returns how many were taken.
 fn feed_header<A: Allocator + Copy>(
     rt: &impl Abort,
     header: &mut HeaderLoader<A>,
@@ -52,7 +52,7 @@ pub(crate) fn sized<A: Allocator + Copy>(
     loader.finish()
 }
 
-// In any pieces, these bytes are refused for this reason, at this longword.
+/// In any pieces, these bytes are refused for this reason, at this longword.
 fn is_refused(
     rt: &impl Abort,
     alloc: Global,
@@ -112,7 +112,7 @@ fn refuses_a_file_that_ends_anywhere(rt: HostRuntime) -> Result<(), Fail> {
     Ok(())
 }
 
-// In any pieces, these bytes, of which the header takes 32, tell these sizes and memory.
+/// In any pieces, these bytes, of which the header takes 32, tell these sizes and memory.
 fn tells<A: Allocator + Copy>(rt: &impl Abort, alloc: A, bytes: &[u8], wants: &[HeaderHunk]) {
     for chunk in CHUNKS {
         let mut header = HeaderLoader::new(alloc);
@@ -145,7 +145,7 @@ fn tells_sizes_and_memory(rt: HostRuntime) -> Result<(), Fail> {
     Ok(())
 }
 
-// After this error, every later call of the header returns the same error.
+/// After this error, every later call of the header returns the same error.
 fn answers_again<A: Allocator + Copy>(rt: &impl Abort, alloc: A, refusal: LoadRefusal) {
     let mut header = HeaderLoader::new(alloc);
     equals(rt, header.feed(&[0, 0, 3, 0xE7, 0]), Err(refusal));
@@ -165,7 +165,7 @@ fn answers_a_refused_header_again(rt: HostRuntime) {
     answers_again(&rt, rt.alloc(), refusal);
 }
 
-// These bytes are a header of two hunks, which is placed once it is whole, at bases that hold them.
+/// These bytes are a header of two hunks, which is placed once it is whole, at bases that hold them.
 fn is_placed_whole<A: Allocator + Copy>(rt: &impl Abort, alloc: A, bytes: &[u8]) {
     let mut header = HeaderLoader::new(alloc);
     for byte in bytes {
@@ -193,7 +193,7 @@ fn places_a_whole_header_alone(rt: HostRuntime) -> Result<(), Fail> {
     Ok(())
 }
 
-// The bytes at offsets 2 to 5 of the first hunk: the base of the second one.
+/// The bytes at offsets 2 to 5 of the first hunk: the base of the second one.
 fn is_at<A: Allocator + Copy>(rt: &impl Abort, image: &Image<A>, base: u32, wanted: [u8; 4]) {
     let mut address = base.wrapping_add(2);
     for want in wanted {
@@ -202,7 +202,7 @@ fn is_at<A: Allocator + Copy>(rt: &impl Abort, image: &Image<A>, base: u32, want
     }
 }
 
-// Loads the file of these bytes twice, at other bases.
+/// Loads the file of these bytes twice, at other bases.
 fn is_loaded_twice<A: Allocator + Copy>(
     rt: &impl Abort,
     alloc: A,
@@ -233,7 +233,7 @@ fn loads_a_file_twice(rt: HostRuntime) -> Result<(), Fail> {
     is_loaded_twice(&rt, rt.alloc(), &bytes)
 }
 
-// Rooms for these hunks, with bytes that are to be forgotten.
+/// Rooms for these hunks, with bytes that are to be forgotten.
 fn rooms_of<A: Allocator + Copy>(
     alloc: A,
     hunks: &[HeaderHunk],
@@ -247,7 +247,7 @@ fn rooms_of<A: Allocator + Copy>(
     Ok(rooms)
 }
 
-// Loads the rest of `TWO_HUNKS` in these rooms, and returns how many allocations that takes.
+/// Loads the rest of `TWO_HUNKS` in these rooms, and returns how many allocations that takes.
 fn allocations<A: Allocator + Copy>(
     rt: &impl Abort,
     heap: &Refusing,
@@ -264,7 +264,7 @@ fn allocations<A: Allocator + Copy>(
     Ok(heap.asked().wrapping_sub(before))
 }
 
-// Loads `TWO_HUNKS` without rooms and with them, at an allocator that counts in `heap`.
+/// Loads `TWO_HUNKS` without rooms and with them, at an allocator that counts in `heap`.
 fn loads_in_rooms<A: Allocator + Copy>(
     rt: &impl Abort,
     heap: &Refusing,

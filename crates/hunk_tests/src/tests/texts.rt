@@ -7,7 +7,7 @@ use std::alloc::{Allocator, Global};
 use std::process::Abort;
 use std::test::Fail;
 
-// What is put into each text here.
+/// What is put into each text here.
 const WHOLE: &str = "a0 18446744073709551615 0000beef \"q\\x22~\\x5c\\x7f\\x00\"\n\n";
 
 fn put_whole<W: Sink>(text: &mut Text<'_, W>) {
@@ -24,7 +24,7 @@ fn put_whole<W: Sink>(text: &mut Text<'_, W>) {
     text.end_line();
 }
 
-// Whether the whole text is put, to a writer that takes at most `most` bytes per write.
+/// Whether the whole text is put, to a writer that takes at most `most` bytes per write.
 fn is_put(rt: &impl Abort, alloc: Global, most: usize) -> Result<(), Fail> {
     assert!(rt; 1 <= most);
     let mut writer = Room::new(alloc, most, WHOLE.len(), false)?;
@@ -45,7 +45,7 @@ fn puts_bytes_numbers_and_names(rt: HostRuntime) -> Result<(), Fail> {
     Ok(())
 }
 
-// How a text is ended.
+/// How a text is ended.
 #[derive(Clone, Copy, Debug)]
 enum End {
     Finish,
@@ -61,8 +61,8 @@ impl End {
     }
 }
 
-// Whether the text stops where a writer has no more room, and says so at this end. The writer fails
-// then, or takes no byte if `zero` is set.
+/// Whether the text stops where a writer has no more room, and says so at this end. The writer fails
+/// then, or takes no byte if `zero` is set.
 fn is_stopped(
     rt: &impl Abort,
     alloc: Global,
@@ -93,7 +93,7 @@ fn stops_at_each_byte(rt: HostRuntime) -> Result<(), Fail> {
     Ok(())
 }
 
-// Puts bytes to a writer that fails after so many of them. Later it would take more.
+/// Puts bytes to a writer that fails after so many of them. Later it would take more.
 fn stops_after<W: Sink>(rt: &impl Abort, writer: &mut W, written: u64) {
     let mut text = Text::new(writer);
     text.put(b"a");
@@ -105,14 +105,14 @@ fn stops_after<W: Sink>(rt: &impl Abort, writer: &mut W, written: u64) {
     equals_at(rt, &written, text.finish(), Err(fault));
 }
 
-// The same to memory of which one allocation fails.
+/// The same to memory of which one allocation fails.
 fn takes_only<A: Allocator + Copy>(rt: &impl Abort, alloc: A, front: &[u8]) {
     let mut writer = Watched::new(Vec::new(alloc));
     stops_after(rt, &mut writer, front.len() as u64);
     equals_at(rt, &front, writer.into_inner().as_slice(), front);
 }
 
-// After a write that failed, each of these writers would take more bytes.
+/// After a write that failed, each of these writers would take more bytes.
 #[test]
 fn writes_nothing_after_a_failed_write(rt: HostRuntime) -> Result<(), Fail> {
     for (refused, front) in [(0, ""), (1, "a")] {

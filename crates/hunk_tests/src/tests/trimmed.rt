@@ -11,8 +11,8 @@ use std::alloc::{Allocator, Global};
 use std::process::Abort;
 use std::test::Fail;
 
-// A hunk: its size in longwords, its content, its site if it has one, which adds the base of the
-// first hunk, and how many bytes of the content stay.
+/// A hunk: its size in longwords, its content, its site if it has one, which adds the base of the
+/// first hunk, and how many bytes of the content stay.
 #[derive(Clone, Copy, Debug)]
 struct Row<'a> {
     kind: HunkKind,
@@ -30,7 +30,7 @@ const CODE: Row<'static> = Row {
     kept: 4,
 };
 
-// A content of zeros alone.
+/// A content of zeros alone.
 const ZEROS: Row<'static> = Row {
     kind: HunkKind::Data,
     size: 2,
@@ -39,7 +39,7 @@ const ZEROS: Row<'static> = Row {
     ..CODE
 };
 
-// A content with a zero longword in its middle.
+/// A content with a zero longword in its middle.
 const GAP: Row<'static> = Row {
     size: 3,
     content: &[1, 0, 0, 0, 0, 0, 0, 0, 2, 0, 0, 0],
@@ -47,7 +47,7 @@ const GAP: Row<'static> = Row {
     ..CODE
 };
 
-// A content that is shorter than its hunk.
+/// A content that is shorter than its hunk.
 const SHORT: Row<'static> = Row {
     size: 3,
     content: &[1, 0, 0, 0, 0, 0, 0, 0],
@@ -113,7 +113,7 @@ static ROWS: [Row<'static>; 13] = [
     },
 ];
 
-// The hunk of a row.
+/// The hunk of a row.
 fn hunk_of_row<'a>(row: &Row<'a>) -> Hunk<'a> {
     Hunk {
         kind: row.kind,
@@ -125,7 +125,7 @@ fn hunk_of_row<'a>(row: &Row<'a>) -> Hunk<'a> {
     }
 }
 
-// The load file of the rows.
+/// The load file of the rows.
 fn file_of_rows<A: Allocator + Copy>(alloc: A, rows: &[Row]) -> Result<LoadFile<A>, Fail> {
     let mut hunks = Vec::new(alloc);
     for row in rows {
@@ -134,7 +134,7 @@ fn file_of_rows<A: Allocator + Copy>(alloc: A, rows: &[Row]) -> Result<LoadFile<
     file_of_hunks(alloc, &hunks)
 }
 
-// The hunk is that of the row, with this much of its content.
+/// The hunk is that of the row, with this much of its content.
 fn is_row<A: Allocator + Copy>(rt: &impl Abort, hunk: &LoadHunk<A>, row: &Row) {
     let content = hunk.content.as_slice();
     equals_at(rt, &row, Some(content), row.content.get(..row.kept));
@@ -146,7 +146,7 @@ fn is_row<A: Allocator + Copy>(rt: &impl Abort, hunk: &LoadHunk<A>, row: &Row) {
     is_hunk(rt, hunk, &wanted);
 }
 
-// The hunks are those of the rows, with this much of each content.
+/// The hunks are those of the rows, with this much of each content.
 fn are_rows<A: Allocator + Copy>(rt: &impl Abort, hunks: &[LoadHunk<A>], rows: &[Row]) {
     equals(rt, hunks.len(), rows.len());
     for (index, row) in rows.iter().enumerate() {
@@ -196,7 +196,7 @@ fn keeps_symbols_and_debug_blocks(rt: HostRuntime) -> Result<(), Fail> {
     Ok(())
 }
 
-// The addresses at which the rows are loaded: one for each, 64 KiB apart.
+/// The addresses at which the rows are loaded: one for each, 64 KiB apart.
 fn bases_of(alloc: Global, rows: &[Row]) -> Result<Vec<u32>, Fail> {
     let mut bases = Vec::new(alloc);
     let mut base = 0x0001_0000u32;
@@ -207,7 +207,7 @@ fn bases_of(alloc: Global, rows: &[Row]) -> Result<Vec<u32>, Fail> {
     Ok(bases)
 }
 
-// The rows have the same bytes in memory, trimmed or not.
+/// The rows have the same bytes in memory, trimmed or not.
 fn are_alike(rt: &impl Abort, whole: &[(u32, Vec<u8>)], trimmed: &[(u32, Vec<u8>)], rows: &[Row]) {
     equals(rt, whole.len(), rows.len());
     equals(rt, trimmed.len(), rows.len());
@@ -260,7 +260,7 @@ fn relocates_zeros_that_stay_and_zeros_that_do_not(rt: HostRuntime) -> Result<()
     Ok(())
 }
 
-// Trims the file of the rows, at an allocator that counts in `heap`.
+/// Trims the file of the rows, at an allocator that counts in `heap`.
 fn trims_in_place<A: Allocator + Copy>(
     rt: &impl Abort,
     heap: &Refusing,

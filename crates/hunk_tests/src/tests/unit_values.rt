@@ -43,7 +43,7 @@ pub(crate) struct Unit<'a> {
     pub(crate) hunks: &'a [Hunk<'a>],
 }
 
-// These symbols are the expected ones.
+/// These symbols are the expected ones.
 fn are_symbols<A: Allocator + Copy>(
     rt: &impl Abort,
     symbols: &[(Name<A>, u32)],
@@ -56,7 +56,7 @@ fn are_symbols<A: Allocator + Copy>(
     }
 }
 
-// These debug blocks are the expected ones.
+/// These debug blocks are the expected ones.
 fn are_debugs<A: Allocator + Copy>(rt: &impl Abort, debugs: &[Vec<u32, A>], wanted: &Hunk<'_>) {
     equals_at(rt, &wanted, debugs.len(), wanted.debugs.len());
     for (index, debug) in debugs.iter().enumerate() {
@@ -65,7 +65,7 @@ fn are_debugs<A: Allocator + Copy>(rt: &impl Abort, debugs: &[Vec<u32, A>], want
     }
 }
 
-// The sites of a hunk are the expected ones.
+/// The sites of a hunk are the expected ones.
 fn has_sites<A: Allocator + Copy>(rt: &impl Abort, hunk: &UnitHunk<A>, wanted: &Hunk<'_>) {
     let mut walk = hunk.sites().walk();
     for (offset, adds) in wanted.sites {
@@ -74,7 +74,7 @@ fn has_sites<A: Allocator + Copy>(rt: &impl Abort, hunk: &UnitHunk<A>, wanted: &
     equals_at(rt, &wanted, walk.next(), None);
 }
 
-// The names that a hunk refers to are the expected ones.
+/// The names that a hunk refers to are the expected ones.
 fn are_references<A: Allocator + Copy>(rt: &impl Abort, references: &[Name<A>], wanted: &Hunk<'_>) {
     equals_at(rt, &wanted, references.len(), wanted.references.len());
     for (index, name) in references.iter().enumerate() {
@@ -83,7 +83,7 @@ fn are_references<A: Allocator + Copy>(rt: &impl Abort, references: &[Name<A>], 
     }
 }
 
-// The names that a hunk defines are the expected ones.
+/// The names that a hunk defines are the expected ones.
 fn are_definitions<A: Allocator + Copy>(
     rt: &impl Abort,
     definitions: &[(Name<A>, Definition)],
@@ -96,7 +96,7 @@ fn are_definitions<A: Allocator + Copy>(
     }
 }
 
-// A hunk is this one.
+/// A hunk is this one.
 fn is_hunk<A: Allocator + Copy>(rt: &impl Abort, hunk: &UnitHunk<A>, wanted: &Hunk<'_>) {
     equals_at(rt, &wanted, hunk.name().bytes(), wanted.name);
     equals_at(rt, &wanted, hunk.kind(), wanted.kind);
@@ -127,7 +127,7 @@ pub(crate) fn is_copied<A: Allocator + Copy>(
     are_debugs(rt, debugs, wanted);
 }
 
-// A unit is this one.
+/// A unit is this one.
 fn is_unit<A: Allocator + Copy>(rt: &impl Abort, unit: &ProgramUnit<A>, wanted: &Unit<'_>) {
     equals_at(rt, &wanted, unit.name().bytes(), wanted.name);
     equals_at(rt, &wanted, unit.hunks().len(), wanted.hunks.len());

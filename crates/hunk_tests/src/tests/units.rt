@@ -13,16 +13,16 @@ use std::alloc::{Allocator, Global};
 use std::process::Abort;
 use std::test::Fail;
 
-// More allocations than an object file of the tests needs.
+/// More allocations than an object file of the tests needs.
 const MOST_GROWTHS: u64 = 128;
 
-// Bytes of memory, far fewer than a small file can announce.
+/// Bytes of memory, far fewer than a small file can announce.
 const BUDGET: usize = 65_536;
 
-// A unit that announces 2^30 - 1 longwords of code, and has one of them.
+/// A unit that announces 2^30 - 1 longwords of code, and has one of them.
 const ANNOUNCES: [u32; 5] = [0x0000_03E7, 0, 0x0000_03E9, 0x3FFF_FFFF, 0x4E71_4E71];
 
-// The hunk that refers to `foo`.
+/// The hunk that refers to `foo`.
 const REFERS_HUNK: Hunk<'static> = Hunk {
     size: 2,
     content: &[0x4E, 0xB9, 0, 0, 0, 0, 0x4E, 0x75],
@@ -31,7 +31,7 @@ const REFERS_HUNK: Hunk<'static> = Hunk {
     ..EMPTY
 };
 
-// The hunk that defines `foo`.
+/// The hunk that defines `foo`.
 const DEFINES_HUNK: Hunk<'static> = Hunk {
     size: 2,
     content: &[0x4E, 0x71, 0x4E, 0x71, 0x4E, 0x75, 0x4E, 0x71],
@@ -39,13 +39,13 @@ const DEFINES_HUNK: Hunk<'static> = Hunk {
     ..EMPTY
 };
 
-// The same with a number in place of the offset.
+/// The same with a number in place of the offset.
 const NUMBER_HUNK: Hunk<'static> = Hunk {
     definitions: &[(b"foo", Definition::Absolute(0xFFFF_FFFF))],
     ..DEFINES_HUNK
 };
 
-// The hunk with two references to `x`.
+/// The hunk with two references to `x`.
 const TWO_NAMES_HUNK: Hunk<'static> = Hunk {
     size: 3,
     content: &[0; 12],
@@ -66,7 +66,7 @@ const CHIP_HUNK: Hunk<'static> = Hunk {
     ..EMPTY
 };
 
-// The hunk that has the address of hunk 1.
+/// The hunk that has the address of hunk 1.
 const ADDRESS_HUNK: Hunk<'static> = Hunk {
     size: 1,
     content: &[0, 0, 0, 8],
@@ -74,20 +74,20 @@ const ADDRESS_HUNK: Hunk<'static> = Hunk {
     ..EMPTY
 };
 
-// The same with a hunk that its unit does not have.
+/// The same with a hunk that its unit does not have.
 const BEYOND_HUNK: Hunk<'static> = Hunk {
     sites: &[(0, Adds::Hunk(2))],
     ..ADDRESS_HUNK
 };
 
-// Zeros after the hunk that has their address.
+/// Zeros after the hunk that has their address.
 const ZEROS_HUNK: Hunk<'static> = Hunk {
     kind: HunkKind::Bss,
     size: 4,
     ..EMPTY
 };
 
-// The hunks that an assembler wrote.
+/// The hunks that an assembler wrote.
 const ASSEMBLED_HUNKS: [Hunk<'static>; 2] = [
     Hunk {
         name: b"CODE",
@@ -147,7 +147,7 @@ const BEYOND_UNIT: Unit<'static> = Unit {
     hunks: &[BEYOND_HUNK, ZEROS_HUNK],
 };
 
-// Two equal hunks.
+/// Two equal hunks.
 const TWICE_UNIT: Unit<'static> = Unit {
     name: b"",
     hunks: &[REFERS_HUNK, REFERS_HUNK],
@@ -158,7 +158,7 @@ const ASSEMBLED_UNIT: Unit<'static> = Unit {
     hunks: &ASSEMBLED_HUNKS,
 };
 
-// These bytes are the file of these units, in pieces of this size and from a reader.
+/// These bytes are the file of these units, in pieces of this size and from a reader.
 fn is_decoded_by(
     rt: &impl Abort,
     alloc: Global,
@@ -172,7 +172,7 @@ fn is_decoded_by(
     Ok(())
 }
 
-// The same in pieces of each size.
+/// The same in pieces of each size.
 fn is_decoded(
     rt: &impl Abort,
     alloc: Global,
@@ -198,7 +198,7 @@ fn decodes_references_and_definitions(rt: HostRuntime) -> Result<(), Fail> {
     is_decoded(&rt, rt.alloc(), &number, &[NUMBER_UNIT])
 }
 
-// Two references to one name, and a third one without offsets, which is dropped.
+/// Two references to one name, and a third one without offsets, which is dropped.
 #[test]
 fn keeps_each_reference_with_offsets(rt: HostRuntime) -> Result<(), Fail> {
     is_decoded(&rt, rt.alloc(), &TWO_NAMES, &[TWO_NAMES_UNIT])
@@ -209,7 +209,7 @@ fn decodes_what_an_assembler_writes(rt: HostRuntime) -> Result<(), Fail> {
     is_decoded(&rt, rt.alloc(), &ASSEMBLED, &[ASSEMBLED_UNIT])
 }
 
-// A relocation may name a hunk that its unit does not have.
+/// A relocation may name a hunk that its unit does not have.
 #[test]
 fn decodes_hunks_of_each_kind(rt: HostRuntime) -> Result<(), Fail> {
     is_decoded(&rt, rt.alloc(), &CHIP, &[CHIP_UNIT])?;
@@ -219,7 +219,7 @@ fn decodes_hunks_of_each_kind(rt: HostRuntime) -> Result<(), Fail> {
     is_decoded(&rt, rt.alloc(), &beyond, &[BEYOND_UNIT])
 }
 
-// References are numbered hunk by hunk, and units follow one another.
+/// References are numbered hunk by hunk, and units follow one another.
 #[test]
 fn decodes_units_in_order(rt: HostRuntime) -> Result<(), Fail> {
     is_decoded(&rt, rt.alloc(), &[0x0000_03E7, 0], &[EMPTY_UNIT])?;
@@ -235,7 +235,7 @@ fn decodes_units_in_order(rt: HostRuntime) -> Result<(), Fail> {
     )
 }
 
-// What these hunks copy for a debugger is this.
+/// What these hunks copy for a debugger is this.
 fn are_copied<A: Allocator + Copy>(
     rt: &impl Abort,
     alloc: A,
@@ -263,7 +263,7 @@ fn copies_symbols_and_debug_blocks(rt: HostRuntime) -> Result<(), Fail> {
     Ok(())
 }
 
-// After an error, every later call returns the same error.
+/// After an error, every later call returns the same error.
 fn answers_again<A: Allocator + Copy>(rt: &impl Abort, begun: ObjectDecoder<A>, refusal: Refusal) {
     let mut decoder = begun;
     for piece in LATER_PIECES {
@@ -272,8 +272,8 @@ fn answers_again<A: Allocator + Copy>(rt: &impl Abort, begun: ObjectDecoder<A>, 
     equals(rt, decoder.finish().err(), Some(refusal));
 }
 
-// Whether a decoder took the file in pieces of this size. If not, memory ran out, and it returns that
-// error again.
+/// Whether a decoder took the file in pieces of this size. If not, memory ran out, and it returns that
+/// error again.
 fn is_taken<A: Allocator + Copy>(
     rt: &impl Abort,
     alloc: A,
@@ -297,7 +297,7 @@ fn is_taken<A: Allocator + Copy>(
     Ok(true)
 }
 
-// Whether they were read from a reader, at most `most` bytes a read. If not, memory ran out.
+/// Whether they were read from a reader, at most `most` bytes a read. If not, memory ran out.
 fn is_read<A: Allocator + Copy>(
     rt: &impl Abort,
     alloc: A,
@@ -319,7 +319,7 @@ fn is_read<A: Allocator + Copy>(
     }
 }
 
-// A file is decoded and read with each of its allocations failing in turn, until none fails.
+/// A file is decoded and read with each of its allocations failing in turn, until none fails.
 fn refuses_each_growth_of(
     rt: &impl Abort,
     alloc: Global,
@@ -351,20 +351,20 @@ fn refuses_each_growth_of_an_object_file(rt: HostRuntime) -> Result<(), Fail> {
     refuses_each_growth_of(&rt, rt.alloc(), &REFERS, &[REFERS_UNIT], 6)
 }
 
-// Reads these bytes, and returns why they are refused.
+/// Reads these bytes, and returns why they are refused.
 fn fault_of<A: Allocator + Copy>(alloc: A, bytes: Vec<u8>) -> Option<ReadFault> {
     let mut reader = Pieces::new(bytes, ROOM, None);
     read_object(alloc, &mut reader).err()
 }
 
-// Decodes these bytes, which are taken, and returns why the end is refused.
+/// Decodes these bytes, which are taken, and returns why the end is refused.
 fn end_of<A: Allocator + Copy>(rt: &impl Abort, alloc: A, bytes: &[u8]) -> Option<Refusal> {
     let mut decoder = ObjectDecoder::new(alloc);
     equals(rt, decoder.feed(bytes), Ok(()));
     decoder.finish().err()
 }
 
-// A number in the file reserves no memory.
+/// A number in the file reserves no memory.
 #[test]
 fn allocates_for_what_has_come(rt: HostRuntime) -> Result<(), Fail> {
     let bytes = bytes_of(rt.alloc(), &ANNOUNCES, &[])?;

@@ -51,7 +51,7 @@ pub(crate) static SCATTERED_HUNKS: [Hunk<'static>; 2] = [
     },
 ];
 
-// The lists of a hunk for a debugger are these.
+/// The lists of a hunk for a debugger are these.
 fn carries<A: Allocator + Copy>(rt: &impl Abort, hunk: &LoadHunk<A>, wanted: &Hunk<'_>) {
     equals_at(rt, &wanted, hunk.symbols.len(), wanted.symbols.len());
     for (index, (name, value)) in hunk.symbols.iter().enumerate() {
@@ -65,7 +65,7 @@ fn carries<A: Allocator + Copy>(rt: &impl Abort, hunk: &LoadHunk<A>, wanted: &Hu
     }
 }
 
-// The sites of a hunk are the expected ones.
+/// The sites of a hunk are the expected ones.
 fn has_sites<A: Allocator + Copy>(rt: &impl Abort, hunk: &LoadHunk<A>, wanted: &Hunk<'_>) {
     let mut walk = hunk.sites.walk();
     for (offset, target) in wanted.sites {

@@ -11,7 +11,7 @@ use std::alloc::{Allocator, Global};
 use std::process::Abort;
 use std::test::Fail;
 
-// More allocations than writing a file of the tests makes.
+/// More allocations than writing a file of the tests makes.
 const MOST_GROWTHS: u64 = 64;
 
 /// The load file of these bytes.
@@ -20,7 +20,7 @@ pub(crate) fn file_of<A: Allocator + Copy>(alloc: A, bytes: Vec<u8>) -> Result<L
     Ok(read_load(alloc, &mut reader)?)
 }
 
-// The file of most tests, with memory bits that are ignored.
+/// The file of most tests, with memory bits that are ignored.
 const IGNORED_BITS: [u32; 10] = [
     0x3F3,
     0,
@@ -34,10 +34,10 @@ const IGNORED_BITS: [u32; 10] = [
     0x3F2,
 ];
 
-// The same as it is written.
+/// The same as it is written.
 const FAST_DATA: [u32; 10] = [0x3F3, 0, 1, 0, 0, 0x8000_0001, 0x3EA, 1, 0x4E75_4E71, 0x3F2];
 
-// Relocations in longwords in place of 16-bit words.
+/// Relocations in longwords in place of 16-bit words.
 const LONGER: [u32; 17] = [
     0x3F3, 0, 1, 0, 0, 2, 0x3E9, 2, 4, 0, 0x3EC, 2, 0, 0, 4, 0, 0x3F2,
 ];
@@ -51,7 +51,7 @@ const EXAMPLE: [u32; 40] = [
     0x3EA, 1, 0x68756E6B, 0x3F1, 0, 0x3F2,
 ];
 
-// Load files, and each as it is written.
+/// Load files, and each as it is written.
 static FILES: [(&[u32], &[u32]); 11] = [
     (&FILE, &FILE),
     (&IGNORED_BITS, &FAST_DATA),
@@ -74,7 +74,7 @@ pub(crate) struct Text<'a> {
     pub(crate) bytes: &'a [u8],
 }
 
-// The file is written as these bytes, at most `most` bytes per write.
+/// The file is written as these bytes, at most `most` bytes per write.
 fn writes(rt: &impl Abort, alloc: Global, text: Text<'_>, most: usize) -> Result<(), Fail> {
     assert!(rt; 1 <= most);
     let mut writer = Room::new(alloc, most, text.bytes.len(), false)?;
@@ -108,7 +108,7 @@ fn writes_files(rt: HostRuntime) -> Result<(), Fail> {
     Ok(())
 }
 
-// Writes the file into a writer that takes this many bytes, at most `most` per write.
+/// Writes the file into a writer that takes this many bytes, at most `most` per write.
 fn fails_to_write(
     rt: &impl Abort,
     alloc: Global,
@@ -163,7 +163,7 @@ fn tells_what_a_writer_took_of_a_file(rt: HostRuntime) -> Result<(), Fail> {
     fails_at_each_byte(&rt, rt.alloc(), text)
 }
 
-// Reads the file of these bytes, and writes it in this form.
+/// Reads the file of these bytes, and writes it in this form.
 fn rewrite<A: Allocator + Copy>(
     alloc: A,
     bytes: Vec<u8>,
@@ -217,16 +217,16 @@ pub(crate) fn is_written_up_to(
     Ok(())
 }
 
-// The header, the first hunk, which has no site, and the content of the second one need no
-// allocation. They are written whichever allocation fails.
+/// The header, the first hunk, which has no site, and the content of the second one need no
+/// allocation. They are written whichever allocation fails.
 #[test]
 fn writes_hunk_by_hunk(rt: HostRuntime) -> Result<(), Fail> {
     let bytes = bytes_of(rt.alloc(), &THREE_HUNKS, &[])?;
     is_written_up_to(&rt, rt.alloc(), LoadForm::Plain, &bytes, 64, 1)
 }
 
-// Sites that name four hunks in turn, more of each hunk than are written at once. They need memory,
-// and so does sorting them.
+/// Sites that name four hunks in turn, more of each hunk than are written at once. They need memory,
+/// and so does sorting them.
 #[test]
 fn sorts_before_it_writes_relocations(rt: HostRuntime) -> Result<(), Fail> {
     let mut words = [0x3F3, 0, 4, 0, 3, 1200, 0, 0, 0, 0x3E9, 1200].to_vec(rt.alloc())?;

@@ -10,7 +10,7 @@ use std::alloc::{AllocError, Global};
 use std::process::Abort;
 use std::test::Fail;
 
-// Files, and the addresses in them.
+/// Files, and the addresses in them.
 static READ: [(&str, &[u32]); 9] = [
     ("", &[]),
     (" ,\r\n", &[]),
@@ -23,7 +23,7 @@ static READ: [(&str, &[u32]); 9] = [
     ("00000001 ABCDEF01", &[1, 0xABCD_EF01]),
 ];
 
-// Files, and their first part that is no address.
+/// Files, and their first part that is no address.
 static REFUSED: [(&str, usize); 7] = [
     ("123456789", 0),
     ("0x10", 0),
@@ -34,7 +34,7 @@ static REFUSED: [(&str, usize); 7] = [
     ("-", 0),
 ];
 
-// This is what is read of a file, at most so many bytes at a time, with this read failing.
+/// This is what is read of a file, at most so many bytes at a time, with this read failing.
 fn is_read(
     rt: &impl Abort,
     alloc: Global,
@@ -72,7 +72,7 @@ fn tells_the_first_part_that_is_no_address(rt: HostRuntime) -> Result<(), Fail> 
     Ok(())
 }
 
-// The file is read in two reads, and a third one finds its end.
+/// The file is read in two reads, and a third one finds its end.
 #[test]
 fn tells_that_a_read_failed(rt: HostRuntime) -> Result<(), Fail> {
     let alloc = rt.alloc();
@@ -86,7 +86,7 @@ fn tells_that_a_read_failed(rt: HostRuntime) -> Result<(), Fail> {
     is_read(&rt, alloc, "1x,2", 2, Some(1), Err(refused))
 }
 
-// Whether a file was read with this allocation failing. If not, memory ran out.
+/// Whether a file was read with this allocation failing. If not, memory ran out.
 fn is_read_with(rt: &impl Abort, alloc: Global, refused: u64) -> Result<bool, Fail> {
     let heap = Refusing::new(alloc, refused);
     let mut reader = Pieces::new(b"1 2 3 4 5 6 7 8 9".to_vec(alloc)?, 64, None);
@@ -127,7 +127,7 @@ fn stops_at_a_part_that_never_ends(rt: HostRuntime) {
     }
 }
 
-// A file with this line for each of 65,535 hunks, and these bytes after it.
+/// A file with this line for each of 65,535 hunks, and these bytes after it.
 fn file_of_most(alloc: Global, line: &[u8], after: &[u8]) -> Result<Vec<u8>, AllocError> {
     let mut text = Vec::new(alloc);
     for _hunk in 0..65_535 {
@@ -147,8 +147,8 @@ fn reads_an_address_for_each_of_65_535_hunks(rt: HostRuntime) -> Result<(), Fail
     Ok(())
 }
 
-// The address after the last one that a file may have, each with what is wrong with the file: it is there
-// once it ends, with a separator or with the file.
+/// The address after the last one that a file may have, each with what is wrong with the file: it is there
+/// once it ends, with a separator or with the file.
 #[test]
 fn tells_that_there_are_more_addresses_than_hunks(rt: HostRuntime) -> Result<(), Fail> {
     let bad = BasesFileFault::Refused(BasesFault::BadNumber(65_535));
@@ -167,7 +167,7 @@ fn tells_that_there_are_more_addresses_than_hunks(rt: HostRuntime) -> Result<(),
     Ok(())
 }
 
-// Spaces and one address, in 16 MiB and in a byte more.
+/// Spaces and one address, in 16 MiB and in a byte more.
 #[test]
 fn reads_16_mib_and_no_more(rt: HostRuntime) -> Result<(), Fail> {
     let alloc = rt.alloc();
@@ -185,7 +185,7 @@ fn reads_16_mib_and_no_more(rt: HostRuntime) -> Result<(), Fail> {
     Ok(())
 }
 
-// An address more than a file may have, and ends of lines without end after it; and spaces alone.
+/// An address more than a file may have, and ends of lines without end after it; and spaces alone.
 #[test]
 fn stops_at_addresses_that_never_end(rt: HostRuntime) -> Result<(), Fail> {
     let text = file_of_most(rt.alloc(), b"1 ", b"0\n")?;

@@ -42,13 +42,13 @@ pub(crate) static FIRST: [u32; 28] = [
     0x3F2,
 ];
 
-// Some of its longwords that are replaced: from this place on, so many, by these.
+/// Some of its longwords that are replaced: from this place on, so many, by these.
 type Edit = (usize, usize, &'static [u32]);
 
-// The file with these longwords, and what is told where it is the second file, and where it is the first.
+/// The file with these longwords, and what is told where it is the second file, and where it is the first.
 type Row = (Edit, &'static str, &'static str);
 
-// What the files mean is not the same.
+/// What the files mean is not the same.
 static MEANINGS: [Row; 18] = [
     (
         (7, 1, &[0x3EA]),
@@ -146,7 +146,7 @@ static MEANINGS: [Row; 18] = [
     ),
 ];
 
-// They mean the same, and what only debuggers read is not the same.
+/// They mean the same, and what only debuggers read is not the same.
 static INFOS: [Row; 11] = [
     (
         (18, 1, &[0x6261_7200]),
@@ -190,8 +190,8 @@ static INFOS: [Row; 11] = [
     ),
 ];
 
-// The same file: itself; without the zeros at a site; with all zeros; with a short relocation block; with two
-// relocation blocks; and with another number of longwords in the block of the second hunk.
+/// The same file: itself; without the zeros at a site; with all zeros; with a short relocation block; with two
+/// relocation blocks; and with another number of longwords in the block of the second hunk.
 static SAME: [Edit; 6] = [
     (0, 0, &[]),
     (8, 3, &[1, 0x0102_0304]),
@@ -201,7 +201,7 @@ static SAME: [Edit; 6] = [
     (26, 1, &[0]),
 ];
 
-// The bytes of the first file with this edit.
+/// The bytes of the first file with this edit.
 fn edited(alloc: Global, edit: Edit) -> Result<Vec<u8>, Fail> {
     let (place, count, others) = edit;
     let rest = FIRST.get(place.saturating_add(count)..);
@@ -231,7 +231,7 @@ pub(crate) fn is_compared(
     Ok(())
 }
 
-// They compare so in pieces of each size.
+/// They compare so in pieces of each size.
 fn compares_to(
     rt: &impl Abort,
     alloc: Global,
@@ -255,7 +255,7 @@ fn compares_to(
     Ok(())
 }
 
-// They compare so in both directions.
+/// They compare so in both directions.
 fn compare_to(
     rt: &impl Abort,
     alloc: Global,
@@ -299,10 +299,10 @@ fn tells_nothing_of_the_same_files(rt: HostRuntime) -> Result<(), Fail> {
     Ok(())
 }
 
-// Code of no longwords.
+/// Code of no longwords.
 const EMPTY: [u32; 9] = [0x3F3, 0, 1, 0, 0, 0, 0x3E9, 0, 0x3F2];
 
-// Zeros of no longwords, and of one.
+/// Zeros of no longwords, and of one.
 const NOTHING: [u32; 9] = [0x3F3, 0, 1, 0, 0, 0, 0x3EB, 0, 0x3F2];
 
 const ZEROS: [u32; 9] = [0x3F3, 0, 1, 0, 0, 1, 0x3EB, 1, 0x3F2];

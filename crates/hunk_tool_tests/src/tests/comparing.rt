@@ -13,15 +13,15 @@ use std::alloc::Global;
 use std::process::Abort;
 use std::test::Fail;
 
-// What the line is of the first file and a file of one hunk.
+/// What the line is of the first file and a file of one hunk.
 const LINE: &str = "hunks: 2 and 1\n";
 
-// The bytes of both.
+/// The bytes of both.
 fn files_of(alloc: Global) -> Result<(Vec<u8>, Vec<u8>), Fail> {
     Ok((bytes_of(alloc, &FIRST, &[])?, bytes_of(alloc, &FILE, &[])?))
 }
 
-// Bytes that are not a load file, and why: none; a part of one; an object file; one with a byte more.
+/// Bytes that are not a load file, and why: none; a part of one; an object file; one with a byte more.
 fn refused(alloc: Global) -> Result<[(Vec<u8>, u64, Reason); 4], Fail> {
     Ok([
         (Vec::new(alloc), 0, Reason::UnexpectedEnd),
@@ -94,7 +94,7 @@ fn reads_nothing_of_the_second_before_the_first(rt: HostRuntime) -> Result<(), F
     Ok(())
 }
 
-// Each read of either file fails in turn, including those that would report their ends.
+/// Each read of either file fails in turn, including those that would report their ends.
 #[test]
 fn tells_a_read_that_failed(rt: HostRuntime) -> Result<(), Fail> {
     let (first, second) = files_of(rt.alloc())?;
@@ -140,7 +140,7 @@ fn tells_a_read_that_failed(rt: HostRuntime) -> Result<(), Fail> {
     Ok(())
 }
 
-// A writer with room for each prefix of the line.
+/// A writer with room for each prefix of the line.
 #[test]
 fn tells_what_a_writer_took(rt: HostRuntime) -> Result<(), Fail> {
     let (first, second) = files_of(rt.alloc())?;
@@ -159,7 +159,7 @@ fn tells_what_a_writer_took(rt: HostRuntime) -> Result<(), Fail> {
     Ok(())
 }
 
-// A writer that takes nothing is not asked to, where nothing is told.
+/// A writer that takes nothing is not asked to, where nothing is told.
 #[test]
 fn writes_nothing_of_the_same_files(rt: HostRuntime) -> Result<(), Fail> {
     let (first, _) = files_of(rt.alloc())?;
@@ -175,7 +175,7 @@ fn writes_nothing_of_the_same_files(rt: HostRuntime) -> Result<(), Fail> {
     )
 }
 
-// The line of a comparison with this allocation failing; whether it was written.
+/// The line of a comparison with this allocation failing; whether it was written.
 fn is_told(rt: &impl Abort, alloc: Global, refused: u64) -> Result<bool, Fail> {
     let heap = Refusing::new(alloc, refused);
     let (first, second) = files_of(alloc)?;

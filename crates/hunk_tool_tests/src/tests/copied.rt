@@ -11,25 +11,25 @@ use std::alloc::{Allocator, Global};
 use std::process::Abort;
 use std::test::Fail;
 
-// The header of three longwords of code in chip memory, and one longword of zeros.
+/// The header of three longwords of code in chip memory, and one longword of zeros.
 const HEAD: [u32; 7] = [0x3F3, 0, 2, 0, 1, 0x4000_0003, 1];
 
-// The code, with all three of its longwords, without the last zero, and without both zeros.
+/// The code, with all three of its longwords, without the last zero, and without both zeros.
 const THREE: [u32; 5] = [0x3E9, 3, 0x0102_0304, 0, 0];
 
 const TWO: [u32; 4] = [0x3E9, 2, 0x0102_0304, 0];
 
 const ONE: [u32; 3] = [0x3E9, 1, 0x0102_0304];
 
-// Its site, at the second longword, in a relocation block and in a short one.
+/// Its site, at the second longword, in a relocation block and in a short one.
 const LONG: [u32; 5] = [0x3EC, 1, 1, 4, 0];
 
 const SHORT: [u32; 3] = [0x3FC, 0x0001_0001, 0x0004_0000];
 
-// Its symbol `foo` and its debug block.
+/// Its symbol `foo` and its debug block.
 const INFO: [u32; 8] = [0x3F0, 1, 0x666F_6F00, 4, 0, 0x3F1, 1, 0xCAFE_BABE];
 
-// Its end, and the zeros.
+/// Its end, and the zeros.
 const TAIL: [u32; 4] = [0x3F2, 0x3EB, 1, 0x3F2];
 
 const AS_IT_IS: LinkOptions = LinkOptions {
@@ -38,7 +38,7 @@ const AS_IT_IS: LinkOptions = LinkOptions {
     trim: false,
 };
 
-// A form, and the parts of the copy between its head and its tail.
+/// A form, and the parts of the copy between its head and its tail.
 type Row = (CopyForm, &'static [u32], &'static [u32], &'static [u32]);
 
 static ROWS: [Row; 9] = [
@@ -113,7 +113,7 @@ static ROWS: [Row; 9] = [
     (CopyForm::Normal, &ONE, &LONG, &[]),
 ];
 
-// The bytes of a file of these parts.
+/// The bytes of a file of these parts.
 fn file_of(alloc: Global, code: &[u32], sites: &[u32], info: &[u32]) -> Result<Vec<u8>, Fail> {
     let mut words = HEAD.to_vec(alloc)?;
     for part in [code, sites, info, &TAIL] {
@@ -122,17 +122,17 @@ fn file_of(alloc: Global, code: &[u32], sites: &[u32], info: &[u32]) -> Result<V
     Ok(bytes_of(alloc, &words, &[])?)
 }
 
-// The file that is copied.
+/// The file that is copied.
 fn source(alloc: Global) -> Result<Vec<u8>, Fail> {
     file_of(alloc, &THREE, &SHORT, &INFO)
 }
 
-// The copy of a row.
+/// The copy of a row.
 fn copy_of(alloc: Global, row: &Row) -> Result<Vec<u8>, Fail> {
     file_of(alloc, row.1, row.2, row.3)
 }
 
-// A copy of these bytes in this form ends so, and writes these bytes.
+/// A copy of these bytes in this form ends so, and writes these bytes.
 fn is_copied(
     rt: &impl Abort,
     alloc: Global,
@@ -151,7 +151,7 @@ fn is_copied(
     Ok(())
 }
 
-// A copy is whole in pieces of each size.
+/// A copy is whole in pieces of each size.
 fn copies_to(
     rt: &impl Abort,
     alloc: Global,
@@ -166,7 +166,7 @@ fn copies_to(
     Ok(())
 }
 
-// A copy in a form is copied in that form as it is.
+/// A copy in a form is copied in that form as it is.
 #[test]
 fn copies_in_each_form(rt: HostRuntime) -> Result<(), Fail> {
     let alloc = rt.alloc();
@@ -190,7 +190,7 @@ fn makes_one_normal_form_of_all(rt: HostRuntime) -> Result<(), Fail> {
     Ok(())
 }
 
-// A hunk of code with no longwords.
+/// A hunk of code with no longwords.
 const EMPTY: [u32; 9] = [0x3F3, 0, 1, 0, 0, 0, 0x3E9, 0, 0x3F2];
 
 #[test]
@@ -224,7 +224,7 @@ fn refuses_what_is_not_a_load_file(rt: HostRuntime) -> Result<(), Fail> {
     Ok(())
 }
 
-// Each read of a copy fails in turn, including the one that would report the end.
+/// Each read of a copy fails in turn, including the one that would report the end.
 #[test]
 fn tells_a_read_that_failed(rt: HostRuntime) -> Result<(), Fail> {
     let alloc = rt.alloc();
@@ -250,7 +250,7 @@ fn tells_a_read_that_failed(rt: HostRuntime) -> Result<(), Fail> {
     Ok(())
 }
 
-// A writer with room for each prefix of a copy.
+/// A writer with room for each prefix of a copy.
 #[test]
 fn tells_what_a_writer_took(rt: HostRuntime) -> Result<(), Fail> {
     let alloc = rt.alloc();
@@ -264,7 +264,7 @@ fn tells_what_a_writer_took(rt: HostRuntime) -> Result<(), Fail> {
     Ok(())
 }
 
-// Whether the fault is that memory ran out, once these bytes were written, with which the copy begins.
+/// Whether the fault is that memory ran out, once these bytes were written, with which the copy begins.
 fn is_out_of_memory<A: Allocator + Copy>(fault: &ToolFault<A>, taken: &[u8], copy: &[u8]) -> bool {
     match fault {
         ToolFault::OutOfMemory { written } => {
@@ -274,7 +274,7 @@ fn is_out_of_memory<A: Allocator + Copy>(fault: &ToolFault<A>, taken: &[u8], cop
     }
 }
 
-// Whether a row was copied with this allocation failing. If not, memory ran out.
+/// Whether a row was copied with this allocation failing. If not, memory ran out.
 fn is_whole(rt: &impl Abort, alloc: Global, row: &Row, refused: u64) -> Result<bool, Fail> {
     let heap = Refusing::new(alloc, refused);
     let copy = copy_of(alloc, row)?;
@@ -294,7 +294,7 @@ fn is_whole(rt: &impl Abort, alloc: Global, row: &Row, refused: u64) -> Result<b
     Ok(false)
 }
 
-// The number of allocations: a copy is out of memory with each of them failing, and succeeds once none fails.
+/// The number of allocations: a copy is out of memory with each of them failing, and succeeds once none fails.
 fn growths_of(rt: &impl Abort, alloc: Global, row: &Row) -> Result<u64, Fail> {
     for refused in 0..MOST_GROWTHS {
         if is_whole(rt, alloc, row, refused)? {

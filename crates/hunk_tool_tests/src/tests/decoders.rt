@@ -88,8 +88,8 @@ pub(crate) fn fault_of(answer: Answer) -> Option<Fault> {
     }
 }
 
-// Each piece is taken, up to the one with the last byte of the offending longword. From there on
-// the same error is returned. An empty piece changes nothing. After a whole file comes `placed`.
+/// Each piece is taken, up to the one with the last byte of the offending longword. From there on
+/// the same error is returned. An empty piece changes nothing. After a whole file comes `placed`.
 fn answers_in_time<J: Judge>(
     rt: &impl Abort,
     begun: J,
@@ -122,8 +122,8 @@ fn answers_in_time<J: Judge>(
     equals_at(rt, &(bytes, "by", chunk), judge.close(), refused);
 }
 
-// What comes after a whole load file for hunks at these addresses: whether there is one for each of
-// its hunks, of which the tests have fewer than 256.
+/// What comes after a whole load file for hunks at these addresses: whether there is one for each of
+/// its hunks, of which the tests have fewer than 256.
 fn placed_at(bytes: &[u8], bases: &[u32]) -> Result<(), LoadRefusal> {
     match bytes.get(11) {
         Some(count) if usize::from(*count) == bases.len() => Ok(()),
@@ -131,7 +131,7 @@ fn placed_at(bytes: &[u8], bases: &[u32]) -> Result<(), LoadRefusal> {
     }
 }
 
-// A reader of these bytes has this result.
+/// A reader of these bytes has this result.
 fn is_read_so(
     rt: &impl Abort,
     alloc: Global,
@@ -154,7 +154,7 @@ fn is_read_so(
     Ok(())
 }
 
-// A run over a reader of these bytes has this result. It writes nothing if they are rejected.
+/// A run over a reader of these bytes has this result. It writes nothing if they are rejected.
 fn is_run_so(
     rt: &impl Abort,
     alloc: Global,
@@ -183,7 +183,7 @@ fn is_run_so(
     Ok(())
 }
 
-// Whether the first four bytes tell a load file: block type 1011 in the low 30 bits.
+/// Whether the first four bytes tell a load file: block type 1011 in the low 30 bits.
 fn is_told_load(bytes: &[u8]) -> bool {
     match bytes {
         [first, 0, 0x03, 0xF3, ..] => first & 0x3F == 0,
@@ -191,7 +191,7 @@ fn is_told_load(bytes: &[u8]) -> bool {
     }
 }
 
-// A text about the file has this result. Nothing is written of bytes that are rejected.
+/// A text about the file has this result. Nothing is written of bytes that are rejected.
 fn is_text_so(
     rt: &impl Abort,
     alloc: Global,
@@ -217,7 +217,7 @@ fn is_text_so(
 // The decoders are tested at any allocator: a call at one of them is then proved in a fifth of the
 // steps that it takes at the global allocator.
 
-// A decoder of either kind has this result.
+/// A decoder of either kind has this result.
 fn is_told_in_time<A: Allocator + Copy>(
     rt: &impl Abort,
     alloc: A,
@@ -229,7 +229,7 @@ fn is_told_in_time<A: Allocator + Copy>(
     answers_in_time(rt, judge, bytes, chunk, answer, Ok(()));
 }
 
-// Both decoders of an object file have this result.
+/// Both decoders of an object file have this result.
 fn is_object_in_time<A: Allocator + Copy>(
     rt: &impl Abort,
     alloc: A,
@@ -242,7 +242,7 @@ fn is_object_in_time<A: Allocator + Copy>(
     answers_in_time(rt, ObjectDecoder::new(alloc), bytes, chunk, answer, Ok(()));
 }
 
-// Both decoders of a load file, and the loader with any number of addresses, have this result.
+/// Both decoders of a load file, and the loader with any number of addresses, have this result.
 fn is_load_in_time<A: Allocator + Copy>(
     rt: &impl Abort,
     alloc: A,
@@ -262,8 +262,8 @@ fn is_load_in_time<A: Allocator + Copy>(
     Ok(())
 }
 
-// A decoder of either kind, and both texts about the file, have this result, if the first four bytes
-// tell a file of this kind.
+/// A decoder of either kind, and both texts about the file, have this result, if the first four bytes
+/// tell a file of this kind.
 fn is_told_so(
     rt: &impl Abort,
     alloc: Global,
@@ -280,7 +280,7 @@ fn is_told_so(
     is_text_so(rt, alloc, Text::Show, bytes, chunk, answer)
 }
 
-// Everything that reads an object file has this result for these bytes.
+/// Everything that reads an object file has this result for these bytes.
 fn is_object_judged(
     rt: &impl Abort,
     alloc: Global,
@@ -293,7 +293,7 @@ fn is_object_judged(
     is_read_so(rt, alloc, Object, bytes, chunk, answer)
 }
 
-// Everything that reads a load file has this result for these bytes.
+/// Everything that reads a load file has this result for these bytes.
 fn is_load_judged(
     rt: &impl Abort,
     alloc: Global,

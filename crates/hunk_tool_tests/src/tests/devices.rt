@@ -52,7 +52,7 @@ pub(crate) fn short_of<'t>(
     Ok(rows)
 }
 
-// Runs the file, at most `chunk` bytes per read. The read with this number fails, if it comes.
+/// Runs the file, at most `chunk` bytes per read. The read with this number fails, if it comes.
 fn reads(
     rt: &impl Abort,
     alloc: Global,
@@ -77,7 +77,7 @@ fn reads(
     Ok(())
 }
 
-// Each read of a run fails in turn, including the one that would report the end.
+/// Each read of a run fails in turn, including the one that would report the end.
 #[test]
 fn tells_a_read_that_failed(rt: HostRuntime) -> Result<(), Fail> {
     let bytes = bytes_of(rt.alloc(), &FILE, &[])?;
@@ -91,7 +91,7 @@ fn tells_a_read_that_failed(rt: HostRuntime) -> Result<(), Fail> {
     Ok(())
 }
 
-// Runs the file into a writer that takes this part of the report.
+/// Runs the file into a writer that takes this part of the report.
 fn fails_to_write(
     rt: &impl Abort,
     alloc: Global,
@@ -110,7 +110,7 @@ fn fails_to_write(
     Ok(())
 }
 
-// A writer with room for each prefix of the report.
+/// A writer with room for each prefix of the report.
 #[test]
 fn tells_what_a_writer_took(rt: HostRuntime) -> Result<(), Fail> {
     let bytes = bytes_of(rt.alloc(), &FILE, &[])?;
@@ -120,7 +120,7 @@ fn tells_what_a_writer_took(rt: HostRuntime) -> Result<(), Fail> {
     Ok(())
 }
 
-// A reader that fails.
+/// A reader that fails.
 #[derive(Drop)]
 struct Broken;
 

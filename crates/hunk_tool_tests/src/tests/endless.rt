@@ -39,7 +39,7 @@ impl Source for Endless<'_> {
     }
 }
 
-// A hunk's name of 2^32 - 1 longwords. The first longword that no file may have is rejected.
+/// A hunk's name of 2^32 - 1 longwords. The first longword that no file may have is rejected.
 #[test]
 fn stops_at_the_longest_file(rt: HostRuntime) -> Result<(), Fail> {
     let mut words = FILE[..6].to_vec(rt.alloc())?;

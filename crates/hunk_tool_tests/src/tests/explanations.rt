@@ -14,7 +14,7 @@ use std::alloc::{Allocator, Global};
 use std::process::Abort;
 use std::test::Fail;
 
-// As what a file is read.
+/// As what a file is read.
 #[derive(Clone, Copy, Debug, PartialEq, Eq)]
 enum As {
     Object,
@@ -22,7 +22,7 @@ enum As {
     Either,
 }
 
-// A file, as what it is read, and what is told of it.
+/// A file, as what it is read, and what is told of it.
 type Row = (As, &'static [u32], &'static [u8], &'static str);
 
 static ROWS: [Row; 13] = [
@@ -111,7 +111,7 @@ static ROWS: [Row; 13] = [
     (As::Load, &TWO_HUNKS, &[], ""),
 ];
 
-// What is told of a file.
+/// What is told of a file.
 fn explained<A: Allocator + Copy>(
     alloc: A,
     read_as: As,
@@ -124,7 +124,7 @@ fn explained<A: Allocator + Copy>(
     }
 }
 
-// Whether this is told of the file of a row, read in pieces of so many bytes.
+/// Whether this is told of the file of a row, read in pieces of so many bytes.
 fn is_told(rt: &impl Abort, alloc: Global, row: &Row, most: usize) -> Result<(), Fail> {
     assert!(rt; 1 <= most);
     let (read_as, words, rest, text) = row;
@@ -153,7 +153,7 @@ fn tells_where_a_file_offends_and_what_was_due(rt: HostRuntime) -> Result<(), Fa
     Ok(())
 }
 
-// As what a file is read, the file, and the place and the reason of its first offence.
+/// As what a file is read, the file, and the place and the reason of its first offence.
 static FAULTS: [(As, &[u32], &[u8], u64, Reason); 4] = [
     (
         As::Either,
@@ -200,7 +200,7 @@ fn tells_nothing_where_a_read_fails(rt: HostRuntime) -> Result<(), Fail> {
     Ok(())
 }
 
-// Whether the file of a row is explained with this allocation refused. If not, memory ran out.
+/// Whether the file of a row is explained with this allocation refused. If not, memory ran out.
 fn is_explained(rt: &impl Abort, alloc: Global, row: &Row, refused: u64) -> Result<bool, Fail> {
     let heap = Refusing::new(alloc, refused);
     let (read_as, words, rest, text) = row;
@@ -215,7 +215,7 @@ fn is_explained(rt: &impl Abort, alloc: Global, row: &Row, refused: u64) -> Resu
     Ok(false)
 }
 
-// Whether the file of a row is explained once no allocation is refused. Until then, memory ran out.
+/// Whether the file of a row is explained once no allocation is refused. Until then, memory ran out.
 fn is_explained_at_last(rt: &impl Abort, alloc: Global, row: &Row) -> Result<bool, Fail> {
     for refused in 0..MOST_GROWTHS {
         if is_explained(rt, alloc, row, refused)? {
@@ -257,7 +257,7 @@ fn stops_at_each_byte_of_an_explanation(rt: HostRuntime) -> Result<(), Fail> {
     Ok(())
 }
 
-// Addresses, and what is told of them and of two hunks.
+/// Addresses, and what is told of them and of two hunks.
 static PLACES: [(&[u32], &str); 4] = [
     (
         &[0x1000, 0x2000],

@@ -7,12 +7,12 @@ use hunk_words::{Fault, Name, Reason, Room};
 use std::alloc::Global;
 use std::process::Abort;
 
-// The name in one longword.
+/// The name in one longword.
 fn name_in(rt: &impl Abort, alloc: Global, word: u32) -> Name {
     Name::from_words(alloc, &[word]).expect(rt, "a name")
 }
 
-// Writes the line of a fault of the inputs `x` and `y`.
+/// Writes the line of a fault of the inputs `x` and `y`.
 fn is_told(rt: &impl Abort, alloc: Global, fault: ToolFault, line: &str) {
     let files = [
         String::from_str(alloc, "x").expect(rt, "a name"),

@@ -12,10 +12,10 @@ use std::alloc::{Allocator, Global};
 use std::process::Abort;
 use std::test::Fail;
 
-// More allocations than a file of the tests needs.
+/// More allocations than a file of the tests needs.
 const MOST_GROWTHS: u64 = 128;
 
-// The decoder of an object file that refuses these bytes returns this error again.
+/// The decoder of an object file that refuses these bytes returns this error again.
 fn answers_for_an_object<A: Allocator + Copy>(
     rt: &impl Abort,
     alloc: A,
@@ -27,7 +27,7 @@ fn answers_for_an_object<A: Allocator + Copy>(
     answers_again(rt, decoder, refusal);
 }
 
-// The same for the decoder and the loader of a load file.
+/// The same for the decoder and the loader of a load file.
 fn answers_for_a_load<A: Allocator + Copy>(
     rt: &impl Abort,
     alloc: A,
@@ -60,7 +60,7 @@ fn answers_a_refusal_again(rt: HostRuntime) -> Result<(), Fail> {
     answers_for_a_load(&rt, rt.alloc(), &bytes, refusal)
 }
 
-// Whether a file was taken with an allocation failing. If not, the error is returned again.
+/// Whether a file was taken with an allocation failing. If not, the error is returned again.
 fn is_taken<J: Judge>(rt: &impl Abort, begun: J, bytes: &[u8]) -> bool {
     let mut judge = begun;
     for piece in bytes.chunks(5) {
@@ -77,7 +77,7 @@ fn is_taken<J: Judge>(rt: &impl Abort, begun: J, bytes: &[u8]) -> bool {
     true
 }
 
-// The same for each decoder.
+/// The same for each decoder.
 fn is_object_counted<A: Allocator + Copy>(rt: &impl Abort, alloc: A, bytes: &[u8]) -> bool {
     is_taken(rt, Decoder::new(ObjectCounter::new(alloc)), bytes)
 }
@@ -90,7 +90,7 @@ fn is_load_decoded<A: Allocator + Copy>(rt: &impl Abort, alloc: A, bytes: &[u8])
     is_taken(rt, LoadDecoder::new(alloc), bytes)
 }
 
-// The same for a loader, which may already fail to allocate its bases.
+/// The same for a loader, which may already fail to allocate its bases.
 fn is_loaded<A: Allocator + Copy>(rt: &impl Abort, alloc: A, bases: &[u32], bytes: &[u8]) -> bool {
     match ImageLoader::new(alloc, bases) {
         Ok(loader) => is_taken(rt, loader, bytes),
@@ -98,8 +98,8 @@ fn is_loaded<A: Allocator + Copy>(rt: &impl Abort, alloc: A, bases: &[u32], byte
     }
 }
 
-// The bytes of a file that begins with `begin`, with one hunk of `count` longwords, each of which
-// is a site.
+/// The bytes of a file that begins with `begin`, with one hunk of `count` longwords, each of which
+/// is a site.
 fn sites_of(alloc: Global, begin: &[u32], count: u32) -> Result<Vec<u8>, Fail> {
     let mut words = begin.to_vec(alloc)?;
     words.extend_from_slice(&[0x0000_03E9, count])?;
@@ -134,7 +134,7 @@ fn refuses_each_growth(rt: HostRuntime) -> Result<(), Fail> {
     Ok(())
 }
 
-// A file is judged with each of its allocations failing, and with none.
+/// A file is judged with each of its allocations failing, and with none.
 fn is_judged_with_each_growth_refused(
     rt: &impl Abort,
     alloc: Global,
@@ -172,7 +172,7 @@ fn refuses_each_growth_of_a_load_file(rt: HostRuntime) -> Result<(), Fail> {
     Ok(())
 }
 
-// A `Copy` value can be used twice.
+/// A `Copy` value can be used twice.
 fn twice<T: Copy>(value: T) -> (T, T) {
     (value, value)
 }
@@ -196,7 +196,7 @@ fn counts_the_longwords_that_a_core_took(rt: HostRuntime) {
     equals(&rt, core.place(), 5);
 }
 
-// Feeds a decoder by its trait alone.
+/// Feeds a decoder by its trait alone.
 fn fed<F: Feed>(decoder: &mut F, bytes: &[u8]) -> Result<(), Refusal> {
     decoder.feed(bytes)
 }

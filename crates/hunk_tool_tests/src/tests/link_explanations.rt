@@ -13,8 +13,8 @@ use std::alloc::{AllocError, Allocator, Global};
 use std::process::Abort;
 use std::test::Fail;
 
-// The longwords of a file, the bytes after them, and its name; those of a second file; and what is told
-// of their link.
+/// The longwords of a file, the bytes after them, and its name; those of a second file; and what is told
+/// of their link.
 type Row = (
     &'static [u32],
     &'static [u8],
@@ -79,10 +79,10 @@ static ROWS: [Row; 5] = [
     ),
 ];
 
-// More bytes than what is told in a row has.
+/// More bytes than what is told in a row has.
 const ROOM: usize = 512;
 
-// The names of the files of a row.
+/// The names of the files of a row.
 fn names_of(alloc: Global, row: &Row) -> Result<[String; 2], AllocError> {
     let (_, _, first, _, _, second, _) = row;
     Ok([
@@ -91,7 +91,7 @@ fn names_of(alloc: Global, row: &Row) -> Result<[String; 2], AllocError> {
     ])
 }
 
-// Readers of the files of a row.
+/// Readers of the files of a row.
 fn inputs_of(alloc: Global, row: &Row) -> Result<[Pieces; 2], AllocError> {
     let (words, rest, _, other_words, other_rest, _, _) = row;
     Ok([
@@ -100,7 +100,7 @@ fn inputs_of(alloc: Global, row: &Row) -> Result<[Pieces; 2], AllocError> {
     ])
 }
 
-// What is read of these files.
+/// What is read of these files.
 fn read(rt: &impl Abort, alloc: Global, inputs: &mut [Pieces]) -> ObjectFiles {
     match read_object_files(alloc, inputs) {
         Ok(files) => files,
@@ -108,12 +108,12 @@ fn read(rt: &impl Abort, alloc: Global, inputs: &mut [Pieces]) -> ObjectFiles {
     }
 }
 
-// The files of a row.
+/// The files of a row.
 fn files_of(rt: &impl Abort, alloc: Global, row: &Row) -> Result<ObjectFiles, Fail> {
     Ok(read(rt, alloc, &mut inputs_of(alloc, row)?))
 }
 
-// Why the units of these files do not link.
+/// Why the units of these files do not link.
 fn refusal_of(rt: &impl Abort, alloc: Global, files: &ObjectFiles) -> LinkRefusal {
     match link(alloc, files.units(), false) {
         Ok(_) => panic!(rt; "linked"),
@@ -121,8 +121,8 @@ fn refusal_of(rt: &impl Abort, alloc: Global, files: &ObjectFiles) -> LinkRefusa
     }
 }
 
-// What is told of files whose units do not link, to a writer with this room that takes at most `most`
-// bytes per write, and what the call returns.
+/// What is told of files whose units do not link, to a writer with this room that takes at most `most`
+/// bytes per write, and what the call returns.
 fn told_of(
     rt: &impl Abort,
     alloc: Global,
@@ -141,7 +141,7 @@ fn told_of(
     Ok((writer, got))
 }
 
-// Whether this is told of the files of a row, to such a writer.
+/// Whether this is told of the files of a row, to such a writer.
 fn is_told(
     rt: &impl Abort,
     alloc: Global,
@@ -181,7 +181,7 @@ fn stops_at_each_byte_of_what_is_told(rt: HostRuntime) -> Result<(), Fail> {
     Ok(())
 }
 
-// Whether it is told of these files why they do not link. If not, memory ran out.
+/// Whether it is told of these files why they do not link. If not, memory ran out.
 fn explains<A: Allocator + Copy>(rt: &impl Abort, alloc: A, inputs: &mut [Pieces]) -> bool {
     let files = match read_object_files(alloc, inputs) {
         Ok(files) => files,
@@ -195,7 +195,7 @@ fn explains<A: Allocator + Copy>(rt: &impl Abort, alloc: A, inputs: &mut [Pieces
     }
 }
 
-// Whether that is told of the files of a row with this allocation refused.
+/// Whether that is told of the files of a row with this allocation refused.
 fn is_explained(rt: &impl Abort, alloc: Global, row: &Row, refused: u64) -> Result<bool, Fail> {
     let heap = Refusing::new(alloc, refused);
     let mut inputs = inputs_of(alloc, row)?;
@@ -205,7 +205,7 @@ fn is_explained(rt: &impl Abort, alloc: Global, row: &Row, refused: u64) -> Resu
     Ok(got)
 }
 
-// Whether it is told once no allocation is refused.
+/// Whether it is told once no allocation is refused.
 fn is_explained_at_last(rt: &impl Abort, alloc: Global, row: &Row) -> Result<bool, Fail> {
     for refused in 0..4 * MOST_GROWTHS {
         if is_explained(rt, alloc, row, refused)? {
@@ -224,13 +224,13 @@ fn explains_links_with_each_growth_refused(rt: HostRuntime) -> Result<(), Fail> 
     Ok(())
 }
 
-// The digits of an index below 1000 in a name of four bytes.
+/// The digits of an index below 1000 in a name of four bytes.
 fn name_of(index: u32) -> [u8; 4] {
     let digit = |power: u32| b'0' + (index / power % 10) as u8;
     [b'n', digit(100), digit(10), digit(1)]
 }
 
-// A unit of one hunk that refers to so many names, `n000` first.
+/// A unit of one hunk that refers to so many names, `n000` first.
 fn refers_to(alloc: Global, count: u32) -> Result<Vec<u32>, AllocError> {
     let mut words = Vec::new(alloc);
     words.extend_from_slice(&[0x3E7, 0, 0x3E9, count])?;
@@ -246,7 +246,7 @@ fn refers_to(alloc: Global, count: u32) -> Result<Vec<u32>, AllocError> {
     Ok(words)
 }
 
-// What is told of the first `count` of those names, and then this.
+/// What is told of the first `count` of those names, and then this.
 fn text_of(alloc: Global, count: u32, rest: &str) -> Result<Vec<u8>, AllocError> {
     let mut text = Vec::new(alloc);
     text.extend_from_slice(b"  unit 0 hunk 0: many.o unit 0 \"\" hunk 0 \"\"\n")?;
@@ -259,7 +259,7 @@ fn text_of(alloc: Global, count: u32, rest: &str) -> Result<Vec<u8>, AllocError>
     Ok(text)
 }
 
-// A number of undefined names, how many of them are told, and what is told of the others.
+/// A number of undefined names, how many of them are told, and what is told of the others.
 static MANY: [(u32, u32, &str); 4] = [
     (99, 99, ""),
     (100, 100, ""),
@@ -267,7 +267,7 @@ static MANY: [(u32, u32, &str); 4] = [
     (112, 100, "  and 12 more\n"),
 ];
 
-// The file of such a unit.
+/// The file of such a unit.
 fn file_of(rt: &impl Abort, alloc: Global, count: u32) -> Result<ObjectFiles, Fail> {
     let bytes = bytes_of(alloc, &refers_to(alloc, count)?, &[])?;
     Ok(read(rt, alloc, &mut [Pieces::new(bytes, 64, None)]))
@@ -287,7 +287,7 @@ fn tells_at_most_a_hundred_names(rt: HostRuntime) -> Result<(), Fail> {
     Ok(())
 }
 
-// Refusals that are about no hunk, or about one that the files do not have.
+/// Refusals that are about no hunk, or about one that the files do not have.
 const ABOUT_NONE: [LinkRefusal; 6] = [
     LinkRefusal::NoHunks,
     LinkRefusal::TooManyHunks,

@@ -9,8 +9,8 @@ use std::alloc::Global;
 use std::process::Abort;
 use std::test::Fail;
 
-// Unit `one`, of code named `text` that defines `main` and, as a number, `q"`, and of chip memory
-// without a name; and a unit without a name, of data named `d` that defines `x`.
+/// Unit `one`, of code named `text` that defines `main` and, as a number, `q"`, and of chip memory
+/// without a name; and a unit without a name, of data named `d` that defines `x`.
 static ONE: [u32; 34] = [
     0x3E7,
     1,
@@ -48,13 +48,13 @@ static ONE: [u32; 34] = [
     0,
 ];
 
-// The end of the last hunk.
+/// The end of the last hunk.
 const END: [u8; 4] = [0, 0, 0x03, 0xF2];
 
-// Unit `two`, of code without a name in fast memory.
+/// Unit `two`, of code without a name in fast memory.
 static TWO: [u32; 5] = [0x3E7, 1, 0x7477_6F00, 0x8000_03E9, 1];
 
-// That code, and its end.
+/// That code, and its end.
 const CODE: [u8; 8] = [0x4E, 0x75, 0x4E, 0x71, 0, 0, 0x03, 0xF2];
 
 const MAP: &str = "hunk 0 code any 1 longwords one.o unit 0 \"one\" hunk 0 \"text\"\n\
@@ -65,10 +65,10 @@ const MAP: &str = "hunk 0 code any 1 longwords one.o unit 0 \"one\" hunk 0 \"tex
                    \x20 define \"x\" at 00000004\n\
                    hunk 3 code fast 1 longwords \"t: w/o\" unit 0 \"two\" hunk 0 \"\"\n";
 
-// More bytes than the map has.
+/// More bytes than the map has.
 const ROOM: usize = 512;
 
-// The map of both files, written to a writer with this room that takes at most `most` bytes per write.
+/// The map of both files, written to a writer with this room that takes at most `most` bytes per write.
 fn is_mapped(
     rt: &impl Abort,
     alloc: Global,
@@ -125,7 +125,7 @@ fn stops_at_each_byte_of_a_map(rt: HostRuntime) -> Result<(), Fail> {
     is_mapped(&rt, rt.alloc(), false, MAP.len(), ROOM, Ok(()))
 }
 
-// Whether both files were linked with this allocation refused. If not, memory ran out.
+/// Whether both files were linked with this allocation refused. If not, memory ran out.
 fn is_linked(rt: &impl Abort, alloc: Global, refused: u64) -> Result<bool, Fail> {
     let heap = Refusing::new(alloc, refused);
     let mut inputs = [

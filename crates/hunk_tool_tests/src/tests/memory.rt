@@ -33,7 +33,7 @@ pub(crate) fn is_done<A: Allocator + Copy>(
     false
 }
 
-// Whether the run wrote the report with this allocation failing.
+/// Whether the run wrote the report with this allocation failing.
 fn is_run(
     rt: &impl Abort,
     alloc: Global,
@@ -49,8 +49,8 @@ fn is_run(
     Ok(is_done(rt, &heap, refused, &got, writer.bytes(), text))
 }
 
-// The number of allocations: the run is out of memory with each of them failing, and succeeds once
-// none fails.
+/// The number of allocations: the run is out of memory with each of them failing, and succeeds once
+/// none fails.
 fn growths_of(
     rt: &impl Abort,
     alloc: Global,
@@ -68,11 +68,11 @@ fn growths_of(
     Ok(0)
 }
 
-// A load file of nine longwords, of which the first has content.
+/// A load file of nine longwords, of which the first has content.
 const LONGER: [u32; 10] = [0x3F3, 0, 1, 0, 0, 9, 0x3E9, 1, 0x4E75_4E71, 0x3F2];
 
-// Load files, the addresses of their hunks, their reports, and the fewest allocations of a run: the
-// bases, the sizes, the hunks, and the bytes of each.
+/// Load files, the addresses of their hunks, their reports, and the fewest allocations of a run: the
+/// bases, the sizes, the hunks, and the bytes of each.
 static RUNS: [(&[u32], &[u32], &str, u64); 3] = [
     (&FILE, &[BASE], REPORT, 4),
     (
@@ -102,7 +102,7 @@ fn loads_with_each_growth_refused(rt: HostRuntime) -> Result<(), Fail> {
     Ok(())
 }
 
-// Whether the addresses were parsed with this allocation failing. If not, memory ran out.
+/// Whether the addresses were parsed with this allocation failing. If not, memory ran out.
 fn is_parsed(rt: &impl Abort, alloc: Global, refused: u64) -> bool {
     let heap = Refusing::new(alloc, refused);
     let got = parse_bases(&heap, "10000,FfFffff8");

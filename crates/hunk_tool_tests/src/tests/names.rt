@@ -9,8 +9,8 @@ use std::alloc::{AllocError, Allocator, Global};
 use std::process::Abort;
 use std::test::Fail;
 
-// A unit of code, which defines `foo` at 0 and refers to `bar` twice and to `baz` once, with the symbol `loop`; of
-// data, which defines `x` at 4 and the number `abs`; and of a bss hunk, which defines `buf` at 8 and has the symbol `a"`.
+/// A unit of code, which defines `foo` at 0 and refers to `bar` twice and to `baz` once, with the symbol `loop`; of
+/// data, which defines `x` at 4 and the number `abs`; and of a bss hunk, which defines `buf` at 8 and has the symbol `a"`.
 static ONE: [u32; 60] = [
     0x3E7,
     0,
@@ -78,10 +78,10 @@ static ONE: [u32; 60] = [
     0x3E7,
 ];
 
-// The name of the second unit, and a third one.
+/// The name of the second unit, and a third one.
 const NO_NAME: [u8; 4] = [0; 4];
 
-// A unit of code that defines `baz` at 0 and refers to `bar`, with the symbols `foo` and `fo`.
+/// A unit of code that defines `baz` at 0 and refers to `bar`, with the symbols `foo` and `fo`.
 static TWO: [u32; 22] = [
     0x3E7,
     0,
@@ -107,7 +107,7 @@ static TWO: [u32; 22] = [
     0,
 ];
 
-// The end of its hunk.
+/// The end of its hunk.
 const END: [u8; 4] = [0, 0, 0x03, 0xF2];
 
 const NAMES: &str = "80000000 b \"a\\x22\" unit 0 hunk 2\n\
@@ -123,13 +123,13 @@ const NAMES: &str = "80000000 b \"a\\x22\" unit 0 hunk 2\n\
                      00000004 t \"loop\" unit 0 hunk 0\n\
                      00000004 D \"x\" unit 0 hunk 1\n";
 
-// The names of the second file alone.
+/// The names of the second file alone.
 const TWO_NAMES: &str = "         U \"bar\" unit 0 hunk 0\n\
                          00000000 T \"baz\" unit 0 hunk 0\n\
                          00000000 t \"fo\" unit 0 hunk 0\n\
                          00000008 t \"foo\" unit 0 hunk 0\n";
 
-// A load file of code with the symbols `loop` and `a`, data with the symbol `loop`, and a bss hunk with `b`.
+/// A load file of code with the symbols `loop` and `a`, data with the symbol `loop`, and a bss hunk with `b`.
 static LOAD: [u32; 37] = [
     0x3F3,
     0,
@@ -175,7 +175,7 @@ const LOAD_NAMES: &str = "00000002 t \"a\" hunk 0\n\
                           00000004 t \"loop\" hunk 0\n\
                           00000000 d \"loop\" hunk 1\n";
 
-// The files of some inputs; an error only if an allocation failed.
+/// The files of some inputs; an error only if an allocation failed.
 fn files_of<A: Allocator + Copy>(
     rt: &impl Abort,
     alloc: A,
@@ -188,7 +188,7 @@ fn files_of<A: Allocator + Copy>(
     }
 }
 
-// Readers of the object files.
+/// Readers of the object files.
 fn object_inputs(alloc: Global) -> Result<[Pieces; 2], AllocError> {
     Ok([
         Pieces::new(bytes_of(alloc, &ONE, &NO_NAME)?, 64, None),
@@ -196,17 +196,17 @@ fn object_inputs(alloc: Global) -> Result<[Pieces; 2], AllocError> {
     ])
 }
 
-// A reader of the second object file alone.
+/// A reader of the second object file alone.
 fn object_input(alloc: Global) -> Result<[Pieces; 1], AllocError> {
     Ok([Pieces::new(bytes_of(alloc, &TWO, &END)?, 7, None)])
 }
 
-// A reader of the load file.
+/// A reader of the load file.
 fn load_input(alloc: Global) -> Result<[Pieces; 1], AllocError> {
     Ok([Pieces::new(bytes_of(alloc, &LOAD, &[])?, 5, None)])
 }
 
-// Whether these are the lines, as far as there is room, in a writer that takes at most `most` bytes per write.
+/// Whether these are the lines, as far as there is room, in a writer that takes at most `most` bytes per write.
 fn are_written<A: Allocator + Copy>(
     rt: &impl Abort,
     alloc: Global,
@@ -238,8 +238,8 @@ fn are_written<A: Allocator + Copy>(
     Ok(())
 }
 
-// Whether all lines are written, and the first ones where the room ends, for each room and by writes of at most one
-// byte or of many.
+/// Whether all lines are written, and the first ones where the room ends, for each room and by writes of at most one
+/// byte or of many.
 fn stop_at_each_byte<A: Allocator + Copy>(
     rt: &impl Abort,
     alloc: Global,
@@ -253,7 +253,7 @@ fn stop_at_each_byte<A: Allocator + Copy>(
     Ok(())
 }
 
-// Whether these are the names of some inputs, however they are written.
+/// Whether these are the names of some inputs, however they are written.
 fn are_names(
     rt: &impl Abort,
     alloc: Global,
@@ -286,7 +286,7 @@ fn lists_no_names_of_no_files(rt: HostRuntime) -> Result<(), Fail> {
     are_names(&rt, rt.alloc(), &mut [], "")
 }
 
-// Lists the names of the inputs; an error only if an allocation failed.
+/// Lists the names of the inputs; an error only if an allocation failed.
 fn lists<A: Allocator + Copy>(
     rt: &impl Abort,
     heap: A,
@@ -299,7 +299,7 @@ fn lists<A: Allocator + Copy>(
     are_written(rt, alloc, &names, wanted, ROOM, ROOM)
 }
 
-// Whether the names of the object files and of the load file are listed while an allocation is refused.
+/// Whether the names of the object files and of the load file are listed while an allocation is refused.
 fn lists_both<A: Allocator + Copy>(
     rt: &impl Abort,
     heap: A,
@@ -328,7 +328,7 @@ fn lists_names_with_each_allocation_refused(rt: HostRuntime) -> Result<(), Fail>
     Ok(())
 }
 
-// The fault of inputs that are not read.
+/// The fault of inputs that are not read.
 fn fault_of(rt: &impl Abort, alloc: Global, inputs: &mut [Pieces]) -> Result<ToolFault, Fail> {
     match read_named_files(alloc, inputs) {
         Ok(_) => panic!(rt; "read"),

@@ -39,7 +39,7 @@ fn loads_to_records(
     Ok(())
 }
 
-// Load files, the addresses of their hunks, and the records.
+/// Load files, the addresses of their hunks, and the records.
 static FILES: [(&[u32], &[u32], &str); 3] = [
     (&FILE, &[BASE], RECORDS),
     (
@@ -69,7 +69,7 @@ fn writes_the_records_of_files(rt: HostRuntime) -> Result<(), Fail> {
     Ok(())
 }
 
-// An object file with the hunk of `FILE`.
+/// An object file with the hunk of `FILE`.
 static OBJECT: [u32; 6] = [0x3E7, 0, 0x3E9, 1, 0x4E75_4E71, 0x3F2];
 
 #[test]
@@ -90,8 +90,8 @@ fn writes_the_records_of_object_files(rt: HostRuntime) -> Result<(), Fail> {
     Ok(())
 }
 
-// The size of a hunk, its longwords, its address, and the records: a whole row and a part of one,
-// a whole row alone, and none.
+/// The size of a hunk, its longwords, its address, and the records: a whole row and a part of one,
+/// a whole row alone, and none.
 static HUNKS: [(u32, &[u32], u32, &str); 3] = [
     (
         9,
@@ -137,8 +137,8 @@ fn writes_the_records_of_hunks(rt: HostRuntime) -> Result<(), Fail> {
     Ok(())
 }
 
-// The records of a hunk of zeros at address 0: all rows but the last have 32 bytes, of which the
-// record tells nothing but the address.
+/// The records of a hunk of zeros at address 0: all rows but the last have 32 bytes, of which the
+/// record tells nothing but the address.
 fn records_of_zeros(alloc: Global, size: u32) -> Result<Vec<u8>, Fail> {
     let mut text = b"S00A0000616D6968756E6B08\n".to_vec(alloc)?;
     for row in 0..size.div_ceil(32) {
@@ -157,7 +157,7 @@ fn records_of_zeros(alloc: Global, size: u32) -> Result<Vec<u8>, Fail> {
     Ok(text)
 }
 
-// Rows that fill one block of 1,024 bytes, and more than one.
+/// Rows that fill one block of 1,024 bytes, and more than one.
 #[test]
 fn writes_the_records_of_long_hunks(rt: HostRuntime) -> Result<(), Fail> {
     let alloc = rt.alloc();
@@ -174,7 +174,7 @@ fn writes_the_records_of_long_hunks(rt: HostRuntime) -> Result<(), Fail> {
     Ok(())
 }
 
-// A writer with this room took as much of the records, and that is told.
+/// A writer with this room took as much of the records, and that is told.
 fn is_cut(rt: &impl Abort, room: usize, got: Result<(), ToolFault>, writer: &Room<Global>) {
     let written = room as u64;
     equals_at(rt, &room, got, Err(ToolFault::Output { written }));

@@ -7,7 +7,7 @@ use hunk_tool::ToolFault;
 use hunk_words::{Fault, Reason};
 use std::test::Fail;
 
-// Addresses of the file, and why they are rejected.
+/// Addresses of the file, and why they are rejected.
 static REJECTED: [(&[u32], PlaceFault); 3] = [
     (&[0xFFFF_FFFE], PlaceFault::PastEnd(0)),
     (&[], PlaceFault::WrongCount),

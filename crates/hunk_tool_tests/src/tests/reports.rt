@@ -8,7 +8,7 @@ use std::alloc::Global;
 use std::process::Abort;
 use std::test::Fail;
 
-// Loads the file with another longword at this place.
+/// Loads the file with another longword at this place.
 fn loads_with(
     rt: &impl Abort,
     alloc: Global,
@@ -22,7 +22,7 @@ fn loads_with(
 
 const ONES_REPORT: &str = "hunk 0 at 00010000 size 4\n00010000 ffffffff\n";
 
-// Longwords in place of the file's own, and the report.
+/// Longwords in place of the file's own, and the report.
 static LIKE_FILE: [(usize, u32, &str); 8] = [
     (0, 0x0000_03F3, REPORT),
     (5, 0x4000_0001, REPORT),
@@ -34,7 +34,7 @@ static LIKE_FILE: [(usize, u32, &str); 8] = [
     (8, 0xFFFF_FFFF, ONES_REPORT),
 ];
 
-// A longword of the file that is not checked, or not in full, changes no more than its own bytes.
+/// A longword of the file that is not checked, or not in full, changes no more than its own bytes.
 #[test]
 fn loads_the_file_and_its_like(rt: HostRuntime) -> Result<(), Fail> {
     for &(place, word, text) in &LIKE_FILE {
@@ -43,7 +43,7 @@ fn loads_the_file_and_its_like(rt: HostRuntime) -> Result<(), Fail> {
     Ok(())
 }
 
-// The size of a hunk, its longwords, its address, and the report.
+/// The size of a hunk, its longwords, its address, and the report.
 static OTHER_SIZES: [(u32, &[u32], u32, &str); 5] = [
     (
         5,
@@ -87,7 +87,7 @@ fn loads_hunks_of_other_sizes(rt: HostRuntime) -> Result<(), Fail> {
     Ok(())
 }
 
-// The report of the hunks of `SCATTERED` and of `WRITTEN`.
+/// The report of the hunks of `SCATTERED` and of `WRITTEN`.
 const SCATTERED_REPORT: &str = "hunk 0 at 00001000 size 12\n00001000 000020000000100000002004\n\
                                 hunk 1 at 00002000 size 4\n00002000 00000000\n";
 
@@ -121,8 +121,8 @@ pub(crate) const EMPTY_BETWEEN: [u32; 26] = [
     0x3F2,
 ];
 
-// Load files, the addresses of their hunks, and the report. The last file is the repository's
-// example.
+/// Load files, the addresses of their hunks, and the report. The last file is the repository's
+/// example.
 static REPORTS: [(&[u32], &[u32], &str); 13] = [
     (&FILE, &[BASE], REPORT),
     (

@@ -7,10 +7,10 @@ use std::alloc::Global;
 use std::process::Abort;
 use std::test::Fail;
 
-// What stands before the content of a file of one hunk of ten longwords.
+/// What stands before the content of a file of one hunk of ten longwords.
 const FRONT: [u32; 7] = [0x3F3, 0, 1, 0, 0, 10, 0x3E9];
 
-// The content of the first file.
+/// The content of the first file.
 const CONTENT: [u32; 8] = [
     0x0001_0203,
     0x0405_0607,
@@ -22,11 +22,11 @@ const CONTENT: [u32; 8] = [
     0x1C1D_1E1F,
 ];
 
-// Most bytes per read: the content comes in runs of one longword and more, which begin and end elsewhere.
+/// Most bytes per read: the content comes in runs of one longword and more, which begin and end elsewhere.
 const READS: [usize; 7] = [4, 8, 12, 20, 28, 33, ROOM];
 
-// How many longwords of the content another file begins with, what follows them, and what is told where it is
-// the second file, and where it is the first.
+/// How many longwords of the content another file begins with, what follows them, and what is told where it is
+/// the second file, and where it is the first.
 static ROWS: [(usize, &[u32], &str, &str); 10] = [
     (8, &[], "", ""),
     // zeros that the first file has not
@@ -84,7 +84,7 @@ static ROWS: [(usize, &[u32], &str, &str); 10] = [
     ),
 ];
 
-// The bytes of a file with so many longwords of the content, and then these.
+/// The bytes of a file with so many longwords of the content, and then these.
 fn file_with(alloc: Global, count: usize, more: &[u32]) -> Result<Vec<u8>, Fail> {
     let mut words = FRONT.to_vec(alloc)?;
     let size = u32::try_from(count.saturating_add(more.len()));
@@ -95,7 +95,7 @@ fn file_with(alloc: Global, count: usize, more: &[u32]) -> Result<Vec<u8>, Fail>
     Ok(bytes_of(alloc, &words, &[])?)
 }
 
-// They compare so, whatever each read brings.
+/// They compare so, whatever each read brings.
 fn compares_to(
     rt: &impl Abort,
     alloc: Global,

@@ -11,10 +11,10 @@ use std::alloc::{Allocator, Global};
 use std::process::Abort;
 use std::test::Fail;
 
-// The longwords of a long debug block.
+/// The longwords of a long debug block.
 const DEBUG_LONGWORDS: u32 = 100_000;
 
-// The bytes are loaded at these addresses, with this result.
+/// The bytes are loaded at these addresses, with this result.
 fn is_loaded_so<A: Allocator + Copy>(
     rt: &impl Abort,
     alloc: A,
@@ -28,7 +28,7 @@ fn is_loaded_so<A: Allocator + Copy>(
     Ok(())
 }
 
-// The number of allocations of that.
+/// The number of allocations of that.
 fn growths(
     rt: &impl Abort,
     alloc: Global,
@@ -41,7 +41,7 @@ fn growths(
     Ok(heap.asked())
 }
 
-// The number of allocations of a whole run with the report.
+/// The number of allocations of a whole run with the report.
 fn growths_of_run(rt: &impl Abort, alloc: Global, bytes: &[u8]) -> Result<u64, Fail> {
     let heap = Refusing::new(alloc, u64::MAX);
     let mut reader = Pieces::new(bytes.to_vec(alloc)?, 4096, None);
@@ -101,8 +101,8 @@ fn keeps_no_debug_block(rt: HostRuntime) -> Result<(), Fail> {
     Ok(())
 }
 
-// In pieces of this size, the addresses are rejected for this reason by `ImageLoader`, and by
-// decoding the whole file and then loading it.
+/// In pieces of this size, the addresses are rejected for this reason by `ImageLoader`, and by
+/// decoding the whole file and then loading it.
 fn is_refused<A: Allocator + Copy>(
     rt: &impl Abort,
     alloc: A,

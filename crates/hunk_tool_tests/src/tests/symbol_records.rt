@@ -13,7 +13,7 @@ use std::alloc::Global;
 use std::process::Abort;
 use std::test::Fail;
 
-// The name with the byte ff is left out.
+/// The name with the byte ff is left out.
 const NAMED_RECORDS: &str = "$$ amihunk\n  loop $00010002\n  a\"b\\ $0000ffff\n$$ \n\
     S016000073796D626F6C73206C656674206F75743A203112\n\
     S00A0000616D6968756E6B08\n\
@@ -27,8 +27,8 @@ const SEVERAL_RECORDS: &str = "$$ amihunk\n  a $00003000\n  a $00000000\n  b $00
     S309FFFFFFFC00000001FC\n\
     S70500000000FA\n";
 
-// Two units: code with the symbol `loop`, and memory with the symbol `a b`, which no line of records
-// can hold.
+/// Two units: code with the symbol `loop`, and memory with the symbol `a b`, which no line of records
+/// can hold.
 const UNITS: [u32; 21] = [
     0x3E7,
     0,
@@ -89,7 +89,7 @@ fn tells_what_a_writer_took_of_records(rt: HostRuntime) -> Result<(), Fail> {
     Ok(())
 }
 
-// A run over these longwords at these addresses ends so, and writes this text.
+/// A run over these longwords at these addresses ends so, and writes this text.
 fn is_run(
     rt: &impl Abort,
     alloc: Global,
@@ -109,7 +109,7 @@ fn is_run(
     Ok(())
 }
 
-// The file, its content, its sizes, its symbols and their names, and the image are on the heap.
+/// The file, its content, its sizes, its symbols and their names, and the image are on the heap.
 #[test]
 fn writes_no_records_with_each_growth_refused(rt: HostRuntime) -> Result<(), Fail> {
     for refused in 0..MOST_GROWTHS {
@@ -127,7 +127,7 @@ fn writes_no_records_with_each_growth_refused(rt: HostRuntime) -> Result<(), Fai
     Ok(())
 }
 
-// Each form of the symbols of units, and its text.
+/// Each form of the symbols of units, and its text.
 const UNITS_ROWS: [(SymbolForm, &str); 2] = [
     (SymbolForm::Lines, UNITS_LINES),
     (SymbolForm::Records, UNITS_RECORDS),
@@ -150,7 +150,7 @@ fn writes_the_symbols_of_units(rt: HostRuntime) -> Result<(), Fail> {
     Ok(())
 }
 
-// The symbols of `UNITS` are written in this form at these addresses, and the run ends so.
+/// The symbols of `UNITS` are written in this form at these addresses, and the run ends so.
 fn are_written(
     rt: &impl Abort,
     alloc: Global,
@@ -184,8 +184,8 @@ fn tells_no_symbols_of_units_with_each_growth_refused(rt: HostRuntime) -> Result
     Ok(())
 }
 
-// The number of allocations: the run is out of memory with each of them failing, and succeeds once
-// none fails.
+/// The number of allocations: the run is out of memory with each of them failing, and succeeds once
+/// none fails.
 fn growths_of(rt: &impl Abort, alloc: Global, form: SymbolForm, text: &str) -> Result<u64, Fail> {
     for refused in 0..MOST_GROWTHS {
         let heap = Refusing::new(alloc, refused);

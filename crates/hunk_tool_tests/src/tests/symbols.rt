@@ -78,7 +78,7 @@ pub(crate) const SEVERAL: [u32; 32] = [
 
 const SEVERAL_LINES: &str = "00003000 hunk 0 \"a\"\n00000000 hunk 2 \"a\"\n0000000c hunk 2 \"b\"\n";
 
-// A run over these longwords at these addresses ends so, and writes this text.
+/// A run over these longwords at these addresses ends so, and writes this text.
 fn is_run(
     rt: &impl Abort,
     alloc: Global,
@@ -190,8 +190,8 @@ fn tells_what_a_writer_took(rt: HostRuntime) -> Result<(), Fail> {
     Ok(())
 }
 
-// The bytes of the file that is read, its content, its sizes, its symbols and their names are on the
-// heap.
+/// The bytes of the file that is read, its content, its sizes, its symbols and their names are on the
+/// heap.
 #[test]
 fn is_out_of_memory_with_each_growth_refused(rt: HostRuntime) -> Result<(), Fail> {
     for refused in 0..MOST_GROWTHS {

@@ -10,14 +10,14 @@ use std::alloc::{Allocator, Global};
 use std::process::Abort;
 use std::test::Fail;
 
-// More allocations than a run of the tests makes.
+/// More allocations than a run of the tests makes.
 const MOST_GROWTHS: u64 = 128;
 
-// An object file of one unit without hunks, whose name has a quote, a backslash and a byte that is
-// not ASCII.
+/// An object file of one unit without hunks, whose name has a quote, a backslash and a byte that is
+/// not ASCII.
 const QUOTED: [u32; 3] = [0x0000_03E7, 1, 0x4122_5CFF];
 
-// What is written of it.
+/// What is written of it.
 const QUOTED_TEXT: &str = "object file: 1 units, 0 hunks\nunit 0 \"A\\x22\\x5c\\xff\"\n";
 
 const ASSEMBLED_TEXT: &str = "object file: 1 units, 2 hunks\n\
@@ -43,8 +43,8 @@ const TWO_NAMES_TEXT: &str = "object file: 1 units, 1 hunks\n\
                               00000004 adds hunk 0\n  \
                               00000008 adds \"x\"\n";
 
-// Two units. The code of the first refers to two names, the first of them at the higher offset, and
-// defines a number; the second has data in fast memory, and a quote in its name.
+/// Two units. The code of the first refers to two names, the first of them at the higher offset, and
+/// defines a number; the second has data in fast memory, and a quote in its name.
 const TWO_UNITS: [u32; 28] = [
     0x3E7, 0, 0x3E9, 3, 0x4EB90000, 0, 0x4E750000, //
     0x3EF, 0x81000001, 0x62617200, 1, 6, 0x81000001, 0x71757800, 1, 0, //
@@ -61,7 +61,7 @@ const TWO_UNITS_TEXT: &str = "object file: 2 units, 2 hunks\n\
                               unit 1 \"A\\x22\"\n\
                               hunk 0 data fast 1 longwords \"\"\n";
 
-// A unit with an empty hunk, and then one without hunks.
+/// A unit with an empty hunk, and then one without hunks.
 const EMPTY_UNITS: [u32; 7] = [0x3E7, 0, 0x3EB, 0, 0x3F2, 0x3E7, 0];
 
 const EMPTY_UNITS_TEXT: &str = "object file: 2 units, 1 hunks\n\
@@ -69,7 +69,7 @@ const EMPTY_UNITS_TEXT: &str = "object file: 2 units, 1 hunks\n\
                                 hunk 0 bss any 0 longwords \"\"\n\
                                 unit 1 \"\"\n";
 
-// The file of most tests. The upper two bits of its first longword are ignored.
+/// The file of most tests. The upper two bits of its first longword are ignored.
 const MARKED: [u32; 10] = [0xC00003F3, 0, 1, 0, 0, 1, 0x3E9, 1, 0x4E754E71, 0x3F2];
 
 const MARKED_TEXT: &str = "load file: 1 hunks\n\
@@ -98,7 +98,7 @@ impl Text {
         }
     }
 
-    // What is written of a file with this listing: all of it, or its first line.
+    /// What is written of a file with this listing: all of it, or its first line.
     fn of(self, listing: &str) -> Result<&str, Fail> {
         match self {
             Text::Check => {
@@ -110,7 +110,7 @@ impl Text {
     }
 }
 
-// Files, and their listings.
+/// Files, and their listings.
 static LISTINGS: [(&[u32], &str); 7] = [
     (&QUOTED, QUOTED_TEXT),
     (&TWO_UNITS, TWO_UNITS_TEXT),
@@ -121,7 +121,7 @@ static LISTINGS: [(&[u32], &str); 7] = [
     (&TWO_NAMES, TWO_NAMES_TEXT),
 ];
 
-// The text is written of these bytes, at most `chunk` bytes per read and per write.
+/// The text is written of these bytes, at most `chunk` bytes per read and per write.
 fn writes(
     rt: &impl Abort,
     alloc: Global,
@@ -138,7 +138,7 @@ fn writes(
     Ok(())
 }
 
-// Both texts are written of this file.
+/// Both texts are written of this file.
 fn writes_both(
     rt: &impl Abort,
     alloc: Global,
@@ -163,8 +163,8 @@ fn writes_what_is_in_a_file(rt: HostRuntime) -> Result<(), Fail> {
     Ok(())
 }
 
-// Names of units, and each in quotes: the ends of what is plain, and names that are written in
-// several pieces.
+/// Names of units, and each in quotes: the ends of what is plain, and names that are written in
+/// several pieces.
 static NAMES: [(&[u8], &str); 4] = [
     (b"_main: ~!", "_main: ~!"),
     (&[31, 32, 126, 127, 255], "\\x1f ~\\x7f\\xff"),
@@ -183,7 +183,7 @@ static NAMES: [(&[u8], &str); 4] = [
     ),
 ];
 
-// An object file of one unit with this name and without hunks.
+/// An object file of one unit with this name and without hunks.
 fn unit_of(alloc: Global, name: &[u8]) -> Result<Vec<u8>, Fail> {
     let count = u32::try_from(name.len().div_ceil(4))?;
     let mut bytes = bytes_of(alloc, &[0x0000_03E7, count], name)?;
@@ -209,7 +209,7 @@ fn quotes_names(rt: HostRuntime) -> Result<(), Fail> {
     Ok(())
 }
 
-// Whether the text was written with this allocation failing.
+/// Whether the text was written with this allocation failing.
 fn is_written(
     rt: &impl Abort,
     alloc: Global,
@@ -225,8 +225,8 @@ fn is_written(
     Ok(is_done(rt, &heap, refused, &got, writer.bytes(), wanted))
 }
 
-// The number of allocations: the run is out of memory with each of them failing, and succeeds once
-// none fails.
+/// The number of allocations: the run is out of memory with each of them failing, and succeeds once
+/// none fails.
 fn growths_of(
     rt: &impl Abort,
     alloc: Global,
@@ -243,7 +243,7 @@ fn growths_of(
     Ok(0)
 }
 
-// Texts of files, and the fewest allocations of each.
+/// Texts of files, and the fewest allocations of each.
 static GROWTHS: [(Text, &[u32], &str, u64); 4] = [
     // the sites of the first hunk
     (Text::Check, &ASSEMBLED, ASSEMBLED_TEXT, 1),
@@ -265,8 +265,8 @@ fn refuses_each_growth_of_a_text(rt: HostRuntime) -> Result<(), Fail> {
     Ok(())
 }
 
-// Runs the text over a file, at most `chunk` bytes per read. The read with this number fails, if it
-// comes.
+/// Runs the text over a file, at most `chunk` bytes per read. The read with this number fails, if it
+/// comes.
 fn fails_to_read(
     rt: &impl Abort,
     alloc: Global,
@@ -286,7 +286,7 @@ fn fails_to_read(
     Ok(())
 }
 
-// Each of so many reads fails in turn, including the one that would report the end.
+/// Each of so many reads fails in turn, including the one that would report the end.
 fn fails_to_read_each(
     rt: &impl Abort,
     alloc: Global,
@@ -311,7 +311,7 @@ fn tells_a_read_that_failed_before_a_text(rt: HostRuntime) -> Result<(), Fail> {
     Ok(())
 }
 
-// Runs the text into a writer that takes this many bytes.
+/// Runs the text into a writer that takes this many bytes.
 fn fails_to_write(
     rt: &impl Abort,
     alloc: Global,
@@ -339,7 +339,7 @@ fn fails_to_write(
     Ok(())
 }
 
-// A writer with room for each prefix of the text.
+/// A writer with room for each prefix of the text.
 fn fails_to_write_each(
     rt: &impl Abort,
     alloc: Global,

@@ -11,13 +11,13 @@ use std::alloc::{AllocError, Allocator, Global};
 use std::process::Abort;
 use std::test::Fail;
 
-// A name; the file, the unit and the hunk of its first reference; and the number of references.
+/// A name; the file, the unit and the hunk of its first reference; and the number of references.
 type Wanted = (&'static str, usize, usize, usize, u64);
 
-// The longwords of a file, and the bytes after them.
+/// The longwords of a file, and the bytes after them.
 type File = (&'static [u32], &'static [u8]);
 
-// Two files, and what is told of them.
+/// Two files, and what is told of them.
 type Row = (File, File, &'static [Wanted]);
 
 static ROWS: [Row; 6] = [
@@ -37,7 +37,7 @@ static ROWS: [Row; 6] = [
     ),
 ];
 
-// The units of files that are read one by one; an error only if an allocation failed.
+/// The units of files that are read one by one; an error only if an allocation failed.
 fn files_of<A: Allocator + Copy>(
     rt: &impl Abort,
     alloc: A,
@@ -54,7 +54,7 @@ fn files_of<A: Allocator + Copy>(
     Ok(files)
 }
 
-// Readers of the files of a row.
+/// Readers of the files of a row.
 fn inputs_of(alloc: Global, row: &Row) -> Result<[Pieces; 2], AllocError> {
     let ((words, rest), (other_words, other_rest), _) = row;
     Ok([
@@ -63,7 +63,7 @@ fn inputs_of(alloc: Global, row: &Row) -> Result<[Pieces; 2], AllocError> {
     ])
 }
 
-// Whether these are the names.
+/// Whether these are the names.
 fn are_told<A: Allocator + Copy>(
     rt: &impl Abort,
     names: &[UndefinedName<A>],
@@ -80,7 +80,7 @@ fn are_told<A: Allocator + Copy>(
     }
 }
 
-// Whether they are told of the files of a row; an error only if an allocation failed.
+/// Whether they are told of the files of a row; an error only if an allocation failed.
 fn tells<A: Allocator + Copy>(
     rt: &impl Abort,
     alloc: A,
@@ -101,7 +101,7 @@ fn tells_each_name_once_with_its_first_reference(rt: HostRuntime) -> Result<(), 
     Ok(())
 }
 
-// Whether the names are told once no allocation is refused.
+/// Whether the names are told once no allocation is refused.
 fn are_told_at_last(rt: &impl Abort, alloc: Global, row: &'static Row) -> Result<bool, Fail> {
     for refused in 0..4 * MOST_GROWTHS {
         let heap = Refusing::new(alloc, refused);

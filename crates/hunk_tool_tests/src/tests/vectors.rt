@@ -19,13 +19,13 @@ use std::alloc::Global;
 use std::process::Abort;
 use std::test::Fail;
 
-// A longword of ones.
+/// A longword of ones.
 const ONES: u32 = 0xFFFF_FFFF;
 
-// All ones where a block type is expected.
+/// All ones where a block type is expected.
 const UNKNOWN: Reason = UnknownType(0x3FFF_FFFF);
 
-// Files, and how many bytes of each are whole files.
+/// Files, and how many bytes of each are whole files.
 static FRONTS: [(FileKind, &[u32], &[usize]); 3] = [
     (Load, &FILE, &[40]),
     (Object, &REFERS, &[8, 52]),
@@ -52,7 +52,7 @@ fn judges_each_front(rt: HostRuntime) -> Result<(), Fail> {
     Ok(())
 }
 
-// The file with another longword at a place is judged so.
+/// The file with another longword at a place is judged so.
 fn judges_with(
     rt: &impl Abort,
     alloc: Global,
@@ -65,7 +65,7 @@ fn judges_with(
     is_judged(rt, alloc, kind, &bytes, answer)
 }
 
-// Files, a place in each, the longword there, and the answer.
+/// Files, a place in each, the longword there, and the answer.
 static OTHER_LONGWORDS: [(FileKind, &[u32], usize, u32, Answer); 74] = [
     (Load, &FILE, 0, ONES, Some((0, WrongStart))),
     (Load, &FILE, 1, ONES, Some((1, ResidentNames))),
@@ -207,14 +207,14 @@ fn judges_other_longwords(rt: HostRuntime) -> Result<(), Fail> {
     Ok(())
 }
 
-// `FILE` without its END, `SHORT` up to its relocations, and the latter with two of them.
+/// `FILE` without its END, `SHORT` up to its relocations, and the latter with two of them.
 const NO_END: [u32; 9] = [0x3F3, 0, 1, 0, 0, 1, 0x3E9, 1, 0x4E75_4E71];
 
 const NO_SITES: [u32; 11] = [0x3F3, 0, 1, 0, 0, 2, 0x3E9, 2, 4, 0, 0x3FC];
 
 const TWO_SITES: [u32; 13] = [0x3F3, 0, 1, 0, 0, 2, 0x3E9, 2, 4, 0, 0x3FC, 0x0002_0000, 4];
 
-// Files, what follows each, and the answer.
+/// Files, what follows each, and the answer.
 static FOLLOWED: [(FileKind, &[u32], &[u8], Answer); 31] = [
     (Object, &[], &[], Some((0, UnexpectedEnd))),
     (Load, &[], &[], Some((0, UnexpectedEnd))),
@@ -276,7 +276,7 @@ fn judges_files_and_what_follows_them(rt: HostRuntime) -> Result<(), Fail> {
     Ok(())
 }
 
-// Object files, a place in each, the longword there, and the answer.
+/// Object files, a place in each, the longword there, and the answer.
 static OTHER_OBJECTS: [(&[u32], usize, u32, Answer); 10] = [
     (&REFERS, 0, 0x0000_03F3, Some((0, WrongStart))),
     (&MEETS, 0, 0x0000_03E7, Some((15, SiteOverlap(4)))),
