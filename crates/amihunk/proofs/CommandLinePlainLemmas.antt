@@ -8,10 +8,10 @@ use Rattle.clap.proofs.OnLiterals.{clap_on_literals}
 use Rattle.hunk_memory.specs.declared.image_form.ImageForm.TheVariants.{Report, SRecords}
 use Rattle.hunk_tool.specs.declared.copy.CopyForm.{CopyForm}
 use Rattle.hunk_tool.specs.declared.copy.CopyForm.TheVariants.{Normal, Written}
-use Rattle.amihunk.specs.StandardInput.{inputs_of, origin_inputs}
+use Rattle.amihunk.specs.StandardInput.{inputs_of, source_inputs}
 use Rattle.hunk_tool.specs.declared.link_options.LinkOptions.{LinkOptions}
-use Rattle.hunk_commands.specs.Addresses.{Origin}
-use Rattle.hunk_commands.specs.Addresses.Origin.{in_file, in_list}
+use Rattle.hunk_commands.specs.Addresses.{AddressSource}
+use Rattle.hunk_commands.specs.Addresses.AddressSource.{in_file, in_list}
 use Rattle.hunk_commands.specs.declared.load.LoadText.{LoadText}
 use Rattle.hunk_commands.specs.declared.load.LoadText.TheVariants.{Image, Symbols}
 use Rattle.hunk_tool.specs.declared.symbol_form.SymbolForm.TheVariants.{Lines, Records}
@@ -127,25 +127,25 @@ is_load : IsSubcommand built_load
 unfolding clap_on_literals
 is_load = record { met = refl; quiet = refl; found = refl }
 
-is_load_option : (origin : Origin) → IsOption built_load nothing_held (option_word origin) (option_name origin)
+is_load_option : (source : AddressSource) → IsOption built_load nothing_held (option_word source) (option_name source)
 unfolding clap_on_literals
 is_load_option (in_list list) = record { letter = None; needed = false; by_id = refl; met = refl; quiet = refl }
 is_load_option (in_file name) = record { letter = None; needed = false; by_id = refl; met = refl; quiet = refl }
 
 -- what `--at LIST` leaves, or `--at-file FILE`
-abbrev origin_held : Shape → Origin → Held
-origin_held s origin = value_held s.rules nothing_held (option_name origin) (text_in origin)
+abbrev source_held : Shape → AddressSource → Held
+source_held s source = value_held s.rules nothing_held (option_name source) (text_in source)
 
 -- what is held before FILE
-abbrev load_held : Origin → LoadText → Held
-load_held origin text = (walk_on built_load (walk_from (origin_held built_load origin)) (text_words text)).held
+abbrev load_held : AddressSource → LoadText → Held
+load_held source text = (walk_on built_load (walk_from (source_held built_load source)) (text_words text)).held
 
 -- the words for the text pass, and FILE may come after them
-abbrev IsPlainLoad : Origin → LoadText → Type 0
-IsPlainLoad origin text = Passes built_load (walk_from (origin_held built_load origin)) (text_words text) (walk_from (load_held origin text))
-    × TakesFile built_load (load_held origin text) (to_load origin text false)
+abbrev IsPlainLoad : AddressSource → LoadText → Type 0
+IsPlainLoad source text = Passes built_load (walk_from (source_held built_load source)) (text_words text) (walk_from (load_held source text))
+    × TakesFile built_load (load_held source text) (to_load source text false)
 
-plain-load : (origin : Origin) (text : LoadText) → IsPlainLoad origin text
+plain-load : (source : AddressSource) (text : LoadText) → IsPlainLoad source text
 unfolding clap_on_literals
 plain-load (in_list list) (Image Report) = ((refl, refl), (record { by_index = refl; other = refl; quiet = refl; late = λ file. refl }, λ file. refl))
 plain-load (in_list list) (Image SRecords) = ((refl, refl), (record { by_index = refl; other = refl; quiet = refl; late = λ file. refl }, λ file. refl))
@@ -157,17 +157,17 @@ plain-load (in_file name) (Symbols Lines) = ((refl, refl), (record { by_index = 
 plain-load (in_file name) (Symbols Records) = ((refl, refl), (record { by_index = refl; other = refl; quiet = refl; late = λ file. refl }, λ file. refl))
 
 -- the files to read do not begin with a hyphen, and neither does that with the addresses
-plain_origin : (origin : Origin) (files : List Text) → IsNoFlag (text_in origin) → All IsNoFlag files → All IsNoFlag (origin_inputs origin ++ files)
-plain_origin (in_list list) files plain rest = rest
-plain_origin (in_file name) files plain rest = All-cons IsNoFlag name files plain rest
+plain_source : (source : AddressSource) (files : List Text) → IsNoFlag (text_in source) → All IsNoFlag files → All IsNoFlag (source_inputs source ++ files)
+plain_source (in_list list) files plain rest = rest
+plain_source (in_file name) files plain rest = All-cons IsNoFlag name files plain rest
 
-pub calls-load : (program : Text) (origin : Origin) (text : LoadText) (file : Text) → IsNoFlag (text_in origin) → IsNoFlag file
-    → Calls (load_line program origin text file) (to_load origin text false file)
-calls-load program origin text file plain_value plain_file =
-    let plain = plain-load origin text in
-    calls-file program built_load (option_word origin ∷ text_in origin ∷ text_words text) (load_held origin text) (to_load origin text false) is_load
-    (passes-option built_load nothing_held (option_word origin) (option_name origin) (text_in origin) (text_words text) (walk_from (load_held origin text)) (is_load_option origin) plain_value plain.0)
-    plain.1 file plain_file (plain_origin origin (file ∷ []) plain_value (All-cons IsNoFlag file [] plain_file (All-nil IsNoFlag)))
+pub calls-load : (program : Text) (source : AddressSource) (text : LoadText) (file : Text) → IsNoFlag (text_in source) → IsNoFlag file
+    → Calls (load_line program source text file) (to_load source text false file)
+calls-load program source text file plain_value plain_file =
+    let plain = plain-load source text in
+    calls-file program built_load (option_word source ∷ text_in source ∷ text_words text) (load_held source text) (to_load source text false) is_load
+    (passes-option built_load nothing_held (option_word source) (option_name source) (text_in source) (text_words text) (walk_from (load_held source text)) (is_load_option source) plain_value plain.0)
+    plain.1 file plain_file (plain_source source (file ∷ []) plain_value (All-cons IsNoFlag file [] plain_file (All-nil IsNoFlag)))
 
 -- ---- `image`
 
@@ -178,21 +178,21 @@ is_image : IsSubcommand built_image
 unfolding clap_on_literals
 is_image = record { met = refl; quiet = refl; found = refl }
 
-is_image_option : (origin : Origin) → IsOption built_image nothing_held (option_word origin) (option_name origin)
+is_image_option : (source : AddressSource) → IsOption built_image nothing_held (option_word source) (option_name source)
 unfolding clap_on_literals
 is_image_option (in_list list) = record { letter = None; needed = false; by_id = refl; met = refl; quiet = refl }
 is_image_option (in_file name) = record { letter = None; needed = false; by_id = refl; met = refl; quiet = refl }
 
 -- what is held before the files
-abbrev image_held : Origin → LoadText → Held
-image_held origin text = (walk_on built_image (walk_from (origin_held built_image origin)) (text_words text)).held
+abbrev image_held : AddressSource → LoadText → Held
+image_held source text = (walk_on built_image (walk_from (source_held built_image source)) (text_words text)).held
 
 -- the words for the text pass, and files may come after them
-abbrev IsPlainImage : Origin → LoadText → Type 0
-IsPlainImage origin text = Passes built_image (walk_from (origin_held built_image origin)) (text_words text) (walk_from (image_held origin text))
-    × TakesFiles built_image (image_held origin text) (to_image origin text false)
+abbrev IsPlainImage : AddressSource → LoadText → Type 0
+IsPlainImage source text = Passes built_image (walk_from (source_held built_image source)) (text_words text) (walk_from (image_held source text))
+    × TakesFiles built_image (image_held source text) (to_image source text false)
 
-plain-image : (origin : Origin) (text : LoadText) → IsPlainImage origin text
+plain-image : (source : AddressSource) (text : LoadText) → IsPlainImage source text
 unfolding clap_on_literals
 plain-image (in_list list) (Image Report) = ((refl, refl), (record { other = refl; quiet = refl; late = λ file rest. refl }, λ file rest. refl))
 plain-image (in_list list) (Image SRecords) = ((refl, refl), (record { other = refl; quiet = refl; late = λ file rest. refl }, λ file rest. refl))
@@ -203,13 +203,13 @@ plain-image (in_file name) (Image SRecords) = ((refl, refl), (record { other = r
 plain-image (in_file name) (Symbols Lines) = ((refl, refl), (record { other = refl; quiet = refl; late = λ file rest. refl }, λ file rest. refl))
 plain-image (in_file name) (Symbols Records) = ((refl, refl), (record { other = refl; quiet = refl; late = λ file rest. refl }, λ file rest. refl))
 
-pub calls-image : (program : Text) (origin : Origin) (text : LoadText) (files : List Text) → IsNoFlag (text_in origin) → 0 < length files → All IsNoFlag files
-    → length (image_line program origin text files) ≤ usize_max → Calls (image_line program origin text files) (to_image origin text false files)
-calls-image program origin text files plain_value some plain_files fits =
-    let plain = plain-image origin text in
-    calls-files program built_image (option_word origin ∷ text_in origin ∷ text_words text) (image_held origin text) (to_image origin text false) is_image (record { needed = true; by_index = refl; by_id = refl })
-    (passes-option built_image nothing_held (option_word origin) (option_name origin) (text_in origin) (text_words text) (walk_from (image_held origin text)) (is_image_option origin) plain_value plain.0)
-    plain.1 files some plain_files (plain_origin origin files plain_value plain_files) (omega (arith, fits))
+pub calls-image : (program : Text) (source : AddressSource) (text : LoadText) (files : List Text) → IsNoFlag (text_in source) → 0 < length files → All IsNoFlag files
+    → length (image_line program source text files) ≤ usize_max → Calls (image_line program source text files) (to_image source text false files)
+calls-image program source text files plain_value some plain_files fits =
+    let plain = plain-image source text in
+    calls-files program built_image (option_word source ∷ text_in source ∷ text_words text) (image_held source text) (to_image source text false) is_image (record { needed = true; by_index = refl; by_id = refl })
+    (passes-option built_image nothing_held (option_word source) (option_name source) (text_in source) (text_words text) (walk_from (image_held source text)) (is_image_option source) plain_value plain.0)
+    plain.1 files some plain_files (plain_source source files plain_value plain_files) (omega (arith, fits))
 
 -- ---- `check`, `show` and `survey`
 

@@ -51,8 +51,8 @@ module _ {W : Type 0} (run : Run) (taken : W → Option (List ℕ)) (failed : W 
   -- the status after a call; a conflict has none
   abbrev pub EndsCall : Call → ℕ → Type 0
   EndsCall (to_link out map options globals explain files list) status = Replaces run (λ contents contents_then. EndsLink contents contents_then taken failed old new out map options globals explain files list status)
-  EndsCall (to_load origin text explain file) status = Reads run (λ contents printed. EndsLoad contents printed taken failed old new origin text explain file status)
-  EndsCall (to_image origin form explain files) status = Reads run (λ contents printed. EndsImage contents printed taken failed old new origin form explain files status)
+  EndsCall (to_load source text explain file) status = Reads run (λ contents printed. EndsLoad contents printed taken failed old new source text explain file status)
+  EndsCall (to_image source form explain files) status = Reads run (λ contents printed. EndsImage contents printed taken failed old new source form explain files status)
   EndsCall (to_check lint explain file) status = Reads run (λ contents printed. EndsText contents printed taken failed old new (checked lint) explain file status)
   EndsCall (to_show text explain file) status = Reads run (λ contents printed. EndsText contents printed taken failed old new (Shown text) explain file status)
   EndsCall (to_names files) status = Reads run (λ contents printed. EndsNames contents printed taken failed old new files status)
@@ -78,14 +78,14 @@ module _ {W : Type 0} (run : Run) (taken : W → Option (List ℕ)) (failed : W 
         (refl, ends.1) (none_asked explain (AreLinkLines run.contents_then []) (Tool (tool_fault.OutOfMemory 0)) refl) ends.0),
     ends.2,
   )
-  ends_memory (to_load origin text explain file) status ends = (
-    inr (not_begun taken failed (OrExhausted run.printed (IsLoadFailure text run.contents origin file run.printed)) (IfAsked explain (AreLoadLines run.contents origin file)) (file ∷ []) status old new (inl (refl, ends.2))
-        (none_asked explain (AreLoadLines run.contents origin file) (Tool (tool_fault.OutOfMemory 0)) refl) ends.0),
+  ends_memory (to_load source text explain file) status ends = (
+    inr (not_begun taken failed (OrExhausted run.printed (IsLoadFailure text run.contents source file run.printed)) (IfAsked explain (AreLoadLines run.contents source file)) (file ∷ []) status old new (inl (refl, ends.2))
+        (none_asked explain (AreLoadLines run.contents source file) (Tool (tool_fault.OutOfMemory 0)) refl) ends.0),
     ends.1,
   )
-  ends_memory (to_image origin form explain files) status ends = (
-    inr (not_begun taken failed (OrExhausted run.printed (IsImageFailure form run.contents origin files run.printed)) (IfAsked explain (AreImageLines run.contents origin files)) files status old new (inl (refl, ends.2))
-        (none_asked explain (AreImageLines run.contents origin files) (Tool (tool_fault.OutOfMemory 0)) refl) ends.0),
+  ends_memory (to_image source form explain files) status ends = (
+    inr (not_begun taken failed (OrExhausted run.printed (IsImageFailure form run.contents source files run.printed)) (IfAsked explain (AreImageLines run.contents source files)) files status old new (inl (refl, ends.2))
+        (none_asked explain (AreImageLines run.contents source files) (Tool (tool_fault.OutOfMemory 0)) refl) ends.0),
     ends.1,
   )
   ends_memory (to_check lint explain file) status ends = ends_text (checked lint) explain file status ends

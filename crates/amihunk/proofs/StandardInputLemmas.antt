@@ -8,7 +8,7 @@ use Rattle.std.proofs.lemmas.List.Elements.{All-head, All-tail, filter-append}
 use Rattle.std.proofs.lemmas.Bool.{ne_eqb}
 use Rattle.clap.specs.Walk.{texts}
 use Rattle.clap.specs.Words.{Text}
-use Rattle.hunk_commands.specs.Addresses.Origin.{in_file, in_list}
+use Rattle.hunk_commands.specs.Addresses.AddressSource.{in_file, in_list}
 use Rattle.hunk_commands.specs.FileList.{NamedList}
 use Rattle.amihunk.specs.Call.{Call, IsFound, Meaning}
 use Rattle.amihunk.specs.Call.Meaning.{calls, help, nothing, rejection, version}

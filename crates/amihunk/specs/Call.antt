@@ -4,7 +4,7 @@ use Rattle.clap.specs.Walk.{texts}
 use Rattle.clap.specs.Words.{Text}
 use Rattle.hunk_tool.specs.declared.copy.CopyForm.{CopyForm}
 use Rattle.hunk_tool.specs.declared.link_options.LinkOptions.{LinkOptions}
-use Rattle.hunk_commands.specs.Addresses.{Origin, origin_of}
+use Rattle.hunk_commands.specs.Addresses.{AddressSource, source_of}
 use Rattle.hunk_commands.specs.FileList.{NamedList, given_list}
 use Rattle.hunk_commands.specs.Request.{given_text}
 use Rattle.hunk_commands.specs.declared.load.LoadText.{LoadText}
@@ -19,8 +19,8 @@ use Rattle.hunk_commands.specs.declared.request.Request.TheVariants.{Link, Load,
 -- other, where there are no addresses, no files, contents without a document, or lines without a list
 pub data Call : Type 0 where
   to_link : (out : Text) (map : Option Text) (options : LinkOptions) (globals explain : Bool) (files : List Text) (list : Option NamedList) → Call
-  to_load : (origin : Origin) (text : LoadText) (explain : Bool) (file : Text) → Call
-  to_image : (origin : Origin) (text : LoadText) (explain : Bool) (files : List Text) → Call
+  to_load : (source : AddressSource) (text : LoadText) (explain : Bool) (file : Text) → Call
+  to_image : (source : AddressSource) (text : LoadText) (explain : Bool) (files : List Text) → Call
   to_check : (lint explain : Bool) (file : Text) → Call
   to_show : (text : ShowText) (explain : Bool) (file : Text) → Call
   to_names : (files : List Text) → Call
@@ -41,8 +41,8 @@ pub data Meaning : Type 0 where
 
 abbrev pub meaning : Request → Meaning
 meaning (Link out map options globals explain files list) = calls (to_link out.now (given_text map) options globals explain (texts files.items) (given_list list))
-meaning (Load addresses text explain file) = calls (to_load (origin_of addresses) text explain file.now)
-meaning (Image addresses text explain files) = calls (to_image (origin_of addresses) text explain (texts files.items))
+meaning (Load addresses text explain file) = calls (to_load (source_of addresses) text explain file.now)
+meaning (Image addresses text explain files) = calls (to_image (source_of addresses) text explain (texts files.items))
 meaning (Check lint explain file) = calls (to_check lint explain file.now)
 meaning (Show text explain file) = calls (to_show text explain file.now)
 meaning (Names files) = calls (to_names (texts files.items))

@@ -15,8 +15,8 @@ use Rattle.hunk_tool.specs.declared.copy.CopyForm.{CopyForm}
 use Rattle.hunk_tool.specs.declared.copy.CopyForm.TheVariants.{Normal, Written}
 use Rattle.hunk_tool.specs.declared.link_options.LinkOptions.{LinkOptions}
 use Rattle.hunk_tool.specs.declared.symbol_form.SymbolForm.TheVariants.{Lines, Records}
-use Rattle.hunk_commands.specs.Addresses.{Origin}
-use Rattle.hunk_commands.specs.Addresses.Origin.{in_file, in_list}
+use Rattle.hunk_commands.specs.Addresses.{AddressSource}
+use Rattle.hunk_commands.specs.Addresses.AddressSource.{in_file, in_list}
 use Rattle.hunk_commands.specs.FileList.{NamedList}
 use Rattle.hunk_commands.specs.declared.file_list.NameEnd.TheVariants.{Line, Zero}
 use Rattle.hunk_commands.specs.declared.load.LoadText.{LoadText}
@@ -82,10 +82,10 @@ abbrev pub files_in : List Row → List Text
 files_in rows = unwrap_or (all_of (codes "file") rows) []
 
 -- where the addresses are, by the values of `--at` and `--at-file`, of which there must be one
-abbrev pub origin_by : Option Text → Option Text → Option Origin
-origin_by (Some list) None = Some (in_list list)
-origin_by None (Some name) = Some (in_file name)
-origin_by _ _ = None
+abbrev pub source_by : Option Text → Option Text → Option AddressSource
+source_by (Some list) None = Some (in_list list)
+source_by None (Some name) = Some (in_file name)
+source_by _ _ = None
 
 -- there is one at least
 abbrev pub has_some : List Text → Bool
@@ -109,17 +109,17 @@ text_by true false = load_text.Image SRecords
 text_by false true = load_text.Symbols Lines
 text_by true true = load_text.Symbols Records
 
-abbrev pub load_call : Option Origin → LoadText → Bool → Text → Call
-load_call (Some origin) text explain file = to_load origin text explain file
+abbrev pub load_call : Option AddressSource → LoadText → Bool → Text → Call
+load_call (Some source) text explain file = to_load source text explain file
 load_call None text explain file = conflict
 
-abbrev pub image_call : Option Origin → LoadText → Bool → List Text → Call
-image_call (Some origin) text explain files = to_image origin text explain files
+abbrev pub image_call : Option AddressSource → LoadText → Bool → List Text → Call
+image_call (Some source) text explain files = to_image source text explain files
 image_call None text explain files = conflict
 
 -- the addresses that the options give
-abbrev pub origin_in : List Row → Option Origin
-origin_in rows = origin_by (first_of (codes "at") rows) (first_of (codes "at-file") rows)
+abbrev pub source_in : List Row → Option AddressSource
+source_in rows = source_by (first_of (codes "at") rows) (first_of (codes "at-file") rows)
 
 -- how the load file is written
 abbrev pub options_in : List Row → LinkOptions
@@ -155,11 +155,11 @@ abbrev pub compare_in : List Row → Call
 compare_in rows = to_compare (is_given (codes "symbols") rows) (value_in (codes "first") rows) (value_in (codes "second") rows)
 
 abbrev pub load_in : List Row → Call
-load_in rows = load_call (origin_in rows) (text_by (is_given (codes "srec") rows) (is_given (codes "symbols") rows))
+load_in rows = load_call (source_in rows) (text_by (is_given (codes "srec") rows) (is_given (codes "symbols") rows))
     (is_given (codes "explain") rows) (value_in (codes "file") rows)
 
 abbrev pub image_in : List Row → Call
-image_in rows = image_call (origin_in rows) (text_by (is_given (codes "srec") rows) (is_given (codes "symbols") rows))
+image_in rows = image_call (source_in rows) (text_by (is_given (codes "srec") rows) (is_given (codes "symbols") rows))
     (is_given (codes "explain") rows) (files_in rows)
 
 -- the text that is asked for, by `--json`, `--content`, which goes with it, and `--html`, which goes with neither
@@ -337,26 +337,26 @@ text_words (load_text.Symbols Lines) = codes "--symbols" ∷ []
 text_words (load_text.Symbols Records) = codes "--srec" ∷ codes "--symbols" ∷ []
 
 -- the name and the word of the option that gives these addresses
-abbrev pub option_name : Origin → Text
+abbrev pub option_name : AddressSource → Text
 option_name (in_list list) = codes "at"
 option_name (in_file name) = codes "at-file"
 
-abbrev pub option_word : Origin → Text
+abbrev pub option_word : AddressSource → Text
 option_word (in_list list) = codes "--at"
 option_word (in_file name) = codes "--at-file"
 
 -- and its value
-abbrev pub text_in : Origin → Text
+abbrev pub text_in : AddressSource → Text
 text_in (in_list list) = list
 text_in (in_file name) = name
 
 -- the arguments `PROGRAM load --at LIST [--srec] [--symbols] FILE`, or with `--at-file FILE`
-abbrev pub load_line : Text → Origin → LoadText → Text → List Text
-load_line program origin text file = program ∷ codes "load" ∷ option_word origin ∷ text_in origin ∷ (text_words text ++ file ∷ [])
+abbrev pub load_line : Text → AddressSource → LoadText → Text → List Text
+load_line program source text file = program ∷ codes "load" ∷ option_word source ∷ text_in source ∷ (text_words text ++ file ∷ [])
 
 -- the arguments `PROGRAM image --at LIST [--srec] [--symbols] FILE...`, or with `--at-file FILE`
-abbrev pub image_line : Text → Origin → LoadText → List Text → List Text
-image_line program origin text files = program ∷ codes "image" ∷ option_word origin ∷ text_in origin ∷ (text_words text ++ files)
+abbrev pub image_line : Text → AddressSource → LoadText → List Text → List Text
+image_line program source text files = program ∷ codes "image" ∷ option_word source ∷ text_in source ∷ (text_words text ++ files)
 
 -- the arguments `PROGRAM NAME FILE`
 abbrev pub file_line : Text → Text → Text → List Text

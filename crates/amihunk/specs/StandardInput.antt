@@ -2,8 +2,8 @@
 use Rattle.std.specs.Prelude.{◌≡◌, ◌++◌, ◌∷◌, Bool, List, [], Option, None, Some, codes, false, filter, if◌then◌else◌, length, map, nat_lt, option_map}
 use Rattle.std.specs.Str.{bytes_eq}
 use Rattle.clap.specs.Words.{Text}
-use Rattle.hunk_commands.specs.Addresses.{Origin}
-use Rattle.hunk_commands.specs.Addresses.Origin.{in_file, in_list}
+use Rattle.hunk_commands.specs.Addresses.{AddressSource}
+use Rattle.hunk_commands.specs.Addresses.AddressSource.{in_file, in_list}
 use Rattle.hunk_commands.specs.FileList.{NamedList}
 use Rattle.amihunk.specs.Call.{Call, IsFound, Meaning}
 use Rattle.amihunk.specs.Call.Call.{conflict, to_check, to_compare, to_copy, to_image, to_link, to_load, to_names, to_show, to_survey}
@@ -22,9 +22,9 @@ input_name argument = if is_hyphen argument then codes "/dev/stdin" else argumen
 abbrev pub input_list : NamedList → NamedList
 input_list list = record list { file = input_name list.file }
 
-abbrev pub input_origin : Origin → Origin
-input_origin (in_list list) = in_list list
-input_origin (in_file name) = in_file (input_name name)
+abbrev pub input_source : AddressSource → AddressSource
+input_source (in_list list) = in_list list
+input_source (in_file name) = in_file (input_name name)
 
 -- ---- a call
 
@@ -37,15 +37,15 @@ abbrev pub list_inputs : Option NamedList → List Text
 list_inputs None = []
 list_inputs (Some list) = list.file ∷ []
 
-abbrev pub origin_inputs : Origin → List Text
-origin_inputs (in_list list) = []
-origin_inputs (in_file name) = name ∷ []
+abbrev pub source_inputs : AddressSource → List Text
+source_inputs (in_list list) = []
+source_inputs (in_file name) = name ∷ []
 
 -- the arguments of the call that stand for files to read
 abbrev pub inputs_of : Call → List Text
 inputs_of (to_link out map options globals explain files list) = list_inputs list ++ files
-inputs_of (to_load origin text explain file) = origin_inputs origin ++ file ∷ []
-inputs_of (to_image origin text explain files) = origin_inputs origin ++ files
+inputs_of (to_load source text explain file) = source_inputs source ++ file ∷ []
+inputs_of (to_image source text explain files) = source_inputs source ++ files
 inputs_of (to_check lint explain file) = file ∷ []
 inputs_of (to_show text explain file) = file ∷ []
 inputs_of (to_names files) = files
@@ -57,8 +57,8 @@ inputs_of conflict = []
 -- the call with the names of these files in place of the arguments
 abbrev pub named_call : Call → Call
 named_call (to_link out map_file options globals explain files list) = to_link out map_file options globals explain (map input_name files) (option_map input_list list)
-named_call (to_load origin text explain file) = to_load (input_origin origin) text explain (input_name file)
-named_call (to_image origin text explain files) = to_image (input_origin origin) text explain (map input_name files)
+named_call (to_load source text explain file) = to_load (input_source source) text explain (input_name file)
+named_call (to_image source text explain files) = to_image (input_source source) text explain (map input_name files)
 named_call (to_check lint explain file) = to_check lint explain (input_name file)
 named_call (to_show text explain file) = to_show text explain (input_name file)
 named_call (to_names files) = to_names (map input_name files)

@@ -9,8 +9,8 @@ ghost use Rattle.amihunk.specs.Call.Call.{to_check, to_compare, to_copy, to_imag
 ghost use Rattle.amihunk.specs.Call.Meaning.{rejection, version};
 ghost use Rattle.amihunk.specs.CommandLine.{AreRefused, HasValue, IsAskedBy, IsFlag, IsNoFlag, IsNoFlagIn, IsVersionWord, IsWhole, IsWritten, Says};
 ghost use Rattle.amihunk.specs.CommandLine.{brief_link_line, compare_line, copy_line, file_line, files_in, has_some, image_line, link_line, list_by, load_line, no_survey_options, normal_line, options_in};
-ghost use Rattle.amihunk.specs.CommandLine.{names_line, origin_in, show_line, survey_line, survey_options_in, text_in, value_in, version_line};
-ghost use Rattle.hunk_commands.specs.Addresses.{Origin, origin_of};
+ghost use Rattle.amihunk.specs.CommandLine.{names_line, source_in, show_line, survey_line, survey_options_in, text_in, value_in, version_line};
+ghost use Rattle.hunk_commands.specs.Addresses.{AddressSource, source_of};
 ghost use Rattle.hunk_commands.specs.FileList.{given_list};
 ghost use Rattle.hunk_commands.specs.Request.{given_text};
 ghost use Rattle.hunk_commands.specs.declared.load.LoadText.{LoadText};
@@ -40,12 +40,12 @@ pub fn read_words<'a, S: AsStr>(alloc: Global, words: &'a [S]) -> Request<'a>
     ensures brief { (program : List ℕ) (options : LinkOptions) (out : List ℕ) (map_file : Option (List ℕ)) (files : List (List ℕ))
         → map S.text words.entry.now ≡ brief_link_line program options out map_file files
         → IsNoFlag out → IsNoFlagIn map_file → 0 < length files → All IsNoFlag files → Asks (to_link out map_file options false false files None) result }
-    ensures load { (program : List ℕ) (origin : Origin) (text : LoadText) (file : List ℕ)
-        → map S.text words.entry.now ≡ load_line program origin text file
-        → IsNoFlag (text_in origin) → IsNoFlag file → Asks (to_load origin text false file) result }
-    ensures image { (program : List ℕ) (origin : Origin) (text : LoadText) (files : List (List ℕ))
-        → map S.text words.entry.now ≡ image_line program origin text files
-        → IsNoFlag (text_in origin) → 0 < length files → All IsNoFlag files → Asks (to_image origin text false files) result }
+    ensures load { (program : List ℕ) (source : AddressSource) (text : LoadText) (file : List ℕ)
+        → map S.text words.entry.now ≡ load_line program source text file
+        → IsNoFlag (text_in source) → IsNoFlag file → Asks (to_load source text false file) result }
+    ensures image { (program : List ℕ) (source : AddressSource) (text : LoadText) (files : List (List ℕ))
+        → map S.text words.entry.now ≡ image_line program source text files
+        → IsNoFlag (text_in source) → 0 < length files → All IsNoFlag files → Asks (to_image source text false files) result }
     ensures check { (program file : List ℕ)
         → map S.text words.entry.now ≡ file_line program (codes "check") file
         → IsNoFlag file → Asks (to_check false false file) result }
@@ -326,8 +326,8 @@ fn list_in<'a>(values: &ArgMatches<'a>, has_files: bool) -> Result<Option<FileLi
 /// The addresses that are asked for, of which there is one list, or one file.
 fn addresses_in<'a>(values: &ArgMatches<'a>) -> Result<Addresses<'a>, Conflict>
     ensures { MatchResult result
-        (λ addresses. origin_in (rows_of (found_of values.now)) ≡ Some (origin_of addresses))
-        (λ _. origin_in (rows_of (found_of values.now)) ≡ None) }
+        (λ addresses. source_in (rows_of (found_of values.now)) ≡ Some (source_of addresses))
+        (λ _. source_in (rows_of (found_of values.now)) ≡ None) }
 {
     match (
         optional_value(values, "at"),

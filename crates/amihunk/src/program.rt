@@ -3,7 +3,7 @@ ghost use Rattle.std.specs.Prelude.{◌≡◌, ◌⊎◌, ◌<◌, ◌≤◌, �
 ghost use Rattle.std.specs.List.{All};
 ghost use Rattle.hunk_tool.specs.declared.copy.CopyForm.{CopyForm};
 ghost use Rattle.hunk_tool.specs.declared.link_options.LinkOptions.{LinkOptions};
-ghost use Rattle.hunk_commands.specs.Addresses.{Origin};
+ghost use Rattle.hunk_commands.specs.Addresses.{AddressSource};
 ghost use Rattle.hunk_commands.specs.declared.load.LoadText.{LoadText};
 ghost use Rattle.hunk_commands.specs.declared.text.ShowText.{ShowText};
 ghost use Rattle.hunk_commands.specs.Request.{EndsCompare, EndsCopy, EndsImage, EndsLink, EndsLoad, EndsNames, EndsSurvey, EndsText, EndsVersion, Reads, Replaces, Run, run_between};
@@ -126,12 +126,12 @@ pub fn run<S: Store, O: Output, W: Sink, T: AsStr>(
     ensures brief { (program : List ℕ) (options : LinkOptions) (out : List ℕ) (map_file : Option (List ℕ)) (files : List (List ℕ))
         → map T.text words.now ≡ brief_link_line program options out map_file files
         → IsNoFlag out → IsNoFlagIn map_file → 0 < length files → All IsNoFlag files → Replaces (run_between S.content O.taken O.failed O.waiting store.old store.new output.old output.new) (λ contents contents_then. EndsLink contents contents_then W.taken W.failed errors.old errors.new out map_file options false false files None result) }
-    ensures load { (program : List ℕ) (origin : Origin) (text : LoadText) (file : List ℕ)
-        → map T.text words.now ≡ load_line program origin text file
-        → IsNoFlag (text_in origin) → IsNoFlag file → Reads (run_between S.content O.taken O.failed O.waiting store.old store.new output.old output.new) (λ contents printed. EndsLoad contents printed W.taken W.failed errors.old errors.new origin text false file result) }
-    ensures image { (program : List ℕ) (origin : Origin) (text : LoadText) (files : List (List ℕ))
-        → map T.text words.now ≡ image_line program origin text files
-        → IsNoFlag (text_in origin) → 0 < length files → All IsNoFlag files → Reads (run_between S.content O.taken O.failed O.waiting store.old store.new output.old output.new) (λ contents printed. EndsImage contents printed W.taken W.failed errors.old errors.new origin text false files result) }
+    ensures load { (program : List ℕ) (source : AddressSource) (text : LoadText) (file : List ℕ)
+        → map T.text words.now ≡ load_line program source text file
+        → IsNoFlag (text_in source) → IsNoFlag file → Reads (run_between S.content O.taken O.failed O.waiting store.old store.new output.old output.new) (λ contents printed. EndsLoad contents printed W.taken W.failed errors.old errors.new source text false file result) }
+    ensures image { (program : List ℕ) (source : AddressSource) (text : LoadText) (files : List (List ℕ))
+        → map T.text words.now ≡ image_line program source text files
+        → IsNoFlag (text_in source) → 0 < length files → All IsNoFlag files → Reads (run_between S.content O.taken O.failed O.waiting store.old store.new output.old output.new) (λ contents printed. EndsImage contents printed W.taken W.failed errors.old errors.new source text false files result) }
     ensures check { (program file : List ℕ)
         → map T.text words.now ≡ file_line program (codes "check") file
         → IsNoFlag file → Reads (run_between S.content O.taken O.failed O.waiting store.old store.new output.old output.new) (λ contents printed. EndsText contents printed W.taken W.failed errors.old errors.new Text.Line false file result) }

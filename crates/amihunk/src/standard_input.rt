@@ -1,11 +1,11 @@
 //! Standard input, which the argument `-` names where a file to read is expected.
 ghost use Rattle.std.specs.Prelude.{◌≡◌, ◌+◌, IfOk, filter, length, map, nat_lt, option_map};
 ghost use Rattle.clap.specs.Walk.{texts};
-ghost use Rattle.hunk_commands.specs.Addresses.{origin_of};
+ghost use Rattle.hunk_commands.specs.Addresses.{source_of};
 ghost use Rattle.hunk_commands.specs.FileList.{given_list};
 ghost use Rattle.hunk_commands.specs.Request.{given_text};
 ghost use Rattle.amihunk.specs.Call.{meaning};
-ghost use Rattle.amihunk.specs.StandardInput.{IsMade, has_hyphens_in, input_list, input_name, input_origin, is_hyphen, list_inputs, named_meaning, one_inputs, origin_inputs};
+ghost use Rattle.amihunk.specs.StandardInput.{IsMade, has_hyphens_in, input_list, input_name, input_source, is_hyphen, list_inputs, named_meaning, one_inputs, source_inputs};
 
 use crate::conflict::Conflict;
 use crate::refusal::refuse;
@@ -106,7 +106,7 @@ fn list_file<'a>(list: Option<FileList<'a>>) -> Option<&'a str>
 
 /// The file of addresses, if they are in one.
 fn addresses_file<'a>(addresses: Addresses<'a>) -> Option<&'a str>
-    ensures { one_inputs (given_text result) ≡ origin_inputs (origin_of addresses.entry) }
+    ensures { one_inputs (given_text result) ≡ source_inputs (source_of addresses.entry) }
 {
     match addresses {
         Addresses::List(_) => None,
@@ -297,7 +297,7 @@ fn input_list<'a>(list: Option<FileList<'a>>) -> Option<FileList<'a>>
 
 /// Addresses in the file that an argument stands for.
 fn input_addresses<'a>(addresses: Addresses<'a>) -> Addresses<'a>
-    ensures { origin_of result ≡ input_origin (origin_of addresses.entry) }
+    ensures { source_of result ≡ input_source (source_of addresses.entry) }
 {
     match addresses {
         Addresses::List(list) => Addresses::List(list),

@@ -3,8 +3,8 @@ use Rattle.std.proofs.Common.{◌≡◌, refl, sym, List, ℕ, IfErr, Result, su
 use Rattle.std.proofs.lemmas.Result.{IfErr-weaker}
 use Rattle.hunk_tool.specs.FileSystem.{IsReaderOf}
 use Rattle.hunk_tool.specs.Inputs.{Input}
-use Rattle.hunk_commands.specs.Addresses.{IsAddressesFailure, IsListFailure, IsReadFailure, Origin}
-use Rattle.hunk_commands.specs.Addresses.Origin.{in_file, in_list}
+use Rattle.hunk_commands.specs.Addresses.{IsAddressesFailure, IsListFailure, IsReadFailure, AddressSource}
+use Rattle.hunk_commands.specs.Addresses.AddressSource.{in_file, in_list}
 use Rattle.hunk_commands.specs.Store.{Contents}
 use Rattle.hunk_commands.specs.declared.failure.Failure.{Failure}
 use Rattle.hunk_commands.specs.declared.failure.Failure.TheVariants.{BadName, BadNumber, MapOverFile, Opening, Printing, Reading, SameFile, TooLong, TooManyAddresses, Tool, Writing}
@@ -30,9 +30,9 @@ module _ (contents : Contents) where
   failure_of_file name input (Tool fault) is_reader why = why
 
   -- the addresses in a file are not known, since its reader stopped
-  pub IsAddressesFailure-read : {T : Type 0} (origin : Origin) (name : List ℕ) (input : Input) (r : Result T Failure) → origin ≡ in_file name → IsReaderOf (contents name) input
-      → IfErr r (IsReadFailure name input) → IfErr r (IsAddressesFailure contents origin)
-  IsAddressesFailure-read origin name input r is is_reader why =
+  pub IsAddressesFailure-read : {T : Type 0} (source : AddressSource) (name : List ℕ) (input : Input) (r : Result T Failure) → source ≡ in_file name → IsReaderOf (contents name) input
+      → IfErr r (IsReadFailure name input) → IfErr r (IsAddressesFailure contents source)
+  IsAddressesFailure-read source name input r is is_reader why =
       subst (λ o. IfErr r (IsAddressesFailure contents o)) (sym is)
       (IfErr-weaker r (IsReadFailure name input) (IsAddressesFailure contents (in_file name)) (λ failure. failure_of_file name input failure is_reader) why)
 
@@ -50,7 +50,7 @@ module _ (contents : Contents) where
   failure_of_list list (Tool fault) why = why
 
   -- those in a list are not known
-  pub IsAddressesFailure-list : {T : Type 0} (origin : Origin) (list : List ℕ) (r : Result T Failure) → origin ≡ in_list list → IfErr r (IsListFailure list) → IfErr r (IsAddressesFailure contents origin)
-  IsAddressesFailure-list origin list r is why =
+  pub IsAddressesFailure-list : {T : Type 0} (source : AddressSource) (list : List ℕ) (r : Result T Failure) → source ≡ in_list list → IfErr r (IsListFailure list) → IfErr r (IsAddressesFailure contents source)
+  IsAddressesFailure-list source list r is why =
       subst (λ o. IfErr r (IsAddressesFailure contents o)) (sym is)
       (IfErr-weaker r (IsListFailure list) (IsAddressesFailure contents (in_list list)) (failure_of_list list) why)

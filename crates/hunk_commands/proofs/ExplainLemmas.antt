@@ -18,7 +18,7 @@ use Rattle.hunk_loadfile.specs.LoadHunk.{FileHunk}
 use Rattle.hunk_files.specs.Explanation.{EndsWith, IsEnd, IsExplained}
 use Rattle.hunk_memory.specs.PlacesText.{places_text}
 use Rattle.hunk_files.specs.declared.explanation.Explanation.{Explanation}
-use Rattle.hunk_commands.specs.Addresses.{HaveNumbers, Origin}
+use Rattle.hunk_commands.specs.Addresses.{HaveNumbers, AddressSource}
 use Rattle.hunk_commands.specs.Again.{IsOffence}
 use Rattle.hunk_commands.specs.Explain.{AreLines, AreLinesOf, AreNoLines, ArePlaceLines, ArePlaceLinesOf, AreRefusalLinesOf, AreToldThen, IfAsked, OrUnexplained, TellsMore, TellsUnless, kind_read, sizes_of}
 use Rattle.hunk_commands.specs.Failure.{TellsLine}
@@ -54,9 +54,9 @@ EndsWith-found (Some e) ended ends = ends
 
 -- ---- hunks beside addresses
 
-place_lines : (contents : Contents) (origin : Origin) (AreHunks : List FileHunk → Type 0) (loaded hunks : List FileHunk) (bases : List ℕ) → hunks ≡ loaded → AreHunks loaded → HaveNumbers contents origin bases
-    → ArePlaceLines contents origin AreHunks (places_text (sizes_of hunks) bases)
-place_lines contents origin AreHunks loaded hunks bases same are numbers_are = record {
+place_lines : (contents : Contents) (source : AddressSource) (AreHunks : List FileHunk → Type 0) (loaded hunks : List FileHunk) (bases : List ℕ) → hunks ≡ loaded → AreHunks loaded → HaveNumbers contents source bases
+    → ArePlaceLines contents source AreHunks (places_text (sizes_of hunks) bases)
+place_lines contents source AreHunks loaded hunks bases same are numbers_are = record {
   bases = bases;
   numbers_are = numbers_are;
   holds = (hunks, subst AreHunks (sym same) are, refl);
@@ -93,10 +93,10 @@ module _ {W : Type 0} (taken : W → Option (List ℕ)) (failed : W → Bool) wh
       record { more = unexplained_line why; is_more = inr (why, holds, refl); told = subst (λ w. TellsLine taken failed w new (unexplained_line why)) same told }
 
   -- the lines about hunks beside their addresses
-  pub tells_places : (old new : W) (contents : Contents) (origin : Origin) (AreHunks : List FileHunk → Type 0) (loaded hunks : List FileHunk) (bases : List ℕ)
-      → hunks ≡ loaded → AreHunks loaded → HaveNumbers contents origin bases → TellsLine taken failed old new (places_text (sizes_of hunks) bases) → TellsMore taken failed old new (ArePlaceLines contents origin AreHunks)
-  tells_places old new contents origin AreHunks loaded hunks bases same are numbers_are told =
-      tells_exactly old new (ArePlaceLines contents origin AreHunks) (places_text (sizes_of hunks) bases) (place_lines contents origin AreHunks loaded hunks bases same are numbers_are) told
+  pub tells_places : (old new : W) (contents : Contents) (source : AddressSource) (AreHunks : List FileHunk → Type 0) (loaded hunks : List FileHunk) (bases : List ℕ)
+      → hunks ≡ loaded → AreHunks loaded → HaveNumbers contents source bases → TellsLine taken failed old new (places_text (sizes_of hunks) bases) → TellsMore taken failed old new (ArePlaceLines contents source AreHunks)
+  tells_places old new contents source AreHunks loaded hunks bases same are numbers_are told =
+      tells_exactly old new (ArePlaceLines contents source AreHunks) (places_text (sizes_of hunks) bases) (place_lines contents source AreHunks loaded hunks bases same are numbers_are) told
 
   -- a line, and nothing after it
   pub tells_line_alone : (old new : W) (line : List ℕ) → TellsLine taken failed old new line → TellsLine taken failed old new (line ++ [])

@@ -10,8 +10,8 @@ use Rattle.hunk_tool.specs.Load.{IsReported}
 use Rattle.hunk_tool.specs.declared.link_options.LinkOptions.{LinkOptions}
 use Rattle.hunk_tool.proofs.HeadlineLemmas.{reports-agree}
 use Rattle.hunk_memory.specs.BasesFile.{file_numbers}
-use Rattle.hunk_commands.specs.Addresses.{HasNumbers, HaveNumbers, Origin}
-use Rattle.hunk_commands.specs.Addresses.Origin.{in_file, in_list}
+use Rattle.hunk_commands.specs.Addresses.{HasNumbers, HaveNumbers, AddressSource}
+use Rattle.hunk_commands.specs.Addresses.AddressSource.{in_file, in_list}
 use Rattle.hunk_commands.specs.Headline.{AreKept, LoadPrintsTheImage}
 use Rattle.hunk_commands.specs.Inputs.{AreReadersOf, OfWholeFiles}
 use Rattle.hunk_commands.specs.Link.{IsDone, IsLinkedWithMap}
@@ -120,16 +120,16 @@ file_numbers_are content bases text is of =
     subst (λ bytes. file_numbers bytes ≡ map Some bases) (was_whole content of.input of.holds.0 text is of.is_reader of.holds.1) of.holds.2.numbers
 
 -- both read the same numbers
-same_numbers : (contents contents_then : Contents) (origin : Origin) (bases other : List ℕ) → AreKept contents contents_then origin → HaveNumbers contents origin bases → HaveNumbers contents_then origin other → bases ≡ other
+same_numbers : (contents contents_then : Contents) (source : AddressSource) (bases other : List ℕ) → AreKept contents contents_then source → HaveNumbers contents source bases → HaveNumbers contents_then source other → bases ≡ other
 same_numbers contents contents_then (in_list list) bases other kept numbers there = map_some_injective bases other (sym numbers ∙ there)
 same_numbers contents contents_then (in_file name) bases other (text, before, after) numbers there =
     map_some_injective bases other (sym (file_numbers_are (contents name) bases text before numbers) ∙ file_numbers_are (contents_then name) other text after there)
 
 pub load_prints_the_image : LoadPrintsTheImage
 unfolding linked bytes taken_is linked_as out_is
-load_prints_the_image globals options form origin contents contents_then files texts out map_file loaded imaged told other of kept is_loaded loads is_imaged images =
+load_prints_the_image globals options form source contents contents_then files texts out map_file loaded imaged told other of kept is_loaded loads is_imaged images =
     let bases = is_loaded.0.bases in
-    let same : is_imaged.0.bases ≡ bases = same_numbers contents contents_then origin is_imaged.0.bases bases kept is_imaged.0.numbers_are is_loaded.0.numbers_are in
+    let same : is_imaged.0.bases ≡ bases = same_numbers contents contents_then source is_imaged.0.bases bases kept is_imaged.0.numbers_are is_loaded.0.numbers_are in
     let is_put : IsPut globals options contents files out contents_then = put globals options contents contents_then files out map_file of.out_known of.done in
     let file = bytes globals options contents contents_then files texts out of.texts_are is_put in
     let reported : IsReported form bases loaded.old loaded.new file = of_known_file (contents_then out) file (IsReported form bases loaded.old loaded.new) (out_is globals options contents contents_then files texts out of.texts_are is_put) is_loaded.0.holds in

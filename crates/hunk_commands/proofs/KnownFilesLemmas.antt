@@ -8,7 +8,7 @@ use Rattle.hunk_tool.specs.declared.copy.CopyForm.{CopyForm}
 use Rattle.hunk_tool.specs.declared.link_options.LinkOptions.{LinkOptions}
 use Rattle.hunk_tool.specs.declared.tool_fault.ToolFault.{ToolFault}
 use Rattle.hunk_tool.specs.declared.tool_fault.ToolFault.TheVariants as tool_fault
-use Rattle.hunk_commands.specs.Addresses.{Origin}
+use Rattle.hunk_commands.specs.Addresses.{AddressSource}
 use Rattle.hunk_commands.specs.Compare.{IsCompareFailure}
 use Rattle.hunk_commands.specs.Copy.{IsCopyFailure}
 use Rattle.hunk_commands.specs.FileList.{IsListFailure, IsUnopenedList, NamedList}
@@ -95,18 +95,18 @@ module _ (contents contents_then : Contents) (printed : Printed) (are_known : Ar
       let unread = gives of.inputs of.holds in
       no_read_failed contents are_known names of.inputs unread.before unread.after unread.input of.are_readers unread.among unread.refused
 
-  load : (text : LoadText) (origin : Origin) (file : List ℕ) (failure : Failure) → IsOfDevice failure → IsLoadFailure text contents origin file printed failure → ⊥
+  load : (text : LoadText) (source : AddressSource) (file : List ℕ) (failure : Failure) → IsOfDevice failure → IsLoadFailure text contents source file printed failure → ⊥
   unfolding no_write no_file no_reader
-  load text origin file = by_device (λ failure. IsLoadFailure text contents origin file printed failure → ⊥)
+  load text source file = by_device (λ failure. IsLoadFailure text contents source file printed failure → ⊥)
       (λ name why. elim why [ inl first ↦ no_reader name.now (λ input. IsTrue input.failed) (λ input failing. failing) first.0.1 | inr second ↦ absurd second ])
       (λ name why. elim why [ inl first ↦ absurd first.0 | inr second ↦ absurd second ])
       (λ why. elim why [ inl first ↦ absurd first.0 | inr second ↦ no_write second.1 ])
       (λ number why. elim why [ inl first ↦ device_apart number first.0 | inr at ↦ no_file file (at.holds.is_reader.may_fail at.holds.holds.1) ])
       (λ written why. elim why [ inl first ↦ output_apart written first.0 | inr at ↦ no_write at.holds.holds.2 ])
 
-  image : (text : LoadText) (origin : Origin) (files : List (List ℕ)) (failure : Failure) → IsOfDevice failure → IsImageFailure text contents origin files printed failure → ⊥
+  image : (text : LoadText) (source : AddressSource) (files : List (List ℕ)) (failure : Failure) → IsOfDevice failure → IsImageFailure text contents source files printed failure → ⊥
   unfolding no_write no_file no_reader no_readers
-  image text origin files = by_device (λ failure. IsImageFailure text contents origin files printed failure → ⊥)
+  image text source files = by_device (λ failure. IsImageFailure text contents source files printed failure → ⊥)
       (λ name why. elim why [
         | inl first ↦ no_reader name.now (λ input. IsTrue input.failed) (λ input failing. failing) first.0.1
         | inr second ↦ elim second [ inl unopened ↦ absurd unopened.0.holds | inr third ↦ elim third [ inl stopped ↦ absurd stopped | inr unprinted ↦ no_write unprinted.2 ] ]
@@ -238,8 +238,8 @@ module _ (contents contents_then : Contents) (printed : Printed) (are_known : Ar
 pub no_device_fails : NoDeviceFails
 unfolding load image told compared unlisted surveyed linked mapped copied
 no_device_fails contents contents_then printed failure are_known are_known_then whole is = record {
-  load = λ text origin file. load contents contents_then printed are_known are_known_then whole text origin file failure is;
-  image = λ text origin files. image contents contents_then printed are_known are_known_then whole text origin files failure is;
+  load = λ text source file. load contents contents_then printed are_known are_known_then whole text source file failure is;
+  image = λ text source files. image contents contents_then printed are_known are_known_then whole text source files failure is;
   text = λ text file. told contents contents_then printed are_known are_known_then whole text file failure is;
   compare = λ with_symbols first second. compared contents contents_then printed are_known are_known_then whole with_symbols first second failure is;
   survey = λ options files list. surveyed contents contents_then printed are_known are_known_then whole options files list failure is;

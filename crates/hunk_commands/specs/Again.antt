@@ -13,7 +13,7 @@ use Rattle.hunk_files.specs.declared.explanation.Explanation.{Explanation}
 use Rattle.hunk_tool.specs.FileSystem.{FileContent, MayBeMissing, OfFile}
 use Rattle.hunk_tool.specs.Inputs.{IsInputFault}
 use Rattle.hunk_tool.specs.ObjectFiles.{AreFileUnits, FileUnit}
-use Rattle.hunk_commands.specs.Addresses.{AreUnopened, IsAddressesFailure, Origin}
+use Rattle.hunk_commands.specs.Addresses.{AreUnopened, IsAddressesFailure, AddressSource}
 use Rattle.hunk_commands.specs.Inputs.{IsOpenFailure, OfFiles, OfWholeFiles}
 use Rattle.hunk_commands.specs.Link.{AreUnlinked}
 use Rattle.hunk_commands.specs.Store.{Contents}
@@ -98,13 +98,13 @@ IsNotLinkedAgain contents files = IsNotAgain (MayLack contents files) (FailsAgai
 -- ---- hunks beside addresses
 
 -- the addresses are in a file that may not be there
-abbrev pub MayLackAddresses : Contents → Origin → Type 0
-MayLackAddresses contents origin = (name : List ℕ) × AreUnopened contents origin name
+abbrev pub MayLackAddresses : Contents → AddressSource → Type 0
+MayLackAddresses contents source = (name : List ℕ) × AreUnopened contents source name
 
 -- why the addresses are not known again
-abbrev pub AreNoAddressesAgain : Contents → Origin → Unexplained → Type 0
-AreNoAddressesAgain contents origin = IsNotAgain (MayLackAddresses contents origin) (FailsAgain (IsAddressesFailure contents origin))
+abbrev pub AreNoAddressesAgain : Contents → AddressSource → Unexplained → Type 0
+AreNoAddressesAgain contents source = IsNotAgain (MayLackAddresses contents source) (FailsAgain (IsAddressesFailure contents source))
 
 -- why hunks are not told beside these addresses: the addresses are not known again, or this holds of the hunks
-abbrev pub IsNotPlacedAgain : Contents → Origin → (AreNoHunks : Unexplained → Type 0) → Unexplained → Type 0
-IsNotPlacedAgain contents origin AreNoHunks why = AreNoAddressesAgain contents origin why ⊎ AreNoHunks why
+abbrev pub IsNotPlacedAgain : Contents → AddressSource → (AreNoHunks : Unexplained → Type 0) → Unexplained → Type 0
+IsNotPlacedAgain contents source AreNoHunks why = AreNoAddressesAgain contents source why ⊎ AreNoHunks why

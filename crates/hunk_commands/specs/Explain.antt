@@ -16,7 +16,7 @@ use Rattle.hunk_tool.specs.ObjectFiles.{FileUnit}
 use Rattle.hunk_memory.specs.PlacesText.{places_text}
 use Rattle.hunk_files.specs.declared.explanation.Explanation.{Explanation}
 use Rattle.hunk_tool.specs.declared.tool_fault.ToolFault.TheVariants.{Input, InputDevice, Link, Place}
-use Rattle.hunk_commands.specs.Addresses.{AtBases, Origin, origin_of}
+use Rattle.hunk_commands.specs.Addresses.{AtBases, AddressSource, source_of}
 use Rattle.hunk_commands.specs.Again.{AreNoUnitsAgain, HaveUnits, IsGiven, IsNotExplained, IsNotLinkedAgain, IsNotLoadedAgain, IsNotPlacedAgain}
 use Rattle.hunk_commands.specs.Failure.{TellsLine}
 use Rattle.hunk_commands.specs.Store.{Contents}
@@ -74,9 +74,9 @@ abbrev pub sizes_of : List FileHunk → List ℕ
 sizes_of hunks = map (λ hunk. hunk.size) hunks
 
 -- the lines about hunks of which this holds, beside the numbers of these addresses
-abbrev pub ArePlaceLines : Contents → Origin → (AreHunks : List FileHunk → Type 0) → (more : List ℕ) → Type 0
-ArePlaceLines contents origin AreHunks more =
-    AtBases contents origin (λ bases. (hunks : List FileHunk) × AreHunks hunks × (more ≡ places_text (sizes_of hunks) bases))
+abbrev pub ArePlaceLines : Contents → AddressSource → (AreHunks : List FileHunk → Type 0) → (more : List ℕ) → Type 0
+ArePlaceLines contents source AreHunks more =
+    AtBases contents source (λ bases. (hunks : List FileHunk) × AreHunks hunks × (more ≡ places_text (sizes_of hunks) bases))
 
 -- ---- units that do not link
 
@@ -137,20 +137,20 @@ AreRefusalLinesOf contents command.LoadFile files = AreNoUnitLines
 AreRefusalLinesOf contents command.Text files = AreNoUnitLines
 
 -- the lines about the hunks of a load file that cannot be placed
-abbrev pub AreLoadedPlaces : Contents → Origin → FileContent → (more : List ℕ) → Type 0
-AreLoadedPlaces contents origin content =
-    OrUnexplained (IsNotPlacedAgain contents origin (IsNotLoadedAgain content)) (ArePlaceLines contents origin (IsLoadFile content))
+abbrev pub AreLoadedPlaces : Contents → AddressSource → FileContent → (more : List ℕ) → Type 0
+AreLoadedPlaces contents source content =
+    OrUnexplained (IsNotPlacedAgain contents source (IsNotLoadedAgain content)) (ArePlaceLines contents source (IsLoadFile content))
 
 -- and about those of the load file of object files
-abbrev pub AreLinkedPlaces : Contents → Origin → (files : List (List ℕ)) → (more : List ℕ) → Type 0
-AreLinkedPlaces contents origin files =
-    OrUnexplained (IsNotPlacedAgain contents origin (IsNotLinkedAgain contents files)) (ArePlaceLines contents origin (DoLinkTo false true contents files))
+abbrev pub AreLinkedPlaces : Contents → AddressSource → (files : List (List ℕ)) → (more : List ℕ) → Type 0
+AreLinkedPlaces contents source files =
+    OrUnexplained (IsNotPlacedAgain contents source (IsNotLinkedAgain contents files)) (ArePlaceLines contents source (DoLinkTo false true contents files))
 
 -- the lines about hunks that cannot be placed, for a command and its files
 abbrev pub ArePlaceLinesOf : Contents → Command → (files : List (List ℕ)) → (more : List ℕ) → Type 0
 ArePlaceLinesOf contents command.Link files = AreNoLines
-ArePlaceLinesOf contents (command.Image addresses) files = AreLinkedPlaces contents (origin_of addresses) files
-ArePlaceLinesOf contents (command.Load addresses) files = AreLoadedPlaces contents (origin_of addresses) (content_at contents files 0)
+ArePlaceLinesOf contents (command.Image addresses) files = AreLinkedPlaces contents (source_of addresses) files
+ArePlaceLinesOf contents (command.Load addresses) files = AreLoadedPlaces contents (source_of addresses) (content_at contents files 0)
 ArePlaceLinesOf contents command.LoadFile files = AreNoLines
 ArePlaceLinesOf contents command.Text files = AreNoLines
 
@@ -162,11 +162,11 @@ AreLinesOf contents command files = AreLines contents (kind_read command) (AreRe
 abbrev pub AreLinkLines : Contents → (files : List (List ℕ)) → Failure → (more : List ℕ) → Type 0
 AreLinkLines contents files = AreLines contents reads_objects (AreUnitLines contents files) AreNoLines files
 
-abbrev pub AreImageLines : Contents → Origin → (files : List (List ℕ)) → Failure → (more : List ℕ) → Type 0
-AreImageLines contents origin files = AreLines contents reads_objects (AreUnitLines contents files) (AreLinkedPlaces contents origin files) files
+abbrev pub AreImageLines : Contents → AddressSource → (files : List (List ℕ)) → Failure → (more : List ℕ) → Type 0
+AreImageLines contents source files = AreLines contents reads_objects (AreUnitLines contents files) (AreLinkedPlaces contents source files) files
 
-abbrev pub AreLoadLines : Contents → Origin → (file : List ℕ) → Failure → (more : List ℕ) → Type 0
-AreLoadLines contents origin file = AreLines contents reads_a_load_file AreNoUnitLines (AreLoadedPlaces contents origin (contents file)) (file ∷ [])
+abbrev pub AreLoadLines : Contents → AddressSource → (file : List ℕ) → Failure → (more : List ℕ) → Type 0
+AreLoadLines contents source file = AreLines contents reads_a_load_file AreNoUnitLines (AreLoadedPlaces contents source (contents file)) (file ∷ [])
 
 abbrev pub AreLoadFileLines : Contents → (files : List (List ℕ)) → Failure → (more : List ℕ) → Type 0
 AreLoadFileLines contents files = AreLines contents reads_a_load_file AreNoUnitLines AreNoLines files

@@ -10,8 +10,8 @@ use Rattle.hunk_tool.specs.declared.tool_fault.ToolFault.TheVariants.{Input, Out
 use Rattle.hunk_tool.specs.ToolFault.{status}
 use Rattle.hunk_commands.specs.declared.failure.Failure.{Failure}
 use Rattle.hunk_commands.specs.declared.failure.Failure.TheVariants.{BadName, BadNumber, MapOverFile, Opening, Printing, Reading, SameFile, TooLong, TooManyAddresses, Tool, Writing}
-use Rattle.hunk_commands.specs.Addresses.{Origin, origin_of}
-use Rattle.hunk_commands.specs.Addresses.Origin.{in_file, in_list}
+use Rattle.hunk_commands.specs.Addresses.{AddressSource, source_of}
+use Rattle.hunk_commands.specs.Addresses.AddressSource.{in_file, in_list}
 
 -- 2 if the addresses or a name in a list are rejected, or MAP is one file with OUT or with one of the FILEs, 3 if
 -- a file cannot be opened, or a read of the addresses or of a list or a write failed, also one of the map, and otherwise the
@@ -35,17 +35,17 @@ status_of_comparison (Tool (Input file fault)) = 2
 status_of_comparison failure = status_of failure
 
 -- what the line about bad addresses names: the option of the list, or the file
-abbrev pub origin_name : Origin → List ℕ
-origin_name (in_list list) = codes "--at"
-origin_name (in_file name) = name
+abbrev pub source_name : AddressSource → List ℕ
+source_name (in_list list) = codes "--at"
+source_name (in_file name) = name
 
 -- the line that tells this about the part of a file that has this kind and index
 abbrev pub part_line : (file kind : List ℕ) → ℕ → (told : List ℕ) → List ℕ
 part_line file kind index told = line (codes "amihunk: " ++ file ++ kind ++ decimal index ++ told)
 
 -- the line for a part of the addresses that is not a number
-abbrev pub bad_number_line : Origin → ℕ → List ℕ
-bad_number_line origin index = part_line (origin_name origin) (codes ": part ") index (codes " is not 1 to 8 hexadecimal digits")
+abbrev pub bad_number_line : AddressSource → ℕ → List ℕ
+bad_number_line source index = part_line (source_name source) (codes ": part ") index (codes " is not 1 to 8 hexadecimal digits")
 
 -- the line for a name in a list that is not UTF-8
 abbrev pub bad_name_line : (list : List ℕ) → ℕ → List ℕ
@@ -57,7 +57,7 @@ about_line file told = line (codes "amihunk: " ++ file ++ codes ": " ++ told)
 
 -- the line that reports the failure, if the files have these names
 abbrev pub failure_line : List (List ℕ) → Failure → List ℕ
-failure_line names (BadNumber addresses index) = bad_number_line (origin_of addresses) index
+failure_line names (BadNumber addresses index) = bad_number_line (source_of addresses) index
 failure_line names (TooManyAddresses file) = about_line file.now (codes "more than 65535 addresses")
 failure_line names (TooLong file) = about_line file.now (codes "more than 16777216 bytes")
 failure_line names (Opening file reason) = about_line file.now (codes "cannot be opened")

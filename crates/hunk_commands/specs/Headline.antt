@@ -3,8 +3,8 @@ use Rattle.std.specs.Prelude.{◌≡◌, ℕ, Bool, List, ◌++◌, Option, Some
 use Rattle.hunk_memory.specs.declared.image_form.ImageForm.{ImageForm}
 use Rattle.hunk_tool.specs.FileSystem.FileContent.{known}
 use Rattle.hunk_tool.specs.declared.link_options.LinkOptions.{LinkOptions}
-use Rattle.hunk_commands.specs.Addresses.{Origin}
-use Rattle.hunk_commands.specs.Addresses.Origin.{in_file, in_list}
+use Rattle.hunk_commands.specs.Addresses.{AddressSource}
+use Rattle.hunk_commands.specs.Addresses.AddressSource.{in_file, in_list}
 use Rattle.hunk_commands.specs.Image.{AreImaged}
 use Rattle.hunk_commands.specs.Link.{IsDone}
 use Rattle.hunk_commands.specs.Load.{IsLoaded}
@@ -26,7 +26,7 @@ pub record IsMadeOf (globals : Bool) (options : LinkOptions) (contents : Content
   pub done : IsDone globals options contents files out map_file contents_then
 
 -- the addresses are in a list, or in a file with the same bytes before and after
-abbrev pub AreKept : (contents contents_then : Contents) → Origin → Type 0
+abbrev pub AreKept : (contents contents_then : Contents) → AddressSource → Type 0
 AreKept contents contents_then (in_list list) = ⊤
 AreKept contents contents_then (in_file name) = (bytes : List ℕ) × (contents name ≡ known bytes) × (contents_then name ≡ known bytes)
 
@@ -34,9 +34,9 @@ AreKept contents contents_then (in_file name) = (bytes : List ℕ) × (contents 
 -- `image` of the files did, these two printed the same.
 abbrev pub LoadPrintsTheImage : Type 0
 LoadPrintsTheImage =
-    (globals : Bool) (options : LinkOptions) (form : ImageForm) (origin : Origin) (contents contents_then : Contents) (files texts : List (List ℕ)) (out : List ℕ) (map_file : Option (List ℕ))
+    (globals : Bool) (options : LinkOptions) (form : ImageForm) (source : AddressSource) (contents contents_then : Contents) (files texts : List (List ℕ)) (out : List ℕ) (map_file : Option (List ℕ))
     (loaded imaged : Printed) (told other : List ℕ)
-    → IsMadeOf globals options contents files texts out map_file contents_then → AreKept contents contents_then origin
-    → IsLoaded (Image form) contents_then origin out loaded → PrintsAfter loaded told
-    → AreImaged (Image form) contents origin files imaged → PrintsAfter imaged other
+    → IsMadeOf globals options contents files texts out map_file contents_then → AreKept contents contents_then source
+    → IsLoaded (Image form) contents_then source out loaded → PrintsAfter loaded told
+    → AreImaged (Image form) contents source files imaged → PrintsAfter imaged other
     → told ≡ other

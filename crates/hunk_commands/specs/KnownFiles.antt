@@ -3,7 +3,7 @@ use Rattle.std.specs.Prelude.{◌≡◌, ℕ, List, Bool, Option, false, ⊤}
 use Rattle.hunk_tool.specs.declared.copy.CopyForm.{CopyForm}
 use Rattle.hunk_tool.specs.declared.link_options.LinkOptions.{LinkOptions}
 use Rattle.hunk_tool.specs.declared.tool_fault.ToolFault.TheVariants.{InputDevice, Output}
-use Rattle.hunk_commands.specs.Addresses.{Origin}
+use Rattle.hunk_commands.specs.Addresses.{AddressSource}
 use Rattle.hunk_commands.specs.Compare.{IsCompareFailure}
 use Rattle.hunk_commands.specs.Copy.{IsCopyFailure}
 use Rattle.hunk_commands.specs.FileList.{IsListFailure, NamedList}
@@ -35,8 +35,8 @@ AreKnown contents = (name : List ℕ) → IsKnown (contents name)
 
 -- no request failed so
 pub record IsNoFailure (contents contents_then : Contents) (printed : Printed) (failure : Failure) : Type 0 where
-  pub load : (text : LoadText) (origin : Origin) (file : List ℕ) → IsLoadFailure text contents origin file printed failure → ⊥
-  pub image : (text : LoadText) (origin : Origin) (files : List (List ℕ)) → IsImageFailure text contents origin files printed failure → ⊥
+  pub load : (text : LoadText) (source : AddressSource) (file : List ℕ) → IsLoadFailure text contents source file printed failure → ⊥
+  pub image : (text : LoadText) (source : AddressSource) (files : List (List ℕ)) → IsImageFailure text contents source files printed failure → ⊥
   pub text : (text : Text) (file : List ℕ) → IsTextFailure text contents file printed failure → ⊥
   pub compare : (with_symbols : Bool) (first second : List ℕ) → IsCompareFailure with_symbols contents first second printed failure → ⊥
   pub survey : (options : SurveyOptions) (files : List (List ℕ)) (list : Option NamedList) → IsSurveyFailure options contents files list printed failure → ⊥

@@ -5,7 +5,7 @@ use Rattle.hunk_tool.specs.Inputs.{file_names}
 use Rattle.hunk_tool.specs.declared.copy.CopyForm.{CopyForm}
 use Rattle.hunk_tool.specs.declared.link_options.LinkOptions.{LinkOptions}
 use Rattle.hunk_tool.specs.declared.tool_fault.ToolFault.TheVariants as tool_fault
-use Rattle.hunk_commands.specs.Addresses.{Origin, origin_of}
+use Rattle.hunk_commands.specs.Addresses.{AddressSource, source_of}
 use Rattle.hunk_commands.specs.Explain.{AreImageLines, AreLinkLines, AreLoadFileLines, AreLoadLines, AreNoLines, AreTextLines, IfAsked}
 use Rattle.hunk_commands.specs.FileList.{AreNamesIn, IsListFailure, NamedList, given_list}
 use Rattle.hunk_commands.specs.Failure.{failure_line, status_of, status_of_comparison, TellsLine}
@@ -59,18 +59,18 @@ OrUntouched contents contents_then Why failure =
 -- ---- requests that print
 
 -- the status after `load`
-abbrev pub EndsLoad : {W : Type 0} → Contents → Printed → (taken : W → Option (List ℕ)) (failed : W → Bool) (old new : W) (origin : Origin) (text : LoadText) (explain : Bool) (file : List ℕ) → ℕ → Type 0
-EndsLoad contents printed taken failed old new origin text explain file status =
-    ((status ≡ 0) × IsLoaded text contents origin file printed)
-    ⊎ IsFailed taken failed old new (OrExhausted printed (IsLoadFailure text contents origin file printed))
-    (IfAsked explain (AreLoadLines contents origin file)) (file ∷ []) status
+abbrev pub EndsLoad : {W : Type 0} → Contents → Printed → (taken : W → Option (List ℕ)) (failed : W → Bool) (old new : W) (source : AddressSource) (text : LoadText) (explain : Bool) (file : List ℕ) → ℕ → Type 0
+EndsLoad contents printed taken failed old new source text explain file status =
+    ((status ≡ 0) × IsLoaded text contents source file printed)
+    ⊎ IsFailed taken failed old new (OrExhausted printed (IsLoadFailure text contents source file printed))
+    (IfAsked explain (AreLoadLines contents source file)) (file ∷ []) status
 
 -- the status after `image`
-abbrev pub EndsImage : {W : Type 0} → Contents → Printed → (taken : W → Option (List ℕ)) (failed : W → Bool) (old new : W) (origin : Origin) (text : LoadText) (explain : Bool) (files : List (List ℕ)) → ℕ → Type 0
-EndsImage contents printed taken failed old new origin text explain files status =
-    ((status ≡ 0) × AreImaged text contents origin files printed)
-    ⊎ IsFailed taken failed old new (OrExhausted printed (IsImageFailure text contents origin files printed))
-    (IfAsked explain (AreImageLines contents origin files)) files status
+abbrev pub EndsImage : {W : Type 0} → Contents → Printed → (taken : W → Option (List ℕ)) (failed : W → Bool) (old new : W) (source : AddressSource) (text : LoadText) (explain : Bool) (files : List (List ℕ)) → ℕ → Type 0
+EndsImage contents printed taken failed old new source text explain files status =
+    ((status ≡ 0) × AreImaged text contents source files printed)
+    ⊎ IsFailed taken failed old new (OrExhausted printed (IsImageFailure text contents source files printed))
+    (IfAsked explain (AreImageLines contents source files)) files status
 
 -- the status after a text about FILE
 abbrev pub EndsText : {W : Type 0} → Contents → Printed → (taken : W → Option (List ℕ)) (failed : W → Bool) (old new : W) (text : Text) (explain : Bool) (file : List ℕ) → ℕ → Type 0
@@ -168,9 +168,9 @@ Refuses run Holds = Holds × AreUnchanged run.contents run.contents_then × IsNo
 -- the status after a request
 abbrev pub Ends : {W : Type 0} → Run → (taken : W → Option (List ℕ)) (failed : W → Bool) (old new : W) → Request → ℕ → Type 0
 Ends run taken failed old new (Load addresses text explain file) status =
-    Reads run (λ contents printed. EndsLoad contents printed taken failed old new (origin_of addresses) text explain file.now status)
+    Reads run (λ contents printed. EndsLoad contents printed taken failed old new (source_of addresses) text explain file.now status)
 Ends run taken failed old new (Image addresses text explain files) status =
-    Reads run (λ contents printed. EndsImage contents printed taken failed old new (origin_of addresses) text explain (file_names files.items) status)
+    Reads run (λ contents printed. EndsImage contents printed taken failed old new (source_of addresses) text explain (file_names files.items) status)
 Ends run taken failed old new (Check lint explain file) status =
     Reads run (λ contents printed. EndsText contents printed taken failed old new (checked lint) explain file.now status)
 Ends run taken failed old new (Show text explain file) status =

@@ -1,7 +1,7 @@
 //! Where the addresses of the hunks come from: a list, or a file.
 ghost use Rattle.std.specs.Prelude.{◌≡◌, IfOk, IfErr, Some, map};
 ghost use Rattle.hunk_memory.specs.Bases.{numbers};
-ghost use Rattle.hunk_commands.specs.Addresses.{HasNumbers, HaveNumbers, IsAddressesFailure, IsListFailure, IsReadFailure, input_of, origin_of};
+ghost use Rattle.hunk_commands.specs.Addresses.{HasNumbers, HaveNumbers, IsAddressesFailure, IsListFailure, IsReadFailure, input_of, source_of};
 
 use crate::devices::open;
 use crate::failure::Failure;
@@ -34,8 +34,8 @@ pub fn addresses_of<'a, S: Store>(
     store: &S,
     addresses: Addresses<'a>,
 ) -> Result<Vec<u32>, Failure<'a>>
-    ensures ok { IfOk result (λ bases. HaveNumbers (S.content store.now) (origin_of addresses.entry) bases.items) }
-    ensures err { IfErr result (IsAddressesFailure (S.content store.now) (origin_of addresses.entry)) }
+    ensures ok { IfOk result (λ bases. HaveNumbers (S.content store.now) (source_of addresses.entry) bases.items) }
+    ensures err { IfErr result (IsAddressesFailure (S.content store.now) (source_of addresses.entry)) }
 {
     match addresses {
         Addresses::List(list) => parse_list(alloc, list),

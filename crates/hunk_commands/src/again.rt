@@ -2,7 +2,7 @@
 ghost use Rattle.std.specs.Prelude.{◌≡◌, false, true, IfErr, IfOk};
 ghost use Rattle.hunk_tool.specs.FileSystem.{IsContent, MayBeMissing};
 ghost use Rattle.hunk_tool.specs.Inputs.{file_names};
-ghost use Rattle.hunk_commands.specs.Addresses.{HaveNumbers, origin_of};
+ghost use Rattle.hunk_commands.specs.Addresses.{HaveNumbers, source_of};
 ghost use Rattle.hunk_commands.specs.Again.{AreNoAddressesAgain, AreNoUnitsAgain, HaveUnits, IsIrregular, IsNotLinkedAgain, IsNotOpenedAgain};
 ghost use Rattle.hunk_commands.specs.Link.{DoLinkTo};
 
@@ -113,8 +113,8 @@ pub(crate) fn addresses_again<S: Store>(
     store: &S,
     addresses: Addresses<'_>,
 ) -> Result<Vec<u32>, Unexplained>
-    ensures numbers { IfOk result (λ bases. HaveNumbers (S.content store.now) (origin_of addresses.entry) bases.items) }
-    ensures err { IfErr result (AreNoAddressesAgain (S.content store.now) (origin_of addresses.entry)) }
+    ensures numbers { IfOk result (λ bases. HaveNumbers (S.content store.now) (source_of addresses.entry) bases.items) }
+    ensures err { IfErr result (AreNoAddressesAgain (S.content store.now) (source_of addresses.entry)) }
 {
     match addresses {
         Addresses::File(name) if !is_regular(store, name) => Err(Unexplained::NotRegular),

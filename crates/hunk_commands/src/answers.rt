@@ -1,7 +1,7 @@
 //! Doing what each request but `link` asks for.
 ghost use Rattle.std.specs.Prelude.{◌≡◌, map, string_bytes};
 ghost use Rattle.hunk_tool.specs.Inputs.{file_names};
-ghost use Rattle.hunk_commands.specs.Addresses.{origin_of};
+ghost use Rattle.hunk_commands.specs.Addresses.{source_of};
 ghost use Rattle.hunk_commands.specs.Explain.{AreLinesOf, IfAsked};
 ghost use Rattle.hunk_commands.specs.FileList.{given_list};
 ghost use Rattle.hunk_commands.specs.Output.{printed_of};
@@ -60,7 +60,7 @@ pub(crate) fn answer_load<S: Store, O: Output, W: Sink>(
     explain: bool,
     file: &str,
 ) -> u8
-    ensures { EndsLoad (S.content store.now) (printed_of O.taken O.failed O.waiting output.old output.new) W.taken W.failed errors.old errors.new (origin_of addresses.entry) text explain file.now result }
+    ensures { EndsLoad (S.content store.now) (printed_of O.taken O.failed O.waiting output.old output.new) W.taken W.failed errors.old errors.new (source_of addresses.entry) text explain file.now result }
 {
     let Ok(name) = String::from_str(alloc, file) else {
         return report_failure(errors, &[], &Failure::out_of_memory());
@@ -94,7 +94,7 @@ pub(crate) fn answer_image<S: Store, O: Output, W: Sink>(
     explain: bool,
     files: &[&str],
 ) -> u8
-    ensures { EndsImage (S.content store.now) (printed_of O.taken O.failed O.waiting output.old output.new) W.taken W.failed errors.old errors.new (origin_of addresses.entry) text explain (file_names files.now) result }
+    ensures { EndsImage (S.content store.now) (printed_of O.taken O.failed O.waiting output.old output.new) W.taken W.failed errors.old errors.new (source_of addresses.entry) text explain (file_names files.now) result }
 {
     let Ok(names) = names_of(alloc, files) else {
         return report_failure(errors, &[], &Failure::out_of_memory());

@@ -5,7 +5,7 @@ ghost use Rattle.hunk_base.specs.Streams.{HasRead};
 ghost use Rattle.hunk_files.specs.Explanation.{IsEnd, IsExplained, IsUnexplained};
 ghost use Rattle.hunk_memory.specs.PlacesText.{places_text};
 ghost use Rattle.hunk_tool.specs.Inputs.{file_names};
-ghost use Rattle.hunk_commands.specs.Addresses.{origin_of};
+ghost use Rattle.hunk_commands.specs.Addresses.{source_of};
 ghost use Rattle.hunk_commands.specs.Again.{AreNoUnitsAgain, IsGiven, IsNotExplained, IsNotLinkedAgain, IsNotLoadedAgain, IsNotPlacedAgain};
 ghost use Rattle.hunk_commands.specs.Explain.{AreLinesOf, AreOffenceLines, ArePlaceLines, ArePlaceLinesOf, AreRefusalLines, AreRefusalLinesOf, AreToldThen, IsDirectoryOrNone, IsLoadFile, IsReason, TellsMore, TellsUnless, kind_read, sizes_of};
 ghost use Rattle.hunk_commands.specs.Failure.{TellsLine};
@@ -294,7 +294,7 @@ fn explain_loaded_places<S: Store, W: Sink>(
     addresses: Addresses<'_>,
     name: &str,
 ) -> Result<(), Unexplained>
-    ensures { TellsUnless W.taken W.failed errors.old errors.new (ArePlaceLines (S.content store.now) (origin_of addresses.entry) (IsLoadFile (S.content store.now name.now))) (IsNotPlacedAgain (S.content store.now) (origin_of addresses.entry) (IsNotLoadedAgain (S.content store.now name.now))) result }
+    ensures { TellsUnless W.taken W.failed errors.old errors.new (ArePlaceLines (S.content store.now) (source_of addresses.entry) (IsLoadFile (S.content store.now name.now))) (IsNotPlacedAgain (S.content store.now) (source_of addresses.entry) (IsNotLoadedAgain (S.content store.now name.now))) result }
 {
     let bases = addresses_again(alloc, store, addresses)?;
     let mut reader = open_again(store, name)?;
@@ -311,7 +311,7 @@ fn explain_linked_places<S: Store, W: Sink>(
     addresses: Addresses<'_>,
     files: &[&str],
 ) -> Result<(), Unexplained>
-    ensures { TellsUnless W.taken W.failed errors.old errors.new (ArePlaceLines (S.content store.now) (origin_of addresses.entry) (DoLinkTo false true (S.content store.now) (file_names files.now))) (IsNotPlacedAgain (S.content store.now) (origin_of addresses.entry) (IsNotLinkedAgain (S.content store.now) (file_names files.now))) result }
+    ensures { TellsUnless W.taken W.failed errors.old errors.new (ArePlaceLines (S.content store.now) (source_of addresses.entry) (DoLinkTo false true (S.content store.now) (file_names files.now))) (IsNotPlacedAgain (S.content store.now) (source_of addresses.entry) (IsNotLinkedAgain (S.content store.now) (file_names files.now))) result }
 {
     let bases = addresses_again(alloc, store, addresses)?;
     let loaded = linked_again(alloc, store, files)?;

@@ -2,8 +2,8 @@
 ghost use Rattle.std.specs.Prelude.{◌≡◌, map};
 ghost use Rattle.std.specs.String.{string_bytes};
 ghost use Rattle.hunk_tool.specs.FaultLine.{fault_line};
-ghost use Rattle.hunk_commands.specs.Addresses.{origin_of};
-ghost use Rattle.hunk_commands.specs.Failure.{about_line, bad_name_line, bad_number_line, failure_line, origin_name, part_line};
+ghost use Rattle.hunk_commands.specs.Addresses.{source_of};
+ghost use Rattle.hunk_commands.specs.Failure.{about_line, bad_name_line, bad_number_line, failure_line, source_name, part_line};
 ghost use Rattle.hunk_commands.specs.Failure.{status_of, status_of_comparison, TellsLine};
 
 use crate::addresses::Addresses;
@@ -155,10 +155,10 @@ fn tell_failure<W: Sink>(errors: &mut W, files: &[String], failure: &Failure<'_>
 
 /// Writes the line for a part of the addresses that is no number.
 fn tell_bad_number<W: Sink>(errors: &mut W, addresses: Addresses<'_>, index: usize)
-    ensures { TellsLine W.taken W.failed errors.old errors.new (bad_number_line (origin_of addresses.entry) index) }
+    ensures { TellsLine W.taken W.failed errors.old errors.new (bad_number_line (source_of addresses.entry) index) }
 {
     let told = b" is not 1 to 8 hexadecimal digits";
-    tell_of_part(errors, origin_name(addresses), b": part ", index, told);
+    tell_of_part(errors, source_name(addresses), b": part ", index, told);
 }
 
 /// Writes the line for a name in a list that is not UTF-8.
@@ -183,8 +183,8 @@ fn tell_of_part<W: Sink>(errors: &mut W, file: &str, kind: &[u8], index: usize, 
 }
 
 /// What the line about bad addresses names.
-fn origin_name<'a>(addresses: Addresses<'a>) -> &'a str
-    ensures { result.now ≡ origin_name (origin_of addresses.entry) }
+fn source_name<'a>(addresses: Addresses<'a>) -> &'a str
+    ensures { result.now ≡ source_name (source_of addresses.entry) }
 {
     match addresses {
         Addresses::List(_) => "--at",

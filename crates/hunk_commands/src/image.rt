@@ -2,7 +2,7 @@
 ghost use Rattle.std.specs.Prelude.{IfErr, OnOk};
 ghost use Rattle.hunk_tool.specs.Image.{IsUnitsFault, IsUnitsText};
 ghost use Rattle.hunk_tool.specs.Inputs.{HaveRead, file_names, inputs_of};
-ghost use Rattle.hunk_commands.specs.Addresses.{origin_of};
+ghost use Rattle.hunk_commands.specs.Addresses.{source_of};
 ghost use Rattle.hunk_commands.specs.Image.{AreImaged, IsImageFailure, is_stripped, units_text};
 ghost use Rattle.hunk_commands.specs.Output.{printed_of};
 
@@ -34,8 +34,8 @@ pub fn image<'a, S: Store, O: Output>(
     text: LoadText,
     files: &[&'a str],
 ) -> Result<(), Failure<'a>>
-    ensures ok { OnOk result (AreImaged text (S.content store.now) (origin_of addresses.entry) (file_names files.entry.now) (printed_of O.taken O.failed O.waiting output.old output.new)) }
-    ensures err { IfErr result (IsImageFailure text (S.content store.now) (origin_of addresses.entry) (file_names files.entry.now) (printed_of O.taken O.failed O.waiting output.old output.new)) }
+    ensures ok { OnOk result (AreImaged text (S.content store.now) (source_of addresses.entry) (file_names files.entry.now) (printed_of O.taken O.failed O.waiting output.old output.new)) }
+    ensures err { IfErr result (IsImageFailure text (S.content store.now) (source_of addresses.entry) (file_names files.entry.now) (printed_of O.taken O.failed O.waiting output.old output.new)) }
 {
     let bases = addresses_of(alloc, store, addresses)?;
     let mut inputs = open_inputs(alloc, store, files)?;

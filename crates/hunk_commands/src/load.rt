@@ -2,7 +2,7 @@
 ghost use Rattle.std.specs.Prelude.{IfOk, IfErr, IsTrue, OnOk};
 ghost use Rattle.hunk_base.specs.Streams.{HasRead};
 ghost use Rattle.hunk_tool.specs.Load.{IsFaultAt, IsWrittenAt, ends_of};
-ghost use Rattle.hunk_commands.specs.Addresses.{origin_of};
+ghost use Rattle.hunk_commands.specs.Addresses.{source_of};
 ghost use Rattle.hunk_commands.specs.Load.{IsLoadFailure, IsLoaded, text_of};
 ghost use Rattle.hunk_commands.specs.Output.{printed_of};
 
@@ -41,8 +41,8 @@ pub fn load<'a, S: Store, O: Output>(
     text: LoadText,
     file: &'a str,
 ) -> Result<(), Failure<'a>>
-    ensures ok { OnOk result (IsLoaded text (S.content store.now) (origin_of addresses.entry) file.entry.now (printed_of O.taken O.failed O.waiting output.old output.new)) }
-    ensures err { IfErr result (IsLoadFailure text (S.content store.now) (origin_of addresses.entry) file.entry.now (printed_of O.taken O.failed O.waiting output.old output.new)) }
+    ensures ok { OnOk result (IsLoaded text (S.content store.now) (source_of addresses.entry) file.entry.now (printed_of O.taken O.failed O.waiting output.old output.new)) }
+    ensures err { IfErr result (IsLoadFailure text (S.content store.now) (source_of addresses.entry) file.entry.now (printed_of O.taken O.failed O.waiting output.old output.new)) }
 {
     let bases = addresses_of(alloc, store, addresses)?;
     let mut reader = open(store, file)?;

@@ -17,10 +17,10 @@ returns g c =
           asks words _ _ request fits answer is_line (calls-link program options out map_file files plain_out plain_map some plain) (λ e. cc);
       brief = λ program options out map_file files is_line plain_out plain_map some plain.
           asks words _ _ request fits answer is_line (calls-brief program options out map_file files plain_out plain_map some plain) (λ e. cc);
-      load = λ program origin text file is_line plain_value plain.
-          asks words _ _ request fits answer is_line (λ _. calls-load program origin text file plain_value plain) (λ e. cc);
-      image = λ program origin form files is_line plain_value some plain.
-          asks words _ _ request fits answer is_line (calls-image program origin form files plain_value some plain) (λ e. cc);
+      load = λ program source text file is_line plain_value plain.
+          asks words _ _ request fits answer is_line (λ _. calls-load program source text file plain_value plain) (λ e. cc);
+      image = λ program source form files is_line plain_value some plain.
+          asks words _ _ request fits answer is_line (calls-image program source form files plain_value some plain) (λ e. cc);
       check = λ program file is_line plain. asks words _ _ request fits answer is_line (λ _. calls-check program file plain) (λ e. cc);
       show = λ program text file is_line plain. asks words _ _ request fits answer is_line (calls-show program text file plain) (λ e. cc);
       names = λ program files is_line some plain. asks words _ _ request fits answer is_line (calls-names program files some plain) (λ e. cc);

@@ -19,10 +19,10 @@ returns g c =
           ends (calls (to_link out map_file options false false files None)) request status (asked.link program options out map_file files is_line plain_out plain_map some plain) c.answer.ensures;
       brief = λ program options out map_file files is_line plain_out plain_map some plain.
           ends (calls (to_link out map_file options false false files None)) request status (asked.brief program options out map_file files is_line plain_out plain_map some plain) c.answer.ensures;
-      load = λ program origin text file is_line plain_value plain.
-          ends (calls (to_load origin text false file)) request status (asked.load program origin text file is_line plain_value plain) c.answer.ensures;
-      image = λ program origin form files is_line plain_value some plain.
-          ends (calls (to_image origin form false files)) request status (asked.image program origin form files is_line plain_value some plain) c.answer.ensures;
+      load = λ program source text file is_line plain_value plain.
+          ends (calls (to_load source text false file)) request status (asked.load program source text file is_line plain_value plain) c.answer.ensures;
+      image = λ program source form files is_line plain_value some plain.
+          ends (calls (to_image source form false files)) request status (asked.image program source form files is_line plain_value some plain) c.answer.ensures;
       check = λ program file is_line plain. ends (calls (to_check false false file)) request status (asked.check program file is_line plain) c.answer.ensures;
       show = λ program text file is_line plain. ends (calls (to_show text false file)) request status (asked.show program text file is_line plain) c.answer.ensures;
       names = λ program files is_line some plain. ends (calls (to_names files)) request status (asked.names program files is_line some plain) c.answer.ensures;

@@ -1,8 +1,8 @@
 use Rattle.std.proofs.Common.{◌∙◌, [], refl}
-use Rattle.hunk_commands.specs.Addresses.{origin_of}
+use Rattle.hunk_commands.specs.Addresses.{source_of}
 use Rattle.hunk_commands.specs.FileList.{given_list}
 use Rattle.hunk_commands.specs.Request.{given_text}
-use Rattle.amihunk.specs.StandardInput.{list_inputs, one_inputs, origin_inputs}
+use Rattle.amihunk.specs.StandardInput.{list_inputs, one_inputs, source_inputs}
 use Rattle.amihunk.proofs.StandardInputLemmas.{two_hyphens}
 use Rattle.amihunk.proofs.standard_input.has_hyphens_in.Goals as goal
 
@@ -14,7 +14,7 @@ returns-in-Link c =
 pub returns-in-Image : goal.returns-in-Image
 returns-in-Image c =
     rw c.in-Image.is (c.are_two-in-Image.ensures
-    ∙ two_hyphens (one_inputs (given_text c.addresses_file-in-Image.result)) (origin_inputs (origin_of c.in-Image.addresses)) c.as_slice-in-Image.result.now c.in-Image.files.items c.number_of_hyphens-in-Image.result c.addresses_file-in-Image.ensures c.as_slice-in-Image.ensures.value c.number_of_hyphens-in-Image.ensures)
+    ∙ two_hyphens (one_inputs (given_text c.addresses_file-in-Image.result)) (source_inputs (source_of c.in-Image.addresses)) c.as_slice-in-Image.result.now c.in-Image.files.items c.number_of_hyphens-in-Image.result c.addresses_file-in-Image.ensures c.as_slice-in-Image.ensures.value c.number_of_hyphens-in-Image.ensures)
 
 pub returns-in-Names : goal.returns-in-Names
 returns-in-Names c =

@@ -1,7 +1,7 @@
 -- Not done: there is no memory for the name of the file, or the text was not printed.
 use Rattle.std.proofs.Common.{◌∷◌, [], ap, inl, inr, refl}
 use Rattle.std.proofs.KnownBytes.{Keeps-refl}
-use Rattle.hunk_commands.specs.Addresses.{origin_of}
+use Rattle.hunk_commands.specs.Addresses.{source_of}
 use Rattle.hunk_commands.specs.Explain.{AreLoadLines, IfAsked}
 use Rattle.hunk_commands.specs.Load.{IsLoadFailure}
 use Rattle.hunk_commands.specs.Output.{printed_of}
@@ -15,13 +15,13 @@ use Rattle.hunk_commands.proofs.answers.answer_load.Goals as goal
 pub returns-in_default : goal.returns-in_default
 returns-in_default g c =
     let printed = printed_of g.O.Sink.taken g.O.Sink.failed g.O.Output.waiting c.args.output.now c.args.output.now in
-    inr (not_begun g.W.Sink.taken g.W.Sink.failed (OrExhausted printed (IsLoadFailure c.args.text (g.S.FileSystem.content c.args.store.now) (origin_of c.args.addresses) c.args.file.now printed)) (IfAsked c.args.explain (AreLoadLines (g.S.FileSystem.content c.args.store.now) (origin_of c.args.addresses) c.args.file.now)) (c.args.file.now ∷ []) c.report_failure.result c.args.errors.now c.report_failure.new.errors (inl (refl, Keeps-refl printed.old)) (none_asked c.args.explain (AreLoadLines (g.S.FileSystem.content c.args.store.now) (origin_of c.args.addresses) c.args.file.now) (Tool (tool_fault.OutOfMemory 0)) refl)
+    inr (not_begun g.W.Sink.taken g.W.Sink.failed (OrExhausted printed (IsLoadFailure c.args.text (g.S.FileSystem.content c.args.store.now) (source_of c.args.addresses) c.args.file.now printed)) (IfAsked c.args.explain (AreLoadLines (g.S.FileSystem.content c.args.store.now) (source_of c.args.addresses) c.args.file.now)) (c.args.file.now ∷ []) c.report_failure.result c.args.errors.now c.report_failure.new.errors (inl (refl, Keeps-refl printed.old)) (none_asked c.args.explain (AreLoadLines (g.S.FileSystem.content c.args.store.now) (source_of c.args.addresses) c.args.file.now) (Tool (tool_fault.OutOfMemory 0)) refl)
     (out_of_memory_told g.W.Sink.taken g.W.Sink.failed c.args.errors.now c.report_failure.new.errors [] c.out_of_memory.result c.report_failure.result c.out_of_memory.ensures c.report_failure.ensures.status c.report_failure.ensures.line))
 
 pub returns-in-Err : goal.returns-in-Err
 returns-in-Err g c =
     let printed = printed_of g.O.Sink.taken g.O.Sink.failed g.O.Output.waiting c.args.output.now c.load.new.output in
-    inr (IsFailed-why g.W.Sink.taken g.W.Sink.failed (OrExhausted printed (IsLoadFailure c.args.text (g.S.FileSystem.content c.args.store.now) (origin_of c.args.addresses) c.args.file.now printed)) (IfAsked c.args.explain (AreLoadLines (g.S.FileSystem.content c.args.store.now) (origin_of c.args.addresses) c.args.file.now)) (c.args.file.now ∷ []) c.fail.result c.args.errors.now c.fail.new.errors c.in-Err.failure (inr c.in-Err.ensures.err) c.fail.ensures)
+    inr (IsFailed-why g.W.Sink.taken g.W.Sink.failed (OrExhausted printed (IsLoadFailure c.args.text (g.S.FileSystem.content c.args.store.now) (source_of c.args.addresses) c.args.file.now printed)) (IfAsked c.args.explain (AreLoadLines (g.S.FileSystem.content c.args.store.now) (source_of c.args.addresses) c.args.file.now)) (c.args.file.now ∷ []) c.fail.result c.args.errors.now c.fail.new.errors c.in-Err.failure (inr c.in-Err.ensures.err) c.fail.ensures)
 
 pub fail-requires : goal.fail-requires
 fail-requires g c = ap (λ bytes. bytes ∷ []) c.in-Ok.ensures.ok

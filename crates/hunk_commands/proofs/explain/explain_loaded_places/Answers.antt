@@ -2,7 +2,7 @@
 use Rattle.std.proofs.Common.{inr, refl}
 use Rattle.std.proofs.lemmas.Result.{err_from_is_err_and}
 use Rattle.hunk_tool.specs.FileSystem.{IsReaderOf}
-use Rattle.hunk_commands.specs.Addresses.{HaveNumbers, input_of, origin_of}
+use Rattle.hunk_commands.specs.Addresses.{HaveNumbers, input_of, source_of}
 use Rattle.hunk_commands.specs.Explain.{IsLoadFile}
 use Rattle.hunk_commands.proofs.AgainLemmas.{not_loaded}
 use Rattle.hunk_commands.proofs.ExplainLemmas.{tells_places}
@@ -19,9 +19,9 @@ returns-in_err-loaded g c =
 pub returns : goal.returns
 returns g c =
     let contents = g.S.FileSystem.content c.args.store.now in
-    let origin = origin_of c.args.addresses in
+    let source = source_of c.args.addresses in
     let bases = c.as_slice.result.now in
-    let numbers_are : HaveNumbers contents origin bases = rw c.as_slice.ensures.value c.in_ok-bases.ensures.numbers in
+    let numbers_are : HaveNumbers contents source bases = rw c.as_slice.ensures.value c.in_ok-bases.ensures.numbers in
     let is_file : IsLoadFile (contents c.args.name.now) c.in_ok-loaded.loaded = record { input = input_of g.S.File.Source.left g.S.File.Source.failed g.S.File.Source.ended c.in_ok-reader.reader c.read_load.new.reader; is_reader = record { from_start = c.in_ok-reader.ensures.there; to_end = g.met.S.FileSystem.at_end _; may_fail = g.met.S.FileSystem.may_fail _ _ _ }; holds = (c.in_ok-loaded.ensures.file, c.in_ok-loaded.ensures.ended) } in
-    tells_places g.W.Sink.taken g.W.Sink.failed c.args.errors.now c.tell_places.new.errors contents origin (IsLoadFile (contents c.args.name.now)) c.in_ok-loaded.loaded c.hunks.result.now bases
+    tells_places g.W.Sink.taken g.W.Sink.failed c.args.errors.now c.tell_places.new.errors contents source (IsLoadFile (contents c.args.name.now)) c.in_ok-loaded.loaded c.hunks.result.now bases
     c.hunks.ensures.value is_file numbers_are c.tell_places.ensures
