@@ -249,7 +249,7 @@ def vocabulary():
 
 
 # Commands, files, macros and words of others, and words that stand for any, that no source here names.
-FOREIGN = set("plant version tidy spent incremental the_lemma ARGUMENTS vX ulimit ldconfig lld S5 conflicts_with include_str "
+FOREIGN = set("plant verdict version tidy spent incremental the_lemma ARGUMENTS vX ulimit ldconfig lld S5 conflicts_with include_str "
               "doshunks.h".split())
 FILE = re.compile(r"[\w/]+\.(?:antt|c|cpp|css|edit|h|html|js|o|py|rt|sh)\b")
 
