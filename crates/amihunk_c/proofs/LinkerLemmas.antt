@@ -22,7 +22,7 @@ use Rattle.hunk_tool.specs.Inputs.{AreObjects}
 use Rattle.hunk_tool.specs.Link.{IsLinked}
 use Rattle.hunk_tool.specs.LinkOptions.{form_of, trimmed_if}
 use Rattle.hunk_tool.specs.ObjectFiles.{AreFileUnits, FileUnit, placed, units_of}
-use Rattle.hunk_tool.specs.UndefinedName.{UndefinedName}
+use Rattle.hunk_origins.specs.UndefinedName.{UndefinedName}
 use Rattle.hunk_tool.specs.declared.link_options.LinkOptions.{LinkOptions}
 use Rattle.hunk_tool.proofs.ObjectFilesLemmas.{AreUnitsFrom-more, units_of-placed}
 use Rattle.amihunk_c.specs.Linkers.{AreInputs, AreTaken, HasTaken, IsLinkStop, IsUndefined, Reads, TellsNames}

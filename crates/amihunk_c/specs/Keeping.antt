@@ -2,9 +2,9 @@
 use Rattle.std.specs.Prelude.{◌≡◌, ◌⊎◌, ◌==◌, ℕ, List, [], ◌∷◌, Option, None, Some, Result, Ok, Err, Vec, if◌then◌else◌, slice_get}
 use Rattle.std.specs.Global.{Global}
 use Rattle.hunk_loadfile.specs.LoadHunk.{FileHunk}
-use Rattle.hunk_tool.specs.Map.{map_text}
+use Rattle.hunk_origins.specs.Map.{map_text}
 use Rattle.hunk_tool.specs.ObjectFiles.{FileUnit}
-use Rattle.hunk_tool.specs.UndefinedName.{UndefinedName}
+use Rattle.hunk_origins.specs.UndefinedName.{UndefinedName}
 use Rattle.amihunk_c.specs.Looking.{and_then, or_out_of_range}
 use Rattle.amihunk_c.specs.Spans.{IsSpanOf}
 use Rattle.amihunk_c.specs.Texts.{TellsNothing, TellsText}

@@ -10,7 +10,7 @@ use Rattle.hunk_link.specs.declared.refusal.LinkRefusal.{LinkRefusal}
 use Rattle.hunk_link.specs.declared.refusal.LinkRefusal.TheVariants as link
 use Rattle.hunk_tool.specs.Link.{IsNotLinked}
 use Rattle.hunk_tool.specs.ObjectFiles.{AreFileUnits, FileUnit, units_of}
-use Rattle.hunk_tool.specs.UndefinedName.{UndefinedName, undefined_names}
+use Rattle.hunk_origins.specs.UndefinedName.{UndefinedName, undefined_names}
 use Rattle.hunk_tool.specs.declared.tool_fault.ToolFault.{ToolFault}
 use Rattle.hunk_tool.specs.declared.tool_fault.ToolFault.TheVariants.{Link, OutOfMemory}
 use Rattle.amihunk_c.specs.Refusals.{link_refused, memory_refused}

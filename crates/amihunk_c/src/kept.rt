@@ -1,6 +1,6 @@
 //! What a linker keeps, and tells.
 ghost use Rattle.std.specs.Prelude.{◌≡◌, ◌==◌, ◌<◌, [], ◌∷◌, length, map, position, Some, Ok, Err, IfOk, IfErr, IfNone, IfSome};
-ghost use Rattle.hunk_tool.specs.Map.{map_text};
+ghost use Rattle.hunk_origins.specs.Map.{map_text};
 ghost use Rattle.amihunk_c.specs.Keeping.{IsUndefinedTold, TellsMap, names_in, undefined_at, undefined_names_in};
 ghost use Rattle.amihunk_c.specs.Looking.{Tells};
 
@@ -9,7 +9,7 @@ use crate::copying::copy_from;
 use crate::linked::Kept;
 use crate::session::Session;
 use crate::told::UndefinedTold;
-use hunk_tool::UndefinedName;
+use hunk_origins::UndefinedName;
 use std::alloc::{AllocError, Global};
 
 /// The names that no hunk defines, if they are kept.

@@ -4,14 +4,15 @@ ghost use Rattle.hunk_base.specs.Name.{bytes_of};
 ghost use Rattle.hunk_loadfile.specs.LoadFile.{IsLoadOf};
 ghost use Rattle.hunk_loadfile.specs.WrittenForm.{IsShortEnough, written_in};
 ghost use Rattle.hunk_tool.specs.LinkOptions.{form_of, trimmed_if};
-ghost use Rattle.hunk_tool.specs.Map.{map_text};
+ghost use Rattle.hunk_origins.specs.Map.{map_text};
 ghost use Rattle.amihunk_c.specs.Linked.{IsLinkedFile};
 ghost use Rattle.amihunk_c.specs.Linkers.{AreTaken, IsLinkStop, IsUndefined, TellsUndefined};
 
 use crate::refused::Refused;
 use hunk_link::{LinkRefusal, NameHasher, link_units_with, link_with};
 use hunk_loadfile::{LoadFile, written_bytes};
-use hunk_tool::{LinkOptions, ObjectFiles, UndefinedName, undefined_names, write_map};
+use hunk_origins::{UndefinedName, undefined_names, write_map};
+use hunk_tool::{LinkOptions, ObjectFiles};
 use hunk_words::{Text, Watched};
 use std::alloc::{AllocError, Global};
 use std::marker::Model;
@@ -36,7 +37,7 @@ impl Model for Kept {
     ghost use Rattle.std.specs.Prelude.{◌≡◌, List, length};
     ghost use Rattle.hunk_loadfile.specs.LoadHunk.{FileHunk};
     ghost use Rattle.hunk_tool.specs.ObjectFiles.{FileUnit};
-    ghost use Rattle.hunk_tool.specs.Origins.{origins};
+    ghost use Rattle.hunk_origins.specs.Origins.{origins};
 
     ghost Value = { List FileUnit × List FileHunk };
 

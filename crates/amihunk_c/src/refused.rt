@@ -8,7 +8,8 @@ use crate::codes::Status;
 use crate::session::Session;
 use hunk_link::LinkRefusal;
 use hunk_loader::{LoadRefusal, PlaceFault};
-use hunk_tool::{ToolFault, UndefinedName};
+use hunk_origins::UndefinedName;
+use hunk_tool::ToolFault;
 use hunk_words::{Fault, Refusal};
 
 /// Why a session is refused: as the program reports it, and as C is told.

@@ -9,7 +9,7 @@ use crate::codes::memory_code;
 use crate::facts::HunkFacts;
 use crate::span::Span;
 use hunk_objects::{Adds, Definition};
-use hunk_tool::UndefinedName;
+use hunk_origins::UndefinedName;
 use hunk_words::{HunkKind, Name};
 
 /// What a file has.

@@ -18,13 +18,13 @@ use Rattle.hunk_tool.specs.Inputs.{HaveRead}
 use Rattle.hunk_tool.specs.Link.{DoLink, IsLinkCutShort, IsLinkFault, IsLinked, LinkTo, Taken}
 use Rattle.hunk_tool.specs.LinkOptions.{form_of, trimmed_if}
 use Rattle.hunk_tool.specs.LinkedUnits.{linked_files}
-use Rattle.hunk_tool.specs.Map.{LinkFiles, map_text}
+use Rattle.hunk_origins.specs.Map.{LinkFiles, map_text}
 use Rattle.hunk_tool.specs.ObjectFiles.{FileUnit, units_of}
 use Rattle.hunk_tool.specs.declared.link_options.LinkOptions.{LinkOptions}
 use Rattle.hunk_tool.specs.declared.tool_fault.ToolFault.{ToolFault}
 use Rattle.hunk_tool.specs.declared.tool_fault.ToolFault.TheVariants as tool_fault
 use Rattle.hunk_tool.proofs.LinkLemmas.{linked_bytes-are_load}
-use Rattle.hunk_tool.proofs.LinkedUnitsLemmas.{map_text-linked}
+use Rattle.hunk_origins.proofs.LinkedOriginsLemmas.{map_text-linked}
 use Rattle.hunk_commands.specs.Inputs.{OfFiles, OfWholeFiles}
 use Rattle.hunk_commands.specs.Link.{DoLinkAll, DoLinkFiles, DoLinkTo, HasMap, HasRunFault, IsLinkFailure, IsLinkedWithMap, IsMade, IsMapFailure, IsMapped, IsUnmapped, IsUnwritten, IsWrittenOut, map_failure}
 use Rattle.hunk_commands.specs.Store.{AreUnchanged, Contents, HasRun, IsBegun, IsCauseOf, IsReplaced, IsUnplaced, IsWriteFault, run_of}

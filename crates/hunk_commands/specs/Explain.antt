@@ -11,7 +11,7 @@ use Rattle.hunk_files.specs.ExplanationText.{explanation_text}
 use Rattle.hunk_files.specs.FileValue.{kind_of_bytes}
 use Rattle.hunk_base.specs.Streams.{HasRead}
 use Rattle.hunk_tool.specs.FileSystem.{FileContent, OfFile, OfWholeFile}
-use Rattle.hunk_tool.specs.LinkExplanation.{told_of, told_text}
+use Rattle.hunk_origins.specs.LinkExplanation.{told_of, told_text}
 use Rattle.hunk_tool.specs.ObjectFiles.{FileUnit}
 use Rattle.hunk_memory.specs.PlacesText.{places_text}
 use Rattle.hunk_files.specs.declared.explanation.Explanation.{Explanation}

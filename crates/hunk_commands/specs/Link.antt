@@ -11,7 +11,7 @@ use Rattle.hunk_tool.specs.FileSystem.{FileContent}
 use Rattle.hunk_tool.specs.FileSystem.FileContent.{unknown}
 use Rattle.hunk_tool.specs.Link.{DoLink, IsLinked, IsLinkFault, IsUnlinked, LinkTo, Taken, linked_hunks}
 use Rattle.hunk_tool.specs.LinkOptions.{form_of, trimmed_if}
-use Rattle.hunk_tool.specs.Map.{LinkFiles, map_text}
+use Rattle.hunk_origins.specs.Map.{LinkFiles, map_text}
 use Rattle.hunk_tool.specs.ObjectFiles.{AreFileUnits, FileUnit, units_of}
 use Rattle.hunk_tool.specs.declared.link_options.LinkOptions.{LinkOptions}
 use Rattle.hunk_tool.specs.declared.tool_fault.ToolFault.TheVariants.{Output, OutOfMemory}

@@ -3,9 +3,9 @@ use Rattle.std.specs.Prelude.{◌≡◌, ◌⊎◌, ℕ, List, IsTrue, Option}
 use Rattle.std.specs.Io.KnownBytes.{Appends}
 use Rattle.std.specs.declared.alloc.Global.{Global}
 use Rattle.hunk_base.specs.Streams.{TookFront}
-use Rattle.hunk_tool.specs.NamedFiles.{AreNamedFiles, AreRefused}
-use Rattle.hunk_tool.specs.Names.{AreSorted, Entry, names_of, names_text}
-use Rattle.hunk_tool.specs.declared.named_files.NamedFiles.{NamedFiles}
+use Rattle.hunk_origins.specs.NamedFiles.{AreNamedFiles, AreRefused}
+use Rattle.hunk_origins.specs.Names.{AreSorted, Entry, names_of, names_text}
+use Rattle.hunk_origins.specs.declared.named_files.NamedFiles.{NamedFiles}
 use Rattle.hunk_tool.specs.declared.tool_fault.ToolFault.TheVariants.{OutOfMemory}
 use Rattle.hunk_commands.specs.Inputs.{IsUnopened, OfFiles, OfWholeFiles}
 use Rattle.hunk_commands.specs.Output.{IsFlushed, IsNothing, Printed}

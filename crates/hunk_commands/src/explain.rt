@@ -21,9 +21,10 @@ use crate::store::Store;
 use crate::unexplained::{Unexplained, write_unexplained_line};
 use hunk_link::LinkRefusal;
 use hunk_loadfile::{LoadHunk, read_load};
+use hunk_origins::{explain_link, write_link_explanation};
 use hunk_tool::{
-    Explanation, FileType, OpenFault, ToolFault, explain_file, explain_link, explain_load,
-    explain_object, write_explanation, write_link_explanation, write_places,
+    Explanation, FileType, OpenFault, ToolFault, explain_file, explain_load, explain_object,
+    write_explanation, write_places,
 };
 use hunk_words::{Fault, ReadFault, Sink, Source, Text};
 use std::alloc::Global;

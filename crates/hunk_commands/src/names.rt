@@ -2,8 +2,8 @@
 ghost use Rattle.std.specs.Prelude.{IfErr, IfOk, OnOk};
 ghost use Rattle.hunk_base.specs.Streams.{WroteText};
 ghost use Rattle.hunk_tool.specs.Inputs.{file_names};
-ghost use Rattle.hunk_tool.specs.NamedFiles.{AreNamedFiles};
-ghost use Rattle.hunk_tool.specs.Names.{names_text};
+ghost use Rattle.hunk_origins.specs.NamedFiles.{AreNamedFiles};
+ghost use Rattle.hunk_origins.specs.Names.{names_text};
 ghost use Rattle.hunk_commands.specs.Inputs.{OfWholeFiles};
 ghost use Rattle.hunk_commands.specs.Names.{AreListed, AreUnread, IsNamesFailure};
 ghost use Rattle.hunk_commands.specs.Output.{printed_of};
@@ -13,7 +13,7 @@ use crate::failure::Failure;
 use crate::inputs::open_inputs;
 use crate::output::Output;
 use crate::store::Store;
-use hunk_tool::{NameList, NamedFiles, read_named_files, write_names};
+use hunk_origins::{NameList, NamedFiles, read_named_files, write_names};
 use hunk_words::{Sink, Text, WriteFault};
 use std::alloc::Global;
 

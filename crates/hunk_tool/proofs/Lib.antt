@@ -16,12 +16,3 @@ pub mod CompareLawsLemmas
 pub mod ImageLemmas
 pub mod ObjectFilesLemmas
 pub mod LinkedUnitsLemmas
-pub mod MapLemmas
-pub mod OriginsLemmas
-pub mod OriginLemmas
-pub mod DefinedNamesLemmas
-pub mod UndefinedLemmas
-pub mod NamedFilesLemmas
-pub mod NamesLemmas
-pub mod LinkExplanationLemmas
-pub mod BegunLemmas

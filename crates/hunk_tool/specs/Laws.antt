@@ -1,9 +1,7 @@
 -- Laws about the outcomes of what was read: one of them holds, and no other.
-use Rattle.std.specs.Prelude.{◌≡◌, ◌⊎◌, List, [], map, ℕ, ◌^◌, ◌<◌, ◌++◌, Bool, true, IsTrue, Option, slice_index, EachIndex}
+use Rattle.std.specs.Prelude.{◌≡◌, ◌⊎◌, List, [], ℕ, ◌^◌, ◌<◌, ◌++◌, Bool, true, IsTrue, Option, slice_index, EachIndex}
 use Rattle.std.specs.List.{All}
 use Rattle.hunk_base.specs.declared.fault.Fault.{Fault}
-use Rattle.hunk_words.specs.declared.kinds.HunkKind.{HunkKind}
-use Rattle.hunk_words.specs.declared.kinds.Memory.{Memory}
 use Rattle.hunk_loadfile.specs.LoadHunk.{FileHunk}
 use Rattle.hunk_loadfile.specs.LoadFile.{IsLoadOf}
 use Rattle.hunk_loader.specs.ImageLoader.{IsNotPlaced, LoadsAs}
@@ -11,10 +9,7 @@ use Rattle.hunk_loader.specs.declared.places.PlaceFault.{PlaceFault}
 use Rattle.hunk_loader.specs.ImageReader.{IsRefused}
 use Rattle.hunk_files.specs.FileDecoder.{IsRefused as IsFileRefused}
 use Rattle.hunk_files.specs.FileValue.{FileValue, IsOfItsKind}
-use Rattle.hunk_tool.specs.LinkedUnits.{carried_with}
 use Rattle.hunk_tool.specs.Load.{IsReported}
-use Rattle.hunk_tool.specs.ObjectFiles.{FileUnit, units_of}
-use Rattle.hunk_tool.specs.Origins.{Origin, origins}
 use Rattle.hunk_memory.specs.declared.image_form.ImageForm.{ImageForm}
 
 -- What is rejected is not the beginning of a load file, and not one if it is rejected at its end.
@@ -65,19 +60,3 @@ FileHasOneValue = (one other : FileValue) (bytes : List ℕ) → IsOfItsKind one
 -- What is rejected is rejected for one fault.
 abbrev pub FaultIsOne : Type 0
 FaultIsOne = (fault other : Fault) (ended also_ended : Bool) (bytes : List ℕ) → IsFileRefused fault ended bytes → IsFileRefused other also_ended bytes → fault ≡ other
-
--- ---- linked files
-
--- a kind, a memory and a size
-abbrev pub Form : Type 0
-Form = HunkKind × Memory × ℕ
-
-abbrev pub linked_form : FileHunk → Form
-linked_form hunk = (hunk.kind, hunk.memory, hunk.size)
-
-abbrev pub origin_form : Origin → Form
-origin_form origin = (origin.hunk.kind, origin.hunk.memory, origin.hunk.size)
-
--- The hunks of a load file have the kinds, the memories and the sizes of the hunks that they are from.
-abbrev pub HunksAreOfOrigins : Type 0
-HunksAreOfOrigins = (units : List FileUnit) (globals strip : Bool) → map linked_form (carried_with globals strip (units_of units)) ≡ map origin_form (origins units)

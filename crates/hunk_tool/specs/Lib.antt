@@ -17,14 +17,5 @@ pub mod CopyLaws
 pub mod Image
 pub mod ObjectFiles
 pub mod LinkedUnits
-pub mod Origins
 pub mod ShownName
-pub mod OriginText
-pub mod Map
-pub mod DefinedNames
-pub mod Undefined
-pub mod NamedFiles
-pub mod Names
-pub mod UndefinedName
-pub mod LinkExplanation
 pub mod Headline

@@ -30,7 +30,7 @@ impl FileName for &[u8] {
 }
 
 /// The name of the file with this number, empty if there is none.
-pub(crate) fn name_at<N: FileName>(names: &[N], file: usize) -> &[u8]
+pub fn name_at<N: FileName>(names: &[N], file: usize) -> &[u8]
     ensures { result.now ≡ slice_index_or (map N.bytes names.now) file [] }
 {
     match names.get(file) {

@@ -2,7 +2,7 @@
 
 ghost use Rattle.hunk_tool.specs.CopyLaws.{CopiedOnce, CopyHasSizes, CopyIsLoad, CopyIsLoaded, CopyIsOneLoad, CopyMeansTheSame, NormalBytesTellMeaning, NothingIsTold, SameHasTheSameInfo, SameMeansTheSame};
 ghost use Rattle.hunk_tool.specs.Headline.{LinkedIsReported, LoadedIsDirect, MemoryIsDirect, ReportsAgree};
-ghost use Rattle.hunk_tool.specs.Laws.{FaultIsOne, FaultyIsNoFile, FileHasOneValue, FileOrFault, HunksAreOfOrigins, NotPlacedForOne, OutcomeExists, RefusedBeginsNone, RefusedForOne, ReportedIsPlaced};
+ghost use Rattle.hunk_tool.specs.Laws.{FaultIsOne, FaultyIsNoFile, FileHasOneValue, FileOrFault, NotPlacedForOne, OutcomeExists, RefusedBeginsNone, RefusedForOne, ReportedIsPlaced};
 
 /// What was read has at most one outcome at the same bases. What is rejected is not a load file and
 /// not the beginning of one, and there is only one fault. A file is either reported or its bases
@@ -27,12 +27,6 @@ pub fn a_file_or_a_fault()
     ensures never_both { FaultyIsNoFile }
     ensures one_value { FileHasOneValue }
     ensures one_fault { FaultIsOne }
-{}
-
-/// The hunks of a load file have the kinds, the memories and the sizes of the hunks that they are
-/// from, so that a line of a map that tells of one tells of the other too.
-pub fn hunks_are_of_origins()
-    ensures { HunksAreOfOrigins }
 {}
 
 /// The headline, over values: the load file that units make, with or without their symbols and debug

@@ -11,8 +11,6 @@
 //! - `link_options`: how object files are linked, and how their load file is written.
 //! - `object_files`: the object files that an operation reads: their units, with their places.
 //! - `linked_units`: the units that are linked: those that were read, or with the names that they define as symbols.
-//! - `origins`: where the hunks of a link are from; `origin_text`: the text of that.
-//! - `map`: the map of a link: where each hunk is from.
 //! - `copy`: copies a load file, in another form.
 //! - `compare`: tells where two load files first differ.
 //! - `image`: writes the memory that object files define.
@@ -22,50 +20,34 @@
 //! - `tool_fault`: why an operation failed.
 //! - `fault_line`: the line that reports why an operation failed.
 //! - `link_line`: the line that reports why units do not link.
-//! - `link_explanation`: what is told of units that do not link; `link_explanation_text`: the lines of
-//!   that.
-//! - `defined_names`: the names that hunks define; `undefined`: those that none defines.
-//! - `undefined_name`: what callers are told of a name that none defines.
-//! - `names`: the names in files, what stands for each and where, sorted.
-//! - `named_files`: the files whose names are listed.
 //! - `file_name`: what files are called; `shown_name`: their names in lines.
 #![tactic(auto)]
 
 pub mod check;
 pub mod compare;
 pub mod copy;
-mod defined_names;
 pub mod fault_line;
 pub mod file_name;
 pub mod file_system;
 pub mod image;
 pub mod laws;
 pub mod link;
-pub mod link_explanation;
-mod link_explanation_text;
 mod link_line;
 pub mod link_options;
 mod linked_units;
 pub mod load;
-pub mod map;
-pub mod named_files;
-pub mod names;
 pub mod object_files;
-mod origin_text;
-mod origins;
 pub mod show;
 mod shown_name;
 pub mod symbol_form;
 pub mod symbols;
 pub mod tool_fault;
-mod undefined;
-pub mod undefined_name;
 
 pub use check::check_run;
 pub use compare::compare_run;
 pub use copy::{CopyForm, copy_run};
 pub use fault_line::{write_fault, write_reason};
-pub use file_name::FileName;
+pub use file_name::{FileName, name_at};
 pub use file_system::{FileSystem, FileType, OpenFault};
 pub use hunk_files::{
     CountedFile, Explanation, File, Found, HunkFile, HunkFileDecoder, LoadCounter, ObjectCounter,
@@ -78,17 +60,12 @@ pub use hunk_memory::{
 };
 pub use image::{image_run, image_run_with};
 pub use link::{link_inputs, link_run, link_run_with, link_to_vec};
-pub use link_explanation::{LinkExplanation, explain_link};
-pub use link_explanation_text::write_link_explanation;
 pub use link_options::LinkOptions;
+pub use linked_units::strips;
 pub use load::{load_run, load_run_with};
-pub use map::{link_files, write_map};
-pub use named_files::{NamedFiles, read_named_files};
-pub use names::{NameList, write_names};
-pub use object_files::{ObjectFiles, read_object_files};
+pub use object_files::{ObjectFiles, UnitPlace, read_object_files};
 pub use show::show_run;
 pub use shown_name::write_name;
 pub use symbol_form::SymbolForm;
 pub use symbols::{image_symbols_run, symbols_run};
 pub use tool_fault::{ToolFault, status_of};
-pub use undefined_name::{UndefinedName, undefined_names};

@@ -24,7 +24,7 @@ pub(crate) fn linked_units<A: Allocator + Copy>(
 }
 
 /// Whether the linker leaves out their symbols and debug blocks.
-pub(crate) fn strips(globals: bool, strip: bool) -> bool
+pub fn strips(globals: bool, strip: bool) -> bool
     ensures { result ≡ strips globals strip }
 {
     strip && !globals

@@ -15,9 +15,11 @@ use std::marker::Model;
 
 /// Where a unit was read: the number of its file, and its number in that file, both from 0.
 #[derive(Clone, Copy)]
-pub(crate) struct UnitPlace {
-    pub(crate) file: usize,
-    pub(crate) number: usize,
+pub struct UnitPlace {
+    /// The number of its file in the link.
+    pub file: usize,
+    /// Its number in that file.
+    pub number: usize,
 }
 
 /// The units of object files, in order, each with its place: the number of its file, and its number
@@ -90,7 +92,7 @@ impl<A: Allocator + Copy> ObjectFiles<A> {
     /// # Errors
     ///
     /// [`AllocError`] only if an allocation failed. All units are dropped then.
-    pub(crate) fn linked(
+    pub fn linked(
         self,
         alloc: A,
         globals: bool,
@@ -105,7 +107,7 @@ impl<A: Allocator + Copy> ObjectFiles<A> {
     }
 
     /// The places of the units.
-    pub(crate) fn places(&self) -> &[UnitPlace]
+    pub fn places(&self) -> &[UnitPlace]
         ensures { result.now ≡ map (λ unit. unit.0) self.now }
     {
         &self.places

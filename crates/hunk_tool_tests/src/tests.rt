@@ -12,10 +12,7 @@
 //! - `faults`: the lines and statuses of errors.
 //! - `files`: the bytes of files, and what loading them writes.
 //! - `kept`: errors that are returned again.
-//! - `link_explanations`: what is told of units that do not link.
-//! - `maps`: the maps of linked files.
 //! - `memory`: allocations that fail.
-//! - `names`: the names in files.
 //! - `records`: images as S-records.
 //! - `refusals`: addresses that are rejected.
 //! - `reports`: files that are loaded.
@@ -24,8 +21,6 @@
 //! - `symbol_records`: the symbols of load files and of object files before their S-records.
 //! - `symbols`: the symbols of load files, with their addresses.
 //! - `texts`: the texts that are written about files.
-//! - `undefined`: the names that no hunk defines.
-//! - `unlinked`: object files whose units do not link.
 //! - `vectors`: files of both kinds through everything that reads them.
 
 mod asserts;
@@ -41,10 +36,7 @@ mod explanations;
 mod faults;
 mod files;
 mod kept;
-mod link_explanations;
-mod maps;
 mod memory;
-mod names;
 mod records;
 mod refusals;
 mod reports;
@@ -53,6 +45,4 @@ mod streaming;
 mod symbol_records;
 mod symbols;
 mod texts;
-mod undefined;
-mod unlinked;
 mod vectors;

@@ -6,7 +6,7 @@ use Rattle.hunk_loadfile.specs.LoadHunk.{FileHunk}
 use Rattle.hunk_objects.specs.ProgramUnit.{ObjectUnit}
 use Rattle.hunk_tool.specs.LinkOptions.{trimmed_if}
 use Rattle.hunk_tool.proofs.LinkLemmas.{length-trimmed_if}
-use Rattle.hunk_tool.proofs.MapLemmas.{length-origins-carried}
+use Rattle.hunk_origins.proofs.MapLemmas.{length-origins-carried}
 use Rattle.amihunk_c.specs.Linkers.{IsLinkStop}
 use Rattle.amihunk_c.specs.declared.linker.LinkerOptions.{LinkerOptions}
 use Rattle.amihunk_c.specs.declared.refused.Refused.{Refused}

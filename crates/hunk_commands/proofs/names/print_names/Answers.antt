@@ -5,8 +5,8 @@ use Rattle.std.proofs.KnownBytes.{Appends-kept, Keeps-refl}
 use Rattle.std.proofs.lemmas.List.{take_all}
 use Rattle.std.proofs.lemmas.Result.{err_from_is_err_and}
 use Rattle.hunk_tool.specs.Inputs.{file_names}
-use Rattle.hunk_tool.specs.NamedFiles.{AreNamedFiles}
-use Rattle.hunk_tool.specs.Names.{names_text}
+use Rattle.hunk_origins.specs.NamedFiles.{AreNamedFiles}
+use Rattle.hunk_origins.specs.Names.{names_text}
 use Rattle.hunk_commands.specs.Names.{IsListCutShort, IsNamesFailure}
 use Rattle.hunk_commands.specs.Output.{printed_of}
 use Rattle.hunk_commands.proofs.InputsLemmas.{OfWholeFiles-weaker}

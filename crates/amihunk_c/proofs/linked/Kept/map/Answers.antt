@@ -1,7 +1,7 @@
 -- What the writer has taken is the map.
 use Rattle.std.proofs.Common.{List, [], ap, map, rules}
 use Rattle.hunk_loadfile.specs.LoadHunk.{FileHunk}
-use Rattle.hunk_tool.specs.Map.{map_text}
+use Rattle.hunk_origins.specs.Map.{map_text}
 use Rattle.hunk_tool.specs.ObjectFiles.{FileUnit}
 use Rattle.amihunk_c.proofs.linked.Kept.map.Goals as goal
 

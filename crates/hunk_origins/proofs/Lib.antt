@@ -1,0 +1,10 @@
+pub mod MapLemmas
+pub mod LinkedOriginsLemmas
+pub mod OriginsLemmas
+pub mod OriginLemmas
+pub mod DefinedNamesLemmas
+pub mod UndefinedLemmas
+pub mod NamedFilesLemmas
+pub mod NamesLemmas
+pub mod LinkExplanationLemmas
+pub mod BegunLemmas

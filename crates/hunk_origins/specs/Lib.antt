@@ -1,0 +1,10 @@
+pub mod Origins
+pub mod Laws
+pub mod OriginText
+pub mod Map
+pub mod DefinedNames
+pub mod Undefined
+pub mod NamedFiles
+pub mod Names
+pub mod UndefinedName
+pub mod LinkExplanation

@@ -1,7 +1,0 @@
--- The names of the hunks so far.
-use Rattle.std.proofs.Common.{take}
-use Rattle.hunk_tool.specs.DefinedNames.{AreDefinedBy}
-use Rattle.hunk_tool.proofs.defined_names.DefinedNames.of_hunks.Given as goal
-
-abbrev pub invariant-loop-origin : goal.invariant-loop-origin
-invariant-loop-origin g l = AreDefinedBy (take l.origin-index l.hunks) l.defined

@@ -1,7 +1,0 @@
--- None of the hunks so far defines the name.
-use Rattle.std.proofs.Common.{◌≡◌, drop}
-use Rattle.hunk_tool.specs.DefinedNames.{first_definition}
-use Rattle.hunk_tool.proofs.defined_names.first_definition.Given as goal
-
-abbrev pub invariant-loop-origin : goal.invariant-loop-origin
-invariant-loop-origin g l = first_definition l.name (drop l.origin-index l.hunks) ≡ first_definition l.name l.hunks
