@@ -7,8 +7,8 @@
 //! - `explain`: reads a file once more, to tell where and why it is refused.
 //! - `explanation`: what is told of its first offence; `explanation_text`: the lines of that.
 //! - `follower`: follows the longwords of a file up to it; `path`: in which unit, hunk and block.
-//! - `watched_file`: reads a file of either kind, and shows its longwords to a `watcher`; `watched_decoder`,
-//!   `watched_reader`: the same for one kind.
+//! - `watched_file`: reads a file of either kind, and shows its longwords to a `watcher`.
+//! - `watched_decoder`, `watched_reader`: the same for one kind.
 #![tactic(auto)]
 
 pub mod counters;
