@@ -23,7 +23,8 @@ pub(crate) fn linked_units<A: Allocator + Copy>(
     with_globals(alloc, units, strip, hasher)
 }
 
-/// Whether the linker leaves out their symbols and debug blocks.
+/// Whether the linker is to leave out the symbols and debug blocks of the units. With `globals` it keeps
+/// all that they have: what is to go has been left out where the definitions became symbols.
 pub fn strips(globals: bool, strip: bool) -> bool
     ensures { result ≡ strips globals strip }
 {

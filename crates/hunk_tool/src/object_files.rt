@@ -87,7 +87,8 @@ impl<A: Allocator + Copy> ObjectFiles<A> {
         self.units
     }
 
-    /// The units as they are linked, at the same places. Names are hashed so.
+    /// The units as they are linked, at the same places: with `globals`, the names that their hunks define
+    /// are symbols, too, and with `strip` as well these are the only ones. Names are hashed by `hasher`.
     ///
     /// # Errors
     ///
@@ -106,7 +107,7 @@ impl<A: Allocator + Copy> ObjectFiles<A> {
         Ok(ObjectFiles { places, units })
     }
 
-    /// The places of the units.
+    /// The places of the units, in order.
     pub fn places(&self) -> &[UnitPlace]
         ensures { result.now ≡ map (λ unit. unit.0) self.now }
     {
