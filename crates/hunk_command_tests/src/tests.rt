@@ -4,7 +4,7 @@
 //! - `asserts`: assertions as functions.
 //! - `comparisons`: whether two load files mean the same.
 //! - `copies`: a load file, written again.
-//! - `explanations`: what is told of a failure after its line.
+//! - `explanations`: what is told of a failure after its line; `explanation_rows`: its rows.
 //! - `failures`: the line of each failure, and its status.
 //! - `images`: the report of object files.
 //! - `inputs`: files that are open at once.
@@ -30,6 +30,7 @@ mod addresses;
 mod asserts;
 mod comparisons;
 mod copies;
+mod explanation_rows;
 mod explanations;
 mod failures;
 mod images;

@@ -1,6 +1,7 @@
 //! Why a file cannot be opened or read, which is told after the line of its failure.
 
-use super::explanations::{ALL, Asked, Row, both, ends};
+use super::explanation_rows::{Asked, Row};
+use super::explanations::{ALL, both, ends};
 use hunk_commands::Addresses;
 use std::test::Fail;
 
