@@ -16,7 +16,7 @@ use Rattle.hunk_base.specs.declared.fault.Fault.{Fault}
 use Rattle.hunk_words.proofs.FirstOffenceLemmas.{file-no-offence, first-one}
 use Rattle.hunk_loadfile.specs.LoadHunk.{FileHunk}
 use Rattle.hunk_files.specs.Explanation.{EndsWith, IsEnd, IsExplained}
-use Rattle.hunk_memory.specs.PlacesText.{places_text}
+use Rattle.hunk_addresses.specs.PlacesText.{places_text}
 use Rattle.hunk_files.specs.declared.explanation.Explanation.{Explanation}
 use Rattle.hunk_commands.specs.Addresses.{HaveNumbers, AddressSource}
 use Rattle.hunk_commands.specs.Again.{IsOffence}

@@ -9,7 +9,7 @@ use Rattle.hunk_tool.specs.Link.{IsLinked, linked_bytes}
 use Rattle.hunk_tool.specs.Load.{IsReported}
 use Rattle.hunk_tool.specs.declared.link_options.LinkOptions.{LinkOptions}
 use Rattle.hunk_tool.proofs.HeadlineLemmas.{reports-agree}
-use Rattle.hunk_memory.specs.BasesFile.{file_numbers}
+use Rattle.hunk_addresses.specs.BasesFile.{file_numbers}
 use Rattle.hunk_commands.specs.Addresses.{HasNumbers, HaveNumbers, AddressSource}
 use Rattle.hunk_commands.specs.Addresses.AddressSource.{in_file, in_list}
 use Rattle.hunk_commands.specs.Headline.{AreKept, LoadPrintsTheImage}

@@ -3,7 +3,7 @@ use Rattle.std.proofs.Common.{◌≡◌, ◌∙◌, ◌++◌, ◌<◌, ◌-◌, 
 use Rattle.std.proofs.lemmas.List.{get_or_read}
 use Rattle.std.specs.Io.BufRead.{DropsThrough, drop_through, first_piece, strip_last, take_through}
 use Rattle.std.specs.List.{filter, onto_first, slice_split}
-use Rattle.hunk_memory.specs.BasesFile.{has_bytes}
+use Rattle.hunk_addresses.specs.BasesFile.{has_bytes}
 use Rattle.hunk_commands.specs.FileList.{end_byte, names_in}
 use Rattle.hunk_commands.specs.NameReader.{AreAllNames, AreFirstNames, HasNoName, TakesNames}
 use Rattle.hunk_commands.specs.declared.file_list.NameEnd.{NameEnd}

@@ -1,13 +1,13 @@
 -- Where the addresses of hunks come from, what is known of them, and why they are not known.
 use Rattle.std.specs.Prelude.{◌≡◌, ℕ, Bool, IsTrue, List, Option, Some, map}
 use Rattle.hunk_base.specs.Streams.{HasRead}
-use Rattle.hunk_memory.specs.Bases.{IsBasesFault, numbers}
-use Rattle.hunk_memory.specs.BasesFile.{IsFileOf, IsRejected}
+use Rattle.hunk_addresses.specs.Bases.{IsBasesFault, numbers}
+use Rattle.hunk_addresses.specs.BasesFile.{IsFileOf, IsRejected}
 use Rattle.hunk_tool.specs.FileSystem.{MayBeMissing, OfFile}
 use Rattle.hunk_tool.specs.Inputs.{Input, WasRead}
-use Rattle.hunk_memory.specs.declared.bases.BasesFault.TheVariants as bases_fault
-use Rattle.hunk_memory.specs.declared.bases_file.BasesFileFault.{BasesFileFault}
-use Rattle.hunk_memory.specs.declared.bases_file.BasesFileFault.TheVariants as file_fault
+use Rattle.hunk_addresses.specs.declared.bases.BasesFault.TheVariants as bases_fault
+use Rattle.hunk_addresses.specs.declared.bases_file.BasesFileFault.{BasesFileFault}
+use Rattle.hunk_addresses.specs.declared.bases_file.BasesFileFault.TheVariants as file_fault
 use Rattle.hunk_tool.specs.declared.tool_fault.ToolFault.TheVariants.{OutOfMemory}
 use Rattle.hunk_commands.specs.Store.{Contents}
 use Rattle.hunk_commands.specs.declared.addresses.Addresses.{Addresses}

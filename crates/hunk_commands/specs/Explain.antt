@@ -13,7 +13,7 @@ use Rattle.hunk_base.specs.Streams.{HasRead}
 use Rattle.hunk_tool.specs.FileSystem.{FileContent, OfFile, OfWholeFile}
 use Rattle.hunk_origins.specs.LinkExplanation.{told_of, told_text}
 use Rattle.hunk_tool.specs.ObjectFiles.{FileUnit}
-use Rattle.hunk_memory.specs.PlacesText.{places_text}
+use Rattle.hunk_addresses.specs.PlacesText.{places_text}
 use Rattle.hunk_files.specs.declared.explanation.Explanation.{Explanation}
 use Rattle.hunk_tool.specs.declared.tool_fault.ToolFault.TheVariants.{Input, InputDevice, Link, Place}
 use Rattle.hunk_commands.specs.Addresses.{AtBases, AddressSource, source_of}

@@ -2,7 +2,7 @@
 use Rattle.std.specs.Prelude.{◌≡◌, ◌==◌, ◌++◌, ◌∷◌, ℕ, List, Option, None, Some, option_map, length, ⊤}
 use Rattle.std.specs.List.{All, filter, slice_split}
 use Rattle.std.specs.Str.{IsUtf8}
-use Rattle.hunk_memory.specs.BasesFile.{has_bytes}
+use Rattle.hunk_addresses.specs.BasesFile.{has_bytes}
 use Rattle.hunk_tool.specs.FileSystem.{FileContent, MayBeMissing}
 use Rattle.hunk_tool.specs.FileSystem.FileContent.{unknown, missing, known}
 use Rattle.hunk_tool.specs.declared.tool_fault.ToolFault.TheVariants.{OutOfMemory}

@@ -1,6 +1,6 @@
 -- What `load` prints of a file that `link` wrote is what `image` prints of the files that were linked.
 use Rattle.std.specs.Prelude.{◌≡◌, ℕ, Bool, List, ◌++◌, Option, Some, map, ⊤}
-use Rattle.hunk_memory.specs.declared.image_form.ImageForm.{ImageForm}
+use Rattle.hunk_image_text.specs.declared.image_form.ImageForm.{ImageForm}
 use Rattle.hunk_tool.specs.FileSystem.FileContent.{known}
 use Rattle.hunk_tool.specs.declared.link_options.LinkOptions.{LinkOptions}
 use Rattle.hunk_commands.specs.Addresses.{AddressSource}

@@ -1,6 +1,6 @@
 //! Where the addresses of the hunks come from: a list, or a file.
 ghost use Rattle.std.specs.Prelude.{◌≡◌, IfOk, IfErr, Some, map};
-ghost use Rattle.hunk_memory.specs.Bases.{numbers};
+ghost use Rattle.hunk_addresses.specs.Bases.{numbers};
 ghost use Rattle.hunk_commands.specs.Addresses.{HasNumbers, HaveNumbers, IsAddressesFailure, IsListFailure, IsReadFailure, input_of, source_of};
 
 use crate::devices::open;

@@ -3,7 +3,7 @@
 ghost use Rattle.std.specs.Prelude.{◌≡◌, [], true, IfErr, IfOk, IfSome, IsTrue, get_or, false};
 ghost use Rattle.hunk_base.specs.Streams.{HasRead};
 ghost use Rattle.hunk_files.specs.Explanation.{IsEnd, IsExplained, IsUnexplained};
-ghost use Rattle.hunk_memory.specs.PlacesText.{places_text};
+ghost use Rattle.hunk_addresses.specs.PlacesText.{places_text};
 ghost use Rattle.hunk_tool.specs.Inputs.{file_names};
 ghost use Rattle.hunk_commands.specs.Addresses.{source_of};
 ghost use Rattle.hunk_commands.specs.Again.{AreNoUnitsAgain, IsGiven, IsNotExplained, IsNotLinkedAgain, IsNotLoadedAgain, IsNotPlacedAgain};

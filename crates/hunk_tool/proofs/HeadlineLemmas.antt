@@ -38,7 +38,7 @@ use Rattle.hunk_tool.specs.Image.{ranked_sizes}
 use Rattle.hunk_tool.specs.Inputs.{AreObjects}
 use Rattle.hunk_tool.specs.Link.{linked_bytes, linked_hunks}
 use Rattle.hunk_tool.specs.LinkedUnits.{carried_with, linked_units, strips}
-use Rattle.hunk_memory.specs.ImageText.{image_text}
+use Rattle.hunk_image_text.specs.ImageText.{image_text}
 use Rattle.hunk_tool.specs.declared.link_options.LinkOptions.{LinkOptions}
 use Rattle.hunk_tool.proofs.LawsLemmas.{one-value}
 use Rattle.hunk_tool.proofs.LinkedUnitsLemmas.{IsUnit-linked, direct-linked, sizes-linked_units}

@@ -25,8 +25,8 @@ use Rattle.hunk_tool.specs.Inputs.{HaveRead, Input}
 use Rattle.hunk_tool.specs.Link.{IsUnlinked, LinkTo, Taken}
 use Rattle.hunk_tool.specs.Symbols.{IsPlacedFault, IsPlacedText, symbols_text, unit_symbols_text}
 use Rattle.hunk_tool.specs.declared.symbol_form.SymbolForm.{SymbolForm}
-use Rattle.hunk_memory.specs.ImageText.{image_text}
-use Rattle.hunk_memory.specs.declared.image_form.ImageForm.{ImageForm}
+use Rattle.hunk_image_text.specs.ImageText.{image_text}
+use Rattle.hunk_image_text.specs.declared.image_form.ImageForm.{ImageForm}
 use Rattle.hunk_tool.specs.ToolFault.{tool_fault_of_write}
 use Rattle.hunk_tool.specs.declared.tool_fault.ToolFault.{ToolFault}
 use Rattle.hunk_tool.specs.declared.tool_fault.ToolFault.TheVariants as tool_fault

@@ -29,10 +29,10 @@ use Rattle.hunk_loader.specs.declared.image_reader.ImageFault.TheVariants as ima
 use Rattle.hunk_loader.specs.declared.loading.LoadRefusal.TheVariants as load_refusal
 use Rattle.hunk_loader.proofs.LoadingLemmas.{loaded_from}
 use Rattle.hunk_tool.specs.Load.{IsCutShortAt, IsFaultAt, IsWrittenAt, ends_of, loaded_text}
-use Rattle.hunk_memory.specs.ImageText.{EndsInside, image_text}
-use Rattle.hunk_memory.specs.declared.image_form.ImageForm.{ImageForm}
+use Rattle.hunk_image_text.specs.ImageText.{EndsInside, image_text}
+use Rattle.hunk_image_text.specs.declared.image_form.ImageForm.{ImageForm}
 use Rattle.hunk_tool.specs.ToolFault.{tool_fault_of_image, tool_fault_of_write}
-use Rattle.hunk_memory.proofs.ImageTextLemmas.{length-hunks_of}
+use Rattle.hunk_image_text.proofs.ImageTextLemmas.{length-hunks_of}
 
 -- ---- what was read
 

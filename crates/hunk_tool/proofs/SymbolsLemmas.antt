@@ -25,10 +25,10 @@ use Rattle.hunk_loader.specs.Image.{hunks_of}
 use Rattle.hunk_loader.specs.Loading.{loaded, loaded_bytes}
 use Rattle.hunk_loader.specs.Places.{Placed}
 use Rattle.hunk_loader.specs.Sizes.{sizes_of}
-use Rattle.hunk_memory.specs.ImageText.{EndsInside, image_text}
-use Rattle.hunk_memory.specs.declared.image_form.ImageForm.TheVariants.{SRecords}
-use Rattle.hunk_memory.proofs.ImageTextLemmas.{length-hunks_of, length-image_text-lt}
-use Rattle.hunk_memory.proofs.RecordLemmas.{length-left_out_record-le}
+use Rattle.hunk_image_text.specs.ImageText.{EndsInside, image_text}
+use Rattle.hunk_image_text.specs.declared.image_form.ImageForm.TheVariants.{SRecords}
+use Rattle.hunk_image_text.proofs.ImageTextLemmas.{length-hunks_of, length-image_text-lt}
+use Rattle.hunk_image_text.proofs.RecordLemmas.{length-left_out_record-le}
 use Rattle.hunk_base.specs.Digits.{eight_digits}
 use Rattle.hunk_base.specs.Text.{line}
 use Rattle.hunk_base.proofs.DigitsLemmas.{length-decimal}

@@ -12,7 +12,7 @@ use Rattle.hunk_tool.specs.Image.{IsImaged}
 use Rattle.hunk_tool.specs.Link.{IsLinked}
 use Rattle.hunk_tool.specs.LinkedUnits.{carried_with}
 use Rattle.hunk_tool.specs.Load.{IsReported}
-use Rattle.hunk_memory.specs.declared.image_form.ImageForm.{ImageForm}
+use Rattle.hunk_image_text.specs.declared.image_form.ImageForm.{ImageForm}
 use Rattle.hunk_tool.specs.declared.link_options.LinkOptions.{LinkOptions}
 
 -- ---- as lists, and as maps from addresses to bytes

@@ -10,7 +10,7 @@ use Rattle.hunk_loader.specs.ImageReader.{IsRefused}
 use Rattle.hunk_files.specs.FileDecoder.{IsRefused as IsFileRefused}
 use Rattle.hunk_files.specs.FileValue.{FileValue, IsOfItsKind}
 use Rattle.hunk_tool.specs.Load.{IsReported}
-use Rattle.hunk_memory.specs.declared.image_form.ImageForm.{ImageForm}
+use Rattle.hunk_image_text.specs.declared.image_form.ImageForm.{ImageForm}
 
 -- What is rejected is not the beginning of a load file, and not one if it is rejected at its end.
 abbrev pub RefusedBeginsNone : Type 0

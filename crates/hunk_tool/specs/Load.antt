@@ -10,8 +10,8 @@ use Rattle.hunk_loader.specs.ImageReader.{IsRefused}
 use Rattle.hunk_loader.specs.Loading.{loaded}
 use Rattle.hunk_loader.specs.Places.{Placed}
 use Rattle.hunk_loader.specs.Sizes.{sizes_of}
-use Rattle.hunk_memory.specs.ImageText.{image_text}
-use Rattle.hunk_memory.specs.declared.image_form.ImageForm.{ImageForm}
+use Rattle.hunk_image_text.specs.ImageText.{image_text}
+use Rattle.hunk_image_text.specs.declared.image_form.ImageForm.{ImageForm}
 use Rattle.hunk_tool.specs.declared.tool_fault.ToolFault.{ToolFault}
 use Rattle.hunk_tool.specs.declared.tool_fault.ToolFault.TheVariants.{Input, InputDevice, Link, Place, Output, OutOfMemory}
 

@@ -14,9 +14,9 @@ use Rattle.hunk_link.specs.Carried.{carried}
 use Rattle.hunk_loader.specs.Loading.{loaded}
 use Rattle.hunk_loader.specs.Places.{IsFirstRefusal, Placed}
 use Rattle.hunk_loader.specs.Sizes.{sizes_of}
-use Rattle.hunk_memory.specs.ImageText.{image_text}
-use Rattle.hunk_memory.specs.Record.{left_out_record}
-use Rattle.hunk_memory.specs.declared.image_form.ImageForm.TheVariants.{SRecords}
+use Rattle.hunk_image_text.specs.ImageText.{image_text}
+use Rattle.hunk_image_text.specs.Record.{left_out_record}
+use Rattle.hunk_image_text.specs.declared.image_form.ImageForm.TheVariants.{SRecords}
 use Rattle.hunk_tool.specs.Link.{Taken}
 use Rattle.hunk_tool.specs.declared.symbol_form.SymbolForm.{SymbolForm}
 use Rattle.hunk_tool.specs.declared.symbol_form.SymbolForm.TheVariants.{Lines, Records}

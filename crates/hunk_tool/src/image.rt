@@ -3,13 +3,13 @@
 ghost use Rattle.std.specs.Prelude.{OnOk, IfErr};
 ghost use Rattle.hunk_tool.specs.Image.{IsImageFault, IsImaged};
 ghost use Rattle.hunk_tool.specs.Inputs.{HaveRead, inputs_of};
-ghost use Rattle.hunk_memory.specs.declared.image_form.ImageForm.TheVariants.{Report};
+ghost use Rattle.hunk_image_text.specs.declared.image_form.ImageForm.TheVariants.{Report};
 
 use crate::link::link_inputs;
 use crate::tool_fault::ToolFault;
+use hunk_image_text::{ImageForm, write_image};
 use hunk_link::NameHasher;
 use hunk_loader::{LoadRefusal, load_file};
-use hunk_memory::{ImageForm, write_image};
 use hunk_words::{Sink, Source};
 use std::alloc::Allocator;
 

@@ -1,7 +1,7 @@
 //! The operations of `amihunk`, and what they tell where they fail.
 //!
-//! Files of either kind are read in `hunk_files`, and the texts of addresses and images are in `hunk_memory`. Callers of the
-//! operations find here what they need of both.
+//! Files of either kind are read in `hunk_files`, addresses in `hunk_addresses`, and the texts of images are in
+//! `hunk_image_text`. Callers of the operations find here what they need of these.
 //!
 //! - `laws`: laws about the outcomes of the operations.
 //! - `check`: checks a file of either kind and writes what it is.
@@ -49,15 +49,14 @@ pub use copy::{CopyForm, copy_run};
 pub use fault_line::{write_fault, write_reason};
 pub use file_name::{FileName, name_at};
 pub use file_system::{FileSystem, FileType, OpenFault};
+pub use hunk_addresses::{BasesFault, BasesFileFault, parse_bases, read_bases, write_places};
 pub use hunk_files::{
     CountedFile, Explanation, File, Found, HunkFile, HunkFileDecoder, LoadCounter, ObjectCounter,
     count_file, explain_file, explain_load, explain_object, read_hunk_file, write_explanation,
 };
+pub use hunk_image_text::{ImageForm, write_image};
 pub use hunk_link::NameHasher;
 pub use hunk_loader::PlaceFault;
-pub use hunk_memory::{
-    BasesFault, BasesFileFault, ImageForm, parse_bases, read_bases, write_image, write_places,
-};
 pub use image::{image_run, image_run_with};
 pub use link::{link_inputs, link_run, link_run_with, link_to_vec};
 pub use link_options::LinkOptions;

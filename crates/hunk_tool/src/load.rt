@@ -3,11 +3,11 @@
 ghost use Rattle.std.specs.Prelude.{IsTrue, OnOk, IfErr};
 ghost use Rattle.hunk_base.specs.Streams.{HasRead};
 ghost use Rattle.hunk_tool.specs.Load.{ends_of, IsLoadFault, IsReported};
-ghost use Rattle.hunk_memory.specs.declared.image_form.ImageForm.TheVariants.{Report};
+ghost use Rattle.hunk_image_text.specs.declared.image_form.ImageForm.TheVariants.{Report};
 
 use crate::tool_fault::ToolFault;
+use hunk_image_text::{ImageForm, write_image};
 use hunk_loader::read_image;
-use hunk_memory::{ImageForm, write_image};
 use hunk_words::{Sink, Source};
 use std::alloc::Allocator;
 

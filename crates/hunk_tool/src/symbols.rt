@@ -6,7 +6,7 @@ ghost use Rattle.hunk_base.specs.Streams.{HasRead, IsDevice, WroteAll};
 ghost use Rattle.hunk_base.specs.Text.{Puts};
 ghost use Rattle.hunk_loadfile.specs.Rules.{IsLoadFile};
 ghost use Rattle.hunk_loader.specs.Image.{hunks_of};
-ghost use Rattle.hunk_memory.specs.ImageText.{EndsInside};
+ghost use Rattle.hunk_image_text.specs.ImageText.{EndsInside};
 ghost use Rattle.hunk_tool.specs.Image.{IsUnitsFault, IsUnitsText};
 ghost use Rattle.hunk_tool.specs.Inputs.{HaveRead, inputs_of};
 ghost use Rattle.hunk_tool.specs.Load.{ends_of, IsFaultAt, IsWrittenAt};
@@ -16,10 +16,10 @@ ghost use Rattle.hunk_tool.specs.declared.symbol_form.SymbolForm.TheVariants.{Li
 use crate::link::link_inputs;
 use crate::symbol_form::SymbolForm;
 use crate::tool_fault::ToolFault;
+use hunk_image_text::{ImageForm, put_image, put_left_out};
 use hunk_link::NameHasher;
 use hunk_loader::{LoadRefusal, check_sizes_with, load};
 use hunk_loadfile::{LoadFile, LoadHunk, read_load};
-use hunk_memory::{ImageForm, put_image, put_left_out};
 use hunk_words::{Name, Sink, Source, Text, WriteFault};
 use std::alloc::Allocator;
 

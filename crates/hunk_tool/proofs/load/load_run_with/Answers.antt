@@ -2,7 +2,7 @@
 use Rattle.std.proofs.Common.{subst, sym}
 use Rattle.std.proofs.lemmas.Result.{err_from_is_err_and}
 use Rattle.std.specs.List.{All}
-use Rattle.hunk_memory.specs.ImageText.{EndsInside}
+use Rattle.hunk_image_text.specs.ImageText.{EndsInside}
 use Rattle.hunk_tool.specs.Load.{loaded_text}
 use Rattle.hunk_tool.proofs.LoadLemmas.{HasTextAt-loaded, IsFaultAt-read, IsFaultAt-written, IsWrittenAt-of, few-loaded, ends-loaded}
 use Rattle.hunk_tool.proofs.load.load_run_with.Goals as goal

@@ -2,7 +2,7 @@
 use Rattle.std.proofs.Common.{◌∙◌, ◌==◌, ℕ, List, [], ◌∷◌, Global, Vec, ap, arith, inl, inr, subst, sym}
 use Rattle.std.specs.Io.Buffered.{reader_remaining}
 use Rattle.std.specs.List.{filter}
-use Rattle.hunk_memory.specs.BasesFile.{has_bytes}
+use Rattle.hunk_addresses.specs.BasesFile.{has_bytes}
 use Rattle.hunk_commands.specs.NameReader.{TakesNames, unread}
 use Rattle.hunk_commands.proofs.NameReaderLemmas.{IsPieceOf, name-of_piece, no_name-of_piece, takes-more, takes-piece}
 use Rattle.hunk_commands.proofs.name_reader.NameReader.next.Goals.{then-index-end, else-index-end}

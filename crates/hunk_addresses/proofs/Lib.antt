@@ -1,0 +1,4 @@
+pub mod BasesFileLemmas
+pub mod BasesLemmas
+pub mod PartDigitsLemmas
+pub mod PlacesTextLemmas

@@ -1,0 +1,4 @@
+pub mod PlacesText
+pub mod Bases
+pub mod BasesFile
+pub mod PartDigits

@@ -1,0 +1,6 @@
+-- The pieces of the line, one after another.
+use Rattle.hunk_base.proofs.TextLemmas.{◌⨾◌}
+use Rattle.hunk_image_text.proofs.image_text.write_hunk_line.Goals as goal
+
+pub returns : goal.returns
+returns g c = c.put.ensures ⨾ c.put_decimal.ensures ⨾ c.put-2.ensures ⨾ c.put_longword.ensures ⨾ c.put-3.ensures ⨾ c.put_decimal-2.ensures ⨾ c.end_line.ensures

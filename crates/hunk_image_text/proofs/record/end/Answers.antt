@@ -1,0 +1,7 @@
+use Rattle.std.proofs.Common.{refl}
+use Rattle.hex.specs.Hex.{encode_with}
+use Rattle.hunk_image_text.proofs.record.end.Goals as goal
+
+pub returns : goal.returns
+unfolding encode_with
+returns c = refl

@@ -1,9 +1,0 @@
-pub mod BasesFileLemmas
-pub mod BasesLemmas
-pub mod RecordLemmas
-pub mod RowsLemmas
-pub mod RowBlocksLemmas
-pub mod ImageTextExampleLemmas
-pub mod ImageTextLemmas
-pub mod PartDigitsLemmas
-pub mod PlacesTextLemmas

@@ -1,7 +1,0 @@
-use Rattle.std.proofs.Common.{refl}
-use Rattle.hex.specs.Hex.{encode_with}
-use Rattle.hunk_memory.proofs.record.header.Goals as goal
-
-pub returns : goal.returns
-unfolding encode_with
-returns c = refl
