@@ -8,5 +8,6 @@ pub mod NameLemmas
 pub mod SitesLemmas
 pub mod PageLemmas
 pub mod PagesLemmas
+pub mod SlotsLemmas
 pub mod LongwordsByteLemmas
 pub mod OpenNameLemmas

@@ -1,7 +1,7 @@
 -- What holds of the sites of one page.
-use Rattle.std.proofs.Common.{◌≡◌, ℕ, zero, suc, ◌+◌, ◌-◌, ◌^◌, ◌<◌, ◌≤◌, ◌⊎◌, inl, inr, ⊎_elim, Some, None, Option, IsSome, Bool, true, false, cond, if◌then◌else◌, List, [], ◌∷◌, ◌++◌, length, take, drop, get_or, insert, refl, sym, ap, ◌∙◌, arith, take-append-drop}
+use Rattle.std.proofs.Common.{◌≡◌, ℕ, zero, suc, ◌+◌, ◌-◌, ◌*◌, ◌/◌, ◌^◌, ◌<◌, ◌≤◌, ◌⊎◌, inl, inr, ⊎_elim, Some, None, Option, IsSome, Bool, MatchBool, true, false, cond, if◌then◌else◌, List, [], ◌∷◌, ◌++◌, length, take, drop, get_or, insert, refl, sym, ap, ◌∙◌, arith, take-append-drop}
 use Rattle.std.proofs.lemmas.Bool.{cases_lt, cases_eq}
-use Rattle.std.proofs.lemmas.List.{get_or_read}
+use Rattle.std.proofs.lemmas.List.{append-nil, get_or_read, take_more}
 use Rattle.std.proofs.lemmas.List.Edits.{insert_end}
 use Rattle.std.specs.declared.cmp.Ordering.{Ordering}
 use Rattle.std.specs.declared.cmp.Ordering.TheVariants.{Less, Equal, Greater}
@@ -9,7 +9,7 @@ use Rattle.std.specs.Cmp.{nat_cmp_is}
 use Rattle.std.specs.List.Sorted.{IsNonDecreasingBy, IsPartitionPoint}
 use Rattle.std.specs.Ordering.{nat_cmp, match_ordering}
 use Rattle.std.specs.BTreeMap.{insert_entry, is_at}
-use Rattle.hunk_base.specs.Page.{AreSpaced, LieWithin, IsFreePlace}
+use Rattle.hunk_base.specs.Page.{AreSpaced, LieInPage, LieWithin, IsFreePlace}
 use Rattle.hunk_base.specs.Sites.{Meets, SharesByte, StandFrom, target_at}
 use Rattle.hunk_base.proofs.SitesLemmas.{is_at-apart, target_at-first, target_at-more, StandFrom-insert_entry}
 
@@ -331,3 +331,48 @@ pub IsFreePlace-last : {T : Type 0} (offset : ℕ) (last : ℕ × T) (sites : Li
     → ((d : ℕ × T) → last ≡ get_or sites (length sites - 1) d) → last.0 + 4 ≤ offset → IsFreePlace sites offset (length sites)
 IsFreePlace-last offset last sites spaced read end =
     IsFreePlace-from offset (length sites) sites spaced (omega arith) (λ positive d. rw (← (read d)) end) (λ below d. absurd (omega arith))
+
+-- whether a place is free says whether the site meets none
+pub IsFreePlace-decides : {T : Type 0} (free : Bool) (offset place : ℕ) (sites : List (ℕ × T)) → MatchBool free (IsFreePlace sites offset place) (Meets sites offset)
+    → MatchBool free (Meets sites offset → ⊥) (Meets sites offset)
+IsFreePlace-decides true offset place sites free = IsFreePlace-free offset place sites free
+IsFreePlace-decides false offset place sites meets = meets
+
+-- the sites before one end where it begins, or earlier
+StandFrom-take : {T : Type 0} (from limit : ℕ) (sites : List (ℕ × T)) (k : ℕ) (d : ℕ × T) → StandFrom from limit sites → k < length sites
+    → LieWithin from (get_or sites k d).0 (take k sites)
+StandFrom-take from limit [] k d apart inside = absurd (omega arith)
+StandFrom-take from limit (site ∷ sites) zero d apart inside = tt
+StandFrom-take from limit (site ∷ sites) (suc k) d apart inside =
+    let begin : ℕ = (get_or sites k d).0 in (
+      apart.0,
+      StandFrom-least (site.0 + 4) limit sites k d apart.2 (omega arith),
+      LieWithin-weaker (site.0 + 4) begin from begin (take k sites) (omega arith) (omega arith) (StandFrom-take (site.0 + 4) limit sites k d apart.2 (omega arith)),
+    )
+
+LieWithin-take : {T : Type 0} (from to k : ℕ) (sites : List (ℕ × T)) → LieWithin from to sites → LieWithin from to (take k sites)
+LieWithin-take from to zero sites within = tt
+LieWithin-take from to (suc k) [] within = tt
+LieWithin-take from to (suc k) (site ∷ sites) within = (within.0, within.1, LieWithin-take from to k sites within.2)
+
+LieWithin-get_or : {T : Type 0} (from to k : ℕ) (d : ℕ × T) (sites : List (ℕ × T)) → LieWithin from to sites → k < length sites
+    → (from ≤ (get_or sites k d).0) × ((get_or sites k d).0 + 4 ≤ to)
+LieWithin-get_or from to k d [] within inside = absurd (omega arith)
+LieWithin-get_or from to zero d (site ∷ sites) within inside = (within.0, within.1)
+LieWithin-get_or from to (suc k) d (site ∷ sites) within inside = LieWithin-get_or from to k d sites within.2 (omega arith)
+
+-- a site of a page, put in after those before it
+pub insert_entry-next : {T : Type 0} (number k : ℕ) (site : ℕ × T) (sites : List (ℕ × T)) → AreSpaced sites → LieInPage number sites → k < length sites
+    → site ≡ get_or sites k site
+    → LieInPage (site.0 / 4096) (take k sites) × (Meets (take k sites) site.0 → ⊥) × (insert_entry nat_cmp (take k sites) site.0 site.1 ≡ take (k + 1) sites)
+insert_entry-next number k site sites spaced within inside read =
+    let begin : site.0 ≡ (get_or sites k site).0 = ap (λ s. s.0) read in
+    let lies = LieWithin-get_or (4096 * number) (4096 * number + 4099) k site sites within inside in
+    let page : number ≡ site.0 / 4096 = omega (arith, begin, lies.0, lies.1) in
+    let before : LieWithin 0 site.0 (take k sites) = rw begin (StandFrom-take 0 (2 ^ 32 + 3) sites k site spaced inside) in (
+      rw (← page) (LieWithin-take (4096 * number) (4096 * number + 4099) k sites within),
+      λ meets. Meets-between 0 (2 ^ 32 + 3) site.0 (take k sites) [] before tt (rw append-nil meets),
+      ap (λ all. insert_entry nat_cmp all site.0 site.1) (sym (append-nil (take k sites)))
+          ∙ insert_entry-append_right 0 site.0 site.0 site.1 (take k sites) [] before (omega arith)
+          ∙ ap (λ s. take k sites ++ s ∷ []) read ∙ sym (take_more sites k site inside),
+    )

@@ -1,13 +1,13 @@
 -- What holds of the pages of a hunk's sites.
-use Rattle.std.proofs.Common.{◌≡◌, ℕ, zero, suc, ◌+◌, ◌-◌, ◌*◌, ◌/◌, ◌<◌, ◌≤◌, inl, inr, Option, Some, None, IsSome, is_some, MatchOption, Bool, true, false, if◌then◌else◌, List, [], ◌∷◌, ◌++◌, length, get_or, set, replicate, refl, sym, ap, ◌∙◌, ◌↔◌, arith, append_assoc}
+use Rattle.std.proofs.Common.{◌≡◌, ℕ, zero, suc, ◌+◌, ◌-◌, ◌*◌, ◌/◌, ◌<◌, ◌≤◌, inl, inr, IsSome, Bool, true, false, if◌then◌else◌, List, [], ◌∷◌, ◌++◌, length, get_or, set, replicate, refl, sym, ap, ◌∙◌, ◌↔◌, arith, append_assoc}
 use Rattle.std.proofs.lemmas.List.{get_or_read, replicate_more, set-get_or}
 use Rattle.std.proofs.lemmas.Bool.{cases_lt}
 use Rattle.std.specs.Ordering.{nat_cmp}
 use Rattle.std.specs.BTreeMap.{insert_entry}
-use Rattle.hunk_base.specs.Page.{LieWithin, IsFreePlace}
+use Rattle.hunk_base.specs.Page.{LieInPage, LieWithin}
 use Rattle.hunk_base.specs.Pages.{AppendsEmptyPages, LieInPages, all_sites, page_at}
 use Rattle.hunk_base.specs.Sites.{Meets, SharesByte, target_at}
-use Rattle.hunk_base.proofs.PageLemmas.{LieWithin-weaker, LieWithin-append, LieWithin-insert_entry, IsFreePlace-free, target_at-outside, target_at-append_left, target_at-append_right, IsSome-append_left, IsSome-append_right, insert_entry-append_left, insert_entry-append_right}
+use Rattle.hunk_base.proofs.PageLemmas.{LieWithin-weaker, LieWithin-append, LieWithin-insert_entry, target_at-outside, target_at-append_left, target_at-append_right, IsSome-append_left, IsSome-append_right, insert_entry-append_left, insert_entry-append_right}
 
 -- the sites of a page lie there
 pub LieInPages-page_at : {T : Type 0} (first number : ℕ) (pages : List (List (ℕ × T)))
@@ -17,6 +17,14 @@ LieInPages-page_at first zero (page ∷ pages) within = LieWithin-weaker (4096 *
 LieInPages-page_at first (suc number) (page ∷ pages) within =
     LieWithin-weaker (4096 * (first + 1 + number)) (4096 * (first + 1 + number) + 4099) (4096 * (first + suc number)) (4096 * (first + suc number) + 4099) (page_at pages number)
     (omega arith) (omega arith) (LieInPages-page_at (first + 1) number pages within.1)
+
+-- also those of one that was read
+pub LieInPages-read : {T : Type 0} (number offset : ℕ) (page : List (ℕ × T)) (pages : List (List (ℕ × T)))
+    → LieInPages 0 pages → number ≡ offset / 4096 → number < length pages → page ≡ get_or pages number page → LieInPage (offset / 4096) page
+LieInPages-read number offset page pages within is_number inside read =
+    let page_is : page ≡ page_at pages number = get_or_read pages number page inside read [] in
+    let own : 0 + number ≡ offset / 4096 = omega arith in
+    rw (page_is, ← own) (LieInPages-page_at 0 number pages within)
 
 -- and the sites of all pages between their ends
 pub LieInPages-all_sites : {T : Type 0} (first : ℕ) (pages : List (List (ℕ × T)))
@@ -72,19 +80,6 @@ Meets-pages offset before number after pages within is_before is_number is_after
       ]
     ]
 
--- a page without a place for a site has one that it meets
-pub Meets-no_place : {T : Type 0} (offset number : ℕ) (place : Option ℕ) (pages : List (List (ℕ × T)))
-    → MatchOption place (Meets (page_at pages number) offset) (IsFreePlace (page_at pages number) offset) → is_some place ≡ false → Meets (all_sites pages) offset
-Meets-no_place offset number None pages meets none = Meets-all_sites number offset pages meets
-Meets-no_place offset number (Some place) pages free none = absurd cc
-
--- and one with a place has none
-pub Meets-place : {T : Type 0} (offset number : ℕ) (place : Option ℕ) (pages : List (List (ℕ × T)))
-    → MatchOption place (Meets (page_at pages number) offset) (IsFreePlace (page_at pages number) offset) → is_some place ≡ true
-    → Meets (page_at pages number) offset → ⊥
-Meets-place offset number None pages meets some = absurd cc
-Meets-place offset number (Some place) pages free some = IsFreePlace-free offset place (page_at pages number) free
-
 -- where a site meets none but those of its own page, what its page refuses is refused
 pub overlaps-own_page : {T : Type 0} (offset number : ℕ) (refused : Type 0) (pages : List (List (ℕ × T)))
     → (Meets (all_sites pages) offset → Meets (page_at pages number) offset) → (refused ↔ Meets (page_at pages number) offset) → refused ↔ Meets (all_sites pages) offset
@@ -132,6 +127,20 @@ LieInPages-extended first more (page ∷ pages) within = (within.0, LieInPages-e
 
 pub AppendsEmptyPages-all_sites : {T : Type 0} (old new : List (List (ℕ × T))) → AppendsEmptyPages old new → all_sites new ≡ all_sites old
 AppendsEmptyPages-all_sites old new extends = rw extends.1 (all_sites-extended extends.0 old)
+
+-- and no page's sites
+page_at-replicate : {T : Type 0} (more number : ℕ) → page_at {T = T} (replicate more []) number ≡ []
+page_at-replicate zero number = refl
+page_at-replicate (suc more) zero = refl
+page_at-replicate (suc more) (suc number) = page_at-replicate more number
+
+page_at-extended : {T : Type 0} (more number : ℕ) (pages : List (List (ℕ × T))) → page_at (pages ++ replicate more []) number ≡ page_at pages number
+page_at-extended more number [] = page_at-replicate more number
+page_at-extended more zero (page ∷ pages) = refl
+page_at-extended more (suc number) (page ∷ pages) = page_at-extended more number pages
+
+pub AppendsEmptyPages-page_at : {T : Type 0} (number : ℕ) (old new : List (List (ℕ × T))) → AppendsEmptyPages old new → page_at new number ≡ page_at old number
+AppendsEmptyPages-page_at number old new extends = rw extends.1 (page_at-extended extends.0 number old)
 
 pub AppendsEmptyPages-LieInPages : {T : Type 0} (old new : List (List (ℕ × T))) → AppendsEmptyPages old new → LieInPages 0 old → LieInPages 0 new
 AppendsEmptyPages-LieInPages old new extends within = rw extends.1 (LieInPages-extended 0 extends.0 old within)

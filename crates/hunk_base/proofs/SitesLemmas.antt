@@ -25,7 +25,7 @@ target_at-first e es =
     rw same refl
 
 -- what meets the rest meets the whole
-Meets-more : {T : Type 0} (e : ℕ × T) (es : List (ℕ × T)) (offset : ℕ) → Meets es offset → Meets (e ∷ es) offset
+pub Meets-more : {T : Type 0} (e : ℕ × T) (es : List (ℕ × T)) (offset : ℕ) → Meets es offset → Meets (e ∷ es) offset
 Meets-more e es offset m = (m.0, target_at-more e es m.0 m.1, m.2)
 
 -- an entry at another offset is not looked at

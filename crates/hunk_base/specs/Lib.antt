@@ -9,6 +9,7 @@ pub mod OpenName
 pub mod Sites
 pub mod Page
 pub mod Pages
+pub mod Slots
 pub mod Digits
 pub mod QuotedName
 pub mod Text

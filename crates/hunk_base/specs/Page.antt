@@ -1,5 +1,5 @@
 -- The sites of one page of a hunk, by rising offset.
-use Rattle.std.specs.Prelude.{ℕ, ◌+◌, ◌^◌, ◌≤◌, List, [], ◌∷◌, length, take, drop}
+use Rattle.std.specs.Prelude.{ℕ, ◌+◌, ◌*◌, ◌^◌, ◌≤◌, List, [], ◌∷◌, length, take, drop}
 use Rattle.hunk_base.specs.Sites.{StandFrom}
 
 -- the sites are apart and in order, at offsets of 32 bits
@@ -10,6 +10,10 @@ AreSpaced sites = StandFrom 0 (2 ^ 32 + 3) sites
 abbrev pub LieWithin : {T : Type 0} → ℕ → ℕ → List (ℕ × T) → Type 0
 LieWithin from to [] = Unit {0}
 LieWithin from to (site ∷ sites) = (from ≤ site.0) × (site.0 + 4 ≤ to) × LieWithin from to sites
+
+-- each site begins in the page with this number, so that it ends at most three bytes after it
+abbrev pub LieInPage : {T : Type 0} → ℕ → List (ℕ × T) → Type 0
+LieInPage number sites = LieWithin (4096 * number) (4096 * number + 4099) sites
 
 -- a site at the offset fits in at this place: those before the place end at the offset or before it, and the others begin
 -- after its four bytes

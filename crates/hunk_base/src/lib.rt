@@ -8,11 +8,13 @@
 //! - `pieces`, `room`: a reader and a writer over memory, which fail where they should.
 //! - `name`: names in longwords, all at once or one longword at a time.
 //! - `text`: a text on its way to a writer; `digits`, `quoted_name`: the numbers and names in it.
-//! - `sites`: the sites of a hunk, no two of which share a byte; they are kept in `pages`, each a `page`.
+//! - `sites`: the sites of a hunk, no two of which share a byte; they are kept in `pages`, each a `page`. A page has them in
+//!   a `list`, or in `slots`.
 #![tactic(auto)]
 
 mod digits;
 pub mod fault;
+mod list;
 pub mod longwords;
 pub mod name;
 mod page;
@@ -21,6 +23,7 @@ pub mod pieces;
 mod quoted_name;
 pub mod room;
 pub mod sites;
+mod slots;
 pub mod splitter;
 pub mod streams;
 pub mod text;

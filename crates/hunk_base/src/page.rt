@@ -1,14 +1,16 @@
 //! The sites of one page of a hunk.
-ghost use Rattle.std.specs.Prelude.{◌≡◌, ◌≢◌, ℕ, ◌+◌, ◌*◌, ◌<◌, ◌≤◌, ◌^◌, ◌↔◌, [], length, is_ok, if◌then◌else◌, MatchBool, MatchOption};
+ghost use Rattle.std.specs.Prelude.{◌≡◌, ◌≢◌, ◌/◌, ◌↔◌, ◌++◌, ◌<◌, [], ℕ, length, is_ok, if◌then◌else◌, MatchBool};
+ghost use Rattle.std.specs.Bool.{OnTrue};
 ghost use Rattle.std.specs.BTreeMap.{insert_entry};
-ghost use Rattle.std.specs.List.Sorted.{IsPartitionPoint};
 ghost use Rattle.std.specs.Option.{option_copied};
 ghost use Rattle.std.specs.Ordering.{nat_cmp};
 ghost use Rattle.std.specs.Slice.Iter.{iter_rest};
-ghost use Rattle.hunk_base.specs.Page.{AreSpaced, IsFreePlace};
+ghost use Rattle.hunk_base.specs.Page.{LieInPage};
 ghost use Rattle.hunk_base.specs.Sites.{Meets, target_at};
 
+use crate::list::{LONG_LIST, SiteList};
 use crate::sites::SiteRefusal;
+use crate::slots::{Slots, SlotsIter};
 use std::alloc::{AllocError, Allocator};
 use std::marker::Model;
 use std::slice;
@@ -19,87 +21,33 @@ pub const SITE_BYTES: u32 = 4;
 /// How many bytes of the hunk a page has.
 pub const PAGE_BYTES: u32 = 4096;
 
-/// How many sites the first allocation of a page has room for at least.
-const FIRST_SITES: usize = 3;
-
-/// How many more sites a full page gets room for, where the pages beside it have `near` sites. The first
-/// allocation has room for one more than these have, since most files spread their sites evenly. Later
-/// ones double it; or they make room for half as many again as the pages beside it have, up to three
-/// times what it has itself: in a file that has its offsets target by target, a page gets as many sites
-/// from each target as those beside it have got, and they are one target ahead.
-fn more_room(sites: usize, near: usize) -> usize {
-    if sites == 0 {
-        return FIRST_SITES.max(near.saturating_add(1));
-    }
-    let wanted = near.saturating_add(near / 2).saturating_add(FIRST_SITES);
-    wanted
-        .min(sites.saturating_mul(3))
-        .saturating_sub(sites)
-        .max(sites)
-}
-
-/// How many sites of a page begin before the offset, where they are spread evenly over the page.
-fn likely_count(sites: usize, offset: u32) -> usize
-    requires { 4 * sites < 2 ^ 33 }
-    ensures { result ≤ sites }
-{
-    sites * (offset % PAGE_BYTES) as usize / PAGE_BYTES as usize
-}
-
-/// How many sites of a page begin before the offset. Most files spread them evenly, so a search from the
-/// likely count takes a few steps, and reads sites that lie side by side. A binary search reads all over
-/// the page, and in files whose relocations stand in no order it waits for memory at most of its steps.
-/// The first site is looked at before: in files whose offsets fall, none begins before the offset.
-fn count_below<T>(sites: &[(u32, T)], offset: u32) -> usize
-    requires { AreSpaced sites.now }
-    ensures within { result ≤ length sites.now }
-    ensures parts { IsPartitionPoint (λ (site : ℕ × T). site.0 < offset) (λ (site : ℕ × T). offset ≤ site.0) sites.now result }
-{
-    match sites.first() {
-        Some((first, _)) if *first < offset => (),
-        _ => return 0,
-    }
-    let mut count = likely_count(sites.len(), offset);
-    while count < sites.len() && sites[count].0 < offset {
-        count += 1;
-    }
-    while 0 < count && offset <= sites[count - 1].0 {
-        count -= 1;
-    }
-    count
-}
-
-/// Whether a site at the offset shares no byte with the two sites beside its place.
-fn is_apart<T>(sites: &[(u32, T)], place: usize, offset: u32) -> bool
-    requires spaced { AreSpaced sites.now }
-    requires within { place ≤ length sites.now }
-    requires parts { IsPartitionPoint (λ (site : ℕ × T). site.0 < offset) (λ (site : ℕ × T). offset ≤ site.0) sites.now place }
-    ensures { MatchBool result (IsFreePlace sites.now offset place) (Meets sites.now offset) }
-{
-    if 0 < place && offset - sites[place - 1].0 < SITE_BYTES {
-        return false;
-    }
-    if place < sites.len() && sites[place].0 - offset < SITE_BYTES {
-        return false;
-    }
-    true
+/// How the sites of a page are kept.
+#[derive(Debug, Drop)]
+enum Form<T, A: Allocator + Copy> {
+    /// By rising offset, as most files have them: one more is put behind the others.
+    List(SiteList<T, A>),
+    /// By the four bytes of the page that they begin in: one more takes the same time in each order.
+    Table(Slots<T, A>),
 }
 
 /// The sites of a page with their targets, by rising offset. No two share a byte.
+///
+/// They are kept in a list until one more belongs before the last one of a long list. Then they go over to
+/// a table, so that one is added in constant time in whatever order they come. A table takes 5 KB where a
+/// target has 32 bits. Only a page with more than 256 sites has one, so all tables together take less than
+/// 20 bytes a site, and a site takes two bytes of a file or more.
 #[derive(Debug, Drop)]
 pub struct Page<T, A: Allocator + Copy> {
-    sites: Vec<(u32, T), A>,
+    form: Form<T, A>,
 }
 
 impl<T, A: Allocator + Copy> Model for Page<T, A> {
     ghost use Rattle.std.specs.Prelude.{ℕ, List};
-    ghost use Rattle.hunk_base.specs.Page.{AreSpaced};
+    ghost use Rattle.hunk_base.specs.declared.page.Form.TheVariants.{List as InList, Table};
 
     ghost Value = { List (ℕ × T) };
 
-    ghost view = { λ p. p.sites.items };
-
-    ghost invariant = { λ p. AreSpaced p.sites.items };
+    ghost view = { λ p. elim p.form [ InList sites ↦ sites | Table sites ↦ sites ] };
 }
 
 impl<T, A: Allocator + Copy> Page<T, A> {
@@ -108,92 +56,145 @@ impl<T, A: Allocator + Copy> Page<T, A> {
         ensures { result ≡ [] }
     {
         Page {
-            sites: Vec::new(alloc),
+            form: Form::List(SiteList::new(alloc)),
         }
     }
 
-    /// The offsets and targets, by rising offset.
-    pub fn iter(&self) -> slice::Iter<'_, (u32, T)>
-        ensures { iter_rest result ≡ self.now }
+    /// The sites of the list and those of the table, one of which has none. The sites by rising offset are
+    /// the former and then the latter.
+    pub fn iters(&self) -> (slice::Iter<'_, (u32, T)>, SlotsIter<'_, T>)
+        ensures { iter_rest result.0 ++ result.1 ≡ self.now }
     {
-        self.sites.iter()
+        match &self.form {
+            Form::List(list) => (list.iter(), SlotsIter::empty()),
+            Form::Table(table) => ([].iter(), table.iter()),
+        }
     }
 }
 
 impl<T: Copy, A: Allocator + Copy> Page<T, A> {
-    /// The number of sites that begin before the offset. In most files sites come by rising offset,
-    /// so the last one is looked at first.
-    fn count_before(&self, offset: u32) -> usize
-        ensures within { result ≤ length self.now }
-        ensures parts { IsPartitionPoint (λ (site : ℕ × T). site.0 < offset) (λ (site : ℕ × T). offset ≤ site.0) self.now result }
+    /// Whether a site at the offset shares no byte with a site of the page.
+    pub fn is_free(&self, offset: u32) -> bool
+        ensures { MatchBool result (Meets self.now offset → ⊥) (Meets self.now offset) }
     {
-        match self.sites.last() {
-            Some((last, _)) if *last < offset => self.sites.len(),
-            _ => count_below(&self.sites, offset),
+        match &self.form {
+            Form::List(list) => list.is_free(offset),
+            Form::Table(table) => table.is_free(offset),
         }
     }
 
-    /// The place for a site at the offset, or `None` where it would share a byte with a site of the
-    /// page.
-    pub fn free_place(&self, offset: u32) -> Option<usize>
-        ensures { MatchOption result (Meets self.now offset) (IsFreePlace self.now offset) }
+    /// Whether the sites go over to a table where one is added at the offset.
+    fn is_crowded_at(&self, offset: u32) -> bool
+        ensures { OnTrue result (0 < length self.now) }
     {
-        let place = self.count_before(offset);
-        if is_apart(&self.sites, place, offset) {
-            Some(place)
-        } else {
-            None
+        match &self.form {
+            Form::List(list) => list.is_crowded_at(offset),
+            Form::Table(_) => false,
         }
     }
 
-    /// Whether one more site needs an allocation.
-    pub fn is_full(&self) -> bool {
-        self.sites.len() == self.sites.capacity()
+    /// Whether a site at the offset belongs into a list that needs an allocation for it.
+    #[inline(always)]
+    pub fn needs_room_at(&self, offset: u32) -> bool {
+        match &self.form {
+            Form::List(list) => list.is_full() && !list.is_crowded_at(offset),
+            Form::Table(_) => false,
+        }
     }
 
-    /// Makes room for more sites in a full page, where the pages beside it have `near` sites. The page
-    /// stays as it was, also if the allocation fails.
+    /// How many sites its list has, or of a table how many a list has at least that goes over to one. By
+    /// this the pages beside it get their room: their lists are left for tables as early.
+    pub fn list_len(&self) -> usize {
+        match &self.form {
+            Form::List(list) => list.len(),
+            Form::Table(_) => LONG_LIST,
+        }
+    }
+
+    /// Makes room for more sites in a full list, where the pages beside it have lists of `near` sites. The
+    /// page stays as it was, also if the allocation fails.
     pub fn make_room(&mut self, near: usize) -> Result<(), AllocError>
         ensures { self.new ≡ self.old }
     {
-        self.sites.reserve_exact(more_room(self.sites.len(), near))
+        match &mut self.form {
+            Form::List(list) => list.make_room(near),
+            Form::Table(_) => Ok(()),
+        }
     }
 
-    /// Inserts a site at its place. If an allocation fails, the page stays as it was.
-    pub fn insert(&mut self, place: usize, offset: u32, target: T) -> Result<(), AllocError>
-        requires { IsFreePlace self.old offset place }
-        ensures { self.new ≡ (if is_ok result then insert_entry nat_cmp self.old offset target else self.old) }
+    /// Puts the sites of a list into a table. The page is seen as it was, also if the allocation fails.
+    fn spread(&mut self) -> Result<(), AllocError>
+        requires some { 0 < length self.old }
+        requires in_page { (number : ℕ) × LieInPage number self.old }
+        ensures { self.new ≡ self.old }
     {
-        self.sites.insert(place, (offset, target))?;
+        if let Form::List(list) = &self.form {
+            let table = list.to_table()?;
+            self.form = Form::Table(table);
+        }
         Ok(())
     }
 
-    /// Adds a site, or returns `Overlap` where it would share a byte with a site of the page. In most
-    /// files sites come by rising offset, so the last one is looked at first. If an allocation fails,
-    /// the page stays as it was.
-    pub fn add(&mut self, offset: u32, target: T) -> Result<(), SiteRefusal>
+    /// Adds a site in the form that the page has.
+    fn add_in_form(&mut self, offset: u32, target: T) -> Result<(), SiteRefusal>
+        requires { LieInPage (offset / 4096) self.old }
         ensures outside { result ≢ Err SiteRefusal.Outside }
         ensures overlap { (result ≡ Err SiteRefusal.Overlap) ↔ Meets self.old offset }
         ensures added { self.new ≡ (if is_ok result then insert_entry nat_cmp self.old offset target else self.old) }
     {
-        let added = match self.sites.last() {
-            Some((last, _)) if *last < offset => {
-                if offset - *last < SITE_BYTES {
-                    return Err(SiteRefusal::Overlap);
-                }
-                self.sites.push((offset, target))
-            }
-            _ => {
-                let place = count_below(&self.sites, offset);
-                if !is_apart(&self.sites, place, offset) {
-                    return Err(SiteRefusal::Overlap);
-                }
-                self.sites.insert(place, (offset, target))
-            }
-        };
-        match added {
-            Ok(()) => Ok(()),
-            Err(_) => Err(SiteRefusal::OutOfMemory),
+        match &mut self.form {
+            Form::List(list) => list.add(offset, target),
+            Form::Table(table) => table.add(offset, target),
+        }
+    }
+
+    /// Adds a site to a table, which the sites go over to before. An overlap is told before memory is asked
+    /// for.
+    #[inline(never)]
+    fn spread_and_add(&mut self, offset: u32, target: T) -> Result<(), SiteRefusal>
+        requires some { 0 < length self.old }
+        requires in_page { LieInPage (offset / 4096) self.old }
+        ensures outside { result ≢ Err SiteRefusal.Outside }
+        ensures overlap { (result ≡ Err SiteRefusal.Overlap) ↔ Meets self.old offset }
+        ensures added { self.new ≡ (if is_ok result then insert_entry nat_cmp self.old offset target else self.old) }
+    {
+        if !self.is_free(offset) {
+            return Err(SiteRefusal::Overlap);
+        }
+        if self.spread().is_err() {
+            return Err(SiteRefusal::OutOfMemory);
+        }
+        self.add_in_form(offset, target)
+    }
+
+    /// Adds a site that does not belong behind the last one of a list, as [`Page::add`] does.
+    #[inline(never)]
+    fn add_elsewhere(&mut self, offset: u32, target: T) -> Result<(), SiteRefusal>
+        requires { LieInPage (offset / 4096) self.old }
+        ensures outside { result ≢ Err SiteRefusal.Outside }
+        ensures overlap { (result ≡ Err SiteRefusal.Overlap) ↔ Meets self.old offset }
+        ensures added { self.new ≡ (if is_ok result then insert_entry nat_cmp self.old offset target else self.old) }
+    {
+        if self.is_crowded_at(offset) {
+            self.spread_and_add(offset, target)
+        } else {
+            self.add_in_form(offset, target)
+        }
+    }
+
+    /// Adds a site, or returns `Overlap` where it would share a byte with a site of the page. If an
+    /// allocation fails, the page is seen as it was. In most files a site belongs behind the last one of a
+    /// list, so that alone is done without a call.
+    #[inline(always)]
+    pub fn add(&mut self, offset: u32, target: T) -> Result<(), SiteRefusal>
+        requires { LieInPage (offset / 4096) self.old }
+        ensures outside { result ≢ Err SiteRefusal.Outside }
+        ensures overlap { (result ≡ Err SiteRefusal.Overlap) ↔ Meets self.old offset }
+        ensures added { self.new ≡ (if is_ok result then insert_entry nat_cmp self.old offset target else self.old) }
+    {
+        match &mut self.form {
+            Form::List(list) if list.ends_before(offset) => list.add(offset, target),
+            _ => self.add_elsewhere(offset, target),
         }
     }
 
@@ -201,9 +202,9 @@ impl<T: Copy, A: Allocator + Copy> Page<T, A> {
     pub fn get(&self, offset: u32) -> Option<&T>
         ensures { option_copied result ≡ target_at self.now offset }
     {
-        match self.sites.get(self.count_before(offset)) {
-            Some((start, target)) if *start == offset => Some(target),
-            _ => None,
+        match &self.form {
+            Form::List(list) => list.get(offset),
+            Form::Table(table) => table.get(offset),
         }
     }
 }

@@ -2,12 +2,11 @@
 //!
 //! A page is 4,096 bytes of the hunk, and a site belongs to the page that it begins in. So a page has
 //! at most 1,024 sites, and only sites of the same page and of the two beside it can share a byte.
-ghost use Rattle.std.specs.Prelude.{◌≡◌, ◌≢◌, ◌/◌, ◌^◌, ◌<◌, ◌↔◌, is_ok, if◌then◌else◌, MatchOption, OnOk, vec_len};
+ghost use Rattle.std.specs.Prelude.{◌≡◌, ◌≢◌, ◌/◌, ◌^◌, ◌<◌, ◌↔◌, is_ok, if◌then◌else◌, MatchBool, OnOk, vec_len};
 ghost use Rattle.std.specs.Bool.{OnFalse, OnTrue};
 ghost use Rattle.std.specs.BTreeMap.{insert_entry};
 ghost use Rattle.std.specs.Option.{option_copied};
 ghost use Rattle.std.specs.Ordering.{nat_cmp};
-ghost use Rattle.hunk_base.specs.Page.{IsFreePlace};
 ghost use Rattle.hunk_base.specs.Pages.{LieInPages, AppendsEmptyPages, all_sites, page_at};
 ghost use Rattle.hunk_base.specs.Sites.{Meets, target_at};
 
@@ -25,31 +24,30 @@ fn page_number(byte: u64) -> usize
     (byte / u64::from(PAGE_BYTES)) as usize
 }
 
-/// The place for a site at the offset among the sites of one page, or `None` where it would share a
-/// byte with one of them.
-fn place_in<T: Copy, A: Allocator + Copy>(
+/// Whether a site at the offset shares no byte with the sites of one page.
+fn is_free_in<T: Copy, A: Allocator + Copy>(
     pages: &[Page<T, A>],
     number: usize,
     offset: u32,
-) -> Option<usize>
-    ensures { MatchOption result (Meets (page_at pages.now number) offset) (IsFreePlace (page_at pages.now number) offset) }
+) -> bool
+    ensures { MatchBool result (Meets (page_at pages.now number) offset → ⊥) (Meets (page_at pages.now number) offset) }
 {
     match pages.get(number) {
-        Some(page) => page.free_place(offset),
-        None => Some(0),
+        Some(page) => page.is_free(offset),
+        None => true,
     }
 }
 
-/// The same among the sites of a page beside that of the offset, which is seldom asked for.
+/// The same with a page beside that of the offset, which is seldom asked for.
 #[inline(never)]
-fn place_beside<T: Copy, A: Allocator + Copy>(
+fn is_free_far<T: Copy, A: Allocator + Copy>(
     pages: &[Page<T, A>],
     number: usize,
     offset: u32,
-) -> Option<usize>
-    ensures { MatchOption result (Meets (page_at pages.now number) offset) (IsFreePlace (page_at pages.now number) offset) }
+) -> bool
+    ensures { MatchBool result (Meets (page_at pages.now number) offset → ⊥) (Meets (page_at pages.now number) offset) }
 {
-    place_in(pages, number, offset)
+    is_free_in(pages, number, offset)
 }
 
 /// Whether a site at the offset shares no byte with the sites of the pages beside its own. It can share
@@ -61,18 +59,18 @@ fn is_free_beside<T: Copy, A: Allocator + Copy>(pages: &[Page<T, A>], offset: u3
 {
     let number = page_number(u64::from(offset));
     let first = page_number(u64::from(offset).saturating_sub(LAST_BYTE));
-    if first < number && place_beside(pages, first, offset).is_none() {
+    if first < number && !is_free_far(pages, first, offset) {
         return false;
     }
     let last = page_number(u64::from(offset) + LAST_BYTE);
-    if number < last && place_beside(pages, last, offset).is_none() {
+    if number < last && !is_free_far(pages, last, offset) {
         return false;
     }
     true
 }
 
 /// Appends empty pages up to the one with the number. Where they are moved, room is made for a quarter
-/// more: they are seldom moved, and a page takes at most 30 bytes beside its sites.
+/// more: they are seldom moved, and a page takes at most 80 bytes beside its sites.
 fn grow_to<T: Copy, A: Allocator + Copy>(
     pages: &mut Vec<Page<T, A>, A>,
     number: usize,
@@ -92,18 +90,18 @@ fn grow_to<T: Copy, A: Allocator + Copy>(
     Ok(())
 }
 
-/// How many sites a page has, or 0 where there is no such page.
+/// How many sites the list of a page has, or 0 where there is no such page.
 fn count_in<T: Copy, A: Allocator + Copy>(pages: &[Page<T, A>], number: usize) -> usize {
     match pages.get(number) {
-        Some(page) => page.iter().len(),
+        Some(page) => page.list_len(),
         None => 0,
     }
 }
 
-/// How many sites the pages beside a page have, by which it gets its room: as many as the page before
-/// has. In a file whose offsets fall it is the pages after that have sites: there it is the fewer of
-/// what the next two have. So a page with many sites and few in the page after it is the measure of that
-/// one alone, and all pages together have memory for at most three times their sites.
+/// How many sites the lists of the pages beside a page have, by which it gets its room: as many as that of
+/// the page before has. In a file whose offsets fall it is the pages after that have sites: there it is
+/// the fewer of what the next two have. So a page with many sites and few in the page after it is the
+/// measure of that one alone, and all lists together have memory for at most three times the sites.
 fn count_beside<T: Copy, A: Allocator + Copy>(pages: &[Page<T, A>], number: usize) -> usize {
     let before = count_in(pages, number.wrapping_sub(1));
     let next = count_in(pages, number.wrapping_add(1));
@@ -126,8 +124,8 @@ fn grow<T: Copy, A: Allocator + Copy>(
     pages[number].make_room(near)
 }
 
-/// Adds a site to the page with the number, which is full or not there yet. An overlap is told before
-/// memory is asked for.
+/// Adds a site to the page with the number, whose list is full or which is not there yet. An overlap is
+/// told before memory is asked for.
 #[inline(never)]
 fn grow_and_add<T: Copy, A: Allocator + Copy>(
     pages: &mut Vec<Page<T, A>, A>,
@@ -142,16 +140,13 @@ fn grow_and_add<T: Copy, A: Allocator + Copy>(
     ensures overlap { (result ≡ Err SiteRefusal.Overlap) ↔ Meets (page_at pages.old.items number) offset }
     ensures added { all_sites pages.new.items ≡ (if is_ok result then insert_entry nat_cmp (all_sites pages.old.items) offset target else all_sites pages.old.items) }
 {
-    let Some(place) = place_in(pages, number, offset) else {
+    if !is_free_in(pages, number, offset) {
         return Err(SiteRefusal::Overlap);
-    };
+    }
     if grow(pages, number).is_err() {
         return Err(SiteRefusal::OutOfMemory);
     }
-    match pages[number].insert(place, offset, target) {
-        Ok(()) => Ok(()),
-        Err(_) => Err(SiteRefusal::OutOfMemory),
-    }
+    pages[number].add(offset, target)
 }
 
 /// Adds a site to its page, or returns `Overlap` where it would share a byte with another site, which
@@ -172,7 +167,7 @@ pub fn add<T: Copy, A: Allocator + Copy>(
     }
     let number = page_number(u64::from(offset));
     match pages.get_mut(number) {
-        Some(page) if !page.is_full() => page.add(offset, target),
+        Some(page) if !page.needs_room_at(offset) => page.add(offset, target),
         _ => grow_and_add(pages, number, offset, target),
     }
 }

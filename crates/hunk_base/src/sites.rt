@@ -9,6 +9,7 @@ ghost use Rattle.hunk_base.specs.Sites.{AreApart, Meets, site_shown, target_at};
 
 use crate::page::{Page, SITE_BYTES};
 use crate::pages;
+use crate::slots::SlotsIter;
 use std::alloc::{Allocator, Global};
 use std::marker::Model;
 use std::slice;
@@ -108,7 +109,8 @@ impl<T: Copy, A: Allocator + Copy> Sites<T, A> {
         ensures apart { AreApart self.now }
     {
         Walk {
-            sites: [].iter(),
+            list: [].iter(),
+            table: SlotsIter::empty(),
             pages: self.pages.iter(),
         }
     }
@@ -118,7 +120,10 @@ impl<T: Copy, A: Allocator + Copy> Sites<T, A> {
 /// It is seen as the list that is left.
 #[derive(Drop)]
 pub struct Walk<'a, T, A: Allocator + Copy = Global> {
-    sites: slice::Iter<'a, (u32, T)>,
+    /// What is left of the page that is walked over, in its list and in its table. One of them is empty.
+    list: slice::Iter<'a, (u32, T)>,
+    table: SlotsIter<'a, T>,
+    /// The pages that follow.
     pages: slice::Iter<'a, Page<T, A>>,
 }
 
@@ -129,9 +134,9 @@ impl<'a, T, A: Allocator + Copy> Model for Walk<'a, T, A> {
 
     ghost Value = { List (ℕ × T) };
 
-    ghost view = { λ w. iter_rest w.sites ++ all_sites (iter_rest w.pages) };
+    ghost view = { λ w. iter_rest w.list ++ w.table ++ all_sites (iter_rest w.pages) };
 
-    ghost invariant = { λ w. length (iter_rest w.sites ++ all_sites (iter_rest w.pages)) < 2 ^ 64 };
+    ghost invariant = { λ w. length (iter_rest w.list ++ w.table ++ all_sites (iter_rest w.pages)) < 2 ^ 64 };
 }
 
 impl<'a, T, A: Allocator + Copy> Iterator for Walk<'a, T, A> {
@@ -143,10 +148,15 @@ impl<'a, T, A: Allocator + Copy> Iterator for Walk<'a, T, A> {
 
     fn next(&mut self) -> Option<(u32, &'a T)> {
         loop {
-            if let Some((offset, target)) = self.sites.next() {
+            if let Some((offset, target)) = self.list.next() {
                 return Some((*offset, target));
             }
-            self.sites = self.pages.next()?.iter();
+            if let Some(site) = self.table.next_site() {
+                return Some(site);
+            }
+            let (list, table) = self.pages.next()?.iters();
+            self.list = list;
+            self.table = table;
         }
     }
 }

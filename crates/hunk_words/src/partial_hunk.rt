@@ -1,5 +1,5 @@
 //! The current hunk of a reader: its sites, and its content so far.
-ghost use Rattle.std.specs.Prelude.{◌≡◌, ℕ, ◌<◌, ◌≤◌, ◌↔◌, List, [], ◌∷◌, length, false, OnOk, OnErr, IsTrue, IsFalse};
+ghost use Rattle.std.specs.Prelude.{◌≡◌, ◌≢◌, ℕ, ◌<◌, ◌≤◌, ◌↔◌, List, [], ◌∷◌, length, false, OnOk, OnErr, IsTrue, IsFalse, MatchBool};
 ghost use Rattle.hunk_words.specs.PartialHunk.{HoldsSites, begun_hunk, filled_hunk, hunk_with_bytes, hunk_with_site, hunk_with_word, initial_hunk};
 ghost use Rattle.hunk_base.specs.Sites.{AreApart};
 ghost use Rattle.hunk_words.specs.Taker.{JudgesSite};
@@ -8,6 +8,13 @@ use hunk_base::longwords::{LONGWORD, big_endian};
 use hunk_base::sites::{SiteRefusal, Sites};
 use std::alloc::{AllocError, Allocator, Global};
 use std::marker::Model;
+
+/// Whether there is a site.
+fn has_site<T: Copy, A: Allocator + Copy>(sites: &Sites<T, A>) -> bool
+    ensures { MatchBool result (sites.now.entries ≢ []) (sites.now.entries ≡ []) }
+{
+    sites.walk().next().is_some()
+}
 
 /// The current hunk of a reader: its sites, its content so far, and whether the next word is
 /// content.
@@ -69,7 +76,7 @@ impl<T: Copy, A: Allocator + Copy> PartialHunk<T, A> {
         ensures refused { IsFalse result → self.new ≡ self.old }
         ensures first { IsTrue result ↔ ((self.old.content ≡ []) × (self.old.sites.entries ≡ [])) }
     {
-        if !self.content.is_empty() || self.sites.walk().next().is_some() {
+        if !self.content.is_empty() || has_site(&self.sites) {
             return false;
         }
         self.sites = Sites::new(alloc, limit);

@@ -5,10 +5,10 @@ use Rattle.std.specs.BTreeMap.{insert_entry}
 use Rattle.std.specs.Ordering.{nat_cmp}
 use Rattle.hunk_base.specs.Pages.{LieInPages, all_sites}
 use Rattle.hunk_base.specs.declared.sites.SiteRefusal.TheVariants.{Overlap}
-use Rattle.hunk_base.proofs.PagesLemmas.{added-pages, overlaps-own_page}
+use Rattle.hunk_base.proofs.PagesLemmas.{LieInPages-read, added-pages, overlaps-own_page}
 use Rattle.hunk_base.proofs.pages.add.Given.{Over}
 use Rattle.hunk_base.proofs.pages.add.Goals as goal
-use Rattle.hunk_base.proofs.pages.add.Goals.{After-add, After-grow_and_add, in_default-via-in-Some+else-not-is_full, in_default-via-in-None-1}
+use Rattle.hunk_base.proofs.pages.add.Goals.{After-add, After-grow_and_add, in_default-via-in-Some+else-not-needs_room_at, in_default-via-in-None-1}
 
 -- the site was put into its page, or none
 added : (g : Over) (c : After-add g)
@@ -18,6 +18,10 @@ added : (g : Over) (c : After-add g)
 added g c =
     added-pages (is_ok c.add.result) c.args.offset c.page_number-number.result c.args.target c.in-Some.page.now c.add.new.self c.args.pages.now.items
     c.requires (omega arith) c.in-Some.ensures.item.3.0 c.in-Some.ensures.value c.add.ensures.added
+
+pub add-requires : goal.add-requires
+add-requires g c =
+    LieInPages-read c.page_number-number.result c.args.offset c.in-Some.page.now c.args.pages.now.items c.requires (omega arith) c.in-Some.ensures.item.3.0 c.in-Some.ensures.value
 
 pub returns-in-Some-clause-in_pages : goal.returns-in-Some-clause-in_pages
 returns-in-Some-clause-in_pages g c = (added g (goal.at.returns-in-Some-clause-in_pages g c).After-add).0
@@ -36,7 +40,7 @@ returns-in-Some-clause-added g c = (added g (goal.at.returns-in-Some-clause-adde
 -- the pages are as they were where the page is full or not there yet
 kept : (g : Over) (c : After-grow_and_add g) → c.in_default.pages.items ≡ c.args.pages.now.items
 kept g c = elim c.in_default.branch [
-  | in_default-via-in-Some+else-not-is_full w ↦
+  | in_default-via-in-Some+else-not-needs_room_at w ↦
       ap (λ pages. pages.items) w.pages-is
       ∙ ap (λ page. set c.args.pages.now.items c.page_number-number.result page) w.in-Some.ensures.value
       ∙ set-get_or c.args.pages.now.items c.page_number-number.result w.in-Some.page.now

@@ -1,8 +1,11 @@
-use Rattle.std.proofs.Common.{◌≡◌, length, sym, ap, subst, ◌∙◌}
+use Rattle.std.proofs.Common.{◌≡◌, ◌≤◌, ◌*◌, ℕ, length, sym, ap, subst, ◌∙◌, arith}
 use Rattle.std.proofs.lemmas.List.{with_items_is}
 use Rattle.std.specs.List.{All}
 use Rattle.hunk_words.specs.DebugInfo.{lists_of}
 use Rattle.hunk_base.specs.Sites.{SiteMap}
+use Rattle.hunk_words.specs.declared.kinds.HunkKind.{HunkKind}
+use Rattle.hunk_words.specs.declared.kinds.HunkKind.TheVariants.{Bss, Code, Data}
+use Rattle.hunk_objects.specs.UnitHunk.{ObjectHunk, content_bytes}
 use Rattle.hunk_objects.specs.declared.unit_hunk.Adds.{Adds}
 use Rattle.hunk_link.specs.Addend.{addend_of}
 use Rattle.hunk_link.specs.Carried.{IsKnown, unless_stripped}
@@ -13,6 +16,17 @@ use Rattle.hunk_link.proofs.carried.moved_hunk.Goals as goal
 pub carry-requires-clause-known : goal.carry-requires-clause-known
 carry-requires-clause-known g c =
     subst (λ (sites : SiteMap Adds). All (λ site. IsKnown c.args.first (length c.args.references.now) site.1) sites.entries) (sym c.into_parts-kind.ensures.sites) c.requires
+
+content_bytes-le : (kind : HunkKind) (size : ℕ) → content_bytes kind size ≤ 4 * size
+content_bytes-le Bss size = omega arith
+content_bytes-le Code size = omega arith
+content_bytes-le Data size = omega arith
+
+pub carry-requires-clause-within : goal.carry-requires-clause-within
+carry-requires-clause-within g c =
+    let hunk : ObjectHunk = c.args.hunk in
+    let parts = c.into_parts-kind.ensures in
+    omega (arith, ap (λ (sites : SiteMap Adds). sites.limit) parts.sites, parts.valid.limit, parts.valid.whole, content_bytes-le hunk.kind hunk.size, parts.size)
 
 pub returns : goal.returns
 returns g c =

@@ -14,4 +14,4 @@ invariant_of-result g c =
     let sites = all_sites c.self.inside.pages.items in
     let few = AreApart-few (record { limit = c.self.inside.limit; entries = sites }) c.self.invariant.0 in
     let small : length sites < 2 ^ 64 = omega (arith, few, c.self.invariant.2) in
-    rw (c.iter.ensures.rest, c.iter-2.ensures.rest, c.deref.ensures.value) small
+    rw (c.iter.ensures.rest, c.empty.ensures, c.iter-2.ensures.rest, c.deref.ensures.value) small

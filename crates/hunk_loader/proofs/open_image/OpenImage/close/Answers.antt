@@ -1,7 +1,8 @@
 -- The content, padded with zeros and patched.
-use Rattle.std.proofs.Common.{◌≡◌, ◌-◌, ◌++◌, List, ℕ, ap, drop, length, replicate, slice_index, subst, ◌∙◌, arith}
+use Rattle.std.proofs.Common.{◌≡◌, ◌<◌, ◌-◌, ◌++◌, List, ℕ, ap, drop, length, replicate, slice_index, subst, sym, ◌∙◌, arith}
 use Rattle.std.proofs.lemmas.Grind.{common_steps}
 use Rattle.std.proofs.lemmas.List.{take_at}
+use Rattle.std.specs.List.{All}
 use Rattle.hunk_words.specs.PartialHunk.{HunkSoFar, filled_hunk}
 use Rattle.hunk_base.specs.Sites.{SiteMap}
 use Rattle.hunk_loadfile.specs.Patching.{patched_bytes}
@@ -30,6 +31,14 @@ invariant_of-self g c = grind (arith, common_steps)
 
 pub patch-requires-clause-inside : goal.patch-requires-clause-inside
 patch-requires-clause-inside g c = grind (arith, common_steps)
+
+pub patch-requires-clause-based : goal.patch-requires-clause-based
+patch-requires-clause-based g c =
+    let bases : List ℕ = c.args.bases.now in
+    let partial : HunkSoFar ℕ = c.self.inside.partial in
+    let filled : c.replace-filled.result ≡ filled_hunk partial = c.replace-filled.ensures.value ∙ c.in_ok-fill.ensures.fills in
+    let same = c.into_parts-bytes.ensures.sites ∙ ap (λ (hunk : HunkSoFar ℕ). hunk.sites) filled in
+    subst (λ (sites : SiteMap ℕ). All (λ (site : ℕ × ℕ). site.1 < length bases) sites.entries) (sym same) (λ i site low. omega (arith, c.self.invariant i site low))
 
 pub invariant_of-self-2 : goal.invariant_of-self-2
 invariant_of-self-2 g c = grind (arith, common_steps)

@@ -3,9 +3,6 @@ use Rattle.std.proofs.Common.{arith}
 use Rattle.std.proofs.lemmas.Grind.{common_steps}
 use Rattle.hunk_words.proofs.partial_hunk.PartialHunk.begin_content.Goals as goal
 
-pub next-requires : goal.next-requires
-next-requires g c = grind (arith, common_steps)
-
 pub returns-then-not-is_empty-clause-begins : goal.returns-then-not-is_empty-clause-begins
 returns-then-not-is_empty-clause-begins g c = grind (arith, common_steps)
 

@@ -1,7 +1,7 @@
 use Rattle.std.proofs.Common.{◌∙◌, arith}
 use Rattle.hunk_base.specs.Page.{AreSpaced}
 use Rattle.hunk_base.proofs.PageLemmas.{parts-last}
-use Rattle.hunk_base.proofs.page.Page.count_before.Goals as goal
+use Rattle.hunk_base.proofs.list.SiteList.count_before.Goals as goal
 
 pub returns-in-Some-clause-parts : goal.returns-in-Some-clause-parts
 returns-in-Some-clause-parts g c =

@@ -1,7 +1,7 @@
 use Rattle.std.proofs.Common.{ℕ, ◌+◌, ◌-◌, ◌<◌, ◌≤◌, ◌≡◌, length, get_or, arith}
 use Rattle.hunk_base.proofs.PageLemmas.{Meets-get_or, IsFreePlace-read}
-use Rattle.hunk_base.proofs.page.is_apart.Goals as goal
-use Rattle.hunk_base.proofs.page.is_apart.Goals.{else-place-gt0-via-then-place-gt0+else-offset-sites-lt-SITE_BYTES, else-place-gt0-via-else-place-gt0, else-place-sites-via-then-place-sites+else-sites-place-lt-SITE_BYTES, else-place-sites-via-else-place-sites}
+use Rattle.hunk_base.proofs.list.is_apart.Goals as goal
+use Rattle.hunk_base.proofs.list.is_apart.Goals.{else-place-gt0-via-then-place-gt0+else-offset-sites-lt-SITE_BYTES, else-place-gt0-via-else-place-gt0, else-place-sites-via-then-place-sites+else-sites-place-lt-SITE_BYTES, else-place-sites-via-else-place-sites}
 
 pub returns-then-offset-sites-lt-SITE_BYTES : goal.returns-then-offset-sites-lt-SITE_BYTES
 returns-then-offset-sites-lt-SITE_BYTES g c =

@@ -2,8 +2,8 @@ use Rattle.std.proofs.Common.{◌+◌, ◌-◌, ◌^◌, ◌<◌, ◌≤◌, ◌
 use Rattle.std.proofs.lemmas.List.{get_or_read}
 use Rattle.hunk_base.proofs.PageLemmas.{StandFrom-rises, parts-first}
 use Rattle.hunk_base.proofs.SitesLemmas.{AreApart-few}
-use Rattle.hunk_base.proofs.page.count_below.Goals as goal
-use Rattle.hunk_base.proofs.page.count_below.Goals.{then-loop-count-test+else-sites-count, else-loop-count-test}
+use Rattle.hunk_base.proofs.list.count_below.Goals as goal
+use Rattle.hunk_base.proofs.list.count_below.Goals.{then-loop-count-test+else-sites-count, else-loop-count-test}
 
 pub likely_count-count-requires : goal.likely_count-count-requires
 likely_count-count-requires g c =

@@ -1,6 +1,6 @@
 -- The count stays among the sites, and in the second loop no site from it on begins before the offset.
 use Rattle.std.proofs.Common.{ℕ, ◌-◌, ◌<◌, ◌≤◌, length, get_or}
-use Rattle.hunk_base.proofs.page.count_below.Given as goal
+use Rattle.hunk_base.proofs.list.count_below.Given as goal
 
 abbrev pub invariant-loop-count : goal.invariant-loop-count
 invariant-loop-count g l = l.count ≤ length l.sites

@@ -4,9 +4,9 @@ use Rattle.std.specs.Ordering.{nat_cmp}
 use Rattle.hunk_base.specs.Page.{AreSpaced, IsFreePlace}
 use Rattle.hunk_base.specs.Sites.{Meets}
 use Rattle.hunk_base.proofs.PageLemmas.{AreSpaced-added, IsFreePlace-added, IsFreePlace-free, IsFreePlace-last, IsFreePlace-pushed, Meets-read}
-use Rattle.hunk_base.proofs.page.Page.add.Given.{Over}
-use Rattle.hunk_base.proofs.page.Page.add.Goals as goal
-use Rattle.hunk_base.proofs.page.Page.add.Goals.{Joined-last, in-Some+else-offset-last-lt-SITE_BYTES, in_default+else-not-is_apart, in_default-via-in-Some+else-last-offset, in_default-via-in_default}
+use Rattle.hunk_base.proofs.list.SiteList.add.Given.{Over}
+use Rattle.hunk_base.proofs.list.SiteList.add.Goals as goal
+use Rattle.hunk_base.proofs.list.SiteList.add.Goals.{Joined-last, in-Some+else-offset-last-lt-SITE_BYTES, in_default+else-not-is_apart, in_default-via-in-Some+else-last-offset, in_default-via-in_default}
 
 pub returns-then-offset-last-lt-SITE_BYTES-clause-overlap :
     goal.returns-then-offset-last-lt-SITE_BYTES-clause-overlap

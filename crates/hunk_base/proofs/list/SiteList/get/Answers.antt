@@ -1,8 +1,8 @@
 use Rattle.std.proofs.Common.{◌∙◌, arith}
 use Rattle.hunk_base.specs.Page.{AreSpaced}
 use Rattle.hunk_base.proofs.PageLemmas.{target_at-read, target_at-unread}
-use Rattle.hunk_base.proofs.page.Page.get.Goals as goal
-use Rattle.hunk_base.proofs.page.Page.get.Goals.{in_default-via-in-Some+else-start-offset, in_default-via-in_default}
+use Rattle.hunk_base.proofs.list.SiteList.get.Goals as goal
+use Rattle.hunk_base.proofs.list.SiteList.get.Goals.{in_default-via-in-Some+else-start-offset, in_default-via-in_default}
 
 pub returns-in-Some : goal.returns-in-Some
 returns-in-Some g c =
