@@ -1,9 +1,10 @@
 #!/usr/bin/env bash
-# Measures loading: its time compared with `cat` and `xxd`, in every order of relocations, and its memory.
+# Measures loading: its time compared with `cat`, with a program in C that copies the file into memory, and with
+# `xxd`, in every order of relocations, and its memory.
 # It makes its own inputs, and prints for each figure what is allowed and what was reached. Times are the
-# best of five runs. It ends with status 1 where a figure is missed. It needs the toolchain, python3 and xxd
-# on the PATH, and 2 GB for temporary files. The input `huge` is `plain` under the GNU C library's setting for
-# huge pages, which changes nothing where the kernel gives none on request.
+# best of five runs. It ends with status 1 where a figure is missed. It needs the toolchain, a C compiler ($CC, or
+# cc), python3 and xxd on the PATH, and 2 GB for temporary files. The input `huge` is `plain` under the GNU C
+# library's setting for huge pages, which changes nothing where the kernel gives none on request.
 set -eu
 . "$(dirname "$0")/common.sh"
 longwords=15728640 # 60 MB
@@ -15,6 +16,7 @@ done
 make_file half --longwords "$((longwords / 2))" --sites "$((sites / 2))"
 make_file debug --longwords "$longwords" --debug 400000000
 cd "$folder"
+"${CC:-cc}" -std=c11 -O2 "$benches/copy.c" -o in-c
 
 # The inputs take turns, so that each figure compares times of the same few seconds.
 measure() { # the least microseconds of five rounds, in `least`: HOW INPUT..
@@ -25,6 +27,7 @@ measure() { # the least microseconds of five rounds, in `least`: HOW INPUT..
         for input in "$@"; do
             case "$input" in
                 cat) now="$(took /dev/null cat plain)" ;;
+                in-c) now="$(took /dev/null ./in-c plain)" ;;
                 huge) now="$(GLIBC_TUNABLES=glibc.malloc.hugetlb=1 took /dev/null "$bench" "$how-file" plain)" ;;
                 *) now="$(took /dev/null "$bench" "$how-file" "$input")" ;;
             esac
@@ -36,11 +39,16 @@ measure() { # the least microseconds of five rounds, in `least`: HOW INPUT..
 declare -A least
 echo "60 MB"
 for how in decode load; do
-    measure "$how" cat plain huge rising targets falling random half
+    measure "$how" cat in-c plain huge rising targets falling random half
     plain="${least[plain]}"
     figure "$how without relocations ($plain us) by cat (${least[cat]} us)" 6 "$(ratio "$plain" "${least[cat]}")" times
     figure "the same with huge pages (${least[huge]} us) by it" 1.1 "$(ratio "${least[huge]}" "$plain")" times
-    for row in "rising 1.5" "targets 1.7" "falling 2" "random 4"; do
+    most="rising 1.5"
+    if [ "$how" = load ]; then
+        most="rising 1.35"
+        figure "the same by reading and copying it in C (${least[in-c]} us)" 1.1 "$(ratio "$plain" "${least[in-c]}")" times
+    fi
+    for row in "$most" "targets 1.7" "falling 2" "random 4"; do
         read -r order allowed <<< "$row"
         time="${least[$order]}"
         figure "$how with $sites, $order ($time us), by the same without" "$allowed" "$(ratio "$time" "$plain")" times

@@ -1,5 +1,5 @@
 #!/usr/bin/env python3
-"""Writes the object files of a made program: object_files.py FOLDER KIND COUNT
+"""Writes the object files of a made program: object_files.py FOLDER KIND COUNT [--elf]
 
 `many` is COUNT files of three hunks each. A file defines eight names, refers 24 times to names of others,
 mostly of the files that follow it, and relocates 32 longwords.
@@ -12,12 +12,17 @@ that refers to it.
 standard input, and the second as many ordinary names of the same length. They differ in nothing else.
 
 The files are FOLDER/00000.o and so on. Their contents repeat in no short pattern, and sites stand at any offset.
-The same arguments make the same files.
+The same arguments make the same files. With --elf they are ELF objects of the same program, for linkers that
+read those: each hunk is a section, and what a site adds stands in its relocation.
 """
+import argparse
 import array
+import dataclasses
 import pathlib
 import random
 import sys
+
+import elf_object
 
 UNIT, NAME, CODE, DATA, BSS = 0x3E7, 0x3E8, 0x3E9, 0x3EA, 0x3EB
 RELOC32, EXT, END = 0x3EC, 0x3EF, 0x3F2
@@ -57,8 +62,40 @@ def externals(definitions, references):
     return longwords([EXT]) + b"".join(parts) + longwords([0])
 
 
-def content(kind, data):
-    return longwords([kind, len(data) // 4]) + data
+@dataclasses.dataclass
+class Hunk:
+    kind: int
+    # The bytes of its content; of BSS those that its memory has.
+    data: bytes
+    name: str = ""
+    # For each hunk number of the unit, the offsets at which its base is added.
+    relocations: dict = dataclasses.field(default_factory=dict)
+    # Names with offsets, and for each name the offsets at which it is referred to.
+    definitions: list = dataclasses.field(default_factory=list)
+    references: dict = dataclasses.field(default_factory=dict)
+
+    def blocks(self):
+        if self.name:
+            yield titled(NAME, self.name)
+        yield longwords([self.kind, len(self.data) // 4])
+        if self.kind != BSS:
+            yield self.data
+        if self.relocations:
+            yield relocations(self.relocations)
+        if self.definitions or self.references:
+            yield externals(self.definitions, self.references)
+        yield longwords([END])
+
+
+def hunk_object(name, hunks):
+    return titled(UNIT, name) + b"".join(block for hunk in hunks for block in hunk.blocks())
+
+
+def elf_of(_name, hunks):
+    flags = {CODE: elf_object.CODE, DATA: elf_object.DATA, BSS: elf_object.BSS}
+    return elf_object.elf_object([
+        elf_object.Section(flags[it.kind], it.data, it.relocations, it.definitions, it.references) for it in hunks
+    ])
 
 
 def many(dice, count):
@@ -76,14 +113,11 @@ def many(dice, count):
         for offset in range(0, 64, 8):
             data.setdefault(dice.randrange(3), []).append(offset)
         names = [("module%d_function_%d" % (number, place), 8 * place) for place in range(8)]
-        yield b"".join([
-            titled(UNIT, "%d.o" % number),
-            titled(NAME, ".text"), content(CODE, dice.randbytes(1200 + 4 * dice.randrange(400))),
-            relocations(own), externals(names[:6], references), longwords([END]),
-            titled(NAME, ".data"), content(DATA, dice.randbytes(256)),
-            relocations(data), externals(names[6:], {}), longwords([END]),
-            titled(NAME, ".bss"), longwords([BSS, 32, END]),
-        ])
+        yield "%d.o" % number, [
+            Hunk(CODE, dice.randbytes(1200 + 4 * dice.randrange(400)), ".text", own, names[:6], references),
+            Hunk(DATA, dice.randbytes(256), ".data", data, names[6:]),
+            Hunk(BSS, bytes(128), ".bss"),
+        ]
 
 
 def symbols(dice, count):
@@ -92,53 +126,39 @@ def symbols(dice, count):
         names = [(name % (number, place), 4 * place) for place in range(2000)]
         others = [(number + 1 + dice.randrange(max(count - 1, 1))) % count for _ in names]
         references = {name % (other, place): [4 * place] for place, other in enumerate(others)}
-        yield b"".join([
-            titled(UNIT, "%d.o" % number),
-            content(CODE, dice.randbytes(8000)), externals(names, references), longwords([END]),
-        ])
+        yield "%d.o" % number, [Hunk(CODE, dice.randbytes(8000), definitions=names, references=references)]
 
 
 def small(dice, count):
     for number in range(count):
         other = "name%d" % dice.randrange(count)
-        yield b"".join([
-            longwords([UNIT, 0]),
-            content(CODE, dice.randbytes(8)),
-            externals([("name%d" % number, 4)], {other: [2]}), longwords([END]),
-        ])
+        yield "", [Hunk(CODE, dice.randbytes(8), definitions=[("name%d" % number, 4)], references={other: [2]})]
 
 
 def big(dice, count):
     sites = range(0, 4 * count - 3, 62)
-    yield b"".join([
-        titled(UNIT, "table.o"),
-        content(DATA, dice.randbytes(4 * count)),
-        relocations({0: sites}), externals([("table", 0)], {}), longwords([END]),
-    ])
-    yield b"".join([
-        titled(UNIT, "small.o"),
-        content(CODE, dice.randbytes(64)), externals([], {"table": [8]}), longwords([END]),
-    ])
+    yield "table.o", [Hunk(DATA, dice.randbytes(4 * count), relocations={0: sites}, definitions=[("table", 0)])]
+    yield "small.o", [Hunk(CODE, dice.randbytes(64), references={"table": [8]})]
 
 
 def named(dice, count):
     names = sys.stdin.read().split()[:count]
     data = dice.randbytes(4 * count)
     for listed in names, ["n%0*d" % (len(name) - 1, place) for place, name in enumerate(names)]:
-        definitions = [(name, 4 * place) for place, name in enumerate(listed)]
-        yield b"".join([
-            titled(UNIT, "named.o"),
-            content(CODE, data), externals(definitions, {}), longwords([END]),
-        ])
+        yield "named.o", [Hunk(CODE, data, definitions=[(name, 4 * place) for place, name in enumerate(listed)])]
 
 
 def main():
-    folder, kind, count = sys.argv[1:]
     makers = {"many": many, "small": small, "symbols": symbols, "big": big, "named": named}
-    path = pathlib.Path(folder)
-    path.mkdir(parents=True)
-    for number, file in enumerate(makers[kind](random.Random(7), int(count))):
-        (path / ("%05d.o" % number)).write_bytes(file)
+    options = argparse.ArgumentParser()
+    options.add_argument("folder", type=pathlib.Path)
+    options.add_argument("kind", choices=makers)
+    options.add_argument("count", type=int)
+    options.add_argument("--elf", action="store_const", const=elf_of, default=hunk_object, dest="write")
+    given = options.parse_args()
+    given.folder.mkdir(parents=True)
+    for number, (name, hunks) in enumerate(makers[given.kind](random.Random(7), given.count)):
+        (given.folder / ("%05d.o" % number)).write_bytes(given.write(name, hunks))
 
 
 main()
