@@ -362,7 +362,7 @@ typedef struct amihunk_place {
  * amihunk_loader_get_hunk tells them. Nothing of a hunk is kept elsewhere, or twice. The bytes may
  * be at any address. No two hunks share one, none is part of a block of the loader's memory, and no
  * piece that is fed overlaps them. While a hunk is read, its relocations take memory of the loader:
- * 24 bytes for each 4 KiB of the hunk up to the last of them, and more for each.
+ * 64 to 80 bytes for each 4 KiB of the hunk up to the last of them, and more for each.
  *
  * With AMIHUNK_OK they are the loader's until it is closed: do not write there, and read there only
  * once the loader is loaded. If the file is refused, they may hold anything. No byte outside them
