@@ -4,19 +4,11 @@
 By turns they are object files and load files, of one or two hunks of up to 200 longwords with some relocations. There are a thousand in
 each folder, FOLDER/000/00000 and so on. LIST gets their names, each ended by a zero byte. The same arguments make the same files.
 """
-import array
 import pathlib
 import random
 import sys
 
-UNIT, CODE, DATA, RELOC32, END, HEADER = 0x3E7, 0x3E9, 0x3EA, 0x3EC, 0x3F2, 0x3F3
-
-
-def longwords(numbers):
-    words = array.array("I", numbers)
-    if sys.byteorder == "little":
-        words.byteswap()
-    return words.tobytes()
+from blocks import UNIT, CODE, DATA, RELOC32, END, HEADER, longwords
 
 
 def hunk(dice, kind, size, hunks):

@@ -22,10 +22,6 @@ for kind in small many; do
     rm -r "$kind"
 done
 
-keep() { # NAME TIME: in `least`, if it is less
-    if [ "$2" -lt "${least[$1]:-$(($2 + 1))}" ]; then least[$1]="$2"; fi
-}
-
 keep_both() { # WHAT FILE: the least times of that by malloc, and in a buffer
     local memory
     for memory in malloc buffer; do
@@ -39,7 +35,6 @@ in_buffer() { # NAME FILE
 }
 
 ./capi read malloc rising # ends this script where it fails
-declare -A least
 for _ in 1 2 3 4 5; do
     keep handle "$(took /dev/null ./capi read malloc rising)"
     keep loader "$(took /dev/null "$bench" load-file rising)"

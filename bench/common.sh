@@ -1,6 +1,8 @@
 # What the benchmarks of the program share: building it, making files, and timing. A script sources it, and ends with
 # `exit "$missed"`.
 export LC_ALL=C
+# The scripts that make files import others beside them.
+export PYTHONDONTWRITEBYTECODE=1
 benches="$(cd "$(dirname "${BASH_SOURCE[0]}")" && pwd)"
 . "$benches/figures.sh"
 crates="$(cd "$benches/../crates" && pwd)"
@@ -33,8 +35,17 @@ took() { # the microseconds of COMMAND, which writes to OUT: OUT COMMAND..
     echo $((${EPOCHREALTIME/./} - start))
 }
 
+smallest() { # of the numbers on standard input
+    sort -n | sed -n 1p
+}
+
 best() { # the least microseconds of five runs: OUT COMMAND..
-    for _ in 1 2 3 4 5; do took "$@"; done | sort -n | sed -n 1p
+    for _ in 1 2 3 4 5; do took "$@"; done | smallest
+}
+
+declare -A least
+keep() { # NAME TIME: in `least`, if it is less. Of what is measured by turns
+    if [ "$2" -lt "${least[$1]:-$(($2 + 1))}" ]; then least[$1]="$2"; fi
 }
 
 peak() { # the most memory of COMMAND, in KiB: COMMAND..

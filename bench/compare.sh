@@ -22,11 +22,6 @@ done
 "$amihunk" copy --out copied linked
 cmp linked copied
 
-keep() { # NAME TIME: in `least`, if it is less
-    if [ "$2" -lt "${least[$1]:-$(($2 + 1))}" ]; then least[$1]="$2"; fi
-}
-
-declare -A least
 for _ in 1 2 3 4 5; do
     keep first "$(took /dev/null "$amihunk" check first)"
     keep second "$(took /dev/null "$amihunk" check second)"

@@ -8,11 +8,10 @@ blocks of DEBUG bytes in all, at most 100 MB each, as holes of the file where th
 OUT.content holds the content alone.
 """
 import argparse
-import array
 import random
-import sys
 
-UNIT, CODE, RELOC32, SYMBOL, DEBUG, END, HEADER = 0x3E7, 0x3E9, 0x3EC, 0x3F0, 0x3F1, 0x3F2, 0x3F3
+from blocks import UNIT, CODE, RELOC32, SYMBOL, DEBUG, END, HEADER, longwords
+
 MOST_DEBUG = 25_000_000
 
 
@@ -26,13 +25,6 @@ def arguments():
     parser.add_argument("--symbols", type=int, default=0)
     parser.add_argument("--debug", type=int, default=0)
     return parser.parse_args()
-
-
-def longwords(numbers):
-    words = array.array("I", numbers)
-    if sys.byteorder == "little":
-        words.byteswap()
-    return words.tobytes()
 
 
 def groups(offsets, order):

@@ -16,10 +16,6 @@ bytes_in() { # of the files in FOLDER
     cat "$1"/* | wc -c
 }
 
-least() { # of the numbers in FILE
-    sort -n "$1" | sed -n 1p
-}
-
 cd "$folder"
 
 # Beside `cat`, what other linkers need for the same programs: many, a quarter of GNU ld's time; symbols, mold's
@@ -57,8 +53,8 @@ for count in 32768 131072; do
         took /dev/null "$amihunk" link --out named.linked named/00001.o >> ordinary
         took /dev/null "$amihunk" link --out named.linked named/00000.o >> colliding
     done
-    link="$(least colliding)"
-    others="$(least ordinary)"
+    link="$(smallest < colliding)"
+    others="$(smallest < ordinary)"
     figure "link of $count colliding names ($link us) by others ($others us)" 1.5 "$(ratio "$link" "$others")" times
     rm -r named named.linked colliding ordinary
 done

@@ -31,12 +31,11 @@ measure() { # the least microseconds of five rounds, in `least`: HOW INPUT..
                 huge) now="$(GLIBC_TUNABLES=glibc.malloc.hugetlb=1 took /dev/null "$bench" "$how-file" plain)" ;;
                 *) now="$(took /dev/null "$bench" "$how-file" "$input")" ;;
             esac
-            if [ "$now" -lt "${least[$input]:-$((now + 1))}" ]; then least[$input]="$now"; fi
+            keep "$input" "$now"
         done
     done
 }
 
-declare -A least
 echo "60 MB"
 for how in decode load; do
     measure "$how" cat in-c plain huge rising targets falling random half

@@ -16,24 +16,15 @@ The same arguments make the same files. With --elf they are ELF objects of the s
 read those: each hunk is a section, and what a site adds stands in its relocation.
 """
 import argparse
-import array
 import dataclasses
 import pathlib
 import random
 import sys
 
 import elf_object
+from blocks import UNIT, NAME, CODE, DATA, BSS, RELOC32, EXT, END, longwords
 
-UNIT, NAME, CODE, DATA, BSS = 0x3E7, 0x3E8, 0x3E9, 0x3EA, 0x3EB
-RELOC32, EXT, END = 0x3EC, 0x3EF, 0x3F2
 DEFINITION, REFERENCE = 1 << 24, 129 << 24
-
-
-def longwords(numbers):
-    words = array.array("I", numbers)
-    if sys.byteorder == "little":
-        words.byteswap()
-    return words.tobytes()
 
 
 def text(name):

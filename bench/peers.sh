@@ -11,21 +11,13 @@ cd "$folder"
 ld=(m68k-linux-gnu-ld --no-warn-rwx-segments -e 0 -o ld.linked)
 mold=(mold -m m68kelf --no-fork -e 0 -o mold.linked)
 
-declare -A least
-round() { # one run of LINKER, in `least` if none took less: LINKER COMMAND..
-    local linker="$1" now
-    shift
-    now="$(took /dev/null "$@")"
-    if [ "$now" -lt "${least[$linker]:-$((now + 1))}" ]; then least[$linker]="$now"; fi
-}
-
 measure() { # the least microseconds of five rounds, in `least`: KIND
     least=()
     for _ in 1 2 3 4 5; do
-        round ld "${ld[@]}" "$1".elf/*
-        round mold1 "${mold[@]}" --thread-count=1 "$1".elf/*
-        round mold2 "${mold[@]}" --thread-count=2 "$1".elf/*
-        round amihunk "$amihunk" link --out amihunk.linked "$1"/*
+        keep ld "$(took /dev/null "${ld[@]}" "$1".elf/*)"
+        keep mold1 "$(took /dev/null "${mold[@]}" --thread-count=1 "$1".elf/*)"
+        keep mold2 "$(took /dev/null "${mold[@]}" --thread-count=2 "$1".elf/*)"
+        keep amihunk "$(took /dev/null "$amihunk" link --out amihunk.linked "$1"/*)"
     done
     echo "$1: GNU ld takes ${least[ld]} us, mold ${least[mold1]} with one thread and ${least[mold2]} with two"
 }
@@ -33,7 +25,7 @@ measure() { # the least microseconds of five rounds, in `least`: KIND
 by() { # what `amihunk` took by the least of LINKER..: NAME ALLOWED LINKER..
     local name="$1" allowed="$2" time
     shift 2
-    time="$(for linker in "$@"; do echo "${least[$linker]}"; done | sort -n | sed -n 1p)"
+    time="$(for linker in "$@"; do echo "${least[$linker]}"; done | smallest)"
     figure "link of $name" "$allowed" "$(ratio "${least[amihunk]}" "$time")" times
 }
 

@@ -6,10 +6,9 @@ stand in the order SLOTS. They stand page by page, from the first page on (WAY `
 (WAY `slots`). WAY `all` has all offsets in the order SLOTS. `--list` prints the pairs of WAY and SLOTS.
 """
 import argparse
-import array
-import sys
 
-CODE, RELOC32, END, HEADER = 0x3E9, 0x3EC, 0x3F2, 0x3F3
+from blocks import CODE, RELOC32, END, HEADER, longwords
+
 PAGE = 1024
 
 
@@ -46,13 +45,6 @@ WAYS = {
     "slots": lambda count, slots: (page + slot for slot in slots(PAGE) for page in range(0, count, PAGE)),
     "all": lambda count, slots: slots(count),
 }
-
-
-def longwords(numbers):
-    words = array.array("I", numbers)
-    if sys.byteorder == "little":
-        words.byteswap()
-    return words.tobytes()
 
 
 def main():
