@@ -8,8 +8,8 @@
 //! - `pieces`, `room`: a reader and a writer over memory, which fail where they should.
 //! - `name`: names in longwords, all at once or one longword at a time.
 //! - `text`: a text on its way to a writer; `digits`, `quoted_name`: the numbers and names in it.
-//! - `sites`: the sites of a hunk, no two of which share a byte; they are kept in `pages`, each a `page`. A page has them in
-//!   a `list`, or in `slots`.
+//! - `sites`: the sites of a hunk, no two of which share a byte; they are kept in `pages`, each a `page`.
+//! - `list`, `slots`: the sites of a page, as a list by rising offset, or in a table with a slot for each four bytes.
 #![tactic(auto)]
 
 mod digits;
@@ -33,6 +33,7 @@ pub use fault::{DeviceFault, Fault, ReadFault, Reason, Refusal, WriteFault};
 pub use longwords::{LONGWORD, big_endian};
 pub use name::Name;
 pub use name::open_name::OpenName;
+pub use page::Page;
 pub use pieces::Pieces;
 pub use room::Room;
 pub use sites::{SiteRefusal, Sites, Walk};

@@ -115,7 +115,8 @@ impl<T, A: Allocator + Copy> SiteList<T, A> {
 
     /// The offsets and targets, by rising offset.
     pub fn iter(&self) -> slice::Iter<'_, (u32, T)>
-        ensures { iter_rest result ≡ self.now }
+        ensures rest { iter_rest result ≡ self.now }
+        ensures spaced { AreSpaced self.now }
     {
         self.sites.iter()
     }

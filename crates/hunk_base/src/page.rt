@@ -5,7 +5,7 @@ ghost use Rattle.std.specs.BTreeMap.{insert_entry};
 ghost use Rattle.std.specs.Option.{option_copied};
 ghost use Rattle.std.specs.Ordering.{nat_cmp};
 ghost use Rattle.std.specs.Slice.Iter.{iter_rest};
-ghost use Rattle.hunk_base.specs.Page.{LieInPage};
+ghost use Rattle.hunk_base.specs.Page.{AreSpaced, LieInPage};
 ghost use Rattle.hunk_base.specs.Sites.{Meets, target_at};
 
 use crate::list::{LONG_LIST, SiteList};
@@ -52,7 +52,7 @@ impl<T, A: Allocator + Copy> Model for Page<T, A> {
 
 impl<T, A: Allocator + Copy> Page<T, A> {
     /// A page without sites. It does not allocate.
-    pub fn new(alloc: A) -> Self
+    pub(crate) fn new(alloc: A) -> Self
         ensures { result ≡ [] }
     {
         Page {
@@ -62,8 +62,9 @@ impl<T, A: Allocator + Copy> Page<T, A> {
 
     /// The sites of the list and those of the table, one of which has none. The sites by rising offset are
     /// the former and then the latter.
-    pub fn iters(&self) -> (slice::Iter<'_, (u32, T)>, SlotsIter<'_, T>)
-        ensures { iter_rest result.0 ++ result.1 ≡ self.now }
+    pub(crate) fn iters(&self) -> (slice::Iter<'_, (u32, T)>, SlotsIter<'_, T>)
+        ensures rest { iter_rest result.0 ++ result.1 ≡ self.now }
+        ensures spaced { AreSpaced self.now }
     {
         match &self.form {
             Form::List(list) => (list.iter(), SlotsIter::empty()),
@@ -74,7 +75,7 @@ impl<T, A: Allocator + Copy> Page<T, A> {
 
 impl<T: Copy, A: Allocator + Copy> Page<T, A> {
     /// Whether a site at the offset shares no byte with a site of the page.
-    pub fn is_free(&self, offset: u32) -> bool
+    pub(crate) fn is_free(&self, offset: u32) -> bool
         ensures { MatchBool result (Meets self.now offset → ⊥) (Meets self.now offset) }
     {
         match &self.form {
@@ -95,7 +96,7 @@ impl<T: Copy, A: Allocator + Copy> Page<T, A> {
 
     /// Whether a site at the offset belongs into a list that needs an allocation for it.
     #[inline(always)]
-    pub fn needs_room_at(&self, offset: u32) -> bool {
+    pub(crate) fn needs_room_at(&self, offset: u32) -> bool {
         match &self.form {
             Form::List(list) => list.is_full() && !list.is_crowded_at(offset),
             Form::Table(_) => false,
@@ -104,7 +105,7 @@ impl<T: Copy, A: Allocator + Copy> Page<T, A> {
 
     /// How many sites its list has, or of a table how many a list has at least that goes over to one. By
     /// this the pages beside it get their room: their lists are left for tables as early.
-    pub fn list_len(&self) -> usize {
+    pub(crate) fn list_len(&self) -> usize {
         match &self.form {
             Form::List(list) => list.len(),
             Form::Table(_) => LONG_LIST,
@@ -113,7 +114,7 @@ impl<T: Copy, A: Allocator + Copy> Page<T, A> {
 
     /// Makes room for more sites in a full list, where the pages beside it have lists of `near` sites. The
     /// page stays as it was, also if the allocation fails.
-    pub fn make_room(&mut self, near: usize) -> Result<(), AllocError>
+    pub(crate) fn make_room(&mut self, near: usize) -> Result<(), AllocError>
         ensures { self.new ≡ self.old }
     {
         match &mut self.form {
@@ -186,7 +187,7 @@ impl<T: Copy, A: Allocator + Copy> Page<T, A> {
     /// allocation fails, the page is seen as it was. In most files a site belongs behind the last one of a
     /// list, so that alone is done without a call.
     #[inline(always)]
-    pub fn add(&mut self, offset: u32, target: T) -> Result<(), SiteRefusal>
+    pub(crate) fn add(&mut self, offset: u32, target: T) -> Result<(), SiteRefusal>
         requires { LieInPage (offset / 4096) self.old }
         ensures outside { result ≢ Err SiteRefusal.Outside }
         ensures overlap { (result ≡ Err SiteRefusal.Overlap) ↔ Meets self.old offset }
@@ -199,7 +200,7 @@ impl<T: Copy, A: Allocator + Copy> Page<T, A> {
     }
 
     /// The target of the site at an offset.
-    pub fn get(&self, offset: u32) -> Option<&T>
+    pub(crate) fn get(&self, offset: u32) -> Option<&T>
         ensures { option_copied result ≡ target_at self.now offset }
     {
         match &self.form {

@@ -5,6 +5,7 @@ ghost use Rattle.std.specs.Iterator.{at_most};
 ghost use Rattle.std.specs.Map.Iter.{TakesFirst, ShowsInOrder, ShowsValuesInOrder};
 ghost use Rattle.std.specs.Option.{option_copied};
 ghost use Rattle.std.specs.Ordering.{nat_cmp};
+ghost use Rattle.hunk_base.specs.Pages.{all_sites};
 ghost use Rattle.hunk_base.specs.Sites.{AreApart, Meets, site_shown, target_at};
 
 use crate::page::{Page, SITE_BYTES};
@@ -116,7 +117,34 @@ impl<T: Copy, A: Allocator + Copy> Sites<T, A> {
     }
 }
 
-/// An iterator over the offsets and targets of a map of sites, by rising offset: see `Sites::walk`.
+impl<T, A: Allocator + Copy> Sites<T, A> {
+    /// The sites in pages, by rising offset: a page has those that begin in the same 4,096 bytes of the hunk.
+    ///
+    /// A page is freed as it is dropped. So whoever walks over one page after another, and makes other
+    /// sites of them, needs no more memory than the greater of the two takes, and that of a page.
+    pub fn into_pages(self) -> Vec<Page<T, A>, A>
+        ensures all { all_sites result.items ≡ self.entries }
+        ensures apart { AreApart self }
+    {
+        self.pages
+    }
+}
+
+impl<T, A: Allocator + Copy> Page<T, A> {
+    /// The offsets and targets of the sites of the page, each pair once, by rising offset.
+    pub fn walk(&self) -> Walk<'_, T, A>
+        ensures { result ≡ self.now }
+    {
+        let (list, table) = self.iters();
+        Walk {
+            list,
+            table,
+            pages: [].iter(),
+        }
+    }
+}
+
+/// An iterator over the offsets and targets of a map of sites, by rising offset: see [`Sites::walk`].
 /// It is seen as the list that is left.
 #[derive(Drop)]
 pub struct Walk<'a, T, A: Allocator + Copy = Global> {

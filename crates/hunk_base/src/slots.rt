@@ -85,7 +85,8 @@ impl<T, A: Allocator + Copy> Model for Slots<T, A> {
 impl<T, A: Allocator + Copy> Slots<T, A> {
     /// The sites, by rising offset.
     pub fn iter(&self) -> SlotsIter<'_, T>
-        ensures { result ≡ self.now }
+        ensures rest { result ≡ self.now }
+        ensures spaced { AreSpaced self.now }
     {
         SlotsIter {
             start: u64::from(self.first),

@@ -1,19 +1,15 @@
 -- The symbol table of definitions, one definition after another.
-use Rattle.std.proofs.Common.{◌≡◌, ◌≢◌, ℕ, Bool, true, false, cond, List, [], ◌∷◌, ◌++◌, length, map, nat_eq, Some, None, Bor, refl, sym, ap, ◌∙◌, arith}
+use Rattle.std.proofs.Common.{◌≡◌, ◌≢◌, ℕ, Bool, true, false, List, [], ◌∷◌, ◌++◌, length, map, nat_eq, None, refl, sym, ap, ◌∙◌, arith}
 use Rattle.std.proofs.lemmas.List.{get_or_append_left, get_or_push, length_push, map_push}
 use Rattle.std.proofs.lemmas.List.Elements.{All-cons, All-nil, All-tail}
 use Rattle.std.proofs.lemmas.List.Quantifiers.{all_pairs_push}
 use Rattle.std.proofs.lemmas.Map.{NonePasses, lookup-none, none_passes_from_lookup}
 use Rattle.std.specs.Cmp.Lexicographic.{pointwise, other_text, same_text}
 use Rattle.std.specs.List.{All}
-use Rattle.std.specs.Map.{lookup}
-use Rattle.indexmap.specs.IndexMap.{IndexMap, get, insert_entry}
-use Rattle.indexmap.proofs.CallerLemmas.{insert_entry-new}
 use Rattle.hunk_link.specs.FirstToBreak.{IsFirstToBreak}
 use Rattle.hunk_link.specs.SymbolTable.{Definition, DefinedOnce, HaveTwoNames, IsDuplicate, Table, entry, look_up}
 use Rattle.hunk_link.specs.declared.refusal.LinkRefusal.{LinkRefusal}
 use Rattle.hunk_link.specs.declared.refusal.LinkRefusal.TheVariants.{DuplicateName, OutOfMemory}
-use Rattle.hunk_link.specs.declared.symbol_table.Defined.{Defined}
 use Rattle.hunk_link.proofs.FirstToBreakLemmas.{first-front}
 
 -- ---- names that are defined once

@@ -1,6 +1,8 @@
 //! The hunks of the load file.
-ghost use Rattle.std.specs.Prelude.{◌≡◌, ◌*◌, ◌+◌, ◌≤◌, length, IfOk, OnOk};
+ghost use Rattle.std.specs.Prelude.{◌≡◌, ℕ, ◌*◌, ◌+◌, ◌++◌, ◌≤◌, length, IfOk, OnOk};
 ghost use Rattle.std.specs.List.{All};
+ghost use Rattle.hunk_base.specs.Page.{LieWithin};
+ghost use Rattle.hunk_base.specs.Sites.{StandFrom};
 ghost use Rattle.hunk_loadfile.specs.Laws.{second_sites};
 ghost use Rattle.hunk_loadfile.specs.Patching.{patched_bytes};
 ghost use Rattle.hunk_link.specs.Addend.{addend_of};
@@ -13,7 +15,7 @@ use crate::addend::{Addend, addend_of};
 use crate::ranked_hunk::RankedHunk;
 use hunk_loadfile::{LoadHunk, add_at};
 use hunk_objects::{Adds, HunkParts, ProgramUnit, UnitHunk};
-use hunk_words::Sites;
+use hunk_words::{Sites, Walk};
 use std::alloc::{AllocError, Allocator};
 
 /// The hunks of the load file, with copies of what the units contain. `addends` is what all
@@ -82,7 +84,7 @@ fn copied_hunk<A: Allocator + Copy>(
     ensures { IfOk result (λ carried. carried ≡ carried_hunk (addend_of first references.now) strip hunk.now) }
 {
     let mut content = Vec::from_slice(alloc, hunk.content())?;
-    let sites = carry(
+    let sites = copied_sites(
         alloc,
         &mut content,
         hunk.sites(),
@@ -129,7 +131,7 @@ fn moved_hunk<A: Allocator + Copy>(
         mut symbols,
         mut debugs,
     } = hunk.into_parts();
-    let sites = carry(alloc, &mut content, &sites, size, first, references)?;
+    let sites = moved_sites(alloc, &mut content, sites, size, first, references)?;
     if strip {
         symbols = Vec::new(alloc);
         debugs = Vec::new(alloc);
@@ -147,7 +149,7 @@ fn moved_hunk<A: Allocator + Copy>(
 
 /// Adds to the content, at each site, the number that is known, modulo 2^32; and gives the sites at
 /// which a base is still to be added, in a hunk of `size` longwords.
-fn carry<A: Allocator + Copy>(
+fn copied_sites<A: Allocator + Copy>(
     alloc: A,
     content: &mut [u8],
     sites: &Sites<Adds, A>,
@@ -162,7 +164,48 @@ fn carry<A: Allocator + Copy>(
     ensures sites { IfOk result (λ left. left ≡ record { limit = 4 * size; entries = second_sites (λ adds. (addend_of first references.now adds).base) sites.now.entries }) }
 {
     let mut left = Sites::new(alloc, 4 * u64::from(size));
-    for (offset, adds) in sites.walk() {
+    carry(content, &mut left, sites.walk(), first, references)?;
+    Ok(left)
+}
+
+/// The same, where each page of the sites is freed before the next one is walked over. So those that are
+/// left take memory that the others had.
+fn moved_sites<A: Allocator + Copy>(
+    alloc: A,
+    content: &mut [u8],
+    sites: Sites<Adds, A>,
+    size: u32,
+    first: u32,
+    references: &[Addend],
+) -> Result<Sites<u32, A>, AllocError>
+    requires inside { sites.limit ≤ length content.old }
+    requires within { sites.limit ≤ 4 * size }
+    requires known { All (λ site. IsKnown first (length references.now) site.1) sites.entries }
+    ensures content { OnOk result (content.new ≡ patched_bytes (length content.old) content.old sites.entries (λ adds. (addend_of first references.now adds).known)) }
+    ensures sites { IfOk result (λ left. left ≡ record { limit = 4 * size; entries = second_sites (λ adds. (addend_of first references.now adds).base) sites.entries }) }
+{
+    let mut left = Sites::new(alloc, 4 * u64::from(size));
+    for page in sites.into_pages() {
+        carry(content, &mut left, page.walk(), first, references)?;
+    }
+    Ok(left)
+}
+
+/// Adds to the content, at each of these sites, the number that is known, modulo 2^32; and adds those at
+/// which a base is still to be added to `left`, whose sites stand before them.
+fn carry<A: Allocator + Copy>(
+    content: &mut [u8],
+    left: &mut Sites<u32, A>,
+    sites: Walk<'_, Adds, A>,
+    first: u32,
+    references: &[Addend],
+) -> Result<(), AllocError>
+    requires behind { (from : ℕ) × LieWithin 0 from left.old.entries × StandFrom from (length content.old) sites }
+    requires known { All (λ site. IsKnown first (length references.now) site.1) sites }
+    ensures content { OnOk result (content.new ≡ patched_bytes (length content.old) content.old sites.entry (λ adds. (addend_of first references.now adds).known)) }
+    ensures left { OnOk result (left.new ≡ record left.old { entries = left.old.entries ++ second_sites (λ adds. (addend_of first references.now adds).base) sites.entry }) }
+{
+    for (offset, adds) in sites {
         let addend = addend_of(first, references, *adds);
         add_at(content, offset as usize, addend.known);
         if let Some(rank) = addend.base {
@@ -171,5 +214,5 @@ fn carry<A: Allocator + Copy>(
             }
         }
     }
-    Ok(left)
+    Ok(())
 }

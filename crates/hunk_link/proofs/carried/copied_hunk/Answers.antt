@@ -21,6 +21,6 @@ returns g c =
       | else-strip-2+in_ok-copy_debugs w ↦ kept _ _ _ w.if-strip-2.false (ap (λ v. lists_of v.items) w.result-is ∙ w.in_ok-copy_debugs.ensures)
     ] in
     let bytes : c.deref_mut.result.now ≡ hunk.content = c.deref_mut.ensures.value ∙ c.in_ok-content.ensures.items ∙ c.content.ensures.value in
-    let content = with_items_is c.in_ok-content.content c.carry.new.content (c.carry.auto.content ∙ c.deref_mut.ensures.len) in
+    let content = with_items_is c.in_ok-content.content c.copied_sites.new.content (c.copied_sites.auto.content ∙ c.deref_mut.ensures.len) in
     carried_hunk-is (addend_of c.args.first c.args.references.now) c.args.strip hunk c.deref_mut.result.now c.sites.result.now c.size.result bytes c.sites.ensures.value c.size.ensures
     _ c.kind.ensures c.memory.ensures c.size-2.ensures (content ∙ c.in_ok-sites.ensures.content) c.in_ok-sites.ensures.sites symbols debugs

@@ -13,8 +13,8 @@ use Rattle.hunk_link.proofs.CarriedLemmas.{carried_hunk-is, kept, stripped}
 use Rattle.hunk_link.proofs.carried.moved_hunk.Goals.{then-strip, else-strip}
 use Rattle.hunk_link.proofs.carried.moved_hunk.Goals as goal
 
-pub carry-requires-clause-known : goal.carry-requires-clause-known
-carry-requires-clause-known g c =
+pub moved_sites-requires-clause-known : goal.moved_sites-requires-clause-known
+moved_sites-requires-clause-known g c =
     subst (λ (sites : SiteMap Adds). All (λ site. IsKnown c.args.first (length c.args.references.now) site.1) sites.entries) (sym c.into_parts-kind.ensures.sites) c.requires
 
 content_bytes-le : (kind : HunkKind) (size : ℕ) → content_bytes kind size ≤ 4 * size
@@ -22,8 +22,8 @@ content_bytes-le Bss size = omega arith
 content_bytes-le Code size = omega arith
 content_bytes-le Data size = omega arith
 
-pub carry-requires-clause-within : goal.carry-requires-clause-within
-carry-requires-clause-within g c =
+pub moved_sites-requires-clause-within : goal.moved_sites-requires-clause-within
+moved_sites-requires-clause-within g c =
     let hunk : ObjectHunk = c.args.hunk in
     let parts = c.into_parts-kind.ensures in
     omega (arith, ap (λ (sites : SiteMap Adds). sites.limit) parts.sites, parts.valid.limit, parts.valid.whole, content_bytes-le hunk.kind hunk.size, parts.size)
@@ -42,7 +42,7 @@ returns g c =
       | then-strip w ↦ stripped _ _ _ w.if-strip.true (ap (λ v. lists_of v.items) w.debugs-is ∙ ap (λ items. lists_of items) w.new-debugs.ensures.items)
       | else-strip w ↦ kept _ _ _ w.if-strip.false (ap (λ v. lists_of v.items) w.debugs-is ∙ parts.debugs)
     ] in
-    let content = with_items_is c.into_parts-kind.result.content c.carry.new.content (c.carry.auto.content ∙ c.deref_mut.ensures.len) in
+    let content = with_items_is c.into_parts-kind.result.content c.moved_sites.new.content (c.moved_sites.auto.content ∙ c.deref_mut.ensures.len) in
     carried_hunk-is (addend_of c.args.first c.args.references.now) c.args.strip hunk c.deref_mut.result.now c.into_parts-kind.result.sites c.into_parts-kind.result.size
     (c.deref_mut.ensures.value ∙ parts.content) parts.sites parts.size
     _ parts.kind parts.memory parts.size (content ∙ c.in_ok-sites.ensures.content) c.in_ok-sites.ensures.sites symbols debugs
