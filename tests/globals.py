@@ -1,10 +1,12 @@
 """The names that `link --globals` keeps as symbols."""
+import os
 import random
 
 import load_files
 import model
 from comparisons import load_file, symbols
 from harness import DONE, equals, test
+from memory import OLD, STEPS, falls, least_pages
 from model import ABS, BSS, CODE, DATA, DEBUG, DEF, Hunk
 from runs import write_parts
 
@@ -84,3 +86,18 @@ def random_units_keep_their_definitions(program):
         program.prints(report, "load", "--at", at, "out")
         equals(program.run("compare", "plain", "out"), (DONE, "", ""), seed)
     assert SEEDS < kept, kept
+
+
+@test
+def with_little_memory_globals_are_kept_or_out_is_old(program):
+    code, other = Hunk(CODE, [0x4E714E71]), Hunk(BSS, [0])
+    code.definitions, other.definitions = [(DEF, b"main", 0)], [(DEF, b"room", 4)]
+    program.write("x.o", model.object_file([[code], [other]]))
+    program.write("out", OLD)
+    kept = load_file((1, CODE, 1, 0x4E714E71, *symbols(("main", 0))), (1, BSS, 1, *symbols(("room", 4))))
+
+    def compare(ended):
+        equals((program.read("out"), sorted(os.listdir(program.folder))), (kept if ended[0] == DONE else OLD, ["out", "x.o"]))
+        program.write("out", OLD)
+
+    falls(program, least_pages(program), STEPS, (DONE, "", ""), ("link", "--globals", "--out", "out", "x.o"), after=compare)

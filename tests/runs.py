@@ -52,6 +52,29 @@ def random_units_are_linked_and_loaded_as_their_memory(program):
 
 
 @test
+def relocations_in_any_order_are_linked_and_loaded_as_their_memory(program):
+    longwords = 4 << 10
+    for order in ("rising", "falling", "random"):
+        dice = random.Random(order)
+        code = Hunk(CODE, [dice.randrange(model.MODULUS) for _ in range(longwords)])
+        table = Hunk(DATA, [1, 2])
+        table.definitions = [(DEF, b"table", 4), (ABS, b"number", 0xFFFFFFF0)]
+        # Three of four longwords, so that most pages have more sites than are kept in a list.
+        offsets = [4 * place for place in range(longwords) if place % 4]
+        if order == "random":
+            dice.shuffle(offsets)
+        sites = [(offset, dice.choice((0, 1, b"table", b"number"))) for offset in offsets]
+        code.sites = sites[::-1] if order == "falling" else sites
+        units, bases = [[Hunk(model.BSS, [0, 0, 0])], [code, table]], [0x2000, 0x100000, 0x10]
+        report, at = model.report_of(bases, model.memory_of(units, bases)), model.addresses(bases)
+        files = write_parts(program, order, [[unit] for unit in units])
+        for options in ([], ["--short", "--trim"]):
+            program.prints("", "link", "--out", "out", *options, *files)
+            program.prints(report, "load", "--at", at, "out")
+        program.prints(report, "image", "--at", at, *files)
+
+
+@test
 def a_listing_tells_what_is_in_a_file(program):
     code, zeros = Hunk(CODE, [0, 0]), Hunk(model.BSS, [0, 0])
     code.sites, code.definitions = [(2, 1)], [(DEF, b"main", 0), (ABS, b'a"b', 0x80000000)]

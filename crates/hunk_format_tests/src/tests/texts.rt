@@ -94,15 +94,15 @@ fn stops_at_each_byte(rt: HostRuntime) -> Result<(), Fail> {
 }
 
 /// Puts bytes to a writer that fails after so many of them. Later it would take more.
-fn stops_after<W: Sink>(rt: &impl Abort, writer: &mut W, written: u64) {
+fn stops_after<W: Sink>(rt: &impl Abort, writer: &mut W, room: u64) {
     let mut text = Text::new(writer);
     text.put(b"a");
     text.put(&[b'b'; 64]);
     text.put(b"c");
     text.end_line();
-    equals_at(rt, &written, text.written(), written);
-    let fault = WriteFault::Device { written };
-    equals_at(rt, &written, text.finish(), Err(fault));
+    equals_at(rt, &room, text.written(), room);
+    let fault = WriteFault::Device { written: room };
+    equals_at(rt, &room, text.finish(), Err(fault));
 }
 
 /// The same to memory of which one allocation fails.
