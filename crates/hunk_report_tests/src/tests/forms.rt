@@ -1,7 +1,7 @@
 //! The forms of JSON documents: what is escaped in each, and contents in base64.
 
 use super::asserts::{equals_at, holds};
-use super::runs::ENOUGH;
+use super::documents::ENOUGH;
 use hunk_json::{JsonForm, json_run_with};
 use hunk_test_support::load_words::THREE_HUNKS;
 use hunk_test_support::{CHUNKS, Refusing, bytes_of};

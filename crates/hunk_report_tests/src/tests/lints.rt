@@ -1,6 +1,6 @@
 //! Files with what is told of them, both written by hand.
 
-use super::runs::is_written;
+use super::lint_runs::is_written;
 use std::test::Fail;
 
 /// Files with their texts.
