@@ -171,8 +171,8 @@ class Crate:
         for module, _, _ in self.modules():
             for call in module.calls:
                 self.collect(call, module)
-        folder = os.path.join(TOP, "crates", name, "must-fail")
-        self.edits = {it.removesuffix(".edit") for it in os.listdir(folder)} if os.path.isdir(folder) else set()
+        folders = [os.path.join(TOP, "crates", name, it) for it in ("must-fail", "must-fail-by-hand")]
+        self.edits = {it.removesuffix(".edit") for folder in folders if os.path.isdir(folder) for it in os.listdir(folder)}
 
     def modules(self, module=None, prefix="", public=True):
         """Each module with the path to it, and whether a caller can name it."""
