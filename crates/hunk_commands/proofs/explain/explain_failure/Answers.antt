@@ -32,3 +32,7 @@ returns-in-MapOverFile-clause-told g c = rw c.in-MapOverFile.is (tells_none g.W.
 
 pub returns-in-Printing-clause-told : goal.returns-in-Printing-clause-told
 returns-in-Printing-clause-told g c = rw c.in-Printing.is (tells_none g.W.Sink.taken g.W.Sink.failed c.args.errors.now)
+
+-- named, so that a mistake is refused without a look for advice
+pub returns-in-Tool-clause-told : goal.returns-in-Tool-clause-told
+returns-in-Tool-clause-told g c = search rules

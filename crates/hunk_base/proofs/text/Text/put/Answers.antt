@@ -1,5 +1,5 @@
 -- What was taken is followed by what is left; after a failure the rest is left out.
-use Rattle.std.proofs.Common.{◌≡◌, ◌-◌, ◌∙◌, ◌++◌, ap, drop, length, length-drop, subst, sym, take, arith}
+use Rattle.std.proofs.Common.{◌≡◌, ◌-◌, ◌∙◌, ◌++◌, ap, drop, length, length-drop, subst, sym, take, arith, rules}
 use Rattle.std.proofs.Math.Seq.{take-add}
 use Rattle.std.proofs.lemmas.List.{take-append-drop, take_all}
 use Rattle.hunk_base.specs.Text.{Puts}
@@ -25,3 +25,7 @@ returns-else-not-self g c =
     let done = c.loop-done.done in
     subst (λ t. Puts g.W.Sink.taken g.W.Sink.failed c.args.self.now c.loop-done.self t) (take-append-drop done piece)
     (Puts-then g.W.Sink.taken g.W.Sink.failed c.loop-done.invariant.puts (Puts-stopped g.W.Sink.taken g.W.Sink.failed c.loop-done.self (drop done piece) c.if-not-self.false))
+
+-- named, so that a mistake is refused without a look for advice
+pub loop-done-init : goal.loop-done-init
+loop-done-init g c = search rules
