@@ -1,0 +1,6 @@
+-- named, so that a mistake is refused without a look for advice
+use Rattle.std.proofs.Common.{rules}
+use Rattle.hunk_json.proofs.parts.write_name_json.Goals as goal
+
+pub returns : goal.returns
+returns g c = search rules
