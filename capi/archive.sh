@@ -4,7 +4,7 @@
 # With --after-gate as the first argument, it stands over the libraries that `rt ci` has just proved and left in a clone
 # that had none. `rt lib` takes no library of the gate, and would prove each once more; here crates/amihunk_c alone is
 # proved, the first time. Use it right after `rt ci`, with no file changed since: nothing compares the libraries with
-# their sources.
+# their sources. With --proof after it, it ends with that proof, which is made in one process, beside the rest of the gate.
 set -eu
 cd "$(dirname "$0")/../crates/amihunk_c"
 
@@ -21,6 +21,13 @@ are_the_gates() {
 after_gate=no
 if [ "${1-}" = --after-gate ]; then
     after_gate=yes
+    shift
+fi
+proof_alone=no
+jobs="$(nproc)"
+if [ "${1-}" = --proof ]; then
+    proof_alone=yes
+    jobs=1
     shift
 fi
 if [ "$after_gate" = no ] || ! are_the_gates; then
@@ -43,7 +50,8 @@ done
 
 mkdir -p out
 if [ ! -d out/checked ]; then
-    rattle check "${words[@]}" --logic-built "$kit/logic_built" --jobs "$(nproc)" -o out/checked
+    rattle check "${words[@]}" --logic-built "$kit/logic_built" --jobs "$jobs" -o out/checked
 fi
+[ "$proof_alone" = no ] || exit 0
 exec rattle build "${words[@]}" --crate-checked out/checked --toolchain "$kit/toolchain" "$@" \
     -o out/libamihunk_c.a
