@@ -14,6 +14,7 @@
 //! - `maps`: the maps of linked files.
 //! - `names`: the names in files.
 //! - `pages`: pages of files.
+//! - `runs`: runs over files, from readers to writers.
 //! - `shelf`: files in memory, by their names.
 //! - `shelved`: what a survey finds under names.
 //! - `tallies`: the numbers of files of a survey, and the status.
@@ -35,6 +36,7 @@ mod maps;
 mod names;
 mod object;
 mod pages;
+mod runs;
 mod shelf;
 mod shelved;
 mod tallies;

@@ -1,12 +1,9 @@
 //! The forms of JSON documents: what is escaped in each, and contents in base64.
 
-use super::asserts::{equals_at, holds};
-use super::documents::ENOUGH;
-use hunk_json::{JsonForm, json_run_with};
+use super::asserts::holds;
+use super::runs::{self, Devices, ENOUGH, Text, WHOLE, growths, is_taken};
+use hunk_json::JsonForm;
 use hunk_test_support::load_words::THREE_HUNKS;
-use hunk_test_support::{CHUNKS, Refusing, bytes_of};
-use hunk_tool::ToolFault;
-use hunk_words::{Pieces, Room};
 use std::alloc::Global;
 use std::process::Abort;
 use std::test::Fail;
@@ -14,35 +11,7 @@ use std::test::Fail;
 /// All forms. They tell the same of a file without hunks.
 const FORMS: [JsonForm; 3] = [JsonForm::Plain, JsonForm::WithContent, JsonForm::InPage];
 
-/// The limits of a reader and of a writer.
-#[derive(Clone, Copy)]
-struct Devices {
-    // The most bytes for each read and each write.
-    chunk: usize,
-    // How many bytes are taken in all.
-    room: usize,
-}
-
-/// A run over these longwords ends so, and writes this text.
-fn is_run(
-    rt: &impl Abort,
-    alloc: Global,
-    form: JsonForm,
-    devices: Devices,
-    words: &[u32],
-    wanted: Result<(), ToolFault>,
-    text: &[u8],
-) -> Result<(), Fail> {
-    assert!(rt; 1 <= devices.chunk);
-    let mut reader = Pieces::new(bytes_of(alloc, words, &[])?, devices.chunk, None);
-    let mut writer = Room::new(alloc, devices.chunk, devices.room, false)?;
-    let got = json_run_with(alloc, &mut reader, form, &mut writer);
-    equals_at(rt, &form, got, wanted);
-    equals_at(rt, &form, writer.bytes(), text);
-    Ok(())
-}
-
-/// The document of these longwords in this form is this text, however they are read.
+/// The document of these longwords in this form is this text and its end, however they are read.
 fn is_written(
     rt: &impl Abort,
     alloc: Global,
@@ -51,14 +20,7 @@ fn is_written(
     text: &str,
 ) -> Result<(), Fail> {
     let line = format!(in alloc; "{text}\n")?;
-    for chunk in CHUNKS {
-        let devices = Devices {
-            chunk,
-            room: ENOUGH,
-        };
-        is_run(rt, alloc, form, devices, words, Ok(()), line.as_bytes())?;
-    }
-    Ok(())
+    runs::is_written(rt, alloc, Text::Form(form), words, line.as_bytes())
 }
 
 /// Units without hunks, and what stands for the characters of their names: those that a terminal
@@ -240,44 +202,20 @@ fn tells_where_each_content_begins(rt: HostRuntime) -> Result<(), Fail> {
     Ok(())
 }
 
-/// More allocations than a run makes.
-const MOST_GROWTHS: u64 = 64;
-
-/// Whether a run in which this allocation is to fail makes fewer; otherwise it has written nothing.
-fn is_made_without(
-    rt: &impl Abort,
-    alloc: Global,
-    words: &[u32],
-    refused: u64,
-) -> Result<bool, Fail> {
-    let heap = Refusing::new(alloc, refused);
-    let mut reader = Pieces::new(bytes_of(alloc, words, &[])?, ENOUGH, None);
-    let mut writer = Room::new(alloc, ENOUGH, ENOUGH, false)?;
-    let got = json_run_with(&heap, &mut reader, JsonForm::WithContent, &mut writer);
-    if heap.asked() <= refused {
-        holds(rt, &("growth", refused), got.is_ok());
-        return Ok(true);
-    }
-    let out_of_memory = matches!(got, Err(ToolFault::OutOfMemory { written: 0 }));
-    holds(rt, &("growth", refused), out_of_memory);
-    holds(rt, &("growth", refused), writer.bytes().is_empty());
-    Ok(false)
-}
-
-/// How many allocations a run over these longwords makes, each of which was refused in turn.
-fn growths(rt: &impl Abort, alloc: Global, words: &[u32]) -> Result<u64, Fail> {
-    for refused in 0..MOST_GROWTHS {
-        if is_made_without(rt, alloc, words, refused)? {
-            return Ok(refused);
-        }
-    }
-    Err("each run was refused a growth")?
-}
-
 #[test]
 fn is_out_of_memory_with_each_growth_refused(rt: HostRuntime) -> Result<(), Fail> {
-    for words in [TWO_CONTENTS.as_slice(), THREE_HUNKS.as_slice()] {
-        let growths = growths(&rt, rt.alloc(), words)?;
+    let alloc = rt.alloc();
+    let devices = Devices {
+        chunk: ENOUGH,
+        ..WHOLE
+    };
+    for (words, text) in [
+        (TWO_CONTENTS.as_slice(), TWO_CONTENTS_TEXT),
+        (&THREE_HUNKS, THREE_HUNKS_TEXT),
+    ] {
+        let line = format!(in alloc; "{text}\n")?;
+        let form = Text::Form(JsonForm::WithContent);
+        let growths = growths(&rt, alloc, form, devices, words, line.as_bytes())?;
         holds(&rt, &("growths", growths), 2 <= growths);
     }
     Ok(())
@@ -289,23 +227,6 @@ fn tells_what_a_writer_took(rt: HostRuntime) -> Result<(), Fail> {
     let words = object_words(alloc, &[0xFB020910])?;
     let content = member(alloc, JsonForm::WithContent, "+wIJEA==", 16)?;
     let text = object_text(alloc, 1, content.as_str())?;
-    for room in 0..text.len() {
-        for chunk in CHUNKS {
-            let devices = Devices { chunk, room };
-            let wanted = Err(ToolFault::Output {
-                written: room as u64,
-            });
-            let front = &text.as_bytes()[..room];
-            is_run(
-                &rt,
-                alloc,
-                JsonForm::WithContent,
-                devices,
-                &words,
-                wanted,
-                front,
-            )?;
-        }
-    }
-    Ok(())
+    let form = Text::Form(JsonForm::WithContent);
+    is_taken(&rt, alloc, form, &words, text.as_bytes())
 }

@@ -1,6 +1,6 @@
 //! Files with what is told of them, both written by hand.
 
-use super::lint_runs::is_written;
+use super::runs::{Text, is_written};
 use std::test::Fail;
 
 /// Files with their texts.
@@ -262,7 +262,7 @@ static FILES: [(&[u32], &str); 14] = [
 #[test]
 fn tells_what_is_odd_in_a_file(rt: HostRuntime) -> Result<(), Fail> {
     for &(words, text) in &FILES {
-        is_written(&rt, rt.alloc(), words, text)?;
+        is_written(&rt, rt.alloc(), Text::Lints, words, text.as_bytes())?;
     }
     Ok(())
 }

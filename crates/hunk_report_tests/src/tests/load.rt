@@ -1,7 +1,7 @@
 //! Load files as JSON texts, written by hand.
 
 use super::asserts::equals_at;
-use super::documents::ENOUGH;
+use super::runs::ENOUGH;
 use hunk_json::{JsonForm, write_load_json};
 use hunk_loadfile::{LoadFile, read_load};
 use hunk_test_support::load_words::{TWO_HUNKS, ZEROS};

@@ -1,7 +1,7 @@
 //! Object files as JSON texts, written by hand.
 
 use super::asserts::equals_at;
-use super::documents::ENOUGH;
+use super::runs::ENOUGH;
 use hunk_json::{JsonForm, write_object_json};
 use hunk_objects::{ProgramUnit, read_object};
 use hunk_test_support::{ROOM, bytes_of};

@@ -1,8 +1,8 @@
 //! Pages of files, whatever begins and ends every page.
 
 use super::asserts::{equals_at, holds};
-use hunk_json::page_run;
-use hunk_test_support::{Refusing, bytes_of};
+use super::runs::{Devices, Text, growths};
+use hunk_test_support::bytes_of;
 use hunk_tool::ToolFault;
 use hunk_words::{Pieces, Room};
 use std::alloc::Global;
@@ -14,6 +14,12 @@ const ENOUGH: usize = 0x4_0000;
 
 /// The most bytes of each read and each write.
 const CHUNK: usize = 4096;
+
+const WHOLE: Devices = Devices {
+    chunk: CHUNK,
+    failing: None,
+    room: ENOUGH,
+};
 
 /// A unit without a name, and its document.
 static UNNAMED: [u32; 2] = [0x3E7, 0];
@@ -36,7 +42,7 @@ fn taken(
 ) -> Result<Vec<u8>, Fail> {
     let mut reader = Pieces::new(bytes_of(alloc, words, &[])?, CHUNK, None);
     let mut writer = Room::new(alloc, CHUNK, room, false)?;
-    let got = page_run(alloc, &mut reader, &mut writer);
+    let got = Text::Page.run(alloc, &mut reader, &mut writer);
     equals_at(rt, &room, got, wanted);
     Ok(writer.bytes().to_vec(alloc)?)
 }
@@ -68,7 +74,7 @@ fn has_the_document_of_a_file(rt: HostRuntime) -> Result<(), Fail> {
 fn refuses_what_is_no_file(rt: HostRuntime) -> Result<(), Fail> {
     let mut reader = Pieces::new(bytes_of(rt.alloc(), &[0x3F3], &[])?, CHUNK, None);
     let mut writer = Room::new(rt.alloc(), CHUNK, ENOUGH, false)?;
-    let got = page_run(rt.alloc(), &mut reader, &mut writer);
+    let got = Text::Page.run(rt.alloc(), &mut reader, &mut writer);
     holds(
         &rt,
         &"no file",
@@ -102,33 +108,11 @@ fn tells_what_a_writer_took(rt: HostRuntime) -> Result<(), Fail> {
     Ok(())
 }
 
-/// More allocations than a run makes.
-const MOST_GROWTHS: u64 = 64;
-
-/// Whether a run in which this allocation is to fail makes fewer; otherwise it has written nothing.
-fn is_made_without(rt: &impl Abort, alloc: Global, refused: u64) -> Result<bool, Fail> {
-    let heap = Refusing::new(alloc, refused);
-    let mut reader = Pieces::new(bytes_of(alloc, &TAG, &[])?, CHUNK, None);
-    let mut writer = Room::new(alloc, CHUNK, ENOUGH, false)?;
-    let got = page_run(&heap, &mut reader, &mut writer);
-    if heap.asked() <= refused {
-        holds(rt, &("growth", refused), got.is_ok());
-        return Ok(true);
-    }
-    let out_of_memory = matches!(got, Err(ToolFault::OutOfMemory { written: 0 }));
-    holds(rt, &("growth", refused), out_of_memory);
-    holds(rt, &("growth", refused), writer.bytes().is_empty());
-    Ok(false)
-}
-
 #[test]
 fn is_out_of_memory_with_each_growth_refused(rt: HostRuntime) -> Result<(), Fail> {
-    for refused in 0..MOST_GROWTHS {
-        if is_made_without(&rt, rt.alloc(), refused)? {
-            holds(&rt, &("growths", refused), 1 <= refused);
-            return Ok(());
-        }
-    }
-    holds(&rt, &("each run was refused a growth", MOST_GROWTHS), false);
+    let alloc = rt.alloc();
+    let page = taken(&rt, alloc, &TAG, ENOUGH, Ok(()))?;
+    let growths = growths(&rt, alloc, Text::Page, WHOLE, &TAG, &page)?;
+    holds(&rt, &("growths", growths), 1 <= growths);
     Ok(())
 }
