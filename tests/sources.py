@@ -7,6 +7,8 @@ import os
 import re
 
 TOP = os.path.dirname(os.path.dirname(os.path.abspath(__file__)))
+# The folder of a crate that has its must-fail edits.
+EDITS = "must-fail-edits"
 # What Rattle asks of a type so that contracts can speak of it. It is nothing that a program calls.
 GHOST_TRAITS = {"Model"}
 
@@ -171,8 +173,8 @@ class Crate:
         for module, _, _ in self.modules():
             for call in module.calls:
                 self.collect(call, module)
-        folders = [os.path.join(TOP, "crates", name, it) for it in ("must-fail", "must-fail-by-hand")]
-        self.edits = {it.removesuffix(".edit") for folder in folders if os.path.isdir(folder) for it in os.listdir(folder)}
+        folder = os.path.join(TOP, "crates", name, EDITS)
+        self.edits = {it.removesuffix(".edit") for it in os.listdir(folder)} if os.path.isdir(folder) else set()
 
     def modules(self, module=None, prefix="", public=True):
         """Each module with the path to it, and whether a caller can name it."""

@@ -1,0 +1,240 @@
+#!/usr/bin/env python3
+"""Tries the must-fail edits: with each of them, the prover has to refuse the function that the edit changes.
+
+    tests/edits.py [CRATE | CRATE/EDIT]..
+
+With no argument it tries those of every crate. It needs the toolchain, and the libraries below a crate in their folders `out/`, where
+`rt ci` and `rt check` leave them. EDITS_JOBS says how many crates are worked on at a time.
+
+An edit is a file of the crate's `must-fail-edits/`: `file: PATH`, and pairs of `old: TEXT` and `new: TEXT`. Each TEXT of a line `old`
+stands once in that file of the crate, in a function. One check tries many edits of a crate, each of which changes other functions: it
+proves these and what they call, and nothing else. An edit is refused where a function that it changes is not proved although all that
+the function calls is. If a callee is not proved either, because of another edit, the edit is tried again without that one. So each is
+told of as if it were tried alone.
+
+The last line is 'N passed, M failed', and the status is 0 if M is 0.
+"""
+import concurrent.futures
+import contextlib
+import os
+import re
+import shutil
+import subprocess
+import sys
+import tempfile
+import time
+
+sys.dont_write_bytecode = True
+from sources import EDITS, TOP, is_there, split_impl, text_of, without_generics
+
+FUNCTION = re.compile(r"^( *)(?:pub(?:\(\w+\))? )?(?:const )?(?:unsafe )?(?:extern \"C\" )?fn (\w+)")
+HEAD = re.compile(r"(?:unsafe )?(?=impl\b)|(?:pub(?:\(\w+\))? )?trait (\w+)")
+# What a check says of a function that fails by itself. Of one that fails with a callee it says what the function calls.
+FAILED = re.compile(r"fn (\S+): (?:not proved|no proof)(?![:;] it calls).*")
+# A text that the compiler or the prover cannot read, so that no contract was tried.
+UNREAD = re.compile(r"(?:\./)?(?:src|specs)/\S+: error|error\b")
+# What says little of a contract: an answer names what the edit took away.
+TAKEN_AWAY = re.compile(r"has no field|is not in scope|has no `|was not admitted")
+
+
+class BadEdit(Exception):
+    """An edit that cannot be tried, and why."""
+
+
+class Edit:
+    """A must-fail edit: the texts that it replaces, and the functions that these stand in."""
+
+    def __init__(self, crate, name):
+        self.crate, self.name, self.label = crate, name, f"{crate.name}/{name.removesuffix('.edit')}"
+        self.changes, self.functions = [], set()
+        path = old = None
+        for line in text_of("crates", crate.name, EDITS, name).split("\n"):
+            word, _, rest = line.partition(":")
+            rest = rest.removeprefix(" ")
+            if word == "file":
+                path = rest
+            elif word == "old":
+                old = rest
+            elif word == "new" and path and old:
+                self.changes.append((path, old, rest))
+        if not name.endswith(".edit") or not self.changes:
+            raise BadEdit(f"{self.label}: BAD EDIT: a file NAME.edit has lines 'file: ', 'old: ' and 'new: '")
+        self.applied({})
+
+    def applied(self, texts):
+        """The texts with the edit in place: those that other edits left, and of the crate where they left none. It notes what functions it
+        changes."""
+        texts = dict(texts)
+        for path, old, new in self.changes:
+            if not path.startswith("src/") or not is_there("crates", self.crate.name, path):
+                raise BadEdit(f"{self.label}: BAD EDIT: there is no file {path} of the crate's code")
+            text = texts.get(path) or text_of("crates", self.crate.name, path)
+            if text.count(old) != 1:
+                raise BadEdit(f"{self.label}: BAD EDIT: a line 'old' stands in {path} {text.count(old)} times, and not once")
+            end = text.index(old) + len(old)
+            self.functions.add(self.crate.function_at(path, text[:end].split("\n")))
+            texts[path] = text.replace(old, new)
+        return texts
+
+
+class Crate:
+    """A crate of crates.txt, and the words of a check of it over the libraries that are in `out/`."""
+
+    def __init__(self, name, is_static, libraries, kit):
+        self.name, self.is_static, self.libraries, self.kit = name, is_static, libraries, kit
+        folder = os.path.join(TOP, "crates", name, EDITS)
+        self.files = sorted(os.listdir(folder)) if os.path.isdir(folder) else []
+        self.root = "src/main.rt" if is_there("crates", name, "src/main.rt") else "src/lib.rt"
+
+    def words(self):
+        rlib = lambda name: os.path.join(TOP, "crates", name, "out/rlib", f"{name}.rlib")
+        own = [it for it in self.libraries if is_there("crates", it)]
+        if lacking := [it for it in own if not os.path.isdir(rlib(it))]:
+            sys.exit(f"edits.py: {self.name} stands on {lacking[0]}, which is not proved here yet: run rt check in crates/{self.name}")
+        words = ["--crate-name", self.name, self.root, "--jobs", "1"] + ["--crate-type", "staticlib"] * self.is_static
+        for name in dict.fromkeys(["std", *self.libraries]):
+            words += ["--extern", f"{name}={rlib(name) if name in own else f'{self.kit}/rlibs/{name}.rlib'}"]
+        for name in ["", *sorted(os.listdir(os.path.join(TOP, "crates")))]:
+            folder = os.path.dirname(rlib(name)) if name else f"{self.kit}/rlibs"
+            words += ["-L", f"dependency={folder}"] * os.path.isdir(folder)
+        return words + ["--antt-project", f"{self.kit}/rattle/logic/antt-project.json", "--logic-built", f"{self.kit}/logic_built"]
+
+    def function_at(self, path, lines):
+        """The path of the function that the last of these lines of a file stands in, as the prover names it."""
+        at = max((number for number, line in enumerate(lines) if FUNCTION.match(line)), default=None)
+        if at is None:
+            raise BadEdit(f"BAD EDIT: {path} has no function at line {len(lines)}")
+        indent, name = FUNCTION.match(lines[at]).groups()
+        modules = [it for it in path.removeprefix("src/").removesuffix(".rt").split("/") if it not in ("lib", "main")]
+        if not indent:
+            return "::".join([self.name, *modules, name])
+        head = max(number for number, line in enumerate(lines[:at]) if HEAD.match(line))
+        whole, begins = " ".join(it.strip() for it in lines[head:at]), HEAD.match(lines[head])
+        trait, of = (None, begins[1]) if begins[1] else split_impl(whole[begins.end():])
+        of = without_generics(of)
+        if not trait:
+            return "::".join([self.name, *self.home_of(of, modules), of, name])
+        trait = trait if trait.startswith("From<") else without_generics(trait)
+        return "::".join([self.name, *modules, re.sub(r"\W", "", of + trait), name])
+
+    def home_of(self, of, modules):
+        """The module where a type is declared: the prover names its methods by it, wherever their `impl` stands."""
+        declared = re.compile(rf"^(?:pub(?:\(\w+\))? )?(?:struct|enum|trait) {re.escape(of)}\b", re.M)
+        for folder, _, files in os.walk(os.path.join(TOP, "crates", self.name, "src")):
+            for file in files:
+                path = os.path.relpath(os.path.join(folder, file), os.path.join(TOP, "crates", self.name, "src"))
+                if declared.search(text_of("crates", self.name, "src", path)):
+                    return [it for it in path.removesuffix(".rt").split("/") if it not in ("lib", "main")]
+        return modules
+
+    def check(self, edits, texts, kept):
+        """What the prover says of the functions that these edits change, with these texts in place."""
+        with tempfile.TemporaryDirectory(prefix="edits-") as room:
+            for part in ("src", "specs", "proofs"):
+                if is_there("crates", self.name, part):
+                    shutil.copytree(os.path.join(TOP, "crates", self.name, part), os.path.join(room, part))
+            for path, text in texts.items():
+                with open(os.path.join(room, path), "w", encoding="utf-8") as file:
+                    file.write(text)
+            words = [f"{self.kit}/bin/rattle", "check", *self.words(), "--incremental", kept]
+            for function in sorted({it for edit in edits for it in edit.functions}):
+                words += ["--only", function]
+            ran = subprocess.run(words, cwd=room, stdin=subprocess.DEVNULL, stdout=subprocess.PIPE, stderr=subprocess.STDOUT, errors="replace")
+        return ran.stdout.rstrip("\n").split("\n")
+
+
+def reason_refused(edit, lines):
+    """Why a check refuses an edit: what it says of a function that the edit changes and that fails by itself. None if it does not."""
+    if any(UNREAD.match(it) for it in lines):
+        return None
+    notes = []
+    for line in lines:
+        if (found := FAILED.fullmatch(line)) and found[1] in edit.functions:
+            answers = f"./proofs/{'/'.join(found[1].split('::')[1:])}/"
+            reasons = notes + [it for it in lines if it.startswith(answers) and ": error: " in it]
+            return next((it for it in reasons if not TAKEN_AWAY.search(it)), None) or f"only a name is gone: {(reasons or [line])[0]}"
+        notes = notes + [line] if line.startswith("note: src/") else [] if re.match(r"[a-z]+ \S+: ", line) else notes
+    return None
+
+
+def try_alone(edit, kept):
+    """What is told of an edit, and whether it is refused, from a check of it alone."""
+    lines = edit.crate.check([edit], edit.applied({}), kept)
+    if reason := reason_refused(edit, lines):
+        return True, f"{edit.label}: refused: {reason[:160]}"
+    if all(f"fn {it}: proved" in lines for it in edit.functions):
+        return False, f"{edit.label}: NOT REFUSED: {' and '.join(sorted(edit.functions))} still proved"
+    said = next((it for it in lines if UNREAD.match(it)), lines[-1])
+    return False, f"{edit.label}: BAD EDIT: no contract was tried: {said[:300]}"
+
+
+def together(edits):
+    """The first of these edits, and of the others those that can be tried with it: each changes functions that none before it changes.
+    With them, the texts with all of them in place."""
+    changed, found, texts = set(), [], {}
+    for edit in edits:
+        if not changed & edit.functions:
+            # (an edit can write what another one replaces)
+            with contextlib.suppress(BadEdit):
+                texts = edit.applied(texts)
+                changed |= edit.functions
+                found.append(edit)
+    return found, texts
+
+
+def try_all(edits):
+    """What is told of each edit of a crate, and whether it is refused. Those that a check refuses are done; the others are tried again."""
+    told, started = [], time.monotonic()
+    with tempfile.TemporaryDirectory(prefix="edits-kept-") as kept:
+        while edits:
+            chosen, texts = together(edits)
+            lines = edits[0].crate.check(chosen, texts, kept) if len(chosen) > 1 else []
+            refused = {edit: reason for edit in chosen if (reason := reason_refused(edit, lines))}
+            told += [(True, f"{edit.label}: refused: {reason[:160]}") for edit, reason in refused.items()]
+            if not refused:
+                told += [try_alone(edit, kept) for edit in chosen]
+                refused = chosen
+            edits = [it for it in edits if it not in refused]
+    for _, line in told:
+        print(line, flush=True)
+    print(f"{told[0][1].partition('/')[0]}: {len(told)} edits, {time.monotonic() - started:.0f} s", flush=True)
+    return told
+
+
+def crates_of(kit):
+    found = []
+    for line in text_of("crates.txt").splitlines():
+        head, colon, libraries = line.partition("#")[0].partition(":")
+        if colon:
+            found.append(Crate(head.split()[0], "staticlib" in head.split(), libraries.split(), kit))
+    return found
+
+
+def main():
+    start = subprocess.run(["rt", "doc"], stdout=subprocess.PIPE, text=True, check=True).stdout.strip()
+    asked, told, tasks = sys.argv[1:], [], []
+    for crate in crates_of(os.path.dirname(start)):
+        edits = []
+        for file in crate.files:
+            if not asked or crate.name in asked or f"{crate.name}/{file.removesuffix('.edit')}" in asked:
+                try:
+                    edits.append(Edit(crate, file))
+                except BadEdit as error:
+                    told.append((False, str(error)))
+        if edits:
+            crate.words()
+            tasks.append(edits)
+    lanes = int(os.environ.get("EDITS_JOBS") or os.cpu_count())
+    with concurrent.futures.ThreadPoolExecutor(lanes) as pool:
+        for ended in pool.map(try_all, sorted(tasks, key=len, reverse=True)):
+            told += ended
+    for is_well, line in told:
+        if not is_well:
+            print(f"FAILED: {line}")
+    failed = sum(not is_well for is_well, _ in told)
+    print(f"{len(told) - failed} passed, {failed} failed")
+    return 1 if failed or not told else 0
+
+
+if __name__ == "__main__":
+    sys.exit(main())
