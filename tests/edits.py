@@ -1,16 +1,17 @@
 #!/usr/bin/env python3
 """Tries the must-fail edits: with each of them, the prover has to refuse the function that the edit changes.
 
-    tests/edits.py [CRATE | CRATE/EDIT]..
+    tests/edits.py [--beside FOLDER] [CRATE | CRATE/EDIT]..
 
 With no argument it tries those of every crate. It needs the toolchain, and the libraries below a crate in their folders `out/`, where
-`rt ci` and `rt check` leave them. EDITS_JOBS says how many crates are worked on at a time.
+`rt ci` and `rt check` leave them. EDITS_JOBS says how many crates are worked on at a time. With --beside it waits for these libraries:
+until a run of `rt ci` says in FOLDER/log that they are proved, or there is a file FOLDER/ended. It works on one crate at a time until then.
 
 An edit is a file of the crate's `must-fail-edits/`: `file: PATH`, and pairs of `old: TEXT` and `new: TEXT`. Each TEXT of a line `old`
 stands once in that file of the crate, in a function. One check tries many edits of a crate, each of which changes other functions: it
 proves these and what they call, and nothing else. An edit is refused where a function that it changes is not proved although all that
 the function calls is. If a callee is not proved either, because of another edit, the edit is tried again without that one. So each is
-told of as if it were tried alone.
+told of as if it were tried alone. That the crate is proved without an edit is for `rt ci` and `rt check` to say.
 
 The last line is 'N passed, M failed', and the status is 0 if M is 0.
 """
@@ -35,6 +36,13 @@ FAILED = re.compile(r"fn (\S+): (?:not proved|no proof)(?![:;] it calls).*")
 UNREAD = re.compile(r"(?:\./)?(?:src|specs)/\S+: error|error\b")
 # What says little of a contract: an answer names what the edit took away.
 TAKEN_AWAY = re.compile(r"has no field|is not in scope|has no `|was not admitted")
+# How many edits one check tries: each that is refused takes memory, of which 28 of hunk_commands took more than 5 GB.
+TOGETHER = 16
+
+
+def rlib(name):
+    """Where a library of the repository is built."""
+    return os.path.join(TOP, "crates", name, "out/rlib", f"{name}.rlib")
 
 
 class BadEdit(Exception):
@@ -82,18 +90,19 @@ class Crate:
 
     def __init__(self, name, is_static, libraries, kit):
         self.name, self.is_static, self.libraries, self.kit = name, is_static, libraries, kit
+        self.own = [it for it in libraries if is_there("crates", it)]
         folder = os.path.join(TOP, "crates", name, EDITS)
         self.files = sorted(os.listdir(folder)) if os.path.isdir(folder) else []
         self.root = "src/main.rt" if is_there("crates", name, "src/main.rt") else "src/lib.rt"
 
+    def lacking(self):
+        """The libraries below the crate that are not there."""
+        return [it for it in self.own if not os.path.isdir(rlib(it))]
+
     def words(self):
-        rlib = lambda name: os.path.join(TOP, "crates", name, "out/rlib", f"{name}.rlib")
-        own = [it for it in self.libraries if is_there("crates", it)]
-        if lacking := [it for it in own if not os.path.isdir(rlib(it))]:
-            sys.exit(f"edits.py: {self.name} stands on {lacking[0]}, which is not proved here yet: run rt check in crates/{self.name}")
         words = ["--crate-name", self.name, self.root, "--jobs", "1"] + ["--crate-type", "staticlib"] * self.is_static
         for name in dict.fromkeys(["std", *self.libraries]):
-            words += ["--extern", f"{name}={rlib(name) if name in own else f'{self.kit}/rlibs/{name}.rlib'}"]
+            words += ["--extern", f"{name}={rlib(name) if name in self.own else f'{self.kit}/rlibs/{name}.rlib'}"]
         for name in ["", *sorted(os.listdir(os.path.join(TOP, "crates")))]:
             folder = os.path.dirname(rlib(name)) if name else f"{self.kit}/rlibs"
             words += ["-L", f"dependency={folder}"] * os.path.isdir(folder)
@@ -169,11 +178,11 @@ def try_alone(edit, kept):
 
 
 def together(edits):
-    """The first of these edits, and of the others those that can be tried with it: each changes functions that none before it changes.
-    With them, the texts with all of them in place."""
+    """The first of these edits, and of the others those that one check can try with it: each changes functions that none before it
+    changes. With them, the texts with all of them in place."""
     changed, found, texts = set(), [], {}
     for edit in edits:
-        if not changed & edit.functions:
+        if len(found) < TOGETHER and not changed & edit.functions:
             # (an edit can write what another one replaces)
             with contextlib.suppress(BadEdit):
                 texts = edit.applied(texts)
@@ -210,9 +219,38 @@ def crates_of(kit):
     return found
 
 
+def is_over(beside):
+    """Whether there is no run of `rt ci` to wait for."""
+    return not beside or os.path.exists(os.path.join(beside, "ended"))
+
+
+def is_ready(crate, beside):
+    """Whether the run of `rt ci` tells that the libraries below a crate are proved."""
+    with open(os.path.join(beside, "log"), encoding="utf-8", errors="replace") as log:
+        return {f"rt: {it} proved" for it in crate.own} <= set(log.read().split("\n"))
+
+
+def work(lane, tasks, beside):
+    """Tries the edits of one crate after another, of those that no other lane has begun with. Lanes but the first wait for `rt ci`."""
+    told = []
+    while lane and not is_over(beside):
+        time.sleep(5)
+    for edits in tasks:
+        crate = edits[0].crate
+        while not is_over(beside) and not is_ready(crate, beside):
+            time.sleep(5)
+        if lacking := crate.lacking():
+            told.append((False, f"{crate.name}: {lacking[0]} is not proved here: run rt check in crates/{crate.name}"))
+        else:
+            told += try_all(edits)
+    return told
+
+
 def main():
     start = subprocess.run(["rt", "doc"], stdout=subprocess.PIPE, text=True, check=True).stdout.strip()
     asked, told, tasks = sys.argv[1:], [], []
+    beside = asked[1] if asked[:1] == ["--beside"] else None
+    asked = asked[2:] if beside else asked
     for crate in crates_of(os.path.dirname(start)):
         edits = []
         for file in crate.files:
@@ -222,12 +260,15 @@ def main():
                 except BadEdit as error:
                     told.append((False, str(error)))
         if edits:
-            crate.words()
             tasks.append(edits)
+    # The lowest crates are ready first, and the highest ones take longest.
+    if not beside:
+        tasks.reverse()
     lanes = int(os.environ.get("EDITS_JOBS") or os.cpu_count())
     with concurrent.futures.ThreadPoolExecutor(lanes) as pool:
-        for ended in pool.map(try_all, sorted(tasks, key=len, reverse=True)):
-            told += ended
+        shared = iter(tasks)
+        for ended in [pool.submit(work, lane, shared, beside) for lane in range(lanes)]:
+            told += ended.result()
     for is_well, line in told:
         if not is_well:
             print(f"FAILED: {line}")
