@@ -5,7 +5,8 @@
 
 With no argument it tries those of every crate. It needs the toolchain, and the libraries below a crate in their folders `out/`, where
 `rt ci` and `rt check` leave them. EDITS_JOBS says how many crates are worked on at a time. With --beside it waits for these libraries:
-until a run of `rt ci` says in FOLDER/log that they are proved, or there is a file FOLDER/ended. It works on one crate at a time until then.
+until a run of `rt ci` says in FOLDER/log that they are proved, or there is a file FOLDER/ended. Until then it works on one crate at a
+time, and only while that leaves memory.
 
 An edit is a file of the crate's `must-fail-edits/`: `file: PATH`, and pairs of `old: TEXT` and `new: TEXT`. Each TEXT of a line `old`
 stands once in that file of the crate, in a function. One check tries many edits of a crate, each of which changes other functions: it
@@ -37,7 +38,32 @@ UNREAD = re.compile(r"(?:\./)?(?:src|specs)/\S+: error|error\b")
 # What says little of a contract: an answer names what the edit took away.
 TAKEN_AWAY = re.compile(r"has no field|is not in scope|has no `|was not admitted")
 # How many edits one check tries: each that is refused takes memory, of which 28 of hunk_commands took more than 5 GB.
-TOGETHER = 16
+TOGETHER = 12
+# How much memory, in KiB, has to be free before a check beside a proof begins: what it takes, and what the proof may still take.
+ROOM = 7 << 20
+
+
+class Proofs:
+    """The run of `rt ci` that the edits are tried beside: what it tells, and whether it has ended. Without a folder there is none."""
+
+    def __init__(self, folder):
+        self.folder = folder
+
+    def are_over(self):
+        return not self.folder or os.path.exists(os.path.join(self.folder, "ended"))
+
+    def wait_until(self, holds):
+        while not self.are_over() and not holds():
+            time.sleep(5)
+
+    def tell_of(self, names):
+        """Whether it tells that these libraries are proved."""
+        with open(os.path.join(self.folder, "log"), encoding="utf-8", errors="replace") as log:
+            return {f"rt: {it} proved" for it in names} <= set(log.read().split("\n"))
+
+    def leave_room(self):
+        with open("/proc/meminfo", encoding="utf-8") as file:
+            return int(re.search(r"^MemAvailable: *(\d+)", file.read(), re.M)[1]) >= ROOM
 
 
 def rlib(name):
@@ -191,11 +217,12 @@ def together(edits):
     return found, texts
 
 
-def try_all(edits):
+def try_all(edits, proofs):
     """What is told of each edit of a crate, and whether it is refused. Those that a check refuses are done; the others are tried again."""
     told, started = [], time.monotonic()
     with tempfile.TemporaryDirectory(prefix="edits-kept-") as kept:
         while edits:
+            proofs.wait_until(proofs.leave_room)
             chosen, texts = together(edits)
             lines = edits[0].crate.check(chosen, texts, kept) if len(chosen) > 1 else []
             refused = {edit: reason for edit in chosen if (reason := reason_refused(edit, lines))}
@@ -219,38 +246,26 @@ def crates_of(kit):
     return found
 
 
-def is_over(beside):
-    """Whether there is no run of `rt ci` to wait for."""
-    return not beside or os.path.exists(os.path.join(beside, "ended"))
-
-
-def is_ready(crate, beside):
-    """Whether the run of `rt ci` tells that the libraries below a crate are proved."""
-    with open(os.path.join(beside, "log"), encoding="utf-8", errors="replace") as log:
-        return {f"rt: {it} proved" for it in crate.own} <= set(log.read().split("\n"))
-
-
-def work(lane, tasks, beside):
-    """Tries the edits of one crate after another, of those that no other lane has begun with. Lanes but the first wait for `rt ci`."""
+def work(lane, tasks, proofs):
+    """Tries the edits of one crate after another, of those that no other lane has begun with. All lanes but one wait for `rt ci`."""
     told = []
-    while lane and not is_over(beside):
-        time.sleep(5)
+    if lane:
+        proofs.wait_until(lambda: False)
     for edits in tasks:
         crate = edits[0].crate
-        while not is_over(beside) and not is_ready(crate, beside):
-            time.sleep(5)
+        proofs.wait_until(lambda: proofs.tell_of(crate.own))
         if lacking := crate.lacking():
             told.append((False, f"{crate.name}: {lacking[0]} is not proved here: run rt check in crates/{crate.name}"))
         else:
-            told += try_all(edits)
+            told += try_all(edits, proofs)
     return told
 
 
 def main():
     start = subprocess.run(["rt", "doc"], stdout=subprocess.PIPE, text=True, check=True).stdout.strip()
     asked, told, tasks = sys.argv[1:], [], []
-    beside = asked[1] if asked[:1] == ["--beside"] else None
-    asked = asked[2:] if beside else asked
+    proofs = Proofs(asked[1] if asked[:1] == ["--beside"] else None)
+    asked = asked[2:] if proofs.folder else asked
     for crate in crates_of(os.path.dirname(start)):
         edits = []
         for file in crate.files:
@@ -262,12 +277,12 @@ def main():
         if edits:
             tasks.append(edits)
     # The lowest crates are ready first, and the highest ones take longest.
-    if not beside:
+    if not proofs.folder:
         tasks.reverse()
     lanes = int(os.environ.get("EDITS_JOBS") or os.cpu_count())
     with concurrent.futures.ThreadPoolExecutor(lanes) as pool:
         shared = iter(tasks)
-        for ended in [pool.submit(work, lane, shared, beside) for lane in range(lanes)]:
+        for ended in [pool.submit(work, lane, shared, proofs) for lane in range(lanes)]:
             told += ended.result()
     for is_well, line in told:
         if not is_well:
