@@ -4,7 +4,7 @@
     tests/edits.py [--beside FOLDER] [CRATE | CRATE/EDIT]..
 
 With no argument it tries those of every crate. It needs the toolchain, and the libraries below a crate in their folders `out/`, where
-`rt ci` and `rt check` leave them. EDITS_JOBS says how many crates are worked on at a time. With --beside it waits for these libraries:
+`rt ci` and `rt check` leave them. RT_JOBS says how many crates are worked on at a time. With --beside it waits for these libraries:
 until a run of `rt ci` says in FOLDER/log that they are proved, or there is a file FOLDER/ended. Until then it works on one crate at a
 time, and only while that leaves memory.
 
@@ -18,6 +18,7 @@ The last line is 'N passed, M failed', and the status is 0 if M is 0.
 """
 import concurrent.futures
 import contextlib
+import functools
 import os
 import re
 import shutil
@@ -27,7 +28,7 @@ import tempfile
 import time
 
 sys.dont_write_bytecode = True
-from sources import EDITS, TOP, is_there, split_impl, text_of, without_generics
+from sources import EDITS, TOP, is_there, listed_crates, split_impl, text_of, without_generics
 
 FUNCTION = re.compile(r"^( *)(?:pub(?:\(\w+\))? )?(?:const )?(?:unsafe )?(?:extern \"C\" )?fn (\w+)")
 HEAD = re.compile(r"(?:unsafe )?(?=impl\b)|(?:pub(?:\(\w+\))? )?trait (\w+)")
@@ -37,6 +38,7 @@ FAILED = re.compile(r"fn (\S+): (?:not proved|no proof)(?![:;] it calls).*")
 UNREAD = re.compile(r"(?:\./)?(?:src|specs)/\S+: error|error\b")
 # What says little of a contract: an answer names what the edit took away.
 TAKEN_AWAY = re.compile(r"has no field|is not in scope|has no `|was not admitted")
+TYPE = re.compile(r"^(?:pub(?:\(\w+\))? )?(?:struct|enum|trait) (\w+)", re.M)
 # How many edits one check tries: each that is refused takes memory, of which 28 of hunk_commands took more than 5 GB.
 TOGETHER = 12
 # How much memory, in KiB, has to be free before a check beside a proof begins: what it takes, and what the proof may still take.
@@ -71,6 +73,11 @@ def rlib(name):
     return os.path.join(TOP, "crates", name, "out/rlib", f"{name}.rlib")
 
 
+def modules_of(path):
+    """The names of the module that is a file of `src/`."""
+    return [it for it in path.removeprefix("src/").removesuffix(".rt").split("/") if it not in ("lib", "main")]
+
+
 class BadEdit(Exception):
     """An edit that cannot be tried, and why."""
 
@@ -80,7 +87,7 @@ class Edit:
 
     def __init__(self, crate, name):
         self.crate, self.name, self.label = crate, name, f"{crate.name}/{name.removesuffix('.edit')}"
-        self.changes, self.functions = [], set()
+        self.changes = []
         path = old = None
         for line in text_of("crates", crate.name, EDITS, name).split("\n"):
             word, _, rest = line.partition(":")
@@ -92,22 +99,36 @@ class Edit:
             elif word == "new" and path and old:
                 self.changes.append((path, old, rest))
         if not name.endswith(".edit") or not self.changes:
-            raise BadEdit(f"{self.label}: BAD EDIT: a file NAME.edit has lines 'file: ', 'old: ' and 'new: '")
-        self.applied({})
+            raise self.bad("a file NAME.edit has lines 'file: ', 'old: ' and 'new: '")
+        texts = {}
+        self.functions = {self.function(change[0], self.replace(texts, *change)) for change in self.changes}
+
+    def bad(self, why):
+        return BadEdit(f"{self.label}: BAD EDIT: {why}")
+
+    def replace(self, texts, path, old, new):
+        """Makes a change in these texts of the crate, and returns what stands in the file up to the end of what it replaced."""
+        if not path.startswith("src/") or not is_there("crates", self.crate.name, path):
+            raise self.bad(f"there is no file {path} of the crate's code")
+        text = texts.get(path) or text_of("crates", self.crate.name, path)
+        if text.count(old) != 1:
+            raise self.bad(f"a line 'old' stands in {path} {text.count(old)} times, and not once")
+        front, _, rest = text.partition(old)
+        texts[path] = front + new + rest
+        return front + old
+
+    def function(self, path, front):
+        """The function that the end of this front of a file stands in."""
+        function = self.crate.function_at(path, front.split("\n"))
+        if not function:
+            raise self.bad(f"a line 'old' stands in no function of {path}")
+        return function
 
     def applied(self, texts):
-        """The texts with the edit in place: those that other edits left, and of the crate where they left none. It notes what functions it
-        changes."""
+        """The texts with the edit in place: those that other edits left, and of the crate where they left none."""
         texts = dict(texts)
-        for path, old, new in self.changes:
-            if not path.startswith("src/") or not is_there("crates", self.crate.name, path):
-                raise BadEdit(f"{self.label}: BAD EDIT: there is no file {path} of the crate's code")
-            text = texts.get(path) or text_of("crates", self.crate.name, path)
-            if text.count(old) != 1:
-                raise BadEdit(f"{self.label}: BAD EDIT: a line 'old' stands in {path} {text.count(old)} times, and not once")
-            end = text.index(old) + len(old)
-            self.functions.add(self.crate.function_at(path, text[:end].split("\n")))
-            texts[path] = text.replace(old, new)
+        for change in self.changes:
+            self.replace(texts, *change)
         return texts
 
 
@@ -135,32 +156,35 @@ class Crate:
         return words + ["--antt-project", f"{self.kit}/rattle/logic/antt-project.json", "--logic-built", f"{self.kit}/logic_built"]
 
     def function_at(self, path, lines):
-        """The path of the function that the last of these lines of a file stands in, as the prover names it."""
+        """The path of the function that the last of these lines of a file stands in, as the prover names it. None if it is in none."""
         at = max((number for number, line in enumerate(lines) if FUNCTION.match(line)), default=None)
         if at is None:
-            raise BadEdit(f"BAD EDIT: {path} has no function at line {len(lines)}")
+            return None
         indent, name = FUNCTION.match(lines[at]).groups()
-        modules = [it for it in path.removeprefix("src/").removesuffix(".rt").split("/") if it not in ("lib", "main")]
+        modules = modules_of(path)
         if not indent:
             return "::".join([self.name, *modules, name])
-        head = max(number for number, line in enumerate(lines[:at]) if HEAD.match(line))
+        head = max((number for number, line in enumerate(lines[:at]) if HEAD.match(line)), default=None)
+        if head is None:
+            return None
         whole, begins = " ".join(it.strip() for it in lines[head:at]), HEAD.match(lines[head])
         trait, of = (None, begins[1]) if begins[1] else split_impl(whole[begins.end():])
         of = without_generics(of)
         if not trait:
-            return "::".join([self.name, *self.home_of(of, modules), of, name])
+            # The prover names the methods of a type by the module that declares it, wherever their `impl` stands.
+            return "::".join([self.name, *self.homes.get(of, modules), of, name])
         trait = trait if trait.startswith("From<") else without_generics(trait)
         return "::".join([self.name, *modules, re.sub(r"\W", "", of + trait), name])
 
-    def home_of(self, of, modules):
-        """The module where a type is declared: the prover names its methods by it, wherever their `impl` stands."""
-        declared = re.compile(rf"^(?:pub(?:\(\w+\))? )?(?:struct|enum|trait) {re.escape(of)}\b", re.M)
-        for folder, _, files in os.walk(os.path.join(TOP, "crates", self.name, "src")):
-            for file in files:
-                path = os.path.relpath(os.path.join(folder, file), os.path.join(TOP, "crates", self.name, "src"))
-                if declared.search(text_of("crates", self.name, "src", path)):
-                    return [it for it in path.removesuffix(".rt").split("/") if it not in ("lib", "main")]
-        return modules
+    @functools.cached_property
+    def homes(self):
+        """The module of each type and trait that the crate declares."""
+        top, found = os.path.join(TOP, "crates", self.name, "src"), {}
+        for folder, _, files in os.walk(top):
+            for path in [os.path.relpath(os.path.join(folder, it), top) for it in files]:
+                for name in TYPE.findall(text_of(top, path)):
+                    found.setdefault(name, modules_of(path))
+        return found
 
     def check(self, edits, texts, kept):
         """What the prover says of the functions that these edits change, with these texts in place."""
@@ -188,7 +212,10 @@ def reason_refused(edit, lines):
             answers = f"./proofs/{'/'.join(found[1].split('::')[1:])}/"
             reasons = notes + [it for it in lines if it.startswith(answers) and ": error: " in it]
             return next((it for it in reasons if not TAKEN_AWAY.search(it)), None) or f"only a name is gone: {(reasons or [line])[0]}"
-        notes = notes + [line] if line.startswith("note: src/") else [] if re.match(r"[a-z]+ \S+: ", line) else notes
+        if line.startswith("note: src/"):
+            notes.append(line)
+        elif re.match(r"[a-z]+ \S+: ", line):
+            notes = []
     return None
 
 
@@ -219,12 +246,12 @@ def together(edits):
 
 def try_all(edits, proofs):
     """What is told of each edit of a crate, and whether it is refused. Those that a check refuses are done; the others are tried again."""
-    told, started = [], time.monotonic()
+    crate, told, started = edits[0].crate, [], time.monotonic()
     with tempfile.TemporaryDirectory(prefix="edits-kept-") as kept:
         while edits:
             proofs.wait_until(proofs.leave_room)
             chosen, texts = together(edits)
-            lines = edits[0].crate.check(chosen, texts, kept) if len(chosen) > 1 else []
+            lines = crate.check(chosen, texts, kept) if len(chosen) > 1 else []
             refused = {edit: reason for edit in chosen if (reason := reason_refused(edit, lines))}
             told += [(True, f"{edit.label}: refused: {reason[:160]}") for edit, reason in refused.items()]
             if not refused:
@@ -233,17 +260,8 @@ def try_all(edits, proofs):
             edits = [it for it in edits if it not in refused]
     for _, line in told:
         print(line, flush=True)
-    print(f"{told[0][1].partition('/')[0]}: {len(told)} edits, {time.monotonic() - started:.0f} s", flush=True)
+    print(f"{crate.name}: {len(told)} edits, {time.monotonic() - started:.0f} s", flush=True)
     return told
-
-
-def crates_of(kit):
-    found = []
-    for line in text_of("crates.txt").splitlines():
-        head, colon, libraries = line.partition("#")[0].partition(":")
-        if colon:
-            found.append(Crate(head.split()[0], "staticlib" in head.split(), libraries.split(), kit))
-    return found
 
 
 def work(lane, tasks, proofs):
@@ -266,8 +284,8 @@ def main():
     asked, told, tasks = sys.argv[1:], [], []
     proofs = Proofs(asked[1] if asked[:1] == ["--beside"] else None)
     asked = asked[2:] if proofs.folder else asked
-    for crate in crates_of(os.path.dirname(start)):
-        edits = []
+    for name, (is_static, libraries) in listed_crates().items():
+        crate, edits = Crate(name, is_static, libraries, os.path.dirname(start)), []
         for file in crate.files:
             if not asked or crate.name in asked or f"{crate.name}/{file.removesuffix('.edit')}" in asked:
                 try:
@@ -279,7 +297,7 @@ def main():
     # The lowest crates are ready first, and the highest ones take longest.
     if not proofs.folder:
         tasks.reverse()
-    lanes = int(os.environ.get("EDITS_JOBS") or os.cpu_count())
+    lanes = int(os.environ.get("RT_JOBS") or os.cpu_count())
     with concurrent.futures.ThreadPoolExecutor(lanes) as pool:
         shared = iter(tasks)
         for ended in [pool.submit(work, lane, shared, proofs) for lane in range(lanes)]:

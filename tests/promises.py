@@ -16,7 +16,7 @@ import sys
 
 sys.dont_write_bytecode = True
 import sources
-from sources import Crate, is_there, text_of
+from sources import Crate, is_there, listed_crates, text_of
 
 # Claims alone name their calls: nothing in Rattle can call a program, and capi/amihunk.h tells of the exports for C.
 OTHERS = ["amihunk", "amihunk_c"]
@@ -316,7 +316,7 @@ def check_code(file, text):
 
 def check_crates():
     """docs/ARCHITECTURE.md has each crate with what it depends on, and CONTRIBUTING.md with what its proof takes."""
-    listed = {name: set(words.split()) for name, words in re.findall(r"^(\w+)(?: staticlib)?: (.*)", text_of("crates.txt"), re.M)}
+    listed = {name: set(libraries) for name, (_, libraries) in listed_crates().items()}
     told = {quoted(row.cells[0])[0]: row.cells[2] for row in rows_of(text_of(CRATES)) if row.columns == ["Crate", "Does", "Depends on"]}
     check(told.keys() == listed.keys(), f"{CRATES}: its crates are not those of crates.txt: {told.keys() ^ listed.keys()}")
     for name in told.keys() & listed.keys():

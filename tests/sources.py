@@ -27,6 +27,12 @@ def is_there(*path):
     return os.path.exists(os.path.join(TOP, *path))
 
 
+def listed_crates():
+    """The crates of crates.txt, in its order: whether each is a static library, and the libraries that it uses."""
+    lines = re.findall(r"^(\w+)( staticlib)?:(.*)", text_of("crates.txt"), re.M)
+    return {name: (bool(static), libraries.split()) for name, static, libraries in lines}
+
+
 def without_generics(name):
     """`Sites<T, A>` without what stands in angle brackets, which may be nested."""
     while (shorter := re.sub(r"<[^<>]*>", "", name)) != name:
