@@ -42,3 +42,4 @@ pub mod WrittenFormLemmas
 pub mod LoadFileSpellingLemmas
 pub mod RulesReadLemmas
 pub mod RelocationWriterLemmas
+pub mod OneTargetWriterLemmas

@@ -17,7 +17,7 @@ use Rattle.hunk_loadfile.specs.declared.number_width.NumberWidth.{NumberWidth}
 use Rattle.hunk_loadfile.specs.declared.number_width.NumberWidth.TheVariants.{Word, Longword}
 use Rattle.hunk_loadfile.specs.NumberWidth.{block_type, bytes_in}
 use Rattle.hunk_loadfile.specs.RelocationWriter.{AreByTarget, IsGroup, block_bytes, block_end}
-use Rattle.hunk_loadfile.specs.WrittenForm.{group_words, groups_words, offsets_to, paired, short_words, site_words}
+use Rattle.hunk_loadfile.specs.WrittenForm.{group_words, groups_words, offsets_to, paired, relocation_words, short_words, site_words}
 use Rattle.hunk_loadfile.specs.declared.load_form.LoadForm.{LoadForm}
 use Rattle.hunk_loadfile.specs.LoadForm.{long_sites, short_sites}
 use Rattle.hunk_loadfile.proofs.LoadFormLemmas.{AllByRecursion-filter, stand-few}
@@ -95,7 +95,7 @@ groups_from-nil : (from count : ℕ) → groups_from from count [] ≡ []
 groups_from-nil from zero = refl
 groups_from-nil from (suc count) = groups_from-nil (from + 1) count
 
-groups_words-nil : (count : ℕ) → groups_words count [] ≡ []
+pub groups_words-nil : (count : ℕ) → groups_words count [] ≡ []
 groups_words-nil count = groups_from-nil 0 count
 
 module _ (target : ℕ) (group behind : List (ℕ × ℕ)) (same : All (λ (pair : ℕ × ℕ). pair.1 ≡ target) group) (above : All (λ (pair : ℕ × ℕ). target < pair.1) behind) where
@@ -135,7 +135,7 @@ module _ (target : ℕ) (group behind : List (ℕ × ℕ)) (same : All (λ (pair
   ]
 
 -- the target of a group is that of one of its sites
-target-below : (target count : ℕ) (group : List (ℕ × ℕ)) → 0 < length group → All (λ (pair : ℕ × ℕ). pair.1 ≡ target) group → All (λ (pair : ℕ × ℕ). pair.1 < count) group → target < count
+pub target-below : (target count : ℕ) (group : List (ℕ × ℕ)) → 0 < length group → All (λ (pair : ℕ × ℕ). pair.1 ≡ target) group → All (λ (pair : ℕ × ℕ). pair.1 < count) group → target < count
 target-below target count group some same below = omega (arith, same 0 (0, 0) some, below 0 (0, 0) some)
 
 module _ (target : ℕ) (group behind pairs : List (ℕ × ℕ)) (is : IsGroup target group behind pairs) where
@@ -244,6 +244,14 @@ module _ (form : LoadForm) (limit : ℕ) (sites : List (ℕ × ℕ)) where
 
   pub long-bytes : (count : ℕ) (pairs : List (ℕ × ℕ)) → AreByTarget (long_sites form sites) pairs → block_bytes Longword count pairs ≡ bytes_of (site_words count (long_sites form sites))
   long-bytes count pairs order = block_bytes-sorted Longword count (long_sites form sites) pairs order ∙ block_bytes-long count (long_sites form sites)
+
+  -- both blocks, of sites that need no sorting
+  pub block_bytes-both : (count : ℕ) → StandFrom 0 limit sites → All (λ (site : ℕ × ℕ). site.1 < 2 ^ 16) sites
+      → block_bytes Word count (short_sites form sites) ++ block_bytes Longword count (long_sites form sites) ≡ bytes_of (relocation_words form count sites)
+  block_bytes-both count stand targets =
+      ap (λ (bytes : List ℕ). bytes ++ block_bytes Longword count (long_sites form sites)) (block_bytes-short count (short_sites form sites) (short_groups-fit form count limit sites stand targets))
+      ∙ ap (λ (bytes : List ℕ). bytes_of (short_words count (short_sites form sites)) ++ bytes) (block_bytes-long count (long_sites form sites))
+      ∙ sym (bytes_of-append (short_words count (short_sites form sites)) (site_words count (long_sites form sites)))
 
   pub All-block : (test : ℕ × ℕ → Bool) (P : ℕ × ℕ → Type 0) (pairs : List (ℕ × ℕ)) → AreByTarget (filter test sites) pairs → All P sites → All P pairs
   All-block test P pairs order all = All-permutation P (filter test sites) pairs order.same (All-from_recursion P (filter test sites) (AllByRecursion-filter test P sites (recursion_from_All P sites all)))

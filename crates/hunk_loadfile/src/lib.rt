@@ -10,7 +10,8 @@
 //! - `load_form`: the forms in which a load file is written.
 //! - `load_writer`: load files as bytes.
 //! - `written_form`: the written forms of a load file in memory, and their lengths.
-//! - `relocation_writer`: writes the relocation blocks of a hunk.
+//! - `relocation_writer`: writes the relocation blocks of a hunk; `one_target_writer`: those of one whose sites all
+//!   have one target.
 //! - `number_width`: how wide the numbers of a relocation block are.
 //! - `debug_writer`: writes the symbols and debug blocks of a hunk.
 //! - `longword_writer`: writes longwords and other numbers of a text.
@@ -43,6 +44,7 @@ pub mod load_writer;
 mod longword_writer;
 mod normal_form;
 mod number_width;
+mod one_target_writer;
 mod open_hunk;
 pub mod patching;
 mod relocation_writer;

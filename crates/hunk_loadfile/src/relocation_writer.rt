@@ -6,13 +6,14 @@ ghost use Rattle.hunk_base.specs.Name.{bytes_of};
 ghost use Rattle.hunk_base.specs.Sites.{AreApart};
 ghost use Rattle.hunk_base.specs.Text.{Puts};
 ghost use Rattle.hunk_loadfile.specs.LoadForm.{long_sites, short_sites};
-ghost use Rattle.hunk_loadfile.specs.NumberWidth.{bytes_in};
-ghost use Rattle.hunk_loadfile.specs.RelocationWriter.{AreByTarget, IsGroup, block_bytes};
+ghost use Rattle.hunk_loadfile.specs.NumberWidth.{bytes_in, width_bytes};
+ghost use Rattle.hunk_loadfile.specs.RelocationWriter.{AreByTarget, IsGroup, block_bytes, block_end};
 ghost use Rattle.hunk_loadfile.specs.WrittenForm.{group_words, groups_words, relocation_words};
 
 use crate::load_form::LoadForm;
 use crate::longword_writer::{write_longwords, write_numbers};
 use crate::number_width::NumberWidth;
+use crate::one_target_writer::{only_target, write_to_one_target};
 use hunk_words::{Sink, Sites, Text};
 use std::alloc::{AllocError, Allocator};
 
@@ -20,12 +21,34 @@ use std::alloc::{AllocError, Allocator};
 /// for each target, in ascending order, with its offsets in ascending order (The AmigaDOS Manual,
 /// 3rd edition, "Amiga binary file structure"; the order is our own).
 ///
-/// It keeps only the pairs of offset and target of this hunk, and allocates them before it writes.
+/// If all sites have one target, they are written as they stand, and nothing is allocated. Else it keeps the
+/// pairs of offset and target of this hunk, and allocates them before it writes.
 ///
 /// # Errors
 ///
 /// [`AllocError`] only if an allocation failed: nothing of the blocks is written then.
 pub(crate) fn write_sites<W: Sink, A: Allocator + Copy>(
+    alloc: A,
+    text: &mut Text<'_, W>,
+    form: LoadForm,
+    sites: &Sites<u32, A>,
+) -> Result<(), AllocError>
+    requires apart { AreApart sites.now }
+    requires targets { All (λ site. site.1 < 2 ^ 16) sites.now.entries }
+    ensures wrote { (count : ℕ) → All (λ site. site.1 < count) sites.now.entries → OnOk result (Puts W.taken W.failed text.old text.new (bytes_of (relocation_words form count sites.now.entries))) }
+    ensures nothing { OnErr result (Puts W.taken W.failed text.old text.new []) }
+{
+    match only_target(sites) {
+        Some(target) => {
+            write_to_one_target(text, form, sites, target);
+            Ok(())
+        }
+        None => write_by_target(alloc, text, form, sites),
+    }
+}
+
+/// Writes the relocation blocks of a hunk whose sites have any targets.
+fn write_by_target<W: Sink, A: Allocator + Copy>(
     alloc: A,
     text: &mut Text<'_, W>,
     form: LoadForm,
@@ -69,7 +92,10 @@ fn by_target<A: Allocator + Copy>(
 }
 
 /// The number of sites in the short relocation block, and in the other.
-fn block_counts<A: Allocator + Copy>(form: LoadForm, sites: &Sites<u32, A>) -> (usize, usize)
+pub(crate) fn block_counts<A: Allocator + Copy>(
+    form: LoadForm,
+    sites: &Sites<u32, A>,
+) -> (usize, usize)
     ensures short { result.0 ≡ length (short_sites form sites.now.entries) }
     ensures long { result.1 ≡ length (long_sites form sites.now.entries) }
 {
@@ -96,6 +122,14 @@ fn write_block<W: Sink>(text: &mut Text<'_, W>, width: NumberWidth, pairs: &[(u3
     }
     write_longwords(text, &[width.block_type()]);
     let numbers = write_groups(text, width, pairs);
+    write_block_end(text, width, numbers);
+}
+
+/// Writes the zeros that end a relocation block, which has so many numbers before them.
+pub(crate) fn write_block_end<W: Sink>(text: &mut Text<'_, W>, width: NumberWidth, numbers: usize)
+    requires few { numbers < 2 ^ 34 }
+    ensures { Puts W.taken W.failed text.old text.new (block_end (width_bytes width * numbers)) }
+{
     let zeros = 4 - width.bytes() * numbers % 4;
     text.put(&[0; 4][..zeros]);
 }

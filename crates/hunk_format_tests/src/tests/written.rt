@@ -51,8 +51,16 @@ const EXAMPLE: [u32; 40] = [
     0x3EA, 1, 0x68756E6B, 0x3F1, 0, 0x3F2,
 ];
 
+/// Three hunks, the second of which names both others.
+const TWO_TARGETS: [u32; 29] = [
+    0x3F3, 0, 3, 0, 2, 2, 2, 4, //
+    0x3E9, 2, 0x4E714E71, 0x4E754E75, 0x3F2, //
+    0x3E9, 2, 8, 0, 0x3EC, 1, 0, 4, 1, 2, 0, 0, 0x3F2, //
+    0x3EB, 4, 0x3F2,
+];
+
 /// Load files, and each as it is written.
-static FILES: [(&[u32], &[u32]); 11] = [
+static FILES: [(&[u32], &[u32]); 12] = [
     (&FILE, &FILE),
     (&IGNORED_BITS, &FAST_DATA),
     (&BEHIND_CONTENT, &BEHIND_CONTENT),
@@ -62,6 +70,7 @@ static FILES: [(&[u32], &[u32]); 11] = [
     (&WRITTEN, &WRITTEN),
     (&ZEROS, &ZEROS),
     (&THREE_HUNKS, &THREE_HUNKS),
+    (&TWO_TARGETS, &TWO_TARGETS),
     (&SHORT, &LONGER),
     (&TWO_HUNKS, &EXAMPLE),
 ];
@@ -221,8 +230,29 @@ pub(crate) fn is_written_up_to(
 /// allocation. They are written whichever allocation fails.
 #[test]
 fn writes_hunk_by_hunk(rt: HostRuntime) -> Result<(), Fail> {
-    let bytes = bytes_of(rt.alloc(), &THREE_HUNKS, &[])?;
-    is_written_up_to(&rt, rt.alloc(), LoadForm::Plain, &bytes, 64, 1)
+    let bytes = bytes_of(rt.alloc(), &TWO_TARGETS, &[])?;
+    is_written_up_to(&rt, rt.alloc(), LoadForm::Plain, &bytes, 68, 1)
+}
+
+/// Sites that all name one hunk, more of them than are written at once, need no allocation.
+#[test]
+fn writes_sites_of_one_target_without_memory(rt: HostRuntime) -> Result<(), Fail> {
+    let mut words = [0x3F3, 0, 1, 0, 0, 600, 0x3E9, 600].to_vec(rt.alloc())?;
+    for _ in 0..600 {
+        words.push(0)?;
+    }
+    words.extend_from_slice(&[0x3EC, 600, 0])?;
+    for site in 0..600 {
+        words.push(4 * site)?;
+    }
+    words.extend_from_slice(&[0, 0x3F2])?;
+    let bytes = bytes_of(rt.alloc(), &words, &[])?;
+    let heap = Refusing::new(rt.alloc(), growths_of_reading(rt.alloc(), &bytes)?);
+    let mut writer = Room::new(rt.alloc(), ROOM, bytes.len(), false)?;
+    let got = rewrite(&heap, bytes.clone()?, LoadForm::Plain, &mut writer)?;
+    equals(&rt, got, Ok(()));
+    equals(&rt, writer.bytes(), bytes.as_slice());
+    Ok(())
 }
 
 /// Sites that name four hunks in turn, more of each hunk than are written at once. They need memory,

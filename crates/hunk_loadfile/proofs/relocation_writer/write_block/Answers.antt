@@ -17,10 +17,8 @@ some-from_test n empty is told = elim (cases_eq n 0) [
   | inr some ↦ omega arith
 ]
 
-pub overflow_mul-zeros : goal.overflow_mul-zeros
-overflow_mul-zeros g c =
-    let count = c.write_groups-numbers.result in
-    omega (arith, c.requires.few, c.write_groups-numbers.ensures.few, ap (λ bytes. bytes * count) c.bytes.ensures, width_bytes-le c.args.width count)
+pub write_block_end-requires : goal.write_block_end-requires
+write_block_end-requires g c = record { few = omega (arith, c.requires.few, c.write_groups-numbers.ensures.few) }
 
 pub returns : goal.returns
 returns g c = λ count all.
@@ -29,11 +27,8 @@ returns g c = λ count all.
     let width = c.args.width in
     let pairs = c.args.pairs.now in
     let words = groups_words count pairs in
-    let numbers = c.write_groups-numbers.result in
     let some : 0 < length pairs = some-from_test _ c.is_empty.result c.is_empty.ensures c.if-is_empty.false in
-    let bytes : c.bytes.result * numbers ≡ length (bytes_in width words) =
-    ap (λ n. n * numbers) c.bytes.ensures ∙ ap (λ n. width_bytes width * n) (c.write_groups-numbers.ensures.counts count all) ∙ sym (length-bytes_in width words) in
-    let zeros = zeros_of (4 - c.bytes.result * numbers % 4) (omega arith) ∙ ap block_end bytes in
-    subst (λ text. Puts taken failed c.args.text.now c.put.new.self text) (sym (block_bytes-some width count pairs some))
+    let bytes = ap (λ n. width_bytes width * n) (c.write_groups-numbers.ensures.counts count all) ∙ sym (length-bytes_in width words) in
+    subst (λ text. Puts taken failed c.args.text.now c.write_block_end.new.text text) (sym (block_bytes-some width count pairs some))
     (Puts-then taken failed (rw c.block_type.ensures at c.write_longwords.ensures)
-    (Puts-then taken failed (c.write_groups-numbers.ensures.wrote count all) (subst (λ text. Puts taken failed c.write_groups-numbers.new.text c.put.new.self text) zeros c.put.ensures)))
+    (Puts-then taken failed (c.write_groups-numbers.ensures.wrote count all) (subst (λ end. Puts taken failed c.write_groups-numbers.new.text c.write_block_end.new.text (block_end end)) bytes c.write_block_end.ensures)))
