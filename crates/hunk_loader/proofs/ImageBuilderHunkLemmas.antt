@@ -132,20 +132,15 @@ Holds-site m b w o at target current holds apart h =
       fits = s.fits;
     })
 
--- what a current hunk returns for a site
-pub record OpenTakes (o n : CountedHunk) (answer : Result (Unit {0}) SiteRefusal) (at target : ℕ) : Type 0 where
-  pub adds : OnOk answer (n ≡ with_one o at target)
-  pub holds : (limit : ℕ) (seen : List ℕ) → HoldsSites limit seen o.partial → OnOk answer (HoldsSites limit (at ∷ seen) n.partial)
-  pub judges : (limit : ℕ) (seen : List ℕ) → HoldsSites limit seen o.partial → JudgesSite limit seen at answer
-  pub apart : AreApart o.partial.sites → AreApart n.partial.sites
-  pub refused : OnErr answer (n ≡ o)
-
-pub TakesEvent-site : (m : BuilderState) (o n : CountedHunk) (answer : Result (Unit {0}) SiteRefusal) (at target : ℕ) → m.current ≡ Some o → OpenTakes o n answer at target
+pub TakesEvent-site : (m : BuilderState) (o n : CountedHunk) (answer : Result (Unit {0}) SiteRefusal) (at target : ℕ) → m.current ≡ Some o
+    → OnOk answer (n ≡ with_one o at target) → OnErr answer (n ≡ o) → (AreApart o.partial.sites → AreApart n.partial.sites)
+    → ((limit : ℕ) (seen : List ℕ) → HoldsSites limit seen o.partial → OnOk answer (HoldsSites limit (at ∷ seen) n.partial))
+    → ((limit : ℕ) (seen : List ℕ) → HoldsSites limit seen o.partial → JudgesSite limit seen at answer)
     → TakesEvent m (record m { current = Some n }) answer (event.Site at target)
-TakesEvent-site m o n answer at target current t = record {
-  takes = λ b w holds. taken answer t.adds b w holds (t.holds w.position.limit w.seen (shown b w holds).holds) (t.apart (shown b w holds).apart);
-  refuses = λ b w holds. left answer t.refused b w holds;
-  judges = λ b w holds. t.judges w.position.limit w.seen (shown b w holds).holds;
+TakesEvent-site m o n answer at target current adds refused apart holds judges = record {
+  takes = λ b w h. taken answer adds b w h (holds w.position.limit w.seen (shown b w h).holds) (apart (shown b w h).apart);
+  refuses = λ b w h. left answer refused b w h;
+  judges = λ b w h. judges w.position.limit w.seen (shown b w h).holds;
   bases = refl;
 }
   where
@@ -183,7 +178,7 @@ loaded_at-append all (x ∷ bases) (s ∷ ss) (g ∷ hs) h sized based =
 
 -- with one more hunk that has ended
 abbrev with_ended : BuilderState → List (ℕ × List ℕ) → BuilderState
-with_ended m made = record m { made = made; current = None; ended = suc m.ended }
+with_ended m made = record m { made = made; current = None; ended = m.ended + 1 }
 
 ended-part : (b : EventValue) (p : Part) → b.parts ≡ p ∷ [] → (step b event.HunkEnd).parts ≡ record p { hunks = p.hunks ++ (b.hunk ∷ []) } ∷ []
 ended-part b p is = ap (λ ps. on_last (λ q. record q { hunks = q.hunks ++ (b.hunk ∷ []) }) ps) is
@@ -196,7 +191,7 @@ Holds-end m made b w o current h loads =
     record {
       sizes = h.sizes;
       header = h.header;
-      ended = ap suc h.ended;
+      ended = let more : m.ended + 1 ≡ suc w.position.ended = omega (arith, h.ended) in more;
       within = s.within;
       part = record h.part { hunks = h.part.hunks ++ (b.hunk ∷ []) };
       parts = ended-part b h.part h.parts;
@@ -237,7 +232,7 @@ made-end m b w o h placed based s is =
     ∙ ap (λ i. loaded (file_hunks b.sizes hs) m.bases ++ ((slice_index m.bases i, hunk_loaded m.bases (slice_index (map (λ s. s.1) b.sizes) (length hs)) b.hunk) ∷ [])) (sym at)
     ∙ sym (loaded_at-append m.bases m.bases b.sizes hs b.hunk sized (omega (arith, at, based)))
 
-TakesEvent-end-unplaced : (m n : BuilderState) (o : CountedHunk) → m.placing ≢ Placed → m.current ≡ Some o → n ≡ with_ended m m.made → TakesEvent m n (Ok tt) event.HunkEnd
+pub TakesEvent-end-unplaced : (m n : BuilderState) (o : CountedHunk) → m.placing ≢ Placed → m.current ≡ Some o → n ≡ with_ended m m.made → TakesEvent m n (Ok tt) event.HunkEnd
 TakesEvent-end-unplaced m n o unplaced current is = record {
   takes = λ b w h. subst (λ q. Holds q (step b event.HunkEnd) (context_with Load w event.HunkEnd)) (sym is)
       (Holds-end m m.made b w o current h (end-unplaced m.placing m b (step b event.HunkEnd) h.part.hunks (h.part.hunks ++ (b.hunk ∷ [])) unplaced (λ none. let wrong : Some o ≡ None = sym current ∙ none in cc) h.loads));
@@ -246,31 +241,16 @@ TakesEvent-end-unplaced m n o unplaced current is = record {
   bases = ap (λ q. q.bases) is;
 }
 
-TakesEvent-end-placed : (m n : BuilderState) (o : CountedHunk) → m.placing ≡ Placed → m.current ≡ Some o → m.ended < length m.bases
-    → n ≡ with_ended m (m.made ++ ((slice_index m.bases m.ended, bytes_loaded m.bases o) ∷ [])) → TakesEvent m n (Ok tt) event.HunkEnd
-TakesEvent-end-placed m n o placed current based is = record {
-  takes = λ b w h. subst (λ q. Holds q (step b event.HunkEnd) (context_with Load w event.HunkEnd)) (sym is)
-      (Holds-end m (m.made ++ ((slice_index m.bases m.ended, bytes_loaded m.bases o) ∷ [])) b w o current h
-      (end-placed m.placing m (m.made ++ ((slice_index m.bases m.ended, bytes_loaded m.bases o) ∷ [])) b h.part.hunks placed h.loads
-      (made-end m b w o h placed based (subst (λ q. Shows m.placing q b w) current h.shows))));
-  refuses = λ b w h. tt;
-  judges = λ b w h. tt;
-  bases = ap (λ q. q.bases) is;
-}
-
--- the bytes of the hunk are kept, or there are none to keep
-pub data Closes (m k : BuilderState) : Type 0 where
-  kept : m.placing ≡ Placed → KeepsHunk m k → Closes m k
-  unkept : m.placing ≢ Placed → k ≡ m → Closes m k
-
-abbrev without_current : BuilderState → BuilderState
-without_current k = record k { current = None; ended = suc k.ended }
-
-without_current-is : (m k n : BuilderState) → n ≡ record k { current = None; ended = k.ended + 1 } → n ≡ without_current k
-without_current-is m k n is =
-    let more : k.ended + 1 ≡ suc k.ended = omega arith in
-    is ∙ ap (λ e. record k { current = None; ended = e }) more
-
-pub TakesEvent-end : (m k n : BuilderState) (o : CountedHunk) → m.current ≡ Some o → Closes m k → n ≡ record k { current = None; ended = k.ended + 1 } → TakesEvent m n (Ok tt) event.HunkEnd
-TakesEvent-end m k n o current (kept placed keeps) is = TakesEvent-end-placed m n keeps.hunk placed keeps.current keeps.based (without_current-is m k n is ∙ ap without_current keeps.keeps)
-TakesEvent-end m k n o current (unkept unplaced same) is = TakesEvent-end-unplaced m n o unplaced current (without_current-is m k n is ∙ ap without_current same)
+pub TakesEvent-end-placed : (m n : BuilderState) → m.placing ≡ Placed → KeepsHunk m n → TakesEvent m n (Ok tt) event.HunkEnd
+TakesEvent-end-placed m n placed keeps =
+    let o = keeps.hunk in
+    let made : List (ℕ × List ℕ) = m.made ++ ((slice_index m.bases m.ended, bytes_loaded m.bases o) ∷ []) in
+    record {
+      takes = λ b w h. subst (λ q. Holds q (step b event.HunkEnd) (context_with Load w event.HunkEnd)) (sym keeps.keeps)
+          (Holds-end m made b w o keeps.current h
+          (end-placed m.placing m made b h.part.hunks placed h.loads
+          (made-end m b w o h placed keeps.based (subst (λ q. Shows m.placing q b w) keeps.current h.shows))));
+      refuses = λ b w h. tt;
+      judges = λ b w h. tt;
+      bases = ap (λ q. q.bases) keeps.keeps;
+    }

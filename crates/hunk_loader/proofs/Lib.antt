@@ -1,4 +1,3 @@
-pub mod BoundedImageBuilderLemmas
 pub mod HeaderBytesLemmas
 pub mod HeaderHunksLemmas
 pub mod HeaderLoaderLemmas
@@ -6,6 +5,7 @@ pub mod ImageBuilderLemmas
 pub mod ImageBuilderHunkLemmas
 pub mod ImageLoaderLemmas
 pub mod ImageReaderLemmas
+pub mod KeptMemoryLemmas
 pub mod LoadingLemmas
 pub mod ImageLemmas
 pub mod OpenImageLemmas

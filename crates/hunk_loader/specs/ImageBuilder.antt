@@ -1,6 +1,6 @@
 -- What a builder of an image holds after events: the partial load file of these events, loaded at the bases.
 use Rattle.std.specs.declared.alloc.AllocError.{AllocError}
-use Rattle.std.specs.Prelude.{◌≡◌, ◌≢◌, ℕ, ◌*◌, ◌<◌, ◌≤◌, false, List, [], ◌∷◌, ◌++◌, length, map, Option, Some, None, Result, Ok, Err, OnOk, OnErr, slice_index}
+use Rattle.std.specs.Prelude.{◌≡◌, ◌≢◌, ℕ, ◌+◌, ◌*◌, ◌<◌, ◌≤◌, false, List, [], ◌∷◌, ◌++◌, length, map, Option, Some, None, Result, Ok, Err, OnOk, OnErr, slice_index}
 use Rattle.hunk_words.specs.EventValue.{EventValue, value_of_events, step, initial_load}
 use Rattle.hunk_words.specs.Event.{word_events}
 use Rattle.hunk_base.specs.Name.{bytes_of}
@@ -15,9 +15,11 @@ use Rattle.hunk_base.specs.declared.sites.SiteRefusal.{SiteRefusal}
 use Rattle.hunk_loadfile.specs.LoadFile.{with_sites}
 use Rattle.hunk_loadfile.specs.Partial.{file_hunks}
 use Rattle.hunk_loadfile.specs.Patching.{patched_bytes}
+use Rattle.hunk_loader.specs.Image.{hunks_of}
 use Rattle.hunk_loader.specs.Loading.{loaded}
 use Rattle.hunk_loader.specs.OpenImage.{CountedHunk}
 use Rattle.hunk_loader.specs.Places.{Placed as ArePlaced, IsFirstRefusal}
+use Rattle.hunk_loader.specs.declared.image_builder.ImageBuilder.TheInside.{Inside}
 use Rattle.hunk_loader.specs.declared.loading.LoadRefusal.{LoadRefusal}
 use Rattle.hunk_loader.specs.declared.loading.LoadRefusal.TheVariants.{Place}
 use Rattle.hunk_loader.specs.declared.places.PlaceFault.{PlaceFault}
@@ -33,6 +35,10 @@ pub record BuilderState : Type 0 where
   pub ended : ℕ
   pub made : List (ℕ × List ℕ)
   pub current : Option CountedHunk
+
+-- the state that the fields hold
+abbrev pub state_of : {A : Type 0} → Inside A → BuilderState
+state_of b = record { bases = b.bases.items; sizes = b.sizes.items; placing = b.placing; ended = b.ended; made = hunks_of b.made.items; current = b.current }
 
 -- the state for hunks at these bases, before the first event
 abbrev pub initial_builder : List ℕ → BuilderState
@@ -99,12 +105,12 @@ passed (Some hunk) = Some (record hunk { partial = record hunk.partial { in_cont
 abbrev pub bytes_loaded : List ℕ → CountedHunk → List ℕ
 bytes_loaded bases hunk = patched_bytes hunk.partial.sites.limit hunk.partial.content hunk.partial.sites.entries (slice_index bases)
 
--- The current hunk is kept as one that has ended.
+-- The current hunk has ended, and is kept.
 pub record KeepsHunk (old new : BuilderState) : Type 0 where
   pub hunk : CountedHunk
   pub current : old.current ≡ Some hunk
   pub based : old.ended < length old.bases
-  pub keeps : new ≡ record old { made = old.made ++ ((slice_index old.bases old.ended, bytes_loaded old.bases hunk) ∷ []); current = new.current }
+  pub keeps : new ≡ record old { made = old.made ++ ((slice_index old.bases old.ended, bytes_loaded old.bases hunk) ∷ []); current = None; ended = old.ended + 1 }
 
 -- the result once there are no more events
 abbrev pub IsImage : BuilderState → Result (List (ℕ × List ℕ)) LoadRefusal → Type 0

@@ -1,4 +1,3 @@
-pub mod BoundedImageBuilder
 pub mod HeaderBytes
 pub mod HeaderHunks
 pub mod HeaderLoader
@@ -7,6 +6,7 @@ pub mod Laws
 pub mod ImageBuilder
 pub mod ImageLoader
 pub mod ImageReader
+pub mod KeptMemory
 pub mod Loading
 pub mod OpenImage
 pub mod Overlaps

@@ -4,8 +4,8 @@ ghost use Rattle.std.specs.Prelude.{◌≡◌, ◌≤◌, ◌↔◌, ℕ, List, 
 ghost use Rattle.hunk_base.specs.Longwords.{longwords};
 ghost use Rattle.hunk_loader.specs.HeaderHunks.{header_length};
 
-use crate::bounded_image_builder::BoundedImageBuilder;
 use crate::header_hunks::FRONT;
+use crate::image_builder::ImageBuilder;
 use crate::loading::LoadRefusal;
 use byteorder::{BigEndian, ByteOrder};
 use hunk_base::LONGWORD;
@@ -20,7 +20,7 @@ const COUNT: usize = 2;
 #[derive(Drop)]
 pub(crate) struct HeaderBytes<A: Allocator + Copy> {
     pub(crate) bytes: Vec<u8, A>,
-    decoder: Decoder<BoundedImageBuilder<A>>,
+    decoder: Decoder<ImageBuilder<A>>,
 }
 
 impl<A: Allocator + Copy> HeaderBytes<A> {
@@ -33,11 +33,7 @@ impl<A: Allocator + Copy> HeaderBytes<A> {
         HeaderBytes {
             bytes: Vec::new(alloc),
             // It sees no content, and is asked for no image: so it needs no bases and no rooms.
-            decoder: Decoder::new(BoundedImageBuilder::new(
-                alloc,
-                Vec::new(alloc),
-                Vec::new(alloc),
-            )),
+            decoder: Decoder::new(ImageBuilder::new(alloc, Vec::new(alloc), Vec::new(alloc))),
         }
     }
 

@@ -1,16 +1,18 @@
-//! The image of a load file, made from its events.
+//! The image of a load file, made from its events with no more memory than it needs.
 
-ghost use Rattle.std.specs.Prelude.{◌≡◌, OnOk, OnErr, slice_index};
+ghost use Rattle.std.specs.Prelude.{◌≡◌, OnOk, OnErr};
 ghost use Rattle.hunk_base.specs.Longwords.{IsWhole, longwords};
 ghost use Rattle.hunk_words.specs.declared.event.Event.{Event};
-ghost use Rattle.hunk_loader.specs.ImageBuilder.{IsImage, KeepsHunk, TakesEvent, TakesRun, initial_builder, passed};
+ghost use Rattle.hunk_words.specs.declared.event.FileKind.TheVariants.{Load};
+ghost use Rattle.hunk_loader.specs.ImageBuilder.{IsImage, KeepsHunk, StandsFor, TakesEvent, TakesRun, initial_builder, passed};
 ghost use Rattle.hunk_loader.specs.Placing.{Settled};
+ghost use Rattle.hunk_loader.specs.declared.placing.Placing.TheVariants.{Placed};
 
 use crate::image::Image;
 use crate::loading::LoadRefusal;
 use crate::open_image::OpenImage;
 use crate::placing::{Placing, decide};
-use hunk_words::{Event, SiteRefusal};
+use hunk_words::{Event, FileKind, SiteRefusal, Taker};
 use std::alloc::{AllocError, Allocator};
 use std::marker::Model;
 use std::mem;
@@ -20,6 +22,11 @@ use std::mem;
 /// It keeps the bases, the sizes in the header, the hunks that have ended and the current one, but
 /// no names, symbols or debug blocks. If the hunks cannot be placed at the bases, it only checks
 /// sites, and allocates nothing for their bytes.
+///
+/// At all times, after an error too, it has taken some events and keeps no more than these need:
+/// one number for each size that it took, no more bytes of hunks than all these sizes, none if the
+/// hunks are not placed, and only the sites of the current hunk, at most one for each of its
+/// longwords.
 ///
 /// An error leaves it as it was. It also returns `OutOfMemory` for events that the decoder never
 /// sends for a load file.
@@ -37,12 +44,14 @@ pub(crate) struct ImageBuilder<A: Allocator + Copy> {
 }
 
 impl<A: Allocator + Copy> Model for ImageBuilder<A> {
-    ghost use Rattle.hunk_loader.specs.Image.{hunks_of};
-    ghost use Rattle.hunk_loader.specs.ImageBuilder.{BuilderState};
+    ghost use Rattle.hunk_loader.specs.ImageBuilder.{BuilderState, state_of};
+    ghost use Rattle.hunk_loader.specs.KeptMemory.{IsBounded};
 
     ghost Value = { BuilderState };
 
-    ghost view = { λ b. record { bases = b.bases.items; sizes = b.sizes.items; placing = b.placing; ended = b.ended; made = hunks_of b.made.items; current = b.current } };
+    ghost view = { state_of };
+
+    ghost invariant = { λ b. IsBounded (state_of b) };
 }
 
 impl<A: Allocator + Copy> ImageBuilder<A> {
@@ -77,12 +86,13 @@ impl<A: Allocator + Copy> ImageBuilder<A> {
         ensures { TakesEvent self.old self.new result (Event.HunkSize bits size) }
     {
         match self.placing {
-            Placing::Unknown => match self.sizes.push(size) {
-                Ok(()) => Ok(()),
-                Err(_) => Err(SiteRefusal::OutOfMemory),
-            },
-            _ => Err(SiteRefusal::OutOfMemory),
+            Placing::Unknown => {}
+            _ => return Err(SiteRefusal::OutOfMemory),
         }
+        if self.sizes.push(size).is_err() {
+            return Err(SiteRefusal::OutOfMemory);
+        }
+        Ok(())
     }
 
     /// Whether the hunks can be placed at the bases, once all sizes are known.
@@ -128,17 +138,17 @@ impl<A: Allocator + Copy> ImageBuilder<A> {
             Placing::Placed => {}
             _ => return Ok(()),
         }
-        match &mut self.current {
-            Some(current) => match current.add_word(word) {
-                Ok(()) => Ok(()),
-                Err(_) => Err(SiteRefusal::OutOfMemory),
-            },
-            None => Ok(()),
+        let Some(current) = &mut self.current else {
+            return Ok(());
+        };
+        if current.add_word(word).is_err() {
+            return Err(SiteRefusal::OutOfMemory);
         }
+        Ok(())
     }
 
     /// Takes the bytes of a run of words. Content is kept if the hunks are placed.
-    pub(crate) fn add_bytes(&mut self, bytes: &[u8]) -> Result<(), AllocError>
+    fn add_bytes(&mut self, bytes: &[u8]) -> Result<(), AllocError>
         requires { IsWhole bytes.now }
         ensures { TakesRun self.old self.new result (longwords bytes.now) }
     {
@@ -146,45 +156,44 @@ impl<A: Allocator + Copy> ImageBuilder<A> {
             Placing::Unknown | Placing::Refused(_) => return Ok(()),
             Placing::Placed => {}
         }
-        match &mut self.current {
-            Some(current) => current.add_bytes(bytes),
-            None => Ok(()),
-        }
+        let Some(current) = &mut self.current else {
+            return Ok(());
+        };
+        current.add_bytes(bytes)
     }
 
     /// Takes a site of the current hunk.
     fn add_site(&mut self, offset: u32, target: u32) -> Result<(), SiteRefusal>
         ensures { TakesEvent self.old self.new result (Event.Site offset target) }
     {
-        match &mut self.current {
-            Some(current) => current.add_site(offset, target),
-            None => Err(SiteRefusal::OutOfMemory),
-        }
+        let Some(current) = &mut self.current else {
+            return Err(SiteRefusal::OutOfMemory);
+        };
+        current.add_site(offset, target)
     }
 
-    /// Keeps the current hunk, loaded at its base.
+    /// Ends the hunk and keeps it, loaded at its base.
     fn keep_hunk(&mut self) -> Result<(), AllocError>
+        requires { self.old.placing ≡ Placed }
         ensures kept { OnOk result (KeepsHunk self.old self.new) }
         ensures refused { OnErr result (self.new ≡ self.old) }
     {
-        match self.bases.get(self.ended) {
-            None => Err(AllocError),
-            Some(base) => {
-                let base = *base;
-                self.made.reserve(1)?;
-                match &mut self.current {
-                    None => Err(AllocError),
-                    Some(current) => {
-                        let bytes = current.close(self.alloc, &self.bases)?;
-                        self.made.push_reserved((base, bytes));
-                        Ok(())
-                    }
-                }
-            }
-        }
+        let Some(base) = self.bases.get(self.ended) else {
+            return Err(AllocError);
+        };
+        let base = *base;
+        self.made.reserve(1)?;
+        let Some(current) = &mut self.current else {
+            return Err(AllocError);
+        };
+        let bytes = current.close(self.alloc, &self.bases)?;
+        self.made.push_reserved((base, bytes));
+        self.current = None;
+        self.ended += 1;
+        Ok(())
     }
 
-    /// Ends the hunk.
+    /// Ends the hunk, which is kept if the hunks are placed.
     fn end_hunk(&mut self) -> Result<(), SiteRefusal>
         ensures { TakesEvent self.old self.new result Event.HunkEnd }
     {
@@ -192,19 +201,17 @@ impl<A: Allocator + Copy> ImageBuilder<A> {
             Some(_) => {}
             None => return Err(SiteRefusal::OutOfMemory),
         }
-        if self.ended >= self.sizes.len() {
-            return Err(SiteRefusal::OutOfMemory);
-        }
         match self.placing {
             Placing::Placed => match self.keep_hunk() {
-                Ok(()) => {}
-                Err(_) => return Err(SiteRefusal::OutOfMemory),
+                Ok(()) => Ok(()),
+                Err(_) => Err(SiteRefusal::OutOfMemory),
             },
-            _ => {}
+            _ => {
+                self.current = None;
+                self.ended += 1;
+                Ok(())
+            }
         }
-        self.current = None;
-        self.ended += 1;
-        Ok(())
     }
 
     /// Takes an event after which words are not content.
@@ -220,7 +227,7 @@ impl<A: Allocator + Copy> ImageBuilder<A> {
     /// Takes the next event.
     // Each relocation is an event, so a run of them should make no call for its event.
     #[inline(always)]
-    pub(crate) fn take(&mut self, event: Event) -> Result<(), SiteRefusal>
+    fn take_event(&mut self, event: Event) -> Result<(), SiteRefusal>
         ensures { TakesEvent self.old self.new result event }
     {
         match event {
@@ -242,11 +249,31 @@ impl<A: Allocator + Copy> ImageBuilder<A> {
             }
         }
     }
+}
 
-    /// The size of a hunk in the header, in longwords, or 0 if the header has none for it.
-    pub(crate) fn size_of(&self, hunk: u32) -> u32
-        ensures { result ≡ slice_index self.now.sizes hunk }
-    {
+impl<A: Allocator + Copy> Taker for ImageBuilder<A> {
+    ghost stands_for = { StandsFor };
+
+    ghost given = { λ b. b.bases };
+
+    ghost KIND = { Load };
+
+    const KIND: FileKind = FileKind::Load;
+
+    // Inlined as `take_event` is.
+    #[inline(always)]
+    fn take(&mut self, event: Event) -> Result<(), SiteRefusal> {
+        self.take_event(event)
+    }
+
+    // Content is most of a file, so the bytes of a run of it are copied at once.
+    fn take_words(&mut self, bytes: &[u8]) -> Result<bool, AllocError> {
+        self.add_bytes(bytes)?;
+        Ok(true)
+    }
+
+    // It is 0 if the header has no such hunk.
+    fn size_of(&self, hunk: u32) -> u32 {
         match self.sizes.get(hunk as usize) {
             Some(size) => *size,
             None => 0,

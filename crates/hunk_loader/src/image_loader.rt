@@ -4,8 +4,8 @@ ghost use Rattle.std.specs.Prelude.{◌≡◌, ℕ, ◌++◌, List, [], Some, No
 ghost use Rattle.hunk_base.specs.declared.fault.Refusal.{Refusal};
 ghost use Rattle.hunk_loader.specs.declared.loading.LoadRefusal.{LoadRefusal};
 
-use crate::bounded_image_builder::BoundedImageBuilder;
 use crate::image::Image;
+use crate::image_builder::ImageBuilder;
 use crate::loading::LoadRefusal;
 use hunk_words::{Decoder, Feed, Refusal};
 use std::alloc::{AllocError, Allocator, Global};
@@ -22,11 +22,11 @@ use std::alloc::{AllocError, Allocator, Global};
 /// every later call returns the same error.
 #[derive(Drop)]
 pub struct ImageLoader<A: Allocator + Copy = Global> {
-    decoder: Decoder<BoundedImageBuilder<A>>,
+    decoder: Decoder<ImageBuilder<A>>,
 }
 
 impl<A: Allocator + Copy> ImageLoader<A> {
-    ghost use Rattle.hunk_loader.specs.BoundedImageBuilder.{IsBoundedBy};
+    ghost use Rattle.hunk_loader.specs.KeptMemory.{IsBoundedBy};
     ghost use Rattle.hunk_loader.specs.Loading.{Keeps};
     ghost use Rattle.hunk_loader.specs.ImageLoader.{StandsFor, Fed, Finished, bases_of, events_told, holds_of, refusal_of};
 
@@ -55,7 +55,7 @@ impl<A: Allocator + Copy> ImageLoader<A> {
         let mut copy = Vec::with_capacity(alloc, bases.len())?;
         copy.extend_from_slice(bases)?;
         Ok(ImageLoader {
-            decoder: Decoder::new(BoundedImageBuilder::new(alloc, copy, rooms)),
+            decoder: Decoder::new(ImageBuilder::new(alloc, copy, rooms)),
         })
     }
 

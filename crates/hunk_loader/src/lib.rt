@@ -7,8 +7,7 @@
 //! - `header_bytes`: the bytes of a header, which are judged as they come.
 //! - `header_hunks`: the hunks that a header tells of.
 //! - `image_reader`: the image of a load file that a reader has.
-//! - `image_builder`: a builder of images from the events of load files.
-//! - `bounded_image_builder`: that builder, with a bound on what it keeps.
+//! - `image_builder`: a builder of images from the events of load files, with a bound on what it keeps.
 //! - `open_image`: the current hunk of an image.
 //! - `placing`: whether hunks can be placed, as far as their sizes are known.
 //! - `loading`: loading a load file at addresses.
@@ -17,7 +16,6 @@
 //! - `sizes`: the sizes of hunks, as numbers or from the hunks themselves.
 #![tactic(auto)]
 
-mod bounded_image_builder;
 mod header_bytes;
 pub mod header_hunks;
 pub mod header_loader;

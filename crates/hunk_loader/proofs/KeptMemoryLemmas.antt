@@ -15,7 +15,7 @@ use Rattle.hunk_base.proofs.SitesLemmas.{AreApart-few}
 use Rattle.hunk_loadfile.proofs.PatchingLemmas.{length-patched_bytes}
 use Rattle.hunk_loadfile.specs.LoadFile.{file_hunk, with_sites}
 use Rattle.hunk_loadfile.specs.Partial.{file_hunks}
-use Rattle.hunk_loader.specs.BoundedImageBuilder.{IsBoundedBy, IsBounded, SitesInside, bytes_kept, current_bytes}
+use Rattle.hunk_loader.specs.KeptMemory.{IsBoundedBy, IsBounded, SitesInside, bytes_kept, current_bytes}
 use Rattle.hunk_loader.specs.ImageBuilder.{BuilderState, Loads, Shows, StandsFor, TakesEvent, TakesRun, initial_builder}
 use Rattle.hunk_loader.specs.Loading.{loaded_bytes}
 use Rattle.hunk_loader.specs.OpenImage.{CountedHunk}
@@ -134,18 +134,18 @@ StandsFor-begun bases = record {
   shows = record { content = refl; sites = refl; words = refl; seen = refl };
 }
 
-keeps-little : (m : BuilderState) (told : List Event) → StandsFor m told → IsBounded m
-keeps-little m told h = record { told = told; stands = h; frugal = frugal m told h }
+bounded : (m : BuilderState) (told : List Event) → StandsFor m told → IsBounded m
+bounded m told h = record { told = told; stands = h; frugal = frugal m told h }
 
-pub KeepsLittle-begun : (bases : List ℕ) → IsBounded (initial_builder bases)
-KeepsLittle-begun bases = keeps-little (initial_builder bases) [] (StandsFor-begun bases)
+pub IsBounded-begun : (bases : List ℕ) → IsBounded (initial_builder bases)
+IsBounded-begun bases = bounded (initial_builder bases) [] (StandsFor-begun bases)
 
 -- whether it took the event or returned an error
-pub KeepsLittle-takes : (m n : BuilderState) (answer : Result (Unit {0}) SiteRefusal) (e : Event) → TakesEvent m n answer e → IsBounded m → IsBounded n
-KeepsLittle-takes m n (Ok d) e t k = keeps-little n (k.told ++ (e ∷ [])) (StandsFor-takes m n (Ok d) e t k.told k.stands)
-KeepsLittle-takes m n (Err r) e t k = keeps-little n k.told (t.refuses (value_of_events initial_load k.told) (context_of Load k.told) k.stands)
+pub IsBounded-takes : (m n : BuilderState) (answer : Result (Unit {0}) SiteRefusal) (e : Event) → TakesEvent m n answer e → IsBounded m → IsBounded n
+IsBounded-takes m n (Ok d) e t k = bounded n (k.told ++ (e ∷ [])) (StandsFor-takes m n (Ok d) e t k.told k.stands)
+IsBounded-takes m n (Err r) e t k = bounded n k.told (t.refuses (value_of_events initial_load k.told) (context_of Load k.told) k.stands)
 
 -- whether it took the words of a run or returned an error
-pub KeepsLittle-run : (m n : BuilderState) (answer : Result (Unit {0}) AllocError) (us : List ℕ) → TakesRun m n answer us → IsBounded m → IsBounded n
-KeepsLittle-run m n (Ok d) us t k = keeps-little n (k.told ++ word_events us) (t.takes k.told k.stands)
-KeepsLittle-run m n (Err e) us t k = subst IsBounded (sym t.refused) k
+pub IsBounded-run : (m n : BuilderState) (answer : Result (Unit {0}) AllocError) (us : List ℕ) → TakesRun m n answer us → IsBounded m → IsBounded n
+IsBounded-run m n (Ok d) us t k = bounded n (k.told ++ word_events us) (t.takes k.told k.stands)
+IsBounded-run m n (Err e) us t k = subst IsBounded (sym t.refused) k
