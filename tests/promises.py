@@ -96,7 +96,7 @@ class Sources:
     def __init__(self):
         listed = re.findall(r"^(\w+):", text_of("crates.txt"), re.M)
         self.libraries = [name for name in listed if is_there("crates", name, "src", "lib.rt")
-                          and not name.endswith("tests") and name != "hunk_test_support"]
+                          and not name.endswith("tests") and name not in ("hunk_test_support", "hunk_fake_files")]
         self.crates = {name: Crate(name) for name in self.libraries + OTHERS}
         self.tests = {}
 

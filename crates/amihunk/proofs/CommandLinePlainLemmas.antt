@@ -10,8 +10,8 @@ use Rattle.hunk_tool.specs.declared.copy.CopyForm.{CopyForm}
 use Rattle.hunk_tool.specs.declared.copy.CopyForm.TheVariants.{Normal, Written}
 use Rattle.amihunk.specs.StandardInput.{inputs_of, source_inputs}
 use Rattle.hunk_tool.specs.declared.link_options.LinkOptions.{LinkOptions}
-use Rattle.hunk_commands.specs.Addresses.{AddressSource}
-use Rattle.hunk_commands.specs.Addresses.AddressSource.{in_file, in_list}
+use Rattle.hunk_store.specs.Addresses.{AddressSource}
+use Rattle.hunk_store.specs.Addresses.AddressSource.{in_file, in_list}
 use Rattle.hunk_commands.specs.declared.load.LoadText.{LoadText}
 use Rattle.hunk_commands.specs.declared.load.LoadText.TheVariants.{Image, Symbols}
 use Rattle.hunk_tool.specs.declared.symbol_form.SymbolForm.TheVariants.{Lines, Records}

@@ -5,23 +5,23 @@ use Rattle.std.proofs.lemmas.List.Elements.{All-nil}
 use Rattle.hunk_survey.specs.Finding.{IsOfFile, content_of}
 use Rattle.std.specs.Prelude.{⊤}
 use Rattle.std.specs.String.{string_bytes}
+use Rattle.hunk_store.specs.Failure.{status_of_comparison}
+use Rattle.hunk_store.specs.Output.{IsNothing, IsUnprinted, Printed}
+use Rattle.hunk_store.specs.Store.{AreUnchanged, Contents}
+use Rattle.hunk_store.specs.FileList.{IsListFailure}
 use Rattle.hunk_commands.specs.Request.{Ends, EndsCompare, EndsCopy, EndsImage, EndsLink, EndsLoad, EndsNames, EndsSurvey, EndsText, EndsVersion, NoMore, OrExhausted, OrUntouched, Reads, Replaces, Run}
 use Rattle.hunk_commands.specs.Compare.{IsCompareFailure}
 use Rattle.hunk_commands.specs.Copy.{IsCopyFailure}
 use Rattle.hunk_commands.specs.Explain.{AreImageLines, AreLinkLines, AreLoadFileLines, AreLoadLines, AreTextLines, IfAsked}
-use Rattle.hunk_commands.specs.Failure.{status_of_comparison}
 use Rattle.hunk_commands.specs.Image.{IsImageFailure}
 use Rattle.hunk_commands.specs.Link.{IsUndone}
 use Rattle.hunk_commands.specs.Load.{IsLoadFailure}
 use Rattle.hunk_commands.specs.Names.{IsNamesFailure}
 use Rattle.hunk_commands.specs.Text.{IsTextFailure, checked}
-use Rattle.hunk_commands.specs.Output.{IsNothing, IsUnprinted, Printed}
-use Rattle.hunk_commands.specs.Store.{AreUnchanged, Contents}
-use Rattle.hunk_commands.specs.FileList.{IsListFailure}
 use Rattle.hunk_commands.specs.Survey.{AreToldFirst, IsSurveyFailure, plan_of}
 use Rattle.hunk_commands.specs.declared.survey.SurveyOptions.{SurveyOptions}
 use Rattle.hunk_tool.specs.declared.tool_fault.ToolFault.TheVariants as tool_fault
-use Rattle.hunk_commands.specs.declared.failure.Failure.TheVariants.{Tool}
+use Rattle.hunk_store.specs.declared.failure.Failure.TheVariants.{Tool}
 use Rattle.hunk_commands.specs.declared.text.Text.{Text}
 use Rattle.hunk_commands.specs.declared.text.Text.TheVariants.{Shown}
 use Rattle.hunk_commands.specs.declared.request.Request.{Request}

@@ -6,7 +6,7 @@ use Rattle.clap.specs.Walk.{texts}
 use Rattle.clap.specs.Words.{Text}
 use Rattle.clap.specs.declared.error.ErrorKind.TheVariants as error
 use Rattle.hunk_tool.specs.declared.link_options.LinkOptions.{LinkOptions}
-use Rattle.hunk_commands.specs.FileList.{NamedList}
+use Rattle.hunk_store.specs.FileList.{NamedList}
 use Rattle.hunk_commands.specs.declared.survey.SurveyOptions.{SurveyOptions}
 use Rattle.amihunk.specs.Call.{Call, IsFound, Meaning}
 use Rattle.amihunk.specs.Call.Call.{conflict, to_link, to_survey}

@@ -8,8 +8,8 @@ use Rattle.std.proofs.lemmas.List.Elements.{All-head, All-tail, filter-append}
 use Rattle.std.proofs.lemmas.Bool.{ne_eqb}
 use Rattle.clap.specs.Walk.{texts}
 use Rattle.clap.specs.Words.{Text}
-use Rattle.hunk_commands.specs.Addresses.AddressSource.{in_file, in_list}
-use Rattle.hunk_commands.specs.FileList.{NamedList}
+use Rattle.hunk_store.specs.Addresses.AddressSource.{in_file, in_list}
+use Rattle.hunk_store.specs.FileList.{NamedList}
 use Rattle.amihunk.specs.Call.{Call, IsFound, Meaning}
 use Rattle.amihunk.specs.Call.Meaning.{calls, help, nothing, rejection, version}
 use Rattle.amihunk.specs.Call.Call.{conflict, to_check, to_compare, to_copy, to_image, to_link, to_load, to_names, to_show, to_survey}

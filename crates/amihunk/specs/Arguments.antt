@@ -5,7 +5,7 @@ use Rattle.std.specs.List.{list_all, list_any, slice_get}
 use Rattle.std.specs.Str.{IsUtf8, bytes_eq}
 use Rattle.std.specs.String.{string_bytes}
 use Rattle.clap.specs.Words.{Text}
-use Rattle.hunk_commands.specs.FileList.{NamedList}
+use Rattle.hunk_store.specs.FileList.{NamedList}
 use Rattle.hunk_commands.specs.declared.request.Request.{Request}
 use Rattle.amihunk.specs.Call.{Call, Meaning, meaning}
 use Rattle.amihunk.specs.Call.Call.{to_survey}

@@ -4,8 +4,8 @@ use Rattle.clap.specs.Walk.{texts}
 use Rattle.clap.specs.Words.{Text}
 use Rattle.hunk_tool.specs.declared.copy.CopyForm.{CopyForm}
 use Rattle.hunk_tool.specs.declared.link_options.LinkOptions.{LinkOptions}
-use Rattle.hunk_commands.specs.Addresses.{AddressSource, source_of}
-use Rattle.hunk_commands.specs.FileList.{NamedList, given_list}
+use Rattle.hunk_store.specs.Addresses.{AddressSource, source_of}
+use Rattle.hunk_store.specs.FileList.{NamedList, given_list}
 use Rattle.hunk_commands.specs.Request.{given_text}
 use Rattle.hunk_commands.specs.declared.load.LoadText.{LoadText}
 use Rattle.hunk_commands.specs.declared.survey.SurveyOptions.{SurveyOptions}

@@ -15,10 +15,10 @@ use Rattle.hunk_tool.specs.declared.copy.CopyForm.{CopyForm}
 use Rattle.hunk_tool.specs.declared.copy.CopyForm.TheVariants.{Normal, Written}
 use Rattle.hunk_tool.specs.declared.link_options.LinkOptions.{LinkOptions}
 use Rattle.hunk_tool.specs.declared.symbol_form.SymbolForm.TheVariants.{Lines, Records}
-use Rattle.hunk_commands.specs.Addresses.{AddressSource}
-use Rattle.hunk_commands.specs.Addresses.AddressSource.{in_file, in_list}
-use Rattle.hunk_commands.specs.FileList.{NamedList}
-use Rattle.hunk_commands.specs.declared.file_list.NameEnd.TheVariants.{Line, Zero}
+use Rattle.hunk_store.specs.Addresses.{AddressSource}
+use Rattle.hunk_store.specs.Addresses.AddressSource.{in_file, in_list}
+use Rattle.hunk_store.specs.FileList.{NamedList}
+use Rattle.hunk_store.specs.declared.file_list.NameEnd.TheVariants.{Line, Zero}
 use Rattle.hunk_commands.specs.declared.load.LoadText.{LoadText}
 use Rattle.hunk_commands.specs.declared.load.LoadText.TheVariants as load_text
 use Rattle.hunk_commands.specs.declared.survey.SurveyOptions.{SurveyOptions}

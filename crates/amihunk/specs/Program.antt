@@ -1,9 +1,9 @@
 -- The exit status that ends the program, and the line on standard error.
 use Rattle.std.specs.Prelude.{◌≡◌, ◌⊎◌, ℕ, List, [], Bool, Option}
 use Rattle.hunk_tool.specs.declared.tool_fault.ToolFault.TheVariants as tool_fault
-use Rattle.hunk_commands.specs.Failure.{TellsLine, failure_line}
+use Rattle.hunk_store.specs.Failure.{TellsLine, failure_line}
+use Rattle.hunk_store.specs.declared.failure.Failure.TheVariants.{Tool}
 use Rattle.hunk_commands.specs.Request.{Ends, Refuses, Run}
-use Rattle.hunk_commands.specs.declared.failure.Failure.TheVariants.{Tool}
 use Rattle.hunk_commands.specs.declared.request.Request.{Request}
 use Rattle.hunk_commands.specs.declared.request.Request.TheVariants.{OutOfMemory}
 use Rattle.amihunk.specs.Call.{Means}

@@ -2,9 +2,9 @@
 use Rattle.std.specs.Prelude.{◌≡◌, ◌++◌, ◌∷◌, Bool, List, [], Option, None, Some, codes, false, filter, if◌then◌else◌, length, map, nat_lt, option_map}
 use Rattle.std.specs.Str.{bytes_eq}
 use Rattle.clap.specs.Words.{Text}
-use Rattle.hunk_commands.specs.Addresses.{AddressSource}
-use Rattle.hunk_commands.specs.Addresses.AddressSource.{in_file, in_list}
-use Rattle.hunk_commands.specs.FileList.{NamedList}
+use Rattle.hunk_store.specs.Addresses.{AddressSource}
+use Rattle.hunk_store.specs.Addresses.AddressSource.{in_file, in_list}
+use Rattle.hunk_store.specs.FileList.{NamedList}
 use Rattle.amihunk.specs.Call.{Call, IsFound, Meaning}
 use Rattle.amihunk.specs.Call.Call.{conflict, to_check, to_compare, to_copy, to_image, to_link, to_load, to_names, to_show, to_survey}
 use Rattle.amihunk.specs.Call.Meaning.{calls}

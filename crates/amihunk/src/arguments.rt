@@ -2,7 +2,7 @@
 ghost use Rattle.std.specs.Prelude.{◌≡◌, ◌<◌, ◌^◌, ℕ, IfOk, Some};
 ghost use Rattle.std.specs.List.{list_all, list_any};
 ghost use Rattle.clap.specs.Walk.{texts};
-ghost use Rattle.hunk_commands.specs.FileList.{given_list};
+ghost use Rattle.hunk_store.specs.FileList.{given_list};
 ghost use Rattle.amihunk.specs.Arguments.{AreArguments, AreMeantBy, IsArgument, IsAskedInBytes, IsMeantBy, begins_with, is_strange_list, is_strange_option, is_text, may_survey, own_bytes, stand_in, word_of};
 
 use crate::command_line::read_words;

@@ -2,7 +2,7 @@
 ghost use Rattle.std.specs.Prelude.{◌≡◌, MatchResult, None, Some};
 ghost use Rattle.clap.specs.declared.error.ErrorKind.TheVariants.{ArgumentConflict};
 ghost use Rattle.amihunk.specs.CommandLine.{conflict_kind, copy_form_by, list_by, show_text_by, shown_by, text_by};
-ghost use Rattle.hunk_commands.specs.FileList.{given_list};
+ghost use Rattle.hunk_store.specs.FileList.{given_list};
 ghost use Rattle.hunk_commands.specs.Request.{given_text};
 
 use crate::conflict::Conflict;

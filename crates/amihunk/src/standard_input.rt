@@ -1,8 +1,8 @@
 //! Standard input, which the argument `-` names where a file to read is expected.
 ghost use Rattle.std.specs.Prelude.{◌≡◌, ◌+◌, IfOk, filter, length, map, nat_lt, option_map};
 ghost use Rattle.clap.specs.Walk.{texts};
-ghost use Rattle.hunk_commands.specs.Addresses.{source_of};
-ghost use Rattle.hunk_commands.specs.FileList.{given_list};
+ghost use Rattle.hunk_store.specs.Addresses.{source_of};
+ghost use Rattle.hunk_store.specs.FileList.{given_list};
 ghost use Rattle.hunk_commands.specs.Request.{given_text};
 ghost use Rattle.amihunk.specs.Call.{meaning};
 ghost use Rattle.amihunk.specs.StandardInput.{IsMade, has_hyphens_in, input_list, input_name, input_source, is_hyphen, list_inputs, named_meaning, one_inputs, source_inputs};

@@ -10,10 +10,10 @@ use Rattle.hunk_words.specs.declared.event.FileKind.TheVariants.{Load}
 use Rattle.hunk_files.specs.Explanation.{IsUnexplained}
 use Rattle.hunk_tool.specs.FileSystem.{FileContent, IsReaderOf, MayBeMissing}
 use Rattle.hunk_tool.specs.Inputs.{Input}
+use Rattle.hunk_store.specs.Store.{Contents}
+use Rattle.hunk_store.specs.declared.failure.Failure.{Failure}
 use Rattle.hunk_commands.specs.Again.{FailsAgain, IsIrregular, IsNotAgain, IsNotExplained, IsNotLoadedAgain, IsNotOpenedAgain, MayLack}
-use Rattle.hunk_commands.specs.Store.{Contents}
 use Rattle.hunk_commands.specs.Unexplained.{is_exhausted, unexplained_of, unexplained_of_read}
-use Rattle.hunk_commands.specs.declared.failure.Failure.{Failure}
 use Rattle.hunk_commands.specs.declared.unexplained.Unexplained.{Unexplained}
 use Rattle.hunk_commands.specs.declared.unexplained.Unexplained.TheVariants.{Changed, NotRegular, OutOfMemory}
 

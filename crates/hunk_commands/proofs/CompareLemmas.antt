@@ -1,14 +1,14 @@
 -- Two files of which one cannot be opened.
 use Rattle.std.proofs.Common.{ℕ, Bool, Bor, List, [], ◌∷◌, Option, subst, sym}
 use Rattle.hunk_tool.specs.FileSystem.{IsContent, MayBeMissing}
+use Rattle.hunk_store.specs.Opening.{IsOpening}
+use Rattle.hunk_store.specs.Inputs.{IsUnopened}
+use Rattle.hunk_store.specs.Output.{IsNothing, Printed}
+use Rattle.hunk_store.specs.Store.{Contents}
+use Rattle.hunk_store.specs.declared.failure.Failure.{Failure}
+use Rattle.hunk_store.specs.declared.failure.Failure.TheVariants.{BadName, BadNumber, MapOverFile, Opening, Printing, Reading, SameFile, TooLong, TooManyAddresses, Tool, Writing}
+use Rattle.hunk_store.proofs.InputsLemmas.{unopened_first, unopened_second}
 use Rattle.hunk_commands.specs.Compare.{IsCompareFailure}
-use Rattle.hunk_commands.specs.Devices.{IsOpening}
-use Rattle.hunk_commands.specs.Inputs.{IsUnopened}
-use Rattle.hunk_commands.specs.Output.{IsNothing, Printed}
-use Rattle.hunk_commands.specs.Store.{Contents}
-use Rattle.hunk_commands.specs.declared.failure.Failure.{Failure}
-use Rattle.hunk_commands.specs.declared.failure.Failure.TheVariants.{BadName, BadNumber, MapOverFile, Opening, Printing, Reading, SameFile, TooLong, TooManyAddresses, Tool, Writing}
-use Rattle.hunk_commands.proofs.InputsLemmas.{unopened_first, unopened_second}
 
 module _ (with_symbols : Bool) (contents : Contents) (first second : List ℕ) (printed : Printed) (nothing : IsNothing printed) where
   -- this file, which is one of the two, cannot be opened

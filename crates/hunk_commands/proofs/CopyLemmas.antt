@@ -12,11 +12,11 @@ use Rattle.hunk_tool.specs.Inputs.{Input}
 use Rattle.hunk_tool.specs.declared.copy.CopyForm.{CopyForm}
 use Rattle.hunk_tool.specs.declared.tool_fault.ToolFault.{ToolFault}
 use Rattle.hunk_tool.specs.declared.tool_fault.ToolFault.TheVariants as tool_fault
+use Rattle.hunk_store.specs.Output.{Printed, ends_between}
+use Rattle.hunk_store.specs.Store.{Contents, HasRun, IsBegun, IsCauseOf, IsReplaced, IsWriteFault}
+use Rattle.hunk_store.specs.declared.failure.Failure.{Failure}
+use Rattle.hunk_store.specs.declared.failure.Failure.TheVariants.{Tool}
 use Rattle.hunk_commands.specs.Copy.{HasCopy, IsCopiedOut, IsCopyFailure}
-use Rattle.hunk_commands.specs.Output.{Printed, ends_between}
-use Rattle.hunk_commands.specs.Store.{Contents, HasRun, IsBegun, IsCauseOf, IsReplaced, IsWriteFault}
-use Rattle.hunk_commands.specs.declared.failure.Failure.{Failure}
-use Rattle.hunk_commands.specs.declared.failure.Failure.TheVariants.{Tool}
 use Rattle.std.specs.Prelude.{IsTrue}
 
 module _ (form : CopyForm) (contents : Contents) (file out : List ℕ) (input : Input) (is_reader : IsReaderOf (contents file) input) where

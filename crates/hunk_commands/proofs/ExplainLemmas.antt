@@ -18,19 +18,19 @@ use Rattle.hunk_loadfile.specs.LoadHunk.{FileHunk}
 use Rattle.hunk_files.specs.Explanation.{EndsWith, IsEnd, IsExplained}
 use Rattle.hunk_addresses.specs.PlacesText.{places_text}
 use Rattle.hunk_files.specs.declared.explanation.Explanation.{Explanation}
-use Rattle.hunk_commands.specs.Addresses.{HaveNumbers, AddressSource}
+use Rattle.hunk_store.specs.Addresses.{HaveNumbers, AddressSource}
+use Rattle.hunk_store.specs.Failure.{TellsLine}
+use Rattle.hunk_store.specs.Store.{Contents}
+use Rattle.hunk_store.specs.declared.failure.Failure.{Failure}
+use Rattle.hunk_store.specs.declared.failure.Failure.TheVariants.{BadName, BadNumber, MapOverFile, Opening, Printing, Reading, SameFile, TooLong, TooManyAddresses, Tool, Writing}
 use Rattle.hunk_commands.specs.Again.{IsOffence}
 use Rattle.hunk_commands.specs.Explain.{AreLines, AreLinesOf, AreNoLines, ArePlaceLines, ArePlaceLinesOf, AreRefusalLinesOf, AreToldThen, IfAsked, OrUnexplained, TellsMore, TellsUnless, kind_read, sizes_of}
-use Rattle.hunk_commands.specs.Failure.{TellsLine}
-use Rattle.hunk_commands.specs.Store.{Contents}
 use Rattle.hunk_commands.specs.Unexplained.{unexplained_line}
 use Rattle.hunk_commands.specs.declared.explain.Command.{Command}
 use Rattle.hunk_commands.specs.declared.explain.Command.TheVariants as command
 use Rattle.hunk_commands.specs.declared.unexplained.Unexplained.{Unexplained}
 use Rattle.hunk_commands.specs.declared.unexplained.Unexplained.TheVariants.{OutOfMemory}
-use Rattle.hunk_commands.specs.declared.failure.Failure.{Failure}
-use Rattle.hunk_commands.specs.declared.failure.Failure.TheVariants.{BadName, BadNumber, MapOverFile, Opening, Printing, Reading, SameFile, TooLong, TooManyAddresses, Tool, Writing}
-use Rattle.hunk_commands.specs.OpenFault.{reason_line}
+use Rattle.hunk_commands.specs.Reason.{reason_line}
 use Rattle.hunk_tool.specs.declared.tool_fault.ToolFault.TheVariants as tool_fault
 use Rattle.hunk_commands.proofs.FaultLemmas.{one_fault}
 

@@ -10,13 +10,13 @@ use Rattle.hunk_tool.specs.Load.{IsReported}
 use Rattle.hunk_tool.specs.declared.link_options.LinkOptions.{LinkOptions}
 use Rattle.hunk_tool.proofs.HeadlineLemmas.{reports-agree}
 use Rattle.hunk_addresses.specs.BasesFile.{file_numbers}
-use Rattle.hunk_commands.specs.Addresses.{HasNumbers, HaveNumbers, AddressSource}
-use Rattle.hunk_commands.specs.Addresses.AddressSource.{in_file, in_list}
+use Rattle.hunk_store.specs.Addresses.{HasNumbers, HaveNumbers, AddressSource}
+use Rattle.hunk_store.specs.Addresses.AddressSource.{in_file, in_list}
+use Rattle.hunk_store.specs.Inputs.{AreReadersOf, OfWholeFiles}
+use Rattle.hunk_store.specs.Store.{Contents, IsKnown, content_of}
+use Rattle.hunk_store.proofs.InputsLemmas.{OfWholeFiles-weaker}
 use Rattle.hunk_commands.specs.Headline.{AreKept, LoadPrintsTheImage}
-use Rattle.hunk_commands.specs.Inputs.{AreReadersOf, OfWholeFiles}
 use Rattle.hunk_commands.specs.Link.{IsDone, IsLinkedWithMap}
-use Rattle.hunk_commands.specs.Store.{Contents, IsKnown, content_of}
-use Rattle.hunk_commands.proofs.InputsLemmas.{OfWholeFiles-weaker}
 
 -- ---- files that are known
 

@@ -8,21 +8,21 @@ use Rattle.hunk_tool.specs.declared.copy.CopyForm.{CopyForm}
 use Rattle.hunk_tool.specs.declared.link_options.LinkOptions.{LinkOptions}
 use Rattle.hunk_tool.specs.declared.tool_fault.ToolFault.{ToolFault}
 use Rattle.hunk_tool.specs.declared.tool_fault.ToolFault.TheVariants as tool_fault
-use Rattle.hunk_commands.specs.Addresses.{AddressSource}
+use Rattle.hunk_store.specs.Addresses.{AddressSource}
+use Rattle.hunk_store.specs.FileList.{IsListFailure, IsUnopenedList, NamedList}
+use Rattle.hunk_store.specs.Inputs.{AreReadersOf, OfFiles}
+use Rattle.hunk_store.specs.Output.{Printed}
+use Rattle.hunk_store.specs.Store.{Contents, IsKnown}
+use Rattle.hunk_store.specs.declared.failure.Failure.{Failure}
+use Rattle.hunk_store.specs.declared.failure.Failure.TheVariants.{BadName, BadNumber, MapOverFile, Opening, Printing, Reading, SameFile, TooLong, TooManyAddresses, Tool, Writing}
 use Rattle.hunk_commands.specs.Compare.{IsCompareFailure}
 use Rattle.hunk_commands.specs.Copy.{IsCopyFailure}
-use Rattle.hunk_commands.specs.FileList.{IsListFailure, IsUnopenedList, NamedList}
 use Rattle.hunk_commands.specs.Image.{IsImageFailure}
-use Rattle.hunk_commands.specs.Inputs.{AreReadersOf, OfFiles}
 use Rattle.hunk_commands.specs.KnownFiles.{AreKnown, IsOfDevice, NoDeviceFails}
 use Rattle.hunk_commands.specs.Link.{IsLinkFailure, IsMapFailure}
 use Rattle.hunk_commands.specs.Load.{IsLoadFailure}
-use Rattle.hunk_commands.specs.Output.{Printed}
-use Rattle.hunk_commands.specs.Store.{Contents, IsKnown}
 use Rattle.hunk_commands.specs.Survey.{IsCutShort, IsNotOpen, IsSurveyFailure, IsUnreadList, plan_of}
 use Rattle.hunk_commands.specs.Text.{IsTextFailure}
-use Rattle.hunk_commands.specs.declared.failure.Failure.{Failure}
-use Rattle.hunk_commands.specs.declared.failure.Failure.TheVariants.{BadName, BadNumber, MapOverFile, Opening, Printing, Reading, SameFile, TooLong, TooManyAddresses, Tool, Writing}
 use Rattle.hunk_commands.specs.declared.load.LoadText.{LoadText}
 use Rattle.hunk_commands.specs.declared.survey.Plan.{Plan}
 use Rattle.hunk_commands.specs.declared.survey.SurveyOptions.{SurveyOptions}

@@ -25,12 +25,12 @@ use Rattle.hunk_tool.specs.declared.tool_fault.ToolFault.{ToolFault}
 use Rattle.hunk_tool.specs.declared.tool_fault.ToolFault.TheVariants as tool_fault
 use Rattle.hunk_tool.proofs.LinkLemmas.{linked_bytes-are_load}
 use Rattle.hunk_origins.proofs.LinkedOriginsLemmas.{map_text-linked}
-use Rattle.hunk_commands.specs.Inputs.{OfFiles, OfWholeFiles}
+use Rattle.hunk_store.specs.Inputs.{OfFiles, OfWholeFiles}
+use Rattle.hunk_store.specs.Store.{AreUnchanged, Contents, HasRun, IsBegun, IsCauseOf, IsReplaced, IsUnplaced, IsWriteFault, run_of}
+use Rattle.hunk_store.specs.declared.failure.Failure.{Failure}
+use Rattle.hunk_store.specs.declared.failure.Failure.TheVariants.{BadName, BadNumber, MapOverFile, Opening, Printing, Reading, SameFile, TooLong, TooManyAddresses, Tool, Writing}
+use Rattle.hunk_store.proofs.InputsLemmas.{OfFiles-weaker, OfWholeFiles-weaker}
 use Rattle.hunk_commands.specs.Link.{DoLinkAll, DoLinkFiles, DoLinkTo, HasMap, HasRunFault, IsLinkFailure, IsLinkedWithMap, IsMade, IsMapFailure, IsMapped, IsUnmapped, IsUnwritten, IsWrittenOut, map_failure}
-use Rattle.hunk_commands.specs.Store.{AreUnchanged, Contents, HasRun, IsBegun, IsCauseOf, IsReplaced, IsUnplaced, IsWriteFault, run_of}
-use Rattle.hunk_commands.specs.declared.failure.Failure.{Failure}
-use Rattle.hunk_commands.specs.declared.failure.Failure.TheVariants.{BadName, BadNumber, MapOverFile, Opening, Printing, Reading, SameFile, TooLong, TooManyAddresses, Tool, Writing}
-use Rattle.hunk_commands.proofs.InputsLemmas.{OfFiles-weaker, OfWholeFiles-weaker}
 
 module _ (globals : Bool) (options : LinkOptions) (contents : Contents) (names : List (List ℕ)) (out : List ℕ) (taken : Taken) where
   -- a write of the run failed, so the files link

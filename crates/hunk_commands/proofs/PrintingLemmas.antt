@@ -13,8 +13,8 @@ use Rattle.hunk_tool.specs.Image.{IsUnitsText}
 use Rattle.hunk_tool.specs.Inputs.{HaveRead, Input}
 use Rattle.hunk_tool.specs.Load.{IsWrittenAt}
 use Rattle.hunk_tool.proofs.InputsLemmas.{HaveRead-weaker}
-use Rattle.hunk_commands.specs.declared.failure.Failure.{Failure}
-use Rattle.hunk_commands.specs.declared.failure.Failure.TheVariants.{Printing}
+use Rattle.hunk_store.specs.declared.failure.Failure.{Failure}
+use Rattle.hunk_store.specs.declared.failure.Failure.TheVariants.{Printing}
 
 -- this holds of what was done, since the output was flushed
 pub on_flushed : {T E : Type 0} (r : Result T E) (Flushed Done : Type 0) → (Flushed → Done) → OnOk r Flushed → OnOk r Done

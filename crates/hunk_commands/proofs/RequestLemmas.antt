@@ -1,10 +1,10 @@
 -- The status after a request that was not done, and where memory ran out.
 use Rattle.std.proofs.Common.{◌≡◌, ◌∙◌, [], ap, Bool, List, Option, refl, subst, sym, ℕ}
 use Rattle.hunk_tool.specs.declared.tool_fault.ToolFault.TheVariants as tool_fault
-use Rattle.hunk_commands.specs.Failure.{failure_line, status_of, TellsLine}
+use Rattle.hunk_store.specs.Failure.{failure_line, status_of, TellsLine}
+use Rattle.hunk_store.specs.declared.failure.Failure.{Failure}
+use Rattle.hunk_store.specs.declared.failure.Failure.TheVariants.{Tool}
 use Rattle.hunk_commands.specs.Request.{IsFailed, IsFailedWith}
-use Rattle.hunk_commands.specs.declared.failure.Failure.{Failure}
-use Rattle.hunk_commands.specs.declared.failure.Failure.TheVariants.{Tool}
 use Rattle.hunk_commands.proofs.ExplainLemmas.{IsAfter, tells_after, tells_line_alone}
 
 -- the failure that memory ran out was told

@@ -15,12 +15,12 @@ use Rattle.hunk_survey.specs.Tally.{tally_of, tally_status}
 use Rattle.hunk_survey.specs.declared.finding.Finding.{Finding}
 use Rattle.hunk_survey.specs.declared.tally.Tally.{Tally}
 use Rattle.hunk_tool.specs.Inputs.{file_names}
-use Rattle.hunk_commands.specs.FileList.{NamedList}
-use Rattle.hunk_commands.specs.Output.{IsFlushed, Printed}
-use Rattle.hunk_commands.specs.Store.{Contents}
+use Rattle.hunk_store.specs.FileList.{NamedList}
+use Rattle.hunk_store.specs.Output.{IsFlushed, Printed}
+use Rattle.hunk_store.specs.Store.{Contents}
+use Rattle.hunk_store.specs.declared.failure.Failure.{Failure}
+use Rattle.hunk_store.specs.declared.failure.Failure.TheVariants.{BadName, BadNumber, MapOverFile, Opening, Printing, Reading, SameFile, TooLong, TooManyAddresses, Tool, Writing}
 use Rattle.hunk_commands.specs.Survey.{AreFirstFindings, AreTold, AreToldFirst, AreUntold, IsCut, IsCutShort, IsSurveyed, last_lines, survey_line, survey_lines, survey_text}
-use Rattle.hunk_commands.specs.declared.failure.Failure.{Failure}
-use Rattle.hunk_commands.specs.declared.failure.Failure.TheVariants.{BadName, BadNumber, MapOverFile, Opening, Printing, Reading, SameFile, TooLong, TooManyAddresses, Tool, Writing}
 use Rattle.hunk_commands.specs.declared.survey.Plan.{Plan}
 
 -- ---- the front of a text

@@ -2,12 +2,12 @@
 use Rattle.std.proofs.Common.{◌≡◌, ◌∙◌, ◌++◌, ℕ, Bool, List, [], Option, Some, ap, append-nil, append_assoc, inr, refl, subst, sym}
 use Rattle.hunk_tool.specs.FileSystem.{FileContent, IsContent}
 use Rattle.hunk_tool.specs.FileSystem.FileContent.{known, missing, unknown}
-use Rattle.hunk_commands.specs.FileList.{AreNamesIn, NamedList, names_in}
-use Rattle.hunk_commands.specs.NameReader.{AreAllNames, AreFirstNames}
-use Rattle.hunk_commands.specs.Store.{Contents}
+use Rattle.hunk_store.specs.FileList.{AreNamesIn, NamedList, names_in}
+use Rattle.hunk_store.specs.NameReader.{AreAllNames, AreFirstNames}
+use Rattle.hunk_store.specs.Store.{Contents}
+use Rattle.hunk_store.specs.declared.failure.Failure.{Failure}
+use Rattle.hunk_store.specs.declared.file_list.NameEnd.{NameEnd}
 use Rattle.hunk_commands.specs.Survey.{AreNotAllTold, AreUntold}
-use Rattle.hunk_commands.specs.declared.failure.Failure.{Failure}
-use Rattle.hunk_commands.specs.declared.file_list.NameEnd.{NameEnd}
 use Rattle.hunk_commands.specs.declared.survey.Plan.{Plan}
 use Rattle.hunk_commands.proofs.SurveyLemmas.{untold-longer}
 

@@ -13,13 +13,13 @@ use Rattle.hunk_files.specs.declared.explanation.Explanation.{Explanation}
 use Rattle.hunk_tool.specs.FileSystem.{FileContent, MayBeMissing, OfFile}
 use Rattle.hunk_tool.specs.Inputs.{IsInputFault}
 use Rattle.hunk_tool.specs.ObjectFiles.{AreFileUnits, FileUnit}
-use Rattle.hunk_commands.specs.Addresses.{AreUnopened, IsAddressesFailure, AddressSource}
-use Rattle.hunk_commands.specs.Inputs.{IsOpenFailure, OfFiles, OfWholeFiles}
+use Rattle.hunk_store.specs.Addresses.{AreUnopened, IsAddressesFailure, AddressSource}
+use Rattle.hunk_store.specs.Inputs.{IsOpenFailure, OfFiles, OfWholeFiles}
+use Rattle.hunk_store.specs.Store.{Contents}
+use Rattle.hunk_store.specs.declared.failure.Failure.{Failure}
+use Rattle.hunk_store.specs.declared.failure.Failure.TheVariants.{Tool}
 use Rattle.hunk_commands.specs.Link.{AreUnlinked}
-use Rattle.hunk_commands.specs.Store.{Contents}
 use Rattle.hunk_commands.specs.Unexplained.{unexplained_of, unexplained_of_read}
-use Rattle.hunk_commands.specs.declared.failure.Failure.{Failure}
-use Rattle.hunk_commands.specs.declared.failure.Failure.TheVariants.{Tool}
 use Rattle.hunk_commands.specs.declared.unexplained.Unexplained.{Unexplained}
 use Rattle.hunk_commands.specs.declared.unexplained.Unexplained.TheVariants.{Changed, NotRegular, OutOfMemory}
 

@@ -3,11 +3,11 @@ use Rattle.std.specs.Prelude.{ℕ, List, [], ◌∷◌, Bool, IsTrue}
 use Rattle.hunk_tool.specs.Compare.{BothRead, IsCompareFault, IsCompared}
 use Rattle.hunk_tool.specs.FileSystem.{OfFile}
 use Rattle.hunk_tool.specs.Inputs.{Input}
-use Rattle.hunk_commands.specs.Inputs.{IsUnopened}
-use Rattle.hunk_commands.specs.Output.{IsFlushed, IsNothing, Printed, taken_by}
-use Rattle.hunk_commands.specs.Store.{Contents}
-use Rattle.hunk_commands.specs.declared.failure.Failure.{Failure}
-use Rattle.hunk_commands.specs.declared.failure.Failure.TheVariants.{Opening, Printing, Tool}
+use Rattle.hunk_store.specs.Inputs.{IsUnopened}
+use Rattle.hunk_store.specs.Output.{IsFlushed, IsNothing, Printed, taken_by}
+use Rattle.hunk_store.specs.Store.{Contents}
+use Rattle.hunk_store.specs.declared.failure.Failure.{Failure}
+use Rattle.hunk_store.specs.declared.failure.Failure.TheVariants.{Opening, Printing, Tool}
 
 -- this holds of readers of both files
 abbrev pub OfBoth : Contents → (first second : List ℕ) → (Holds : Input → Input → Type 0) → Type 0

@@ -9,10 +9,10 @@ use Rattle.hunk_tool.specs.FileSystem.FileContent.{unknown}
 use Rattle.hunk_tool.specs.declared.tool_fault.ToolFault.{ToolFault}
 use Rattle.hunk_tool.specs.declared.copy.CopyForm.{CopyForm}
 use Rattle.hunk_tool.specs.declared.tool_fault.ToolFault.TheVariants.{OutOfMemory}
-use Rattle.hunk_commands.specs.Output.{Printed, ends_between}
-use Rattle.hunk_commands.specs.Store.{Contents, IsBegun, IsReplaced, IsUnplaced, IsWriteFault}
-use Rattle.hunk_commands.specs.declared.failure.Failure.{Failure}
-use Rattle.hunk_commands.specs.declared.failure.Failure.TheVariants.{Opening, Tool}
+use Rattle.hunk_store.specs.Output.{Printed, ends_between}
+use Rattle.hunk_store.specs.Store.{Contents, IsBegun, IsReplaced, IsUnplaced, IsWriteFault}
+use Rattle.hunk_store.specs.declared.failure.Failure.{Failure}
+use Rattle.hunk_store.specs.declared.failure.Failure.TheVariants.{Opening, Tool}
 
 -- the file is a load file, and its copy was put in the place of OUT
 pub record IsCopiedOut (form : CopyForm) (contents : Contents) (file out : List ℕ) (contents_then : Contents) : Type 0 where

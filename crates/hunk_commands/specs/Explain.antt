@@ -16,16 +16,16 @@ use Rattle.hunk_tool.specs.ObjectFiles.{FileUnit}
 use Rattle.hunk_addresses.specs.PlacesText.{places_text}
 use Rattle.hunk_files.specs.declared.explanation.Explanation.{Explanation}
 use Rattle.hunk_tool.specs.declared.tool_fault.ToolFault.TheVariants.{Input, InputDevice, Link, Place}
-use Rattle.hunk_commands.specs.Addresses.{AtBases, AddressSource, source_of}
+use Rattle.hunk_store.specs.Addresses.{AtBases, AddressSource, source_of}
+use Rattle.hunk_store.specs.Failure.{TellsLine}
+use Rattle.hunk_store.specs.Store.{Contents}
+use Rattle.hunk_store.specs.declared.failure.Failure.{Failure}
+use Rattle.hunk_store.specs.declared.failure.Failure.TheVariants.{Opening, Reading, Tool}
 use Rattle.hunk_commands.specs.Again.{AreNoUnitsAgain, HaveUnits, IsGiven, IsNotExplained, IsNotLinkedAgain, IsNotLoadedAgain, IsNotPlacedAgain}
-use Rattle.hunk_commands.specs.Failure.{TellsLine}
-use Rattle.hunk_commands.specs.Store.{Contents}
 use Rattle.hunk_commands.specs.Link.{DoLinkTo}
 use Rattle.hunk_commands.specs.declared.explain.Command.{Command}
 use Rattle.hunk_commands.specs.declared.explain.Command.TheVariants as command
-use Rattle.hunk_commands.specs.declared.failure.Failure.{Failure}
-use Rattle.hunk_commands.specs.declared.failure.Failure.TheVariants.{Opening, Reading, Tool}
-use Rattle.hunk_commands.specs.OpenFault.{reason_line}
+use Rattle.hunk_commands.specs.Reason.{reason_line}
 use Rattle.hunk_commands.specs.Unexplained.{unexplained_line}
 use Rattle.hunk_commands.specs.declared.unexplained.Unexplained.{Unexplained}
 use Rattle.hunk_tool.specs.declared.file_system.OpenFault.{OpenFault}

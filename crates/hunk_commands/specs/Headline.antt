@@ -3,13 +3,13 @@ use Rattle.std.specs.Prelude.{◌≡◌, ℕ, Bool, List, ◌++◌, Option, Some
 use Rattle.hunk_image_text.specs.declared.image_form.ImageForm.{ImageForm}
 use Rattle.hunk_tool.specs.FileSystem.FileContent.{known}
 use Rattle.hunk_tool.specs.declared.link_options.LinkOptions.{LinkOptions}
-use Rattle.hunk_commands.specs.Addresses.{AddressSource}
-use Rattle.hunk_commands.specs.Addresses.AddressSource.{in_file, in_list}
+use Rattle.hunk_store.specs.Addresses.{AddressSource}
+use Rattle.hunk_store.specs.Addresses.AddressSource.{in_file, in_list}
+use Rattle.hunk_store.specs.Output.{Printed}
+use Rattle.hunk_store.specs.Store.{Contents, IsKnown}
 use Rattle.hunk_commands.specs.Image.{AreImaged}
 use Rattle.hunk_commands.specs.Link.{IsDone}
 use Rattle.hunk_commands.specs.Load.{IsLoaded}
-use Rattle.hunk_commands.specs.Output.{Printed}
-use Rattle.hunk_commands.specs.Store.{Contents, IsKnown}
 use Rattle.hunk_commands.specs.declared.load.LoadText.TheVariants.{Image}
 
 -- what was printed is this text, after what had been printed before

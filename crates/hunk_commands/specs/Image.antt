@@ -3,14 +3,14 @@ use Rattle.std.specs.Prelude.{◌≡◌, ◌⊎◌, ℕ, List, Bool, true, false
 use Rattle.hunk_objects.specs.ProgramUnit.{ObjectUnit}
 use Rattle.hunk_tool.specs.Image.{IsUnitsFault, IsUnitsText, direct_text}
 use Rattle.hunk_tool.specs.Symbols.{unit_symbols_text}
-use Rattle.hunk_commands.specs.declared.failure.Failure.{Failure}
-use Rattle.hunk_commands.specs.declared.failure.Failure.TheVariants.{Printing, Tool}
+use Rattle.hunk_store.specs.declared.failure.Failure.{Failure}
+use Rattle.hunk_store.specs.declared.failure.Failure.TheVariants.{Printing, Tool}
+use Rattle.hunk_store.specs.Addresses.{AtBases, IsAddressesFailure, AddressSource}
+use Rattle.hunk_store.specs.Inputs.{IsOpenFailure, OfFiles, OfWholeFiles}
+use Rattle.hunk_store.specs.Output.{IsFlushed, IsNothing, Printed, taken_by}
+use Rattle.hunk_store.specs.Store.{Contents}
 use Rattle.hunk_commands.specs.declared.load.LoadText.{LoadText}
 use Rattle.hunk_commands.specs.declared.load.LoadText.TheVariants.{Image, Symbols}
-use Rattle.hunk_commands.specs.Addresses.{AtBases, IsAddressesFailure, AddressSource}
-use Rattle.hunk_commands.specs.Inputs.{IsOpenFailure, OfFiles, OfWholeFiles}
-use Rattle.hunk_commands.specs.Output.{IsFlushed, IsNothing, Printed, taken_by}
-use Rattle.hunk_commands.specs.Store.{Contents}
 
 -- whether the units are linked without their symbols and debug blocks: they are not for a text of symbols
 abbrev pub is_stripped : LoadText → Bool

@@ -3,19 +3,19 @@ use Rattle.std.specs.Prelude.{◌≡◌, ℕ, List, Bool, Option, false, ⊤}
 use Rattle.hunk_tool.specs.declared.copy.CopyForm.{CopyForm}
 use Rattle.hunk_tool.specs.declared.link_options.LinkOptions.{LinkOptions}
 use Rattle.hunk_tool.specs.declared.tool_fault.ToolFault.TheVariants.{InputDevice, Output}
-use Rattle.hunk_commands.specs.Addresses.{AddressSource}
+use Rattle.hunk_store.specs.Addresses.{AddressSource}
+use Rattle.hunk_store.specs.FileList.{IsListFailure, NamedList}
+use Rattle.hunk_store.specs.Output.{Printed}
+use Rattle.hunk_store.specs.Store.{Contents, IsKnown}
+use Rattle.hunk_store.specs.declared.failure.Failure.{Failure}
+use Rattle.hunk_store.specs.declared.failure.Failure.TheVariants.{Printing, Reading, Tool, Writing}
 use Rattle.hunk_commands.specs.Compare.{IsCompareFailure}
 use Rattle.hunk_commands.specs.Copy.{IsCopyFailure}
-use Rattle.hunk_commands.specs.FileList.{IsListFailure, NamedList}
 use Rattle.hunk_commands.specs.Image.{IsImageFailure}
 use Rattle.hunk_commands.specs.Link.{IsLinkFailure, IsMapFailure}
 use Rattle.hunk_commands.specs.Load.{IsLoadFailure}
-use Rattle.hunk_commands.specs.Output.{Printed}
-use Rattle.hunk_commands.specs.Store.{Contents, IsKnown}
 use Rattle.hunk_commands.specs.Survey.{IsSurveyFailure}
 use Rattle.hunk_commands.specs.Text.{IsTextFailure}
-use Rattle.hunk_commands.specs.declared.failure.Failure.{Failure}
-use Rattle.hunk_commands.specs.declared.failure.Failure.TheVariants.{Printing, Reading, Tool, Writing}
 use Rattle.hunk_commands.specs.declared.load.LoadText.{LoadText}
 use Rattle.hunk_commands.specs.declared.survey.SurveyOptions.{SurveyOptions}
 use Rattle.hunk_commands.specs.declared.text.Text.{Text}

@@ -15,10 +15,10 @@ use Rattle.hunk_origins.specs.Map.{LinkFiles, map_text}
 use Rattle.hunk_tool.specs.ObjectFiles.{AreFileUnits, FileUnit, units_of}
 use Rattle.hunk_tool.specs.declared.link_options.LinkOptions.{LinkOptions}
 use Rattle.hunk_tool.specs.declared.tool_fault.ToolFault.TheVariants.{Output, OutOfMemory}
-use Rattle.hunk_commands.specs.declared.failure.Failure.{Failure}
-use Rattle.hunk_commands.specs.declared.failure.Failure.TheVariants.{MapOverFile, Opening, Printing, SameFile, Tool, Writing}
-use Rattle.hunk_commands.specs.Inputs.{IsOpenFailure, IsUnopened, OfFiles, OfWholeFiles}
-use Rattle.hunk_commands.specs.Store.{AreUnchanged, Contents, IsBegun, IsKnown, IsReplaced, IsUnplaced, IsWriteFault}
+use Rattle.hunk_store.specs.declared.failure.Failure.{Failure}
+use Rattle.hunk_store.specs.declared.failure.Failure.TheVariants.{MapOverFile, Opening, Printing, SameFile, Tool, Writing}
+use Rattle.hunk_store.specs.Inputs.{IsOpenFailure, IsUnopened, OfFiles, OfWholeFiles}
+use Rattle.hunk_store.specs.Store.{AreUnchanged, Contents, IsBegun, IsKnown, IsReplaced, IsUnplaced, IsWriteFault}
 
 -- the files are object files that link, and this is their load file
 abbrev pub DoLinkTo : (globals strip : Bool) → Contents → (files : List (List ℕ)) (file : List FileHunk) → Type 0

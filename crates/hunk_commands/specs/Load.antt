@@ -4,13 +4,13 @@ use Rattle.hunk_loadfile.specs.LoadHunk.{FileHunk}
 use Rattle.hunk_tool.specs.FileSystem.{MayBeMissing, OfFile, OfWholeFile}
 use Rattle.hunk_tool.specs.Load.{IsFaultAt, IsWrittenAt, loaded_text}
 use Rattle.hunk_tool.specs.Symbols.{symbols_text}
-use Rattle.hunk_commands.specs.declared.failure.Failure.{Failure}
-use Rattle.hunk_commands.specs.declared.failure.Failure.TheVariants.{Opening, Printing, Tool}
+use Rattle.hunk_store.specs.declared.failure.Failure.{Failure}
+use Rattle.hunk_store.specs.declared.failure.Failure.TheVariants.{Opening, Printing, Tool}
+use Rattle.hunk_store.specs.Addresses.{AtBases, IsAddressesFailure, AddressSource}
+use Rattle.hunk_store.specs.Output.{IsFlushed, IsNothing, Printed, ends_between}
+use Rattle.hunk_store.specs.Store.{Contents}
 use Rattle.hunk_commands.specs.declared.load.LoadText.{LoadText}
 use Rattle.hunk_commands.specs.declared.load.LoadText.TheVariants.{Image, Symbols}
-use Rattle.hunk_commands.specs.Addresses.{AtBases, IsAddressesFailure, AddressSource}
-use Rattle.hunk_commands.specs.Output.{IsFlushed, IsNothing, Printed, ends_between}
-use Rattle.hunk_commands.specs.Store.{Contents}
 
 -- the text of the hunks of a load file at these bases
 abbrev pub text_of : LoadText → List FileHunk → List ℕ → List ℕ

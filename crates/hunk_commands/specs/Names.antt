@@ -7,11 +7,11 @@ use Rattle.hunk_origins.specs.NamedFiles.{AreNamedFiles, AreRefused}
 use Rattle.hunk_origins.specs.Names.{AreSorted, Entry, names_of, names_text}
 use Rattle.hunk_origins.specs.declared.named_files.NamedFiles.{NamedFiles}
 use Rattle.hunk_tool.specs.declared.tool_fault.ToolFault.TheVariants.{OutOfMemory}
-use Rattle.hunk_commands.specs.Inputs.{IsUnopened, OfFiles, OfWholeFiles}
-use Rattle.hunk_commands.specs.Output.{IsFlushed, IsNothing, Printed}
-use Rattle.hunk_commands.specs.Store.{Contents}
-use Rattle.hunk_commands.specs.declared.failure.Failure.{Failure}
-use Rattle.hunk_commands.specs.declared.failure.Failure.TheVariants.{Opening, Printing, Tool}
+use Rattle.hunk_store.specs.Inputs.{IsUnopened, OfFiles, OfWholeFiles}
+use Rattle.hunk_store.specs.Output.{IsFlushed, IsNothing, Printed}
+use Rattle.hunk_store.specs.Store.{Contents}
+use Rattle.hunk_store.specs.declared.failure.Failure.{Failure}
+use Rattle.hunk_store.specs.declared.failure.Failure.TheVariants.{Opening, Printing, Tool}
 
 -- The bytes are those of one load file, or of object files, and this is the list of their names.
 pub record IsListOf (entries : List Entry) (files : List (List ℕ)) : Type 0 where

@@ -5,23 +5,23 @@ use Rattle.hunk_tool.specs.Inputs.{file_names}
 use Rattle.hunk_tool.specs.declared.copy.CopyForm.{CopyForm}
 use Rattle.hunk_tool.specs.declared.link_options.LinkOptions.{LinkOptions}
 use Rattle.hunk_tool.specs.declared.tool_fault.ToolFault.TheVariants as tool_fault
-use Rattle.hunk_commands.specs.Addresses.{AddressSource, source_of}
+use Rattle.hunk_store.specs.Addresses.{AddressSource, source_of}
+use Rattle.hunk_store.specs.FileList.{AreNamesIn, IsListFailure, NamedList, given_list}
+use Rattle.hunk_store.specs.Failure.{failure_line, status_of, status_of_comparison, TellsLine}
+use Rattle.hunk_store.specs.Output.{IsExhausted, IsNothing, IsPrinted, IsUnprinted, Printed, printed_of}
+use Rattle.hunk_store.specs.Store.{AreUnchanged, Contents}
+use Rattle.hunk_store.specs.declared.failure.Failure.{Failure}
+use Rattle.hunk_store.specs.declared.failure.Failure.TheVariants.{Tool}
 use Rattle.hunk_commands.specs.Explain.{AreImageLines, AreLinkLines, AreLoadFileLines, AreLoadLines, AreNoLines, AreTextLines, IfAsked}
-use Rattle.hunk_commands.specs.FileList.{AreNamesIn, IsListFailure, NamedList, given_list}
-use Rattle.hunk_commands.specs.Failure.{failure_line, status_of, status_of_comparison, TellsLine}
 use Rattle.hunk_commands.specs.Compare.{AreCompared, IsCompareFailure}
 use Rattle.hunk_commands.specs.Copy.{IsCopiedOut, IsCopyFailure}
 use Rattle.hunk_commands.specs.Load.{IsLoadFailure, IsLoaded}
 use Rattle.hunk_commands.specs.Link.{IsDone, IsUndone}
 use Rattle.hunk_commands.specs.Image.{AreImaged, IsImageFailure}
 use Rattle.hunk_commands.specs.Names.{AreListed, IsNamesFailure}
-use Rattle.hunk_commands.specs.Output.{IsExhausted, IsNothing, IsPrinted, IsUnprinted, Printed, printed_of}
-use Rattle.hunk_commands.specs.Store.{AreUnchanged, Contents}
 use Rattle.hunk_commands.specs.Survey.{AreSurveyed, IsSurveyFailure}
 use Rattle.hunk_commands.specs.Text.{IsTextFailure, IsTold, checked}
 use Rattle.hunk_commands.specs.Version.{version_line}
-use Rattle.hunk_commands.specs.declared.failure.Failure.{Failure}
-use Rattle.hunk_commands.specs.declared.failure.Failure.TheVariants.{Tool}
 use Rattle.hunk_commands.specs.declared.load.LoadText.{LoadText}
 use Rattle.hunk_commands.specs.declared.survey.SurveyOptions.{SurveyOptions}
 use Rattle.hunk_commands.specs.declared.text.Text.{Text}

@@ -12,11 +12,11 @@ use Rattle.hunk_survey.specs.declared.finding.Finding.{Finding}
 use Rattle.hunk_survey.specs.declared.tally.Tally.{Tally}
 use Rattle.hunk_tool.specs.FileSystem.FileContent.{unknown}
 use Rattle.hunk_tool.specs.declared.tool_fault.ToolFault.TheVariants.{OutOfMemory}
-use Rattle.hunk_commands.specs.FileList.{AreNames, IsUnopenedList, NamedList}
-use Rattle.hunk_commands.specs.Output.{IsFlushed, IsNothing, Printed}
-use Rattle.hunk_commands.specs.Store.{Contents}
-use Rattle.hunk_commands.specs.declared.failure.Failure.{Failure}
-use Rattle.hunk_commands.specs.declared.failure.Failure.TheVariants.{Printing, Reading, Tool}
+use Rattle.hunk_store.specs.FileList.{AreNames, IsUnopenedList, NamedList}
+use Rattle.hunk_store.specs.Output.{IsFlushed, IsNothing, Printed}
+use Rattle.hunk_store.specs.Store.{Contents}
+use Rattle.hunk_store.specs.declared.failure.Failure.{Failure}
+use Rattle.hunk_store.specs.declared.failure.Failure.TheVariants.{Printing, Reading, Tool}
 use Rattle.hunk_commands.specs.declared.survey.SurveyOptions.{SurveyOptions}
 use Rattle.hunk_commands.specs.declared.survey.Plan.{Plan}
 

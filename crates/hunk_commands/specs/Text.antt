@@ -9,13 +9,13 @@ use Rattle.hunk_tool.specs.FileSystem.{MayBeMissing, OfFile, OfWholeFile}
 use Rattle.hunk_tool.specs.FileText.{IsTextFault, IsWritten, of_value}
 use Rattle.hunk_files.specs.FileValue.{FileValue}
 use Rattle.hunk_tool.specs.Show.{show_text}
-use Rattle.hunk_commands.specs.declared.failure.Failure.{Failure}
-use Rattle.hunk_commands.specs.declared.failure.Failure.TheVariants.{Opening, Printing, Tool}
+use Rattle.hunk_store.specs.declared.failure.Failure.{Failure}
+use Rattle.hunk_store.specs.declared.failure.Failure.TheVariants.{Opening, Printing, Tool}
+use Rattle.hunk_store.specs.Output.{IsFlushed, IsNothing, Printed, ends_between}
+use Rattle.hunk_store.specs.Store.{Contents}
 use Rattle.hunk_commands.specs.declared.text.ShowText.TheVariants.{Json, JsonWithContent, Listing, Page}
 use Rattle.hunk_commands.specs.declared.text.Text.{Text}
 use Rattle.hunk_commands.specs.declared.text.Text.TheVariants.{Line, Lint, Shown}
-use Rattle.hunk_commands.specs.Output.{IsFlushed, IsNothing, Printed, ends_between}
-use Rattle.hunk_commands.specs.Store.{Contents}
 
 -- the text about a file of these bytes and this value
 abbrev pub text_of : Text → (bytes : List ℕ) → FileValue → List ℕ

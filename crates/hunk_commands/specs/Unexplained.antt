@@ -4,8 +4,8 @@ use Rattle.hunk_base.specs.Text.{line}
 use Rattle.hunk_base.specs.declared.fault.ReadFault.{ReadFault}
 use Rattle.hunk_base.specs.declared.fault.ReadFault.TheVariants as read_fault
 use Rattle.hunk_base.specs.declared.fault.Refusal.TheVariants as refusal_is
-use Rattle.hunk_commands.specs.declared.failure.Failure.{Failure}
-use Rattle.hunk_commands.specs.declared.failure.Failure.TheVariants as failure_is
+use Rattle.hunk_store.specs.declared.failure.Failure.{Failure}
+use Rattle.hunk_store.specs.declared.failure.Failure.TheVariants as failure_is
 use Rattle.hunk_commands.specs.declared.unexplained.Unexplained.{Unexplained}
 use Rattle.hunk_commands.specs.declared.unexplained.Unexplained.TheVariants.{Changed, NotRegular, OutOfMemory}
 use Rattle.hunk_tool.specs.declared.tool_fault.ToolFault.TheVariants as tool_fault

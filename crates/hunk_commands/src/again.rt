@@ -2,17 +2,14 @@
 ghost use Rattle.std.specs.Prelude.{◌≡◌, false, true, IfErr, IfOk};
 ghost use Rattle.hunk_tool.specs.FileSystem.{IsContent, MayBeMissing};
 ghost use Rattle.hunk_tool.specs.Inputs.{file_names};
-ghost use Rattle.hunk_commands.specs.Addresses.{HaveNumbers, source_of};
+ghost use Rattle.hunk_store.specs.Addresses.{HaveNumbers, source_of};
 ghost use Rattle.hunk_commands.specs.Again.{AreNoAddressesAgain, AreNoUnitsAgain, HaveUnits, IsIrregular, IsNotLinkedAgain, IsNotOpenedAgain};
 ghost use Rattle.hunk_commands.specs.Link.{DoLinkTo};
 
-use crate::addresses::{Addresses, addresses_of};
-use crate::failure::Failure;
-use crate::inputs::open_inputs;
 use crate::link::linked;
-use crate::store::Store;
 use crate::unexplained::Unexplained;
 use hunk_loadfile::LoadFile;
+use hunk_store::{Addresses, Failure, Store, addresses_of, open_inputs};
 use hunk_tool::{FileType, ObjectFiles, read_object_files};
 use std::alloc::Global;
 

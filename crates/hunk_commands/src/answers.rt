@@ -1,28 +1,24 @@
 //! Doing what each request but `link` asks for.
 ghost use Rattle.std.specs.Prelude.{◌≡◌, map, string_bytes};
 ghost use Rattle.hunk_tool.specs.Inputs.{file_names};
-ghost use Rattle.hunk_commands.specs.Addresses.{source_of};
+ghost use Rattle.hunk_store.specs.Addresses.{source_of};
+ghost use Rattle.hunk_store.specs.FileList.{given_list};
+ghost use Rattle.hunk_store.specs.Output.{printed_of};
 ghost use Rattle.hunk_commands.specs.Explain.{AreLinesOf, IfAsked};
-ghost use Rattle.hunk_commands.specs.FileList.{given_list};
-ghost use Rattle.hunk_commands.specs.Output.{printed_of};
 ghost use Rattle.hunk_commands.specs.Request.{EndsCompare, EndsCopy, EndsHelp, EndsImage, EndsLoad, EndsNames, EndsSurvey, EndsText, EndsVersion, IsFailed};
 
-use crate::addresses::Addresses;
 use crate::compare::compare;
 use crate::copy::copy;
 use crate::devices::print;
 use crate::explain::{Command, explain_failure};
-use crate::failure::{DIFFERENT, DONE, Failure, report_failure};
-use crate::file_list::FileList;
+use crate::file_names::names_of;
 use crate::image::image;
-use crate::inputs::names_of;
 use crate::load::{LoadText, load};
 use crate::names::print_names;
-use crate::output::Output;
-use crate::store::Store;
 use crate::survey::{SurveyOptions, survey};
 use crate::text::{Text, print_text};
 use crate::version::print_version;
+use hunk_store::{Addresses, DIFFERENT, DONE, Failure, FileList, Output, Store, report_failure};
 use hunk_tool::CopyForm;
 use hunk_words::Sink;
 use std::alloc::Global;

@@ -1,12 +1,10 @@
 //! The request `compare`: whether two load files mean the same.
 ghost use Rattle.std.specs.Prelude.{IfErr, IfOk};
+ghost use Rattle.hunk_store.specs.Output.{printed_of};
 ghost use Rattle.hunk_commands.specs.Compare.{AreCompared, IsCompareFailure};
-ghost use Rattle.hunk_commands.specs.Output.{printed_of};
 
-use crate::devices::{flush, open};
-use crate::failure::Failure;
-use crate::output::Output;
-use crate::store::Store;
+use crate::devices::flush;
+use hunk_store::{Failure, Output, Store, open};
 use hunk_tool::compare_run;
 use std::alloc::Global;
 

@@ -1,11 +1,10 @@
 //! The request `copy`: a load file, written again.
 ghost use Rattle.std.specs.Prelude.{IfErr, OnErr, OnOk};
+ghost use Rattle.hunk_store.specs.Store.{AreUnchanged};
 ghost use Rattle.hunk_commands.specs.Copy.{IsCopiedOut, IsCopyFailure};
-ghost use Rattle.hunk_commands.specs.Store.{AreUnchanged};
 
-use crate::devices::{begin, open};
-use crate::failure::Failure;
-use crate::store::Store;
+use crate::devices::begin;
+use hunk_store::{Failure, Store, open};
 use hunk_tool::{CopyForm, copy_run};
 use std::alloc::Global;
 

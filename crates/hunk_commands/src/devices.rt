@@ -1,32 +1,12 @@
-//! The file that a request reads, and the output that it prints to.
+//! The file that a request replaces, and the output that it prints to.
 ghost use Rattle.std.specs.Prelude.{◌≡◌, false, IfErr, IfOk, OnErr, OnOk, IsTrue, [], refl};
 ghost use Rattle.std.specs.Io.KnownBytes.{Keeps};
-ghost use Rattle.hunk_tool.specs.FileSystem.{IsContent};
-ghost use Rattle.hunk_commands.specs.Devices.{IsOpening};
-ghost use Rattle.hunk_commands.specs.Output.{IsPrinted, IsUnprinted, printed_of};
-ghost use Rattle.hunk_commands.specs.Store.{IsBegun};
+ghost use Rattle.hunk_store.specs.Output.{IsPrinted, IsUnprinted, printed_of};
+ghost use Rattle.hunk_store.specs.Store.{IsBegun};
 
-use crate::failure::Failure;
-use crate::output::Output;
-use crate::store::Store;
+use hunk_store::{Failure, Output, Store};
 use hunk_tool::ToolFault;
 use hunk_words::Text;
-
-/// Opens the file named `file`.
-///
-/// # Errors
-///
-/// [`Failure::Opening`] if it cannot be opened.
-pub fn open<'a, S: Store>(store: &S, file: &'a str) -> Result<S::File, Failure<'a>>
-    ensures there { IfOk result (λ input. IsContent (S.content store.now file.entry.now) (S.File.left input)) }
-    ensures unread { IfOk result (λ input. (S.File.failed input ≡ false) × (S.File.ended input ≡ false)) }
-    ensures err { IfErr result (IsOpening (S.content store.now) file.entry) }
-{
-    match store.open(file) {
-        Ok(input) => Ok(input),
-        Err(reason) => Err(Failure::Opening(file, reason)),
-    }
-}
 
 /// Passes on what `output` keeps.
 ///

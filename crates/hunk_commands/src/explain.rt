@@ -5,23 +5,21 @@ ghost use Rattle.hunk_base.specs.Streams.{HasRead};
 ghost use Rattle.hunk_files.specs.Explanation.{IsEnd, IsExplained, IsUnexplained};
 ghost use Rattle.hunk_addresses.specs.PlacesText.{places_text};
 ghost use Rattle.hunk_tool.specs.Inputs.{file_names};
-ghost use Rattle.hunk_commands.specs.Addresses.{source_of};
+ghost use Rattle.hunk_store.specs.Addresses.{source_of};
+ghost use Rattle.hunk_store.specs.Failure.{TellsLine};
 ghost use Rattle.hunk_commands.specs.Again.{AreNoUnitsAgain, IsGiven, IsNotExplained, IsNotLinkedAgain, IsNotLoadedAgain, IsNotPlacedAgain};
 ghost use Rattle.hunk_commands.specs.Explain.{AreLinesOf, AreOffenceLines, ArePlaceLines, ArePlaceLinesOf, AreRefusalLines, AreRefusalLinesOf, AreToldThen, IsDirectoryOrNone, IsLoadFile, IsReason, TellsMore, TellsUnless, kind_read, sizes_of};
-ghost use Rattle.hunk_commands.specs.Failure.{TellsLine};
 ghost use Rattle.hunk_commands.specs.Link.{DoLinkTo};
 ghost use Rattle.hunk_commands.specs.Unexplained.{unexplained_line};
 
-use crate::addresses::Addresses;
 use crate::again::{addresses_again, linked_again, open_again, units_again};
-use crate::failure::Failure;
-use crate::inputs::names_of;
-use crate::open_fault::write_reason_line;
-use crate::store::Store;
+use crate::file_names::names_of;
+use crate::reason::write_reason_line;
 use crate::unexplained::{Unexplained, write_unexplained_line};
 use hunk_link::LinkRefusal;
 use hunk_loadfile::{LoadHunk, read_load};
 use hunk_origins::{explain_link, write_link_explanation};
+use hunk_store::{Addresses, Failure, Store};
 use hunk_tool::{
     Explanation, FileType, OpenFault, ToolFault, explain_file, explain_load, explain_object,
     write_explanation, write_places,

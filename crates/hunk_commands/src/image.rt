@@ -2,17 +2,13 @@
 ghost use Rattle.std.specs.Prelude.{IfErr, OnOk};
 ghost use Rattle.hunk_tool.specs.Image.{IsUnitsFault, IsUnitsText};
 ghost use Rattle.hunk_tool.specs.Inputs.{HaveRead, file_names, inputs_of};
-ghost use Rattle.hunk_commands.specs.Addresses.{source_of};
+ghost use Rattle.hunk_store.specs.Addresses.{source_of};
+ghost use Rattle.hunk_store.specs.Output.{printed_of};
 ghost use Rattle.hunk_commands.specs.Image.{AreImaged, IsImageFailure, is_stripped, units_text};
-ghost use Rattle.hunk_commands.specs.Output.{printed_of};
 
-use crate::addresses::{Addresses, addresses_of};
 use crate::devices::flush;
-use crate::failure::Failure;
-use crate::inputs::open_inputs;
 use crate::load::LoadText;
-use crate::output::Output;
-use crate::store::Store;
+use hunk_store::{Addresses, Failure, Output, Store, addresses_of, open_inputs};
 use hunk_tool::{NameHasher, ToolFault, image_run_with, image_symbols_run};
 use hunk_words::{Sink, Source};
 use std::alloc::Global;

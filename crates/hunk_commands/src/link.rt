@@ -6,15 +6,13 @@ ghost use Rattle.hunk_loadfile.specs.WrittenForm.{IsShortEnough};
 ghost use Rattle.hunk_tool.specs.Inputs.{file_names};
 ghost use Rattle.hunk_origins.specs.Map.{map_text};
 ghost use Rattle.hunk_origins.specs.Origins.{origins};
+ghost use Rattle.hunk_store.specs.Store.{AreUnchanged, IsKnown, run_of};
 ghost use Rattle.hunk_commands.specs.Link.{AreUnlinked, DoLinkFiles, DoLinkTo, HasMap, IsLinkFailure, IsMade, IsMapFailure, IsMapped, IsUnmapped, IsUnwritten, IsWrittenOut, map_failure};
-ghost use Rattle.hunk_commands.specs.Store.{AreUnchanged, IsKnown, run_of};
 
 use crate::devices::begin;
-use crate::failure::Failure;
-use crate::inputs::open_inputs;
-use crate::store::Store;
 use hunk_loadfile::{LoadFile, write_load_with};
 use hunk_origins::{link_files, write_map};
+use hunk_store::{Failure, Store, open_inputs};
 use hunk_tool::{LinkOptions, ObjectFiles, ToolFault, link_inputs, link_run_with};
 use hunk_words::{Sink, Text, WriteFault};
 use std::alloc::Global;

@@ -1,18 +1,16 @@
 //! Doing what `link` asks for: of the files that are given, and of those in a list.
 ghost use Rattle.std.specs.Prelude.{◌≡◌, ◌++◌, ℕ, List, IfErr, IfOk, OnOk, map, string_bytes};
 ghost use Rattle.hunk_tool.specs.Inputs.{file_names};
-ghost use Rattle.hunk_commands.specs.FileList.{AreNamesIn, IsListFailure, given_list, list_of};
+ghost use Rattle.hunk_store.specs.FileList.{AreNamesIn, IsListFailure, given_list, list_of};
 ghost use Rattle.hunk_commands.specs.Link.{IsDone, IsUndone};
 ghost use Rattle.hunk_commands.specs.Request.{EndsLink, EndsLinkOf, given_text};
 
 use crate::answers::fail;
 use crate::explain::Command;
-use crate::failure::{DONE, Failure, report_failure};
-use crate::file_list::FileList;
-use crate::inputs::names_of;
+use crate::file_names::names_of;
 use crate::link::{link, link_with_map};
-use crate::listed_names::listed_names;
-use crate::store::Store;
+use hunk_store::listed_names::listed_names;
+use hunk_store::{DONE, Failure, FileList, Store, report_failure};
 use hunk_tool::LinkOptions;
 use hunk_words::Sink;
 use std::alloc::{AllocError, Global};

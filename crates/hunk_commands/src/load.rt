@@ -2,15 +2,12 @@
 ghost use Rattle.std.specs.Prelude.{IfOk, IfErr, IsTrue, OnOk};
 ghost use Rattle.hunk_base.specs.Streams.{HasRead};
 ghost use Rattle.hunk_tool.specs.Load.{IsFaultAt, IsWrittenAt, ends_of};
-ghost use Rattle.hunk_commands.specs.Addresses.{source_of};
+ghost use Rattle.hunk_store.specs.Addresses.{source_of};
+ghost use Rattle.hunk_store.specs.Output.{printed_of};
 ghost use Rattle.hunk_commands.specs.Load.{IsLoadFailure, IsLoaded, text_of};
-ghost use Rattle.hunk_commands.specs.Output.{printed_of};
 
-use crate::addresses::{Addresses, addresses_of};
-use crate::devices::{flush, open};
-use crate::failure::Failure;
-use crate::output::Output;
-use crate::store::Store;
+use crate::devices::flush;
+use hunk_store::{Addresses, Failure, Output, Store, addresses_of, open};
 use hunk_tool::{ImageForm, SymbolForm, ToolFault, load_run_with, symbols_run};
 use hunk_words::{Sink, Source};
 use std::alloc::Global;

@@ -4,16 +4,13 @@ ghost use Rattle.hunk_base.specs.Streams.{WroteText};
 ghost use Rattle.hunk_tool.specs.Inputs.{file_names};
 ghost use Rattle.hunk_origins.specs.NamedFiles.{AreNamedFiles};
 ghost use Rattle.hunk_origins.specs.Names.{names_text};
-ghost use Rattle.hunk_commands.specs.Inputs.{OfWholeFiles};
+ghost use Rattle.hunk_store.specs.Inputs.{OfWholeFiles};
+ghost use Rattle.hunk_store.specs.Output.{printed_of};
 ghost use Rattle.hunk_commands.specs.Names.{AreListed, AreUnread, IsNamesFailure};
-ghost use Rattle.hunk_commands.specs.Output.{printed_of};
 
 use crate::devices::flush;
-use crate::failure::Failure;
-use crate::inputs::open_inputs;
-use crate::output::Output;
-use crate::store::Store;
 use hunk_origins::{NameList, NamedFiles, read_named_files, write_names};
+use hunk_store::{Failure, Output, Store, open_inputs};
 use hunk_words::{Sink, Text, WriteFault};
 use std::alloc::Global;
 

@@ -1,19 +1,16 @@
 //! What a command line asks for, and doing it.
 ghost use Rattle.hunk_commands.specs.Request.{Ends, run_between};
 
-use crate::addresses::Addresses;
 use crate::answers::{
     answer_compare, answer_copy, answer_help, answer_image, answer_load, answer_names,
     answer_survey, answer_text, answer_version,
 };
-use crate::failure::{Failure, report_failure, report_refusal};
-use crate::file_list::FileList;
 use crate::link_request::answer_link;
 use crate::load::LoadText;
-use crate::output::Output;
-use crate::store::Store;
+use crate::refusal::report_refusal;
 use crate::survey::SurveyOptions;
 use crate::text::{ShowText, Text};
+use hunk_store::{Addresses, Failure, FileList, Output, Store, report_failure};
 use hunk_tool::{CopyForm, LinkOptions};
 use hunk_words::Sink;
 use std::alloc::Global;

@@ -2,17 +2,13 @@
 ghost use Rattle.std.specs.Prelude.{◌≡◌, ◌∷◌, ◌++◌, [], ℕ, List, Option, Some, IfOk, IfErr, OnOk};
 ghost use Rattle.hunk_base.specs.Streams.{WroteText};
 ghost use Rattle.hunk_tool.specs.Inputs.{file_names};
-ghost use Rattle.hunk_commands.specs.FileList.{NamedList, given_list, list_of};
-ghost use Rattle.hunk_commands.specs.NameReader.{AreAllNames, AreFirstNames, unread};
-ghost use Rattle.hunk_commands.specs.Output.{printed_of};
+ghost use Rattle.hunk_store.specs.FileList.{NamedList, given_list, list_of};
+ghost use Rattle.hunk_store.specs.NameReader.{AreAllNames, AreFirstNames, unread};
+ghost use Rattle.hunk_store.specs.Output.{printed_of};
 ghost use Rattle.hunk_commands.specs.Survey.{AreAllTold, AreNotAllTold, AreSurveyed, AreTold, AreUntold, IsSurveyFailure, last_lines, plan_of, survey_line};
 
 use crate::devices::flush;
-use crate::failure::Failure;
-use crate::file_list::FileList;
-use crate::name_reader::{NameFault, NameReader, open_list};
-use crate::output::Output;
-use crate::store::Store;
+use hunk_store::{Failure, FileList, NameFault, NameReader, Output, Store, open_list};
 use hunk_survey::{
     FindOptions, Finding, Tally, find_file, write_finding, write_finding_json, write_totals,
 };

@@ -3,15 +3,13 @@ ghost use Rattle.std.specs.Prelude.{IfErr, IsTrue, OnOk};
 ghost use Rattle.hunk_base.specs.Streams.{HasRead};
 ghost use Rattle.hunk_tool.specs.FileText.{IsTextFault, IsWritten};
 ghost use Rattle.hunk_tool.specs.Load.{ends_of};
-ghost use Rattle.hunk_commands.specs.Output.{printed_of};
+ghost use Rattle.hunk_store.specs.Output.{printed_of};
 ghost use Rattle.hunk_commands.specs.Text.{IsTextFailure, IsTold, text_of};
 
-use crate::devices::{flush, open};
-use crate::failure::Failure;
-use crate::output::Output;
-use crate::store::Store;
+use crate::devices::flush;
 use hunk_json::{JsonForm, json_run, json_run_with, page_run};
 use hunk_lint::lint_run;
+use hunk_store::{Failure, Output, Store, open};
 use hunk_tool::{ToolFault, check_run, show_run};
 use hunk_words::{Sink, Source};
 use std::alloc::Global;

@@ -3,7 +3,7 @@ ghost use Rattle.std.specs.Prelude.{◌≡◌};
 ghost use Rattle.hunk_base.specs.Text.{Puts};
 ghost use Rattle.hunk_commands.specs.Unexplained.{unexplained_line, unexplained_text};
 
-use crate::failure::Failure;
+use hunk_store::Failure;
 use hunk_tool::ToolFault;
 use hunk_words::{ReadFault, Refusal, Sink, Text};
 use std::alloc::AllocError;

@@ -1,11 +1,10 @@
 //! The request `--version`: the version of the program.
 ghost use Rattle.std.specs.Prelude.{IfErr, OnOk};
+ghost use Rattle.hunk_store.specs.Output.{IsPrinted, IsUnprinted, printed_of};
 ghost use Rattle.hunk_commands.specs.Version.{version_line};
-ghost use Rattle.hunk_commands.specs.Output.{IsPrinted, IsUnprinted, printed_of};
 
 use crate::devices::print;
-use crate::failure::Failure;
-use crate::output::Output;
+use hunk_store::{Failure, Output};
 
 /// The version of the program, which is that of the newest entry of CHANGELOG.md.
 pub const VERSION: &str = "0.1.0";

@@ -2,10 +2,9 @@
 
 use super::asserts::{equals, equals_at, holds};
 use super::outcomes::prints;
-use crate::fake_log::Log;
-use crate::samples::Broken;
 use hunk_commands::addresses::read_addresses;
 use hunk_commands::{Addresses, Failure, LoadText, Request};
+use hunk_fake_files::{Broken, Log};
 use hunk_tool::ImageForm;
 use hunk_words::Watched;
 use std::alloc::{AllocError, Global};

@@ -3,9 +3,8 @@
 use super::asserts::equals;
 use super::outcomes::{prints, was_printed};
 use super::systems::compare;
-use crate::fake_files::FakeFiles;
-use crate::fake_log::Log;
 use hunk_commands::{Failure, Request};
+use hunk_fake_files::{FakeFiles, Log};
 use hunk_tool::ToolFault;
 use hunk_words::{Fault, Reason};
 use std::alloc::Global;

@@ -5,11 +5,9 @@ use super::explanation_rows::{
     Asked, CHANGED, REFUSED, Row, UNEXPLAINED, UNLINKED, UNPLACED, WITHOUT_MORE,
 };
 use super::systems::answer;
-use crate::fake_files::FakeFiles;
-use crate::fake_log::Log;
-use crate::samples::{Broken, CALLEE, MISTYPED, PLAIN, TRAILING, UNENDED};
 use hunk_commands::explain::{Command, explanation_of};
 use hunk_commands::{Addresses, LoadText, Request, ShowText};
+use hunk_fake_files::{Broken, CALLEE, FakeFiles, Log, MISTYPED, PLAIN, TRAILING, UNENDED};
 use hunk_tool::ImageForm;
 use hunk_words::{Fault, ReadFault, Reason, Room, Sink, Watched};
 use std::alloc::{AllocError, Global};

@@ -3,9 +3,8 @@
 use super::asserts::{equals, holds};
 use super::outcomes::was_printed;
 use super::systems::image;
-use crate::fake_files::FakeFiles;
-use crate::fake_log::Log;
 use hunk_commands::{Addresses, Failure, LoadText};
+use hunk_fake_files::{FakeFiles, Log};
 use hunk_tool::{ImageForm, PlaceFault, SymbolForm, ToolFault};
 use std::alloc::Global;
 use std::process::Abort;

@@ -1,9 +1,9 @@
 //! The image of a load file, and its symbols.
 
 use super::asserts::equals;
-use crate::samples::{Broken, ONE_HUNK, ONE_SYMBOL};
 use hunk_commands::LoadText;
 use hunk_commands::load::load_to;
+use hunk_fake_files::{Broken, ONE_HUNK, ONE_SYMBOL};
 use hunk_tool::{ImageForm, SymbolForm, ToolFault};
 use hunk_words::{Fault, Reason, Watched};
 use std::alloc::Global;

@@ -2,9 +2,8 @@
 
 use super::asserts::equals;
 use super::outcomes::{is_answered, prints, was_printed};
-use crate::fake_files::FakeFiles;
-use crate::fake_log::Log;
 use hunk_commands::Request;
+use hunk_fake_files::{FakeFiles, Log};
 use std::alloc::Global;
 use std::process::Abort;
 use std::test::Fail;

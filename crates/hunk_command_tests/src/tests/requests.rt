@@ -1,10 +1,8 @@
 //! The status of each request, and the line of its failure.
 
 use super::outcomes::is_answered;
-use crate::fake_files::FakeFiles;
-use crate::fake_log::Log;
-use crate::samples::PLAIN;
 use hunk_commands::{Addresses, LoadText, Request};
+use hunk_fake_files::{FakeFiles, Log, PLAIN};
 use hunk_tool::ImageForm;
 use std::alloc::Global;
 use std::process::Abort;

@@ -2,9 +2,9 @@
 
 use super::asserts::{equals, equals_at};
 use super::stores::{Unbuffered, are_unchanged_but, store_in};
-use crate::samples::ONE_HUNK;
 use bumpalo::Bump;
 use hunk_commands::{Request, ShowText, answer};
+use hunk_fake_files::ONE_HUNK;
 use hunk_json::page_run;
 use hunk_words::{Room, Watched};
 use std::alloc::Global;

@@ -1,13 +1,13 @@
 //! Commands over files in memory.
 
 use super::asserts::{equals, equals_at, holds};
-use crate::samples::{CALLEE, CALLER, ONE_HUNK, ONE_SYMBOL, PLAIN, PROGRAM, WITH_GLOBALS};
 use bumpalo::Bump;
 use hunk_commands::copy::copy;
 use hunk_commands::image::image;
 use hunk_commands::link::{link, link_with_map};
 use hunk_commands::load::load;
 use hunk_commands::{Addresses, Failure, LoadText, MemoryStore, Output, Store};
+use hunk_fake_files::{CALLEE, CALLER, ONE_HUNK, ONE_SYMBOL, PLAIN, PROGRAM, WITH_GLOBALS};
 use hunk_tool::{
     CopyForm, FileSystem, FileType, ImageForm, LinkOptions, OpenFault, SymbolForm, ToolFault,
 };

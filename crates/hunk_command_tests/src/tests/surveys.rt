@@ -3,9 +3,8 @@
 use super::asserts::{equals, equals_at, holds};
 use super::outcomes::{is_answered, was_printed};
 use super::systems::survey;
-use crate::fake_files::FakeFiles;
-use crate::fake_log::Log;
 use hunk_commands::{Failure, FileList, NameEnd, Request, SurveyOptions};
+use hunk_fake_files::{FakeFiles, Log};
 use std::alloc::Global;
 use std::process::Abort;
 use std::test::Fail;

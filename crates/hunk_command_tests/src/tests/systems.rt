@@ -3,11 +3,11 @@
 //! Each returns once what is printed has left the buffer, as far as the standard output takes it.
 
 use hunk_commands::{
-    Addresses, Failure, FileList, LoadText, Printer, Request, SurveyOptions, System, compare, copy,
-    image, link, survey,
+    Addresses, Failure, FileList, LoadText, Printer, Request, SurveyOptions, System, compare,
+    image, survey,
 };
 use hunk_test_support::KEY;
-use hunk_tool::{CopyForm, LinkOptions, NameHasher};
+use hunk_tool::NameHasher;
 use hunk_words::Sink;
 use std::io;
 use std::rt::Files;
@@ -28,49 +28,6 @@ pub(super) fn answer<R: Files + Print + AllocGlobal, W: Sink>(
     let mut store = store_of(system);
     let mut output = Printer::new(alloc, io::writer(system))?;
     Ok(hunk_commands::answer(alloc, &mut store, &mut output, errors, request))
-}
-
-/// Links files to OUT.
-pub(super) fn link<'a, R: Files + Print + AllocGlobal>(
-    system: &R,
-    out: &'a str,
-    options: LinkOptions,
-    files: &[&'a str],
-) -> Result<(), Failure<'a>> {
-    let mut store = store_of(system);
-    link::link(system.alloc(), &mut store, out, options, false, files)
-}
-
-/// Links files to OUT, and writes the map to MAP.
-pub(super) fn link_with_map<'a, R: Files + Print + AllocGlobal>(
-    system: &R,
-    out: &'a str,
-    map_file: &'a str,
-    options: LinkOptions,
-    files: &[&'a str],
-    names: &[String],
-) -> Result<(), Failure<'a>> {
-    let mut store = store_of(system);
-    link::link_with_map(
-        system.alloc(),
-        &mut store,
-        out,
-        map_file,
-        options,
-        false,
-        files,
-        names,
-    )
-}
-
-/// Copies a file to OUT.
-pub(super) fn copy<'a, R: Files + Print + AllocGlobal>(
-    system: &R,
-    out: &'a str,
-    form: CopyForm,
-    file: &'a str,
-) -> Result<(), Failure<'a>> {
-    copy::copy(system.alloc(), &mut store_of(system), out, form, file)
 }
 
 /// Compares two files.

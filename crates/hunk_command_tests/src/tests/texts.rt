@@ -1,8 +1,8 @@
 //! The texts about a file.
 
 use super::asserts::{equals, holds};
-use crate::samples::{Broken, ONE_HUNK, ONE_UNIT};
 use hunk_commands::{ShowText, Text, print_text_to};
+use hunk_fake_files::{Broken, ONE_HUNK, ONE_UNIT};
 use hunk_json::page_run;
 use hunk_tool::ToolFault;
 use hunk_words::{Fault, Reason, Watched};

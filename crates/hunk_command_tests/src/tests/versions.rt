@@ -2,9 +2,8 @@
 
 use super::asserts::equals;
 use super::outcomes::{is_answered, prints, was_printed};
-use crate::fake_files::FakeFiles;
-use crate::fake_log::Log;
 use hunk_commands::{Failure, Printer, Request, VERSION, print_version};
+use hunk_fake_files::{FakeFiles, Log};
 use std::io;
 use std::test::Fail;
 

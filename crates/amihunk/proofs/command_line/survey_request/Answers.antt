@@ -3,7 +3,7 @@ use Rattle.std.proofs.lemmas.Result.{IfOk-weaker}
 use Rattle.clap.specs.Takes.{is_given}
 use Rattle.clap.specs.Walk.{texts}
 use Rattle.clap.specs.Words.{first_of, found_of, rows_of}
-use Rattle.hunk_commands.specs.FileList.{given_list}
+use Rattle.hunk_store.specs.FileList.{given_list}
 use Rattle.amihunk.specs.Call.{meaning}
 use Rattle.amihunk.specs.CommandLine.{survey_call, survey_options_in, files_in, has_some, list_by, list_in}
 use Rattle.amihunk.proofs.RequestLemmas.{conflict_found, same_survey}

@@ -1,6 +1,6 @@
 use Rattle.std.proofs.Common.{◌∙◌, [], refl}
-use Rattle.hunk_commands.specs.Addresses.{source_of}
-use Rattle.hunk_commands.specs.FileList.{given_list}
+use Rattle.hunk_store.specs.Addresses.{source_of}
+use Rattle.hunk_store.specs.FileList.{given_list}
 use Rattle.hunk_commands.specs.Request.{given_text}
 use Rattle.amihunk.specs.StandardInput.{list_inputs, one_inputs, source_inputs}
 use Rattle.amihunk.proofs.StandardInputLemmas.{two_hyphens}

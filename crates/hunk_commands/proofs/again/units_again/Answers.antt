@@ -1,11 +1,11 @@
 -- The units are those of the files; or one of the files is no object file.
 use Rattle.std.proofs.Common.{inr}
 use Rattle.hunk_tool.specs.Inputs.{IsInputFault, file_names}
+use Rattle.hunk_store.specs.Inputs.{AreInputs, OfFiles}
+use Rattle.hunk_store.specs.declared.failure.Failure.TheVariants.{Tool}
+use Rattle.hunk_store.proofs.InputsLemmas.{OfFiles-inputs}
 use Rattle.hunk_commands.specs.Again.{AreNoUnits, MayLack}
-use Rattle.hunk_commands.specs.Inputs.{AreInputs, OfFiles}
-use Rattle.hunk_commands.specs.declared.failure.Failure.TheVariants.{Tool}
 use Rattle.hunk_commands.proofs.AgainLemmas.{fails_again}
-use Rattle.hunk_commands.proofs.InputsLemmas.{OfFiles-inputs}
 use Rattle.hunk_commands.proofs.again.units_again.Goals as goal
 
 pub returns-in-Ok-clause-units : goal.returns-in-Ok-clause-units

@@ -2,12 +2,12 @@
 use Rattle.std.proofs.Common.{◌≡◌, ◌∙◌, ◌∷◌, [], ap, inl, inr, map, refl, subst}
 use Rattle.std.proofs.KnownBytes.{Keeps-refl}
 use Rattle.std.specs.String.{string_bytes}
+use Rattle.hunk_store.specs.Failure.{TellsLine, failure_line, status_of_comparison}
+use Rattle.hunk_store.specs.Output.{printed_of}
 use Rattle.hunk_commands.specs.Compare.{IsCompareFailure}
-use Rattle.hunk_commands.specs.Failure.{TellsLine, failure_line, status_of_comparison}
-use Rattle.hunk_commands.specs.Output.{printed_of}
 use Rattle.hunk_commands.specs.Request.{NoMore, OrExhausted}
 use Rattle.hunk_tool.specs.declared.tool_fault.ToolFault.TheVariants as tool_fault
-use Rattle.hunk_commands.specs.declared.failure.Failure.TheVariants.{Tool}
+use Rattle.hunk_store.specs.declared.failure.Failure.TheVariants.{Tool}
 use Rattle.hunk_commands.proofs.RequestLemmas.{fails_with, out_of_memory_told}
 use Rattle.hunk_commands.proofs.answers.answer_compare.Goals as goal
 

@@ -1,11 +1,11 @@
 -- Not done: there is no memory for the name of the file, or the copy was not made.
 use Rattle.std.proofs.Common.{◌∷◌, [], ap, inl, inr, refl}
+use Rattle.hunk_store.specs.Store.{AreUnchanged}
 use Rattle.hunk_commands.specs.Copy.{IsCopyFailure}
 use Rattle.hunk_commands.specs.Explain.{AreLoadFileLines, IfAsked}
-use Rattle.hunk_commands.specs.Store.{AreUnchanged}
 use Rattle.hunk_commands.specs.Request.{OrUntouched}
 use Rattle.hunk_tool.specs.declared.tool_fault.ToolFault.TheVariants as tool_fault
-use Rattle.hunk_commands.specs.declared.failure.Failure.TheVariants.{Tool}
+use Rattle.hunk_store.specs.declared.failure.Failure.TheVariants.{Tool}
 use Rattle.hunk_commands.proofs.ExplainLemmas.{none_asked}
 use Rattle.hunk_commands.proofs.RequestLemmas.{IsFailed-why, not_begun, out_of_memory_told}
 use Rattle.hunk_commands.proofs.answers.answer_copy.Goals as goal

@@ -1,6 +1,6 @@
 -- The text was not printed.
 use Rattle.std.proofs.Common.{[], inr, refl}
-use Rattle.hunk_commands.specs.Output.{IsUnprinted, printed_of}
+use Rattle.hunk_store.specs.Output.{IsUnprinted, printed_of}
 use Rattle.hunk_commands.specs.Request.{NoMore, OrExhausted}
 use Rattle.hunk_commands.proofs.RequestLemmas.{fails_with_line}
 use Rattle.hunk_commands.proofs.answers.answer_help.Goals as goal

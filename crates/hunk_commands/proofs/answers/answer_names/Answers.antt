@@ -3,12 +3,12 @@ use Rattle.std.proofs.Common.{◌≡◌, ◌∙◌, [], ap, inl, inr, map, refl,
 use Rattle.std.proofs.KnownBytes.{Keeps-refl}
 use Rattle.std.specs.String.{string_bytes}
 use Rattle.hunk_tool.specs.Inputs.{file_names}
-use Rattle.hunk_commands.specs.Failure.{TellsLine, failure_line, status_of}
+use Rattle.hunk_store.specs.Failure.{TellsLine, failure_line, status_of}
+use Rattle.hunk_store.specs.Output.{printed_of}
 use Rattle.hunk_commands.specs.Names.{IsNamesFailure}
-use Rattle.hunk_commands.specs.Output.{printed_of}
 use Rattle.hunk_commands.specs.Request.{NoMore, OrExhausted}
 use Rattle.hunk_tool.specs.declared.tool_fault.ToolFault.TheVariants as tool_fault
-use Rattle.hunk_commands.specs.declared.failure.Failure.TheVariants.{Tool}
+use Rattle.hunk_store.specs.declared.failure.Failure.TheVariants.{Tool}
 use Rattle.hunk_commands.proofs.RequestLemmas.{fails_with, out_of_memory_told}
 use Rattle.hunk_commands.proofs.answers.answer_names.Goals as goal
 

@@ -1,8 +1,8 @@
 -- The survey failed.
 use Rattle.std.proofs.Common.{[], inr, refl}
 use Rattle.hunk_tool.specs.Inputs.{file_names}
-use Rattle.hunk_commands.specs.FileList.{given_list}
-use Rattle.hunk_commands.specs.Output.{printed_of}
+use Rattle.hunk_store.specs.FileList.{given_list}
+use Rattle.hunk_store.specs.Output.{printed_of}
 use Rattle.hunk_commands.specs.Request.{NoMore}
 use Rattle.hunk_commands.specs.Survey.{IsSurveyFailure}
 use Rattle.hunk_commands.proofs.RequestLemmas.{fails_with_line}

@@ -1,12 +1,12 @@
 -- Not done: there is no memory for the name of the file, or the text was not printed.
 use Rattle.std.proofs.Common.{◌∷◌, [], ap, inl, inr, refl}
 use Rattle.std.proofs.KnownBytes.{Keeps-refl}
+use Rattle.hunk_store.specs.Output.{printed_of}
 use Rattle.hunk_commands.specs.Explain.{AreTextLines, IfAsked}
 use Rattle.hunk_commands.specs.Text.{IsTextFailure}
-use Rattle.hunk_commands.specs.Output.{printed_of}
 use Rattle.hunk_commands.specs.Request.{OrExhausted}
 use Rattle.hunk_tool.specs.declared.tool_fault.ToolFault.TheVariants as tool_fault
-use Rattle.hunk_commands.specs.declared.failure.Failure.TheVariants.{Tool}
+use Rattle.hunk_store.specs.declared.failure.Failure.TheVariants.{Tool}
 use Rattle.hunk_commands.proofs.ExplainLemmas.{none_asked}
 use Rattle.hunk_commands.proofs.RequestLemmas.{IsFailed-why, not_begun, out_of_memory_told}
 use Rattle.hunk_commands.proofs.answers.answer_text.Goals as goal

@@ -1,8 +1,8 @@
 -- What the run over the files returned, and whether the output passed on what it had taken.
 use Rattle.std.proofs.KnownBytes.{Keeps-refl}
 use Rattle.std.proofs.lemmas.Result.{err_from_is_err_and}
-use Rattle.hunk_commands.specs.Addresses.{input_of}
-use Rattle.hunk_commands.specs.Output.{printed_of}
+use Rattle.hunk_store.specs.Addresses.{input_of}
+use Rattle.hunk_store.specs.Output.{printed_of}
 use Rattle.hunk_commands.proofs.CompareLemmas.{IsCompareFailure-first, IsCompareFailure-second}
 use Rattle.hunk_commands.proofs.PrintingLemmas.{kept_comparison}
 use Rattle.hunk_commands.proofs.compare.compare.Goals as goal

@@ -1,9 +1,9 @@
 -- What the run over OUT returned, and whether OUT was replaced.
 use Rattle.std.proofs.Common.{[]}
 use Rattle.std.proofs.lemmas.Result.{IfErr-weaker}
-use Rattle.hunk_commands.specs.Addresses.{input_of}
+use Rattle.hunk_store.specs.Addresses.{input_of}
+use Rattle.hunk_store.specs.Store.{IsCauseOf}
 use Rattle.hunk_commands.specs.Copy.{IsCopyFailure}
-use Rattle.hunk_commands.specs.Store.{IsCauseOf}
 use Rattle.hunk_commands.proofs.CopyLemmas.{IsCopiedOut-run, IsCopyFailure-run}
 use Rattle.hunk_commands.proofs.copy.copy.Goals as goal
 

@@ -2,7 +2,7 @@
 use Rattle.std.proofs.Common.{inr, refl}
 use Rattle.std.proofs.lemmas.Result.{err_from_is_err_and}
 use Rattle.hunk_tool.specs.FileSystem.{IsReaderOf}
-use Rattle.hunk_commands.specs.Addresses.{HaveNumbers, input_of, source_of}
+use Rattle.hunk_store.specs.Addresses.{HaveNumbers, input_of, source_of}
 use Rattle.hunk_commands.specs.Explain.{IsLoadFile}
 use Rattle.hunk_commands.proofs.AgainLemmas.{not_loaded}
 use Rattle.hunk_commands.proofs.ExplainLemmas.{tells_places}

@@ -3,10 +3,10 @@ use Rattle.std.proofs.Common.{[], inr, refl, rules}
 use Rattle.hunk_base.proofs.StreamsLemmas.{HasRead-weaker}
 use Rattle.hunk_files.specs.ExplanationText.{explanation_text}
 use Rattle.hunk_tool.specs.FileSystem.{IsReaderOf}
-use Rattle.hunk_commands.specs.Addresses.{input_of}
+use Rattle.hunk_store.specs.Addresses.{input_of}
+use Rattle.hunk_store.proofs.FailureLemmas.{tells_text}
 use Rattle.hunk_commands.specs.Explain.{AreOffenceLines, kind_read}
 use Rattle.hunk_commands.proofs.ExplainLemmas.{tells_exactly}
-use Rattle.hunk_commands.proofs.FailureLemmas.{tells_text}
 use Rattle.hunk_commands.proofs.explain.explain_offence.Goals as goal
 
 pub returns-in_default : goal.returns-in_default

@@ -4,9 +4,9 @@ use Rattle.std.specs.String.{string_bytes}
 use Rattle.hunk_base.proofs.TextLemmas.{Puts-as}
 use Rattle.hunk_tool.specs.Inputs.{file_names}
 use Rattle.hunk_origins.specs.LinkExplanation.{Told, told_of, told_text}
+use Rattle.hunk_store.proofs.FailureLemmas.{tells_text}
 use Rattle.hunk_commands.specs.Explain.{AreRefusalLines}
 use Rattle.hunk_commands.proofs.ExplainLemmas.{tells_exactly}
-use Rattle.hunk_commands.proofs.FailureLemmas.{tells_text}
 use Rattle.hunk_commands.proofs.explain.explain_refusal.Goals as goal
 
 pub returns : goal.returns

@@ -1,9 +1,9 @@
 -- The lines about units that do not link, or why they are not told; and no lines where no units are read.
 use Rattle.hunk_tool.specs.Inputs.{file_names}
-use Rattle.hunk_commands.proofs.ExplainLemmas.{of_either, tells_none, tells_or_why}
-use Rattle.hunk_commands.proofs.explain.explain_units.Goals as goal
 use Rattle.hunk_commands.specs.Explain.{AreRefusalLinesOf, TellsMore}
 use Rattle.hunk_commands.specs.declared.explain.Command.TheVariants as command
+use Rattle.hunk_commands.proofs.ExplainLemmas.{of_either, tells_none, tells_or_why}
+use Rattle.hunk_commands.proofs.explain.explain_units.Goals as goal
 
 pub returns-in-Link : goal.returns-in-Link
 returns-in-Link g c =

@@ -1,9 +1,9 @@
 -- The line was put into a text that was finished.
 use Rattle.std.proofs.Common.{[], refl, rules}
+use Rattle.hunk_store.proofs.FailureLemmas.{tells_text}
 use Rattle.hunk_commands.specs.Explain.{IsReason}
-use Rattle.hunk_commands.specs.OpenFault.{reason_line}
+use Rattle.hunk_commands.specs.Reason.{reason_line}
 use Rattle.hunk_commands.proofs.ExplainLemmas.{tells_exactly}
-use Rattle.hunk_commands.proofs.FailureLemmas.{tells_text}
 use Rattle.hunk_commands.proofs.explain.tell_reason.Goals as goal
 
 pub returns : goal.returns

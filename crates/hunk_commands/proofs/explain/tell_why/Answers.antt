@@ -1,6 +1,6 @@
 -- The line was put into a text that was finished.
 use Rattle.std.proofs.Common.{[], rules}
-use Rattle.hunk_commands.proofs.FailureLemmas.{tells_text}
+use Rattle.hunk_store.proofs.FailureLemmas.{tells_text}
 use Rattle.hunk_commands.proofs.explain.tell_why.Goals as goal
 
 pub returns : goal.returns

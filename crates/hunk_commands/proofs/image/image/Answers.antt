@@ -2,11 +2,11 @@
 use Rattle.std.proofs.Common.{◌≡◌, [], inl, inr, refl, IsTrue}
 use Rattle.std.proofs.lemmas.Result.{err_from_is_err_and}
 use Rattle.hunk_tool.specs.Inputs.{file_names}
-use Rattle.hunk_commands.specs.Addresses.{HaveNumbers, source_of}
+use Rattle.hunk_store.specs.Addresses.{HaveNumbers, source_of}
+use Rattle.hunk_store.specs.Inputs.{AreInputs}
+use Rattle.hunk_store.specs.Output.{printed_of}
+use Rattle.hunk_store.proofs.InputsLemmas.{OfFiles-inputs}
 use Rattle.hunk_commands.specs.Image.{AreImaged, AreWrittenOf, IsImageFailure, is_stripped, units_text}
-use Rattle.hunk_commands.specs.Inputs.{AreInputs}
-use Rattle.hunk_commands.specs.Output.{printed_of}
-use Rattle.hunk_commands.proofs.InputsLemmas.{OfFiles-inputs}
 use Rattle.hunk_commands.proofs.PrintingLemmas.{kept_of_units, not_flushed, on_flushed}
 use Rattle.hunk_commands.proofs.image.image.Goals as goal
 

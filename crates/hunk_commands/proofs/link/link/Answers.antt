@@ -2,10 +2,10 @@
 use Rattle.std.proofs.lemmas.Result.{IfErr-weaker}
 use Rattle.hunk_tool.specs.Inputs.{file_names}
 use Rattle.hunk_tool.specs.Link.{IsLinkFault, IsLinked, Taken}
-use Rattle.hunk_commands.specs.Inputs.{AreInputs, OfFiles, OfWholeFiles}
+use Rattle.hunk_store.specs.Inputs.{AreInputs, OfFiles, OfWholeFiles}
+use Rattle.hunk_store.specs.Store.{IsCauseOf}
+use Rattle.hunk_store.proofs.InputsLemmas.{OfFiles-inputs}
 use Rattle.hunk_commands.specs.Link.{IsLinkFailure}
-use Rattle.hunk_commands.specs.Store.{IsCauseOf}
-use Rattle.hunk_commands.proofs.InputsLemmas.{OfFiles-inputs}
 use Rattle.hunk_commands.proofs.LinkLemmas.{IsLinkFailure-run, IsMade-run}
 use Rattle.hunk_commands.proofs.PrintingLemmas.{on_flushed}
 use Rattle.hunk_commands.proofs.link.link.Goals as goal

@@ -2,8 +2,8 @@
 use Rattle.std.proofs.Common.{◌∙◌, inl, inr, map, string_bytes}
 use Rattle.std.proofs.lemmas.Result.{err_from_is_err_and}
 use Rattle.hunk_tool.specs.Inputs.{file_names}
-use Rattle.hunk_commands.proofs.LinkLemmas.{DoLinkTo-files, IsMade-written, IsMapFailure-unmapped, IsMapped-written}
 use Rattle.hunk_commands.specs.Link.{HasMap, IsMapped}
+use Rattle.hunk_commands.proofs.LinkLemmas.{DoLinkTo-files, IsMade-written, IsMapFailure-unmapped, IsMapped-written}
 use Rattle.hunk_commands.proofs.PrintingLemmas.{on_flushed}
 use Rattle.hunk_tool.proofs.LinkLemmas.{length-trimmed_if}
 use Rattle.hunk_commands.proofs.link.link_with_map.Goals as goal

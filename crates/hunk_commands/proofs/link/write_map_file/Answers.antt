@@ -1,8 +1,8 @@
 -- The map that was put in the place of MAP, and why it was not.
 use Rattle.std.proofs.Common.{map, string_bytes, subst, sym}
 use Rattle.hunk_origins.specs.Map.{map_text}
+use Rattle.hunk_store.specs.Store.{HasRun, IsCauseOf}
 use Rattle.hunk_commands.specs.Link.{IsUnmapped}
-use Rattle.hunk_commands.specs.Store.{HasRun, IsCauseOf}
 use Rattle.hunk_commands.proofs.LinkLemmas.{Appends-text, IsUnmapped-cause}
 use Rattle.hunk_commands.proofs.link.write_map_file.Goals as goal
 

@@ -5,7 +5,7 @@ use Rattle.std.proofs.lemmas.Result.{err_from_is_err_and}
 use Rattle.hunk_base.specs.Name.{bytes_of}
 use Rattle.hunk_loadfile.specs.Rules.{IsLoadFile}
 use Rattle.hunk_loadfile.specs.WrittenForm.{written_in}
-use Rattle.hunk_commands.specs.Store.{HasRun, IsCauseOf}
+use Rattle.hunk_store.specs.Store.{HasRun, IsCauseOf}
 use Rattle.hunk_commands.proofs.LinkLemmas.{Appends-run, IsUnwritten-cause}
 use Rattle.hunk_commands.proofs.link.write_out.Goals as goal
 

@@ -1,9 +1,9 @@
 -- The files that are given were linked, and those in the list after them; or the names in the list are not known.
 use Rattle.std.proofs.Common.{◌∙◌, [], ap, inl, inr, map, refl, string_bytes, subst}
+use Rattle.hunk_store.specs.FileList.{IsListFailure, list_of}
+use Rattle.hunk_store.specs.Store.{AreUnchanged}
 use Rattle.hunk_commands.specs.Explain.{AreLinkLines, IfAsked}
-use Rattle.hunk_commands.specs.FileList.{IsListFailure, list_of}
 use Rattle.hunk_commands.specs.Request.{EndsLinkOf, given_text}
-use Rattle.hunk_commands.specs.Store.{AreUnchanged}
 use Rattle.hunk_commands.proofs.RequestLemmas.{IsFailed-why}
 use Rattle.hunk_commands.proofs.link_request.answer_link.Goals as goal
 

@@ -5,7 +5,7 @@ use Rattle.hunk_commands.specs.Explain.{AreLinkLines, IfAsked}
 use Rattle.hunk_commands.specs.Link.{IsUndone}
 use Rattle.hunk_commands.specs.Request.{EndsLinkOf, OrUntouched, given_text}
 use Rattle.hunk_tool.specs.declared.tool_fault.ToolFault.TheVariants as tool_fault
-use Rattle.hunk_commands.specs.declared.failure.Failure.TheVariants.{Tool}
+use Rattle.hunk_store.specs.declared.failure.Failure.TheVariants.{Tool}
 use Rattle.hunk_commands.proofs.ExplainLemmas.{none_asked}
 use Rattle.hunk_commands.proofs.RequestLemmas.{not_begun, out_of_memory_told}
 use Rattle.hunk_commands.proofs.link_request.answer_link_of_given.Goals as goal

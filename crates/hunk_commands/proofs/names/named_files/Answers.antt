@@ -2,8 +2,8 @@
 use Rattle.std.proofs.Common.{inr}
 use Rattle.std.proofs.lemmas.Result.{err_from_is_err_and}
 use Rattle.hunk_tool.specs.Inputs.{file_names}
-use Rattle.hunk_commands.specs.Inputs.{AreInputs}
-use Rattle.hunk_commands.proofs.InputsLemmas.{OfFiles-inputs}
+use Rattle.hunk_store.specs.Inputs.{AreInputs}
+use Rattle.hunk_store.proofs.InputsLemmas.{OfFiles-inputs}
 use Rattle.hunk_commands.proofs.names.named_files.Goals as goal
 
 pub returns-clause-ok : goal.returns-clause-ok

@@ -7,9 +7,9 @@ use Rattle.std.proofs.lemmas.Result.{err_from_is_err_and}
 use Rattle.hunk_tool.specs.Inputs.{file_names}
 use Rattle.hunk_origins.specs.NamedFiles.{AreNamedFiles}
 use Rattle.hunk_origins.specs.Names.{names_text}
+use Rattle.hunk_store.specs.Output.{printed_of}
+use Rattle.hunk_store.proofs.InputsLemmas.{OfWholeFiles-weaker}
 use Rattle.hunk_commands.specs.Names.{IsListCutShort, IsNamesFailure}
-use Rattle.hunk_commands.specs.Output.{printed_of}
-use Rattle.hunk_commands.proofs.InputsLemmas.{OfWholeFiles-weaker}
 use Rattle.hunk_commands.proofs.PrintingLemmas.{not_flushed}
 use Rattle.hunk_commands.proofs.names.print_names.Goals as goal
 

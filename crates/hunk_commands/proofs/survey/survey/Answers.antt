@@ -2,8 +2,8 @@
 use Rattle.std.proofs.Common.{inl, inr, subst, sym}
 use Rattle.std.proofs.lemmas.Result.{err_from_is_err_and}
 use Rattle.hunk_tool.specs.Inputs.{file_names}
-use Rattle.hunk_commands.specs.FileList.{given_list}
-use Rattle.hunk_commands.specs.Output.{printed_of}
+use Rattle.hunk_store.specs.FileList.{given_list}
+use Rattle.hunk_store.specs.Output.{printed_of}
 use Rattle.hunk_commands.specs.Survey.{IsSurveyFailure}
 use Rattle.hunk_commands.proofs.SurveyLemmas.{cut-at-end, cut-in-last, surveyed, untold-short}
 use Rattle.hunk_commands.proofs.survey.survey.Goals as goal

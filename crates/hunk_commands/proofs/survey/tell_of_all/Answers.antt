@@ -2,8 +2,8 @@
 use Rattle.std.proofs.Common.{None, Some, inr, refl, subst}
 use Rattle.std.proofs.lemmas.Result.{IfErr-weaker, err_from_is_err_and}
 use Rattle.hunk_tool.specs.Inputs.{file_names}
-use Rattle.hunk_commands.specs.FileList.{list_of}
-use Rattle.hunk_commands.specs.NameReader.{AreFirstNames, unread}
+use Rattle.hunk_store.specs.FileList.{list_of}
+use Rattle.hunk_store.specs.NameReader.{AreFirstNames, unread}
 use Rattle.hunk_commands.proofs.SurveyNamesLemmas.{stopped-in-files, stopped-in-list}
 use Rattle.hunk_commands.proofs.survey.tell_of_all.Goals as goal
 

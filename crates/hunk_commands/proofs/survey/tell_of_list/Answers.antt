@@ -1,10 +1,10 @@
 -- The lines about the files in a list follow those about the others, or stop.
 use Rattle.std.proofs.Common.{Some, ◌∷◌, ◌++◌, [], append-nil, append_assoc, refl, rules, subst, sym}
 use Rattle.std.proofs.lemmas.Result.{err_from_is_err_and}
-use Rattle.hunk_commands.specs.FileList.{list_of}
-use Rattle.hunk_commands.specs.NameReader.{HasNoName, TakesNames, unread}
+use Rattle.hunk_store.specs.FileList.{list_of}
+use Rattle.hunk_store.specs.NameReader.{HasNoName, TakesNames, unread}
+use Rattle.hunk_store.proofs.NameReaderLemmas.{takes-all, takes-first, takes-more, takes-none}
 use Rattle.hunk_commands.specs.Survey.{AreTold, AreUntold}
-use Rattle.hunk_commands.proofs.NameReaderLemmas.{takes-all, takes-first, takes-more, takes-none}
 use Rattle.hunk_commands.proofs.SurveyLemmas.{told-whole}
 use Rattle.hunk_commands.proofs.survey.tell_of_list.Goals as goal
 

@@ -1,6 +1,6 @@
 -- The lines about the names in the list so far follow those before.
 use Rattle.std.proofs.Common.{◌≡◌, ◌++◌, ℕ, List, Option}
-use Rattle.hunk_commands.specs.NameReader.{TakesNames, unread}
+use Rattle.hunk_store.specs.NameReader.{TakesNames, unread}
 use Rattle.hunk_commands.specs.Survey.{AreTold}
 use Rattle.hunk_commands.proofs.survey.tell_of_list.Given as goal
 

@@ -1,9 +1,9 @@
 -- What the run over the file returned, and whether the output passed on what it had taken.
 use Rattle.std.proofs.Common.{◌≡◌, [], IsTrue}
 use Rattle.std.proofs.lemmas.Result.{err_from_is_err_and}
-use Rattle.hunk_commands.specs.Addresses.{input_of}
+use Rattle.hunk_store.specs.Addresses.{input_of}
+use Rattle.hunk_store.specs.Output.{printed_of}
 use Rattle.hunk_commands.specs.Text.{IsTextFailure, IsTold, IsWrittenOf, text_of}
-use Rattle.hunk_commands.specs.Output.{printed_of}
 use Rattle.hunk_commands.proofs.PrintingLemmas.{kept_text, not_flushed, on_flushed}
 use Rattle.hunk_commands.proofs.text.print_text.Goals as goal
 

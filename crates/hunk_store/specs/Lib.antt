@@ -1,0 +1,15 @@
+pub mod Failure
+pub mod Output
+pub mod Printer
+pub mod Store
+pub mod Opening
+pub mod SystemFile
+pub mod MemoryStore
+pub mod Inputs
+pub mod FileList
+pub mod NameReader
+pub mod ListedNames
+pub mod Addresses
+pub mod OpenFault
+pub mod Replacement
+pub mod Lines
