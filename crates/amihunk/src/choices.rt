@@ -96,9 +96,9 @@ pub fn list_of<'a>(
 
 /// What is asked of a copy: its normal form goes with no other flag.
 pub fn copy_form(normal: bool, options: LinkOptions, explain: bool) -> Result<CopyForm, Conflict>
-    ensures { MatchResult result
-        (λ form. copy_form_by normal options explain ≡ Some form)
-        (λ conflict. (copy_form_by normal options explain ≡ None) × (conflict_kind conflict ≡ ArgumentConflict)) }
+    ensures { MatchResult result (λ form. copy_form_by normal options explain ≡ Some form)
+        (λ conflict. (copy_form_by normal options explain ≡ None) ×
+        (conflict_kind conflict ≡ ArgumentConflict)) }
 {
     match (normal, options, explain) {
         (false, options, _) => Ok(CopyForm::Written(options)),

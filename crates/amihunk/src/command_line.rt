@@ -34,43 +34,47 @@ use std::convert::AsStr;
 /// Reads the arguments of a command line, the first of which is the program's name.
 pub fn read_words<'a, S: AsStr>(alloc: Global, words: &'a [S]) -> Request<'a>
     ensures answer { IsAskedBy (map S.text words.entry.now) result }
-    ensures link { (program : List ℕ) (options : LinkOptions) (out : List ℕ) (map_file : Option (List ℕ)) (files : List (List ℕ))
-        → map S.text words.entry.now ≡ link_line program options out map_file files
-        → IsNoFlag out → IsNoFlagIn map_file → 0 < length files → All IsNoFlag files → Asks (to_link out map_file options false false files None) result }
-    ensures brief { (program : List ℕ) (options : LinkOptions) (out : List ℕ) (map_file : Option (List ℕ)) (files : List (List ℕ))
-        → map S.text words.entry.now ≡ brief_link_line program options out map_file files
-        → IsNoFlag out → IsNoFlagIn map_file → 0 < length files → All IsNoFlag files → Asks (to_link out map_file options false false files None) result }
-    ensures load { (program : List ℕ) (source : AddressSource) (text : LoadText) (file : List ℕ)
-        → map S.text words.entry.now ≡ load_line program source text file
-        → IsNoFlag (text_in source) → IsNoFlag file → Asks (to_load source text false file) result }
-    ensures image { (program : List ℕ) (source : AddressSource) (text : LoadText) (files : List (List ℕ))
-        → map S.text words.entry.now ≡ image_line program source text files
-        → IsNoFlag (text_in source) → 0 < length files → All IsNoFlag files → Asks (to_image source text false files) result }
-    ensures check { (program file : List ℕ)
-        → map S.text words.entry.now ≡ file_line program (codes "check") file
-        → IsNoFlag file → Asks (to_check false false file) result }
-    ensures show { (program : List ℕ) (text : ShowText) (file : List ℕ)
-        → map S.text words.entry.now ≡ show_line program text file
-        → IsNoFlag file → Asks (to_show text false file) result }
-    ensures names { (program : List ℕ) (files : List (List ℕ))
-        → map S.text words.entry.now ≡ names_line program files
-        → 0 < length files → All IsNoFlag files → Asks (to_names files) result }
-    ensures survey { (program : List ℕ) (files : List (List ℕ))
-        → map S.text words.entry.now ≡ survey_line program files
-        → 0 < length files → All IsNoFlag files → Asks (to_survey no_survey_options files None) result }
-    ensures copy { (program : List ℕ) (options : LinkOptions) (out file : List ℕ)
-        → map S.text words.entry.now ≡ copy_line program options out file
-        → IsNoFlag out → IsNoFlag file → Asks (to_copy out (CopyForm.Written options) false file) result }
-    ensures normal { (program out file : List ℕ)
-        → map S.text words.entry.now ≡ normal_line program out file
-        → IsNoFlag out → IsNoFlag file → Asks (to_copy out CopyForm.Normal false file) result }
-    ensures compare { (program : List ℕ) (with_symbols : Bool) (first second : List ℕ)
-        → map S.text words.entry.now ≡ compare_line program with_symbols first second
-        → IsNoFlag first → IsNoFlag second → Asks (to_compare with_symbols first second) result }
-    ensures version { (program word : List ℕ)
-        → map S.text words.entry.now ≡ version_line program word → IsVersionWord word → Means version result }
-    ensures refused { (program : List ℕ) (others : List (List ℕ))
-        → map S.text words.entry.now ≡ program ∷ others → AreRefused others → Means rejection result }
+    ensures link { (program : List ℕ) (options : LinkOptions) (out : List ℕ)
+        (map_file : Option (List ℕ)) (files : List (List ℕ)) →
+        map S.text words.entry.now ≡ link_line program options out map_file files →
+        IsNoFlag out → IsNoFlagIn map_file → 0 < length files → All IsNoFlag files →
+        Asks (to_link out map_file options false false files None) result }
+    ensures brief { (program : List ℕ) (options : LinkOptions)
+        (out : List ℕ) (map_file : Option (List ℕ)) (files : List (List ℕ)) →
+        map S.text words.entry.now ≡ brief_link_line program options out map_file files →
+        IsNoFlag out → IsNoFlagIn map_file → 0 < length files → All IsNoFlag files →
+        Asks (to_link out map_file options false false files None) result }
+    ensures load { (program : List ℕ) (source : AddressSource) (text : LoadText) (file : List ℕ) →
+        map S.text words.entry.now ≡ load_line program source text file →
+        IsNoFlag (text_in source) → IsNoFlag file → Asks (to_load source text false file) result }
+    ensures image { (program : List ℕ) (source : AddressSource)
+        (text : LoadText) (files : List (List ℕ)) → map S.text words.entry.now ≡
+        image_line program source text files → IsNoFlag (text_in source) → 0 < length files →
+        All IsNoFlag files → Asks (to_image source text false files) result }
+    ensures check { (program file : List ℕ) → map S.text words.entry.now ≡ file_line program
+        (codes "check") file → IsNoFlag file → Asks (to_check false false file) result }
+    ensures show { (program : List ℕ) (text : ShowText) (file : List ℕ) →
+        map S.text words.entry.now ≡ show_line program text file → IsNoFlag file →
+        Asks (to_show text false file) result }
+    ensures names { (program : List ℕ) (files : List (List ℕ)) →
+        map S.text words.entry.now ≡ names_line program files → 0 < length files →
+        All IsNoFlag files → Asks (to_names files) result }
+    ensures survey { (program : List ℕ) (files : List (List ℕ)) →
+        map S.text words.entry.now ≡ survey_line program files → 0 < length files →
+        All IsNoFlag files → Asks (to_survey no_survey_options files None) result }
+    ensures copy { (program : List ℕ) (options : LinkOptions) (out file : List ℕ) →
+        map S.text words.entry.now ≡ copy_line program options out file → IsNoFlag out →
+        IsNoFlag file → Asks (to_copy out (CopyForm.Written options) false file) result }
+    ensures normal { (program out file : List ℕ) →
+        map S.text words.entry.now ≡ normal_line program out file → IsNoFlag out → IsNoFlag file →
+        Asks (to_copy out CopyForm.Normal false file) result }
+    ensures compare { (program : List ℕ) (with_symbols : Bool) (first second : List ℕ) →
+        map S.text words.entry.now ≡ compare_line program with_symbols first second →
+        IsNoFlag first → IsNoFlag second → Asks (to_compare with_symbols first second) result }
+    ensures version { (program word : List ℕ) → map S.text words.entry.now ≡
+        version_line program word → IsVersionWord word → Means version result }
+    ensures refused { (program : List ℕ) (others : List (List ℕ)) →
+        map S.text words.entry.now ≡ program ∷ others → AreRefused others → Means rejection result }
 {
     // A call of its own, so that the plain forms are proved once, for both arms of its `match`.
     request_for(alloc, words)
@@ -313,8 +317,10 @@ fn survey_options_of(values: &ArgMatches<'_>) -> SurveyOptions
 fn list_in<'a>(values: &ArgMatches<'a>, has_files: bool) -> Result<Option<FileList<'a>>, Conflict>
     requires { IsFlag (rows_of (found_of values.now)) (codes "lines") }
     ensures { MatchResult result
-        (λ list. list_by (first_of (codes "files-from") (rows_of (found_of values.now))) (is_given (codes "lines") (rows_of (found_of values.now))) has_files ≡ Some (given_list list))
-        (λ _. list_by (first_of (codes "files-from") (rows_of (found_of values.now))) (is_given (codes "lines") (rows_of (found_of values.now))) has_files ≡ None) }
+        (λ list. list_by (first_of (codes "files-from") (rows_of (found_of values.now))) (is_given
+        (codes "lines") (rows_of (found_of values.now))) has_files ≡ Some (given_list list))
+        (λ _. list_by (first_of (codes "files-from") (rows_of (found_of values.now)))
+        (is_given (codes "lines") (rows_of (found_of values.now))) has_files ≡ None) }
 {
     list_of(
         optional_value(values, "files-from"),

@@ -34,7 +34,8 @@ pub fn begin<R: Env + Files + Print + RandomSource + AllocGlobal, W: Sink>(
     errors: &mut W,
     has_stack: bool,
 ) -> u8
-    ensures begun { ((run : Run) × EndsStart run W.taken W.failed errors.old errors.new result) ⊎ IsNotBegun W.taken W.failed errors.old errors.new result }
+    ensures begun { ((run : Run) × EndsStart run W.taken W.failed errors.old errors.new result) ⊎
+        IsNotBegun W.taken W.failed errors.old errors.new result }
     ensures status { result ≤ 4 }
 {
     let _input = in_place_of_input(rt);
@@ -47,7 +48,8 @@ fn begin_with_input<R: Env + Files + Print + RandomSource + AllocGlobal, W: Sink
     errors: &mut W,
     has_stack: bool,
 ) -> u8
-    ensures begun { ((run : Run) × EndsStart run W.taken W.failed errors.old errors.new result) ⊎ IsNotBegun W.taken W.failed errors.old errors.new result }
+    ensures begun { ((run : Run) × EndsStart run W.taken W.failed errors.old errors.new result) ⊎
+        IsNotBegun W.taken W.failed errors.old errors.new result }
     ensures status { result ≤ 4 }
 {
     match Printer::new(rt.alloc(), io::writer(rt)) {
@@ -78,7 +80,8 @@ fn start<R: Env + AllocGlobal, S: Store, O: Output, W: Sink>(
     errors: &mut W,
     has_stack: bool,
 ) -> u8
-    ensures ends { EndsStart (run_between S.content O.taken O.failed O.waiting store.old store.new output.old output.new) W.taken W.failed errors.old errors.new result }
+    ensures ends { EndsStart (run_between S.content O.taken O.failed O.waiting store.old store.new
+        output.old output.new) W.taken W.failed errors.old errors.new result }
     ensures status { result ≤ 4 }
 {
     let alloc = rt.alloc();
@@ -100,7 +103,8 @@ fn run_arguments<S: Store, O: Output, W: Sink>(
     arguments: &[Argument],
 ) -> u8
     requires { AreArguments arguments.now }
-    ensures ends { EndsStart (run_between S.content O.taken O.failed O.waiting store.old store.new output.old output.new) W.taken W.failed errors.old errors.new result }
+    ensures ends { EndsStart (run_between S.content O.taken O.failed O.waiting store.old store.new
+        output.old output.new) W.taken W.failed errors.old errors.new result }
     ensures status { result ≤ 4 }
 {
     if are_texts(arguments) {
@@ -119,44 +123,78 @@ pub fn run<S: Store, O: Output, W: Sink, T: AsStr>(
     errors: &mut W,
     words: &[T],
 ) -> u8
-    ensures line { EndsLine (run_between S.content O.taken O.failed O.waiting store.old store.new output.old output.new) W.taken W.failed errors.old errors.new (map T.text words.now) result }
-    ensures link { (program : List ℕ) (options : LinkOptions) (out : List ℕ) (map_file : Option (List ℕ)) (files : List (List ℕ))
-        → map T.text words.now ≡ link_line program options out map_file files
-        → IsNoFlag out → IsNoFlagIn map_file → 0 < length files → All IsNoFlag files → Replaces (run_between S.content O.taken O.failed O.waiting store.old store.new output.old output.new) (λ contents contents_then. EndsLink contents contents_then W.taken W.failed errors.old errors.new out map_file options false false files None result) }
-    ensures brief { (program : List ℕ) (options : LinkOptions) (out : List ℕ) (map_file : Option (List ℕ)) (files : List (List ℕ))
-        → map T.text words.now ≡ brief_link_line program options out map_file files
-        → IsNoFlag out → IsNoFlagIn map_file → 0 < length files → All IsNoFlag files → Replaces (run_between S.content O.taken O.failed O.waiting store.old store.new output.old output.new) (λ contents contents_then. EndsLink contents contents_then W.taken W.failed errors.old errors.new out map_file options false false files None result) }
-    ensures load { (program : List ℕ) (source : AddressSource) (text : LoadText) (file : List ℕ)
-        → map T.text words.now ≡ load_line program source text file
-        → IsNoFlag (text_in source) → IsNoFlag file → Reads (run_between S.content O.taken O.failed O.waiting store.old store.new output.old output.new) (λ contents printed. EndsLoad contents printed W.taken W.failed errors.old errors.new source text false file result) }
-    ensures image { (program : List ℕ) (source : AddressSource) (text : LoadText) (files : List (List ℕ))
-        → map T.text words.now ≡ image_line program source text files
-        → IsNoFlag (text_in source) → 0 < length files → All IsNoFlag files → Reads (run_between S.content O.taken O.failed O.waiting store.old store.new output.old output.new) (λ contents printed. EndsImage contents printed W.taken W.failed errors.old errors.new source text false files result) }
-    ensures check { (program file : List ℕ)
-        → map T.text words.now ≡ file_line program (codes "check") file
-        → IsNoFlag file → Reads (run_between S.content O.taken O.failed O.waiting store.old store.new output.old output.new) (λ contents printed. EndsText contents printed W.taken W.failed errors.old errors.new Text.Line false file result) }
-    ensures show { (program : List ℕ) (text : ShowText) (file : List ℕ)
-        → map T.text words.now ≡ show_line program text file
-        → IsNoFlag file → Reads (run_between S.content O.taken O.failed O.waiting store.old store.new output.old output.new) (λ contents printed. EndsText contents printed W.taken W.failed errors.old errors.new (Text.Shown text) false file result) }
-    ensures names { (program : List ℕ) (files : List (List ℕ))
-        → map T.text words.now ≡ names_line program files
-        → 0 < length files → All IsNoFlag files → Reads (run_between S.content O.taken O.failed O.waiting store.old store.new output.old output.new) (λ contents printed. EndsNames contents printed W.taken W.failed errors.old errors.new files result) }
-    ensures survey { (program : List ℕ) (files : List (List ℕ))
-        → map T.text words.now ≡ survey_line program files
-        → 0 < length files → All IsNoFlag files → Reads (run_between S.content O.taken O.failed O.waiting store.old store.new output.old output.new) (λ contents printed. EndsSurvey no_survey_options contents printed W.taken W.failed errors.old errors.new files None result) }
-    ensures copy { (program : List ℕ) (options : LinkOptions) (out file : List ℕ)
-        → map T.text words.now ≡ copy_line program options out file
-        → IsNoFlag out → IsNoFlag file → Replaces (run_between S.content O.taken O.failed O.waiting store.old store.new output.old output.new) (λ contents contents_then. EndsCopy contents contents_then W.taken W.failed errors.old errors.new out (CopyForm.Written options) false file result) }
-    ensures normal { (program out file : List ℕ)
-        → map T.text words.now ≡ normal_line program out file
-        → IsNoFlag out → IsNoFlag file → Replaces (run_between S.content O.taken O.failed O.waiting store.old store.new output.old output.new) (λ contents contents_then. EndsCopy contents contents_then W.taken W.failed errors.old errors.new out CopyForm.Normal false file result) }
-    ensures compare { (program : List ℕ) (with_symbols : Bool) (first second : List ℕ)
-        → map T.text words.now ≡ compare_line program with_symbols first second
-        → IsNoFlag first → IsNoFlag second → Reads (run_between S.content O.taken O.failed O.waiting store.old store.new output.old output.new) (λ contents printed. EndsCompare contents printed W.taken W.failed errors.old errors.new with_symbols first second result) }
-    ensures version { (program word : List ℕ)
-        → map T.text words.now ≡ version_line program word → IsVersionWord word → Reads (run_between S.content O.taken O.failed O.waiting store.old store.new output.old output.new) (λ contents printed. EndsVersion printed W.taken W.failed errors.old errors.new result) }
-    ensures refused { (program : List ℕ) (others : List (List ℕ))
-        → map T.text words.now ≡ program ∷ others → AreRefused others → IsRejected (run_between S.content O.taken O.failed O.waiting store.old store.new output.old output.new) W.taken W.failed errors.old errors.new result }
+    ensures line { EndsLine
+        (run_between S.content O.taken O.failed O.waiting store.old store.new output.old output.new)
+        W.taken W.failed errors.old errors.new (map T.text words.now) result }
+    ensures link { (program : List ℕ) (options : LinkOptions) (out : List ℕ)
+        (map_file : Option (List ℕ)) (files : List (List ℕ)) →
+        map T.text words.now ≡ link_line program options out map_file files → IsNoFlag out →
+        IsNoFlagIn map_file → 0 < length files → All IsNoFlag files → Replaces
+        (run_between S.content O.taken O.failed O.waiting store.old store.new output.old output.new)
+        (λ contents contents_then. EndsLink contents contents_then W.taken W.failed errors.old
+        errors.new out map_file options false false files None result) }
+    ensures brief { (program : List ℕ) (options : LinkOptions)
+        (out : List ℕ) (map_file : Option (List ℕ)) (files : List (List ℕ)) →
+        map T.text words.now ≡ brief_link_line program options out map_file files →
+        IsNoFlag out → IsNoFlagIn map_file → 0 < length files → All IsNoFlag files → Replaces
+        (run_between S.content O.taken O.failed O.waiting store.old store.new output.old output.new)
+        (λ contents contents_then. EndsLink contents contents_then W.taken W.failed errors.old
+        errors.new out map_file options false false files None result) }
+    ensures load { (program : List ℕ) (source : AddressSource) (text : LoadText) (file : List ℕ) →
+        map T.text words.now ≡ load_line program source text file →
+        IsNoFlag (text_in source) → IsNoFlag file → Reads
+        (run_between S.content O.taken O.failed O.waiting store.old store.new output.old output.new)
+        (λ contents printed. EndsLoad contents printed W.taken W.failed errors.old errors.new source
+        text false file result) }
+    ensures image { (program : List ℕ) (source : AddressSource) (text : LoadText)
+        (files : List (List ℕ)) → map T.text words.now ≡ image_line program source text files →
+        IsNoFlag (text_in source) → 0 < length files → All IsNoFlag files → Reads
+        (run_between S.content O.taken O.failed O.waiting store.old store.new output.old output.new)
+        (λ contents printed. EndsImage contents printed W.taken W.failed errors.old errors.new
+        source text false files result) }
+    ensures check { (program file : List ℕ) →
+        map T.text words.now ≡ file_line program (codes "check") file → IsNoFlag file → Reads
+        (run_between S.content O.taken O.failed O.waiting store.old store.new output.old output.new)
+        (λ contents printed. EndsText contents printed W.taken W.failed errors.old errors.new
+        Text.Line false file result) }
+    ensures show { (program : List ℕ) (text : ShowText) (file : List ℕ) →
+        map T.text words.now ≡ show_line program text file → IsNoFlag file → Reads
+        (run_between S.content O.taken O.failed O.waiting store.old store.new output.old output.new)
+        (λ contents printed. EndsText contents printed W.taken W.failed errors.old errors.new
+        (Text.Shown text) false file result) }
+    ensures names { (program : List ℕ) (files : List (List ℕ)) → map T.text words.now ≡
+        names_line program files → 0 < length files → All IsNoFlag files → Reads
+        (run_between S.content O.taken O.failed O.waiting store.old store.new output.old output.new)
+        (λ contents printed.
+        EndsNames contents printed W.taken W.failed errors.old errors.new files result) }
+    ensures survey { (program : List ℕ) (files : List (List ℕ)) → map T.text words.now ≡
+        survey_line program files → 0 < length files → All IsNoFlag files → Reads
+        (run_between S.content O.taken O.failed O.waiting store.old store.new output.old output.new)
+        (λ contents printed. EndsSurvey no_survey_options contents printed W.taken W.failed
+        errors.old errors.new files None result) }
+    ensures copy { (program : List ℕ) (options : LinkOptions) (out file : List ℕ) → map T.text
+        words.now ≡ copy_line program options out file → IsNoFlag out → IsNoFlag file → Replaces
+        (run_between S.content O.taken O.failed O.waiting store.old store.new output.old output.new)
+        (λ contents contents_then. EndsCopy contents contents_then W.taken W.failed errors.old
+        errors.new out (CopyForm.Written options) false file result) }
+    ensures normal { (program out file : List ℕ) → map T.text words.now ≡
+        normal_line program out file → IsNoFlag out → IsNoFlag file → Replaces
+        (run_between S.content O.taken O.failed O.waiting store.old store.new output.old output.new)
+        (λ contents contents_then. EndsCopy contents contents_then W.taken W.failed errors.old
+        errors.new out CopyForm.Normal false file result) }
+    ensures compare { (program : List ℕ) (with_symbols : Bool) (first second : List ℕ) →
+        map T.text words.now ≡ compare_line program with_symbols first second →
+        IsNoFlag first → IsNoFlag second → Reads
+        (run_between S.content O.taken O.failed O.waiting store.old store.new output.old output.new)
+        (λ contents printed. EndsCompare contents printed W.taken W.failed errors.old errors.new
+        with_symbols first second result) }
+    ensures version { (program word : List ℕ) →
+        map T.text words.now ≡ version_line program word → IsVersionWord word → Reads
+        (run_between S.content O.taken O.failed O.waiting store.old store.new output.old output.new)
+        (λ contents printed. EndsVersion printed W.taken W.failed errors.old errors.new result) }
+    ensures refused { (program : List ℕ) (others : List (List ℕ)) → map T.text words.now ≡ program ∷
+        others → AreRefused others → IsRejected (run_between S.content O.taken O.failed O.waiting
+        store.old store.new output.old output.new) W.taken W.failed errors.old errors.new result }
 {
     let request = read_words(alloc, words);
     answer(alloc, store, output, errors, request)

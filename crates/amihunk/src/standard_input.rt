@@ -86,7 +86,8 @@ fn has_hyphens_in(request: &Request<'_>) -> bool
 
 /// Whether there are two or more, where this one may be among them besides so many others.
 fn are_two(one: Option<&str>, others: usize) -> bool
-    ensures { result ≡ nat_lt 1 (length (filter is_hyphen (one_inputs (given_text one.entry))) + others) }
+    ensures { result ≡ nat_lt 1
+        (length (filter is_hyphen (one_inputs (given_text one.entry))) + others) }
 {
     match one {
         Some(one) if is_hyphen(one) => others > 0,

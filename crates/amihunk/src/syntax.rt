@@ -44,7 +44,8 @@ fn with_subcommand<'a>(
     subcommand: Result<Command<'a>, AllocError>,
 ) -> Result<Command<'a>, AllocError>
     requires { IfOk subcommand (λ s. (out-Command s).has_globals ≡ false) }
-    ensures { (shape : Shape) → IfOk subcommand.entry (λ s. shape_of s ≡ shape) → IfOk result (λ c. app_of c ≡ with_subcommand (app_of command.entry) shape) }
+    ensures { (shape : Shape) → IfOk subcommand.entry (λ s. shape_of s ≡ shape) →
+        IfOk result (λ c. app_of c ≡ with_subcommand (app_of command.entry) shape) }
 {
     // A call of its own, so that it is proved once that the command is dropped where there is no subcommand.
     command.subcommand(subcommand?)
@@ -56,8 +57,10 @@ fn with_arguments<'a>(
     arguments: Vec<Arg<'a>>,
 ) -> Result<Command<'a>, AllocError>
     requires { AreLocal arguments.items }
-    ensures shape { IfOk result (λ c. app_of c ≡ with_rules (app_of command.entry) (map rule_of arguments.entry.items)) }
-    ensures local { (out-Command command.entry).has_globals ≡ false → IfOk result (λ c. (out-Command c).has_globals ≡ false) }
+    ensures shape { IfOk result
+        (λ c. app_of c ≡ with_rules (app_of command.entry) (map rule_of arguments.entry.items)) }
+    ensures local { (out-Command command.entry).has_globals ≡ false →
+        IfOk result (λ c. (out-Command c).has_globals ≡ false) }
 {
     // A call of its own, so that it is proved once what they make of a command.
     command.args(arguments)

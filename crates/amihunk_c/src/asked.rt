@@ -93,7 +93,8 @@ pub(crate) fn tell_site(
     index: u64,
     told: &mut SiteTold,
 ) -> u32
-    ensures { Tells IsSame (item_in (λ facts. facts.sites) (Some session.now) unit hunk index) told.old told.new result }
+    ensures { Tells IsSame (item_in (λ facts. facts.sites) (Some session.now) unit hunk index)
+        told.old told.new result }
 {
     match hunk_in(session, unit, hunk) {
         Ok(facts) => match facts.sites.get(index as usize) {
@@ -115,7 +116,8 @@ pub(crate) fn tell_symbol(
     index: u64,
     told: &mut SymbolTold,
 ) -> u32
-    ensures { Tells IsSymbolTold (item_in (λ facts. facts.symbols) (Some session.now) unit hunk index) told.old told.new result }
+    ensures { Tells IsSymbolTold (item_in (λ facts. facts.symbols)
+        (Some session.now) unit hunk index) told.old told.new result }
 {
     match hunk_in(session, unit, hunk) {
         Ok(facts) => match facts.symbols.get(index as usize) {
@@ -137,7 +139,8 @@ pub(crate) fn tell_definition(
     index: u64,
     told: &mut DefinitionTold,
 ) -> u32
-    ensures { Tells IsDefinitionTold (item_in (λ facts. facts.definitions) (Some session.now) unit hunk index) told.old told.new result }
+    ensures { Tells IsDefinitionTold (item_in (λ facts. facts.definitions)
+        (Some session.now) unit hunk index) told.old told.new result }
 {
     match hunk_in(session, unit, hunk) {
         Ok(facts) => match facts.definitions.get(index as usize) {
@@ -159,7 +162,8 @@ pub(crate) fn tell_reference(
     index: u64,
     told: &mut Span,
 ) -> u32
-    ensures { Tells IsSpanOf (item_in (λ facts. facts.references) (Some session.now) unit hunk index) told.old told.new result }
+    ensures { Tells IsSpanOf (item_in (λ facts. facts.references)
+        (Some session.now) unit hunk index) told.old told.new result }
 {
     match hunk_in(session, unit, hunk) {
         Ok(facts) => match facts.references.get(index as usize) {
@@ -181,7 +185,8 @@ pub(crate) fn tell_debug(
     index: u64,
     told: &mut DebugTold,
 ) -> u32
-    ensures { Tells IsDebugTold (item_in (λ facts. facts.debugs) (Some session.now) unit hunk index) told.old told.new result }
+    ensures { Tells IsDebugTold (item_in (λ facts. facts.debugs) (Some session.now) unit hunk index)
+        told.old told.new result }
 {
     match hunk_in(session, unit, hunk) {
         Ok(facts) => match facts.debugs.get(index as usize) {

@@ -20,7 +20,8 @@ fn tell_difference(
     with_symbols: bool,
     told: &mut DifferenceTold,
 ) -> u32
-    ensures { Tells IsSame (difference_in (Some first.now) (Some second.now) with_symbols) told.old told.new result }
+    ensures { Tells IsSame
+        (difference_in (Some first.now) (Some second.now) with_symbols) told.old told.new result }
 {
     match (file_in(first), file_in(second)) {
         (Some(first), Some(second)) => {
@@ -40,7 +41,8 @@ fn tell_difference_from(
     told: &mut DifferenceTold,
 ) -> u32
     ensures session { second.new.session ≡ second.old.session }
-    ensures told { Tells IsSame (difference_in (Some first.now) second.old.session with_symbols) told.old told.new result }
+    ensures told { Tells IsSame
+        (difference_in (Some first.now) second.old.session with_symbols) told.old told.new result }
 {
     match second.take(alloc) {
         Some(session) => {
@@ -64,7 +66,8 @@ pub extern "C" fn amihunk_c_compare(
 ) -> u32
     ensures first { first.new.session ≡ first.old.session }
     ensures second { second.new.session ≡ second.old.session }
-    ensures told { Tells IsSame (difference_in first.old.session second.old.session with_symbols) told.old told.new result }
+    ensures told { Tells IsSame
+        (difference_in first.old.session second.old.session with_symbols) told.old told.new result }
 {
     match first.take(alloc) {
         Some(session) => {
@@ -85,7 +88,8 @@ pub extern "C" fn amihunk_c_compare_with_itself(
     told: &mut DifferenceTold,
 ) -> u32
     ensures session { handle.new.session ≡ handle.old.session }
-    ensures told { Tells IsSame (difference_in handle.old.session handle.old.session with_symbols) told.old told.new result }
+    ensures told { Tells IsSame (difference_in handle.old.session handle.old.session with_symbols)
+        told.old told.new result }
 {
     match handle.take(alloc) {
         Some(session) => {

@@ -29,7 +29,18 @@ impl<'a> Model for HunkFacts<'a> {
 
     ghost Value = { Facts };
 
-    ghost view = { λ h. record { name = h.name.now; kind = h.kind; memory = h.memory; size = h.size; stored = h.stored.now; sites = h.sites.now; symbols = h.symbols.now; definitions = h.definitions.now; references = h.references.now; debugs = lists_of h.debugs.now } };
+    ghost view = { λ h. record {
+      name = h.name.now;
+      kind = h.kind;
+      memory = h.memory;
+      size = h.size;
+      stored = h.stored.now;
+      sites = h.sites.now;
+      symbols = h.symbols.now;
+      definitions = h.definitions.now;
+      references = h.references.now;
+      debugs = lists_of h.debugs.now;
+    } };
 }
 
 impl<'a> HunkFacts<'a> {

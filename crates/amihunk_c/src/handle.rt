@@ -52,7 +52,8 @@ impl Handle {
     }
 
     fn into_parts(self) -> Option<Parts<Session, Global>>
-        ensures { MatchOption result (self.session ≡ None) (λ parts. self.session ≡ Some parts.value) }
+        ensures { MatchOption result (self.session ≡ None)
+            (λ parts. self.session ≡ Some parts.value) }
     {
         let Handle { ptr, alloc } = self;
         if ptr.is_null() {
@@ -82,7 +83,8 @@ impl Handle {
     /// Takes the session out.
     pub(crate) fn take(&mut self, alloc: Global) -> Option<Box<Session>>
         ensures vacant { self.new.session ≡ None }
-        ensures session { MatchOption result (self.old.session ≡ None) (λ session. self.old.session ≡ Some session.value) }
+        ensures session { MatchOption result (self.old.session ≡ None)
+            (λ session. self.old.session ≡ Some session.value) }
     {
         match replace(self, Handle::vacant(alloc)).into_parts() {
             None => None,

@@ -22,7 +22,8 @@ pub extern "C" fn amihunk_c_undefined(
     told: &mut UndefinedTold,
 ) -> u32
     ensures session { handle.new.session ≡ handle.old.session }
-    ensures told { Tells IsUndefinedTold (undefined_in handle.old.session index) told.old told.new result }
+    ensures told { Tells IsUndefinedTold
+        (undefined_in handle.old.session index) told.old told.new result }
 {
     match handle.take(alloc) {
         Some(session) => {

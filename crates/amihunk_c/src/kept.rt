@@ -51,7 +51,8 @@ fn end_of_first(list: &[u8]) -> Option<usize>
 
 /// The first name of a list, and the list of the others.
 fn split_first(list: &[u8]) -> Option<(&[u8], &[u8])>
-    ensures first { IfSome result (λ split. names_in list.now ≡ split.0.now ∷ names_in split.1.now) }
+    ensures first { IfSome result
+        (λ split. names_in list.now ≡ split.0.now ∷ names_in split.1.now) }
     ensures shorter { IfSome result (λ split. length split.1.now < length list.now) }
     ensures none { IfNone result (names_in list.now ≡ []) }
 {
@@ -74,7 +75,8 @@ fn names_in(alloc: Global, list: &[u8]) -> Result<Vec<&[u8]>, AllocError>
 
 /// The text of the map, if the object files have the names in this list.
 fn map_of(alloc: Global, kept: &Kept, list: &[u8]) -> Result<Vec<u8>, AllocError>
-    ensures { IfOk result (λ text. text.items ≡ map_text (names_in list.now) kept.now.1 kept.now.0) }
+    ensures { IfOk result
+        (λ text. text.items ≡ map_text (names_in list.now) kept.now.1 kept.now.0) }
 {
     kept.map(alloc, &names_in(alloc, list)?)
 }

@@ -50,7 +50,8 @@ impl Model for Kept {
 impl Kept {
     /// The text of the map, if the object files have these names.
     pub(crate) fn map(&self, alloc: Global, names: &[&[u8]]) -> Result<Vec<u8>, AllocError>
-        ensures { IfOk result (λ text. text.items ≡ map_text (map (λ name. name.now) names.now) self.now.1 self.now.0) }
+        ensures { IfOk result (λ text. text.items ≡ map_text
+            (map (λ name. name.now) names.now) self.now.1 self.now.0) }
     {
         let mut writer = Watched::new(Vec::new(alloc));
         let mut text = Text::new(&mut writer);
@@ -71,8 +72,11 @@ pub(crate) fn link_and_drop(
     options: LinkOptions,
     hasher: NameHasher,
 ) -> Result<LinkedFile, Refused>
-    ensures linked { IfOk result (λ linked. (inputs : List (List ℕ)) → AreTaken inputs files ends.now → IsLinkedFile (record { link = options; keep = false }) inputs linked) }
-    ensures refused { IfErr result (λ refused. (inputs : List (List ℕ)) → AreTaken inputs files ends.now → IsLinkStop (record { link = options; keep = false }) inputs refused refused.fault) }
+    ensures linked { IfOk result (λ linked. (inputs : List (List ℕ)) → AreTaken inputs files
+        ends.now → IsLinkedFile (record { link = options; keep = false }) inputs linked) }
+    ensures refused { IfErr result
+        (λ refused. (inputs : List (List ℕ)) → AreTaken inputs files ends.now →
+        IsLinkStop (record { link = options; keep = false }) inputs refused refused.fault) }
 {
     match link_units_with(alloc, files.into_units(), options.strip, hasher) {
         Ok(linked) => match written(alloc, linked, options) {
@@ -92,8 +96,11 @@ pub(crate) fn link_and_keep(
     options: LinkOptions,
     hasher: NameHasher,
 ) -> Result<LinkedFile, Refused>
-    ensures linked { IfOk result (λ linked. (inputs : List (List ℕ)) → AreTaken inputs files ends.now → IsLinkedFile (record { link = options; keep = true }) inputs linked) }
-    ensures refused { IfErr result (λ refused. (inputs : List (List ℕ)) → AreTaken inputs files ends.now → IsLinkStop (record { link = options; keep = true }) inputs refused refused.fault) }
+    ensures linked { IfOk result (λ linked. (inputs : List (List ℕ)) → AreTaken inputs files
+        ends.now → IsLinkedFile (record { link = options; keep = true }) inputs linked) }
+    ensures refused { IfErr result
+        (λ refused. (inputs : List (List ℕ)) → AreTaken inputs files ends.now →
+        IsLinkStop (record { link = options; keep = true }) inputs refused refused.fault) }
 {
     match link_with(alloc, files.units(), options.strip, hasher) {
         Ok(linked) => match written(alloc, linked, options) {
@@ -134,8 +141,10 @@ fn written(
 ) -> Result<(LoadFile, Vec<u8>), AllocError>
     requires { IsShortEnough linked }
     ensures file { IfOk result (λ written. written.0 ≡ trimmed_if options.trim linked) }
-    ensures bytes { IfOk result (λ written. written.1.items ≡ bytes_of (written_in (form_of options) (trimmed_if options.trim linked))) }
-    ensures load { IfOk result (λ written. IsLoadOf (trimmed_if options.trim linked) (bytes_of (written_in (form_of options) (trimmed_if options.trim linked)))) }
+    ensures bytes { IfOk result (λ written. written.1.items ≡ bytes_of
+        (written_in (form_of options) (trimmed_if options.trim linked))) }
+    ensures load { IfOk result (λ written. IsLoadOf (trimmed_if options.trim linked)
+        (bytes_of (written_in (form_of options) (trimmed_if options.trim linked)))) }
 {
     let file = options.trimmed(linked);
     let bytes = written_bytes(alloc, &file, options.form())?;

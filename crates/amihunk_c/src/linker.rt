@@ -70,8 +70,10 @@ impl Linker {
 
     /// Takes out the decoder of the current input, a new one if the input has not begun.
     fn take_current(&mut self, alloc: Global) -> ObjectDecoder
-        ensures stands { (current : Option (List ℕ)) → Reads current self.old.current → StandsFor result (begun current) }
-        ensures none { (current : Option (List ℕ)) → Reads current self.old.current → refusal_of result ≡ None }
+        ensures stands { (current : Option (List ℕ)) → Reads current self.old.current →
+            StandsFor result (begun current) }
+        ensures none { (current : Option (List ℕ)) → Reads current self.old.current →
+            refusal_of result ≡ None }
         ensures rest { self.new ≡ record self.old { current = None } }
     {
         match replace(&mut self.current, None) {
@@ -87,9 +89,15 @@ impl Linker {
     ///
     /// Those of [`ObjectDecoder::feed`].
     pub(crate) fn feed(&mut self, alloc: Global, piece: &[u8]) -> Result<(), Refusal>
-        ensures taken { OnOk result ((options : LinkerOptions) (files : List (List ℕ)) (current : Option (List ℕ)) → HasTaken options files current self.old → HasTaken options files (Some (begun current ++ piece.now)) self.new) }
-        ensures front { OnOk result ((options : LinkerOptions) (files : List (List ℕ)) (current : Option (List ℕ)) → HasTaken options files current self.old → IsValidPrefix Object (longwords (begun current ++ piece.now))) }
-        ensures refused { IfErr result (λ refusal. (options : LinkerOptions) (files : List (List ℕ)) (current : Option (List ℕ)) → HasTaken options files current self.old → RefusesBytes Object (begun current ++ piece.now) refusal) }
+        ensures taken { OnOk result ((options : LinkerOptions) (files : List (List ℕ))
+            (current : Option (List ℕ)) → HasTaken options files current self.old →
+            HasTaken options files (Some (begun current ++ piece.now)) self.new) }
+        ensures front { OnOk result ((options : LinkerOptions) (files : List (List ℕ))
+            (current : Option (List ℕ)) → HasTaken options files current self.old →
+            IsValidPrefix Object (longwords (begun current ++ piece.now))) }
+        ensures refused { IfErr result (λ refusal. (options : LinkerOptions) (files : List (List ℕ))
+            (current : Option (List ℕ)) → HasTaken options files current self.old →
+            RefusesBytes Object (begun current ++ piece.now) refusal) }
         ensures count { self.new.ends ≡ self.old.ends }
     {
         let mut decoder = self.take_current(alloc);
@@ -108,8 +116,12 @@ impl Linker {
     ///
     /// Those of [`ObjectDecoder::finish`], and [`Refusal::OutOfMemory`] if an allocation failed.
     pub(crate) fn end_input(&mut self, alloc: Global) -> Result<(), Refusal>
-        ensures taken { OnOk result ((options : LinkerOptions) (files : List (List ℕ)) (current : Option (List ℕ)) → HasTaken options files current self.old → HasTaken options (files ++ begun current ∷ []) None self.new) }
-        ensures refused { IfErr result (λ refusal. (options : LinkerOptions) (files : List (List ℕ)) (current : Option (List ℕ)) → HasTaken options files current self.old → RefusesInput Object (begun current) refusal) }
+        ensures taken { OnOk result ((options : LinkerOptions) (files : List (List ℕ))
+            (current : Option (List ℕ)) → HasTaken options files current self.old →
+            HasTaken options (files ++ begun current ∷ []) None self.new) }
+        ensures refused { IfErr result (λ refusal. (options : LinkerOptions) (files : List (List ℕ))
+            (current : Option (List ℕ)) → HasTaken options files current self.old →
+            RefusesInput Object (begun current) refusal) }
         ensures count { OnErr result (self.new.ends.items ≡ self.old.ends.items) }
     {
         let decoder = self.take_current(alloc);
@@ -134,8 +146,11 @@ impl Linker {
     ///
     /// Why the units do not link, with the input of the unit that the refusal tells.
     pub(crate) fn link(&mut self, alloc: Global) -> Result<LinkedFile, Refused>
-        ensures linked { IfOk result (λ linked. (options : LinkerOptions) (files : List (List ℕ)) → HasTaken options files None self.old → IsLinkedFile options files linked) }
-        ensures refused { IfErr result (λ refused. (options : LinkerOptions) (files : List (List ℕ)) → HasTaken options files None self.old → IsLinkStop options files refused refused.fault) }
+        ensures linked { IfOk result (λ linked. (options : LinkerOptions) (files : List (List ℕ)) →
+            HasTaken options files None self.old → IsLinkedFile options files linked) }
+        ensures refused { IfErr result
+            (λ refused. (options : LinkerOptions) (files : List (List ℕ)) →
+            HasTaken options files None self.old → IsLinkStop options files refused refused.fault) }
     {
         let files = replace(&mut self.files, ObjectFiles::new(alloc));
         if self.options.keep {

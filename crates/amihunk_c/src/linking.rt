@@ -36,7 +36,9 @@ pub extern "C" fn amihunk_c_open_linker(
     key0: u64,
     key1: u64,
 ) -> u32
-    ensures { OpensHandle (BeginsLinker (record { link = record { strip = strip; short = short_form; trim = trim }; keep = keep }) key0 key1) handle.old.session handle.new.session result }
+    ensures { OpensHandle (BeginsLinker
+        (record { link = record { strip = strip; short = short_form; trim = trim }; keep = keep })
+        key0 key1) handle.old.session handle.new.session result }
 {
     let status = match handle.take(alloc) {
         Some(session) => {
@@ -71,7 +73,8 @@ pub extern "C" fn amihunk_c_feed_input(
     piece: &[u8],
     answer: &mut Answer,
 ) -> u32
-    ensures fed { StepsHandle (FeedsInput piece.now) handle.old.session handle.new.session answer.new }
+    ensures fed { StepsHandle
+        (FeedsInput piece.now) handle.old.session handle.new.session answer.new }
     ensures status { result ≡ answer.new.status }
 {
     *answer = match handle.take(alloc) {
@@ -162,8 +165,10 @@ pub extern "C" fn amihunk_c_read_linked(
     buffer: &mut [u8],
 ) -> u64
     ensures session { handle.new.session ≡ handle.old.session }
-    ensures count { result ≡ min (length (drop offset (shown [] linked_in handle.old.session))) (length buffer.old) }
-    ensures bytes { buffer.new ≡ laid_over (drop offset (shown [] linked_in handle.old.session)) buffer.old }
+    ensures count { result ≡ min
+        (length (drop offset (shown [] linked_in handle.old.session))) (length buffer.old) }
+    ensures bytes { buffer.new ≡ laid_over
+        (drop offset (shown [] linked_in handle.old.session)) buffer.old }
 {
     match handle.take(alloc) {
         Some(session) => {

@@ -51,7 +51,8 @@ pub extern "C" fn amihunk_c_feed(
     piece: &[u8],
     answer: &mut Answer,
 ) -> u32
-    ensures fed { StepsHandle (FeedsLoader piece.now) handle.old.session handle.new.session answer.new }
+    ensures fed { StepsHandle
+        (FeedsLoader piece.now) handle.old.session handle.new.session answer.new }
     ensures status { result ≡ answer.new.status }
 {
     *answer = match handle.take(alloc) {
@@ -118,7 +119,8 @@ pub extern "C" fn amihunk_c_get_hunk(
     base: &mut u32,
 ) -> u32
     ensures session { handle.new.session ≡ handle.old.session }
-    ensures located { LocatesHandleHunk handle.old.session number (span.old, base.old) (span.new, base.new) result }
+    ensures located { LocatesHandleHunk handle.old.session number (span.old, base.old)
+        (span.new, base.new) result }
 {
     let status = match handle.take(alloc) {
         Some(session) => {
@@ -143,8 +145,10 @@ pub extern "C" fn amihunk_c_read(
     buffer: &mut [u8],
 ) -> u64
     ensures session { handle.new.session ≡ handle.old.session }
-    ensures count { result ≡ min (length (drop offset (shown [] (bytes_in number) handle.old.session))) (length buffer.old) }
-    ensures bytes { buffer.new ≡ laid_over (drop offset (shown [] (bytes_in number) handle.old.session)) buffer.old }
+    ensures count { result ≡ min
+        (length (drop offset (shown [] (bytes_in number) handle.old.session))) (length buffer.old) }
+    ensures bytes { buffer.new ≡ laid_over
+        (drop offset (shown [] (bytes_in number) handle.old.session)) buffer.old }
 {
     match handle.take(alloc) {
         Some(session) => {

@@ -72,7 +72,8 @@ pub extern "C" fn amihunk_c_hunk(
     told: &mut HunkTold,
 ) -> u32
     ensures session { handle.new.session ≡ handle.old.session }
-    ensures told { Tells IsHunkTold (hunk_in handle.old.session unit hunk) told.old told.new result }
+    ensures told { Tells IsHunkTold
+        (hunk_in handle.old.session unit hunk) told.old told.new result }
 {
     match handle.take(alloc) {
         Some(session) => {
@@ -95,7 +96,8 @@ pub extern "C" fn amihunk_c_site(
     told: &mut SiteTold,
 ) -> u32
     ensures session { handle.new.session ≡ handle.old.session }
-    ensures told { Tells IsSame (item_in (λ facts. facts.sites) handle.old.session unit hunk index) told.old told.new result }
+    ensures told { Tells IsSame (item_in (λ facts. facts.sites) handle.old.session unit hunk index)
+        told.old told.new result }
 {
     match handle.take(alloc) {
         Some(session) => {
@@ -118,7 +120,8 @@ pub extern "C" fn amihunk_c_symbol(
     told: &mut SymbolTold,
 ) -> u32
     ensures session { handle.new.session ≡ handle.old.session }
-    ensures told { Tells IsSymbolTold (item_in (λ facts. facts.symbols) handle.old.session unit hunk index) told.old told.new result }
+    ensures told { Tells IsSymbolTold (item_in
+        (λ facts. facts.symbols) handle.old.session unit hunk index) told.old told.new result }
 {
     match handle.take(alloc) {
         Some(session) => {
@@ -141,7 +144,8 @@ pub extern "C" fn amihunk_c_definition(
     told: &mut DefinitionTold,
 ) -> u32
     ensures session { handle.new.session ≡ handle.old.session }
-    ensures told { Tells IsDefinitionTold (item_in (λ facts. facts.definitions) handle.old.session unit hunk index) told.old told.new result }
+    ensures told { Tells IsDefinitionTold (item_in
+        (λ facts. facts.definitions) handle.old.session unit hunk index) told.old told.new result }
 {
     match handle.take(alloc) {
         Some(session) => {
@@ -164,7 +168,8 @@ pub extern "C" fn amihunk_c_reference(
     told: &mut Span,
 ) -> u32
     ensures session { handle.new.session ≡ handle.old.session }
-    ensures told { Tells IsSpanOf (item_in (λ facts. facts.references) handle.old.session unit hunk index) told.old told.new result }
+    ensures told { Tells IsSpanOf (item_in
+        (λ facts. facts.references) handle.old.session unit hunk index) told.old told.new result }
 {
     match handle.take(alloc) {
         Some(session) => {
@@ -187,7 +192,8 @@ pub extern "C" fn amihunk_c_debug(
     told: &mut DebugTold,
 ) -> u32
     ensures session { handle.new.session ≡ handle.old.session }
-    ensures told { Tells IsDebugTold (item_in (λ facts. facts.debugs) handle.old.session unit hunk index) told.old told.new result }
+    ensures told { Tells IsDebugTold (item_in
+        (λ facts. facts.debugs) handle.old.session unit hunk index) told.old told.new result }
 {
     match handle.take(alloc) {
         Some(session) => {
@@ -211,7 +217,8 @@ pub extern "C" fn amihunk_c_symbol_before(
     told: &mut SymbolTold,
 ) -> u32
     ensures session { handle.new.session ≡ handle.old.session }
-    ensures told { TellsBefore (hunk_in handle.old.session unit hunk) offset told.old told.new result }
+    ensures told { TellsBefore
+        (hunk_in handle.old.session unit hunk) offset told.old told.new result }
 {
     match handle.take(alloc) {
         Some(session) => {

@@ -20,7 +20,8 @@ pub struct PointTold {
 
 /// The offset of the byte of a hunk that is at this address, if it has one there.
 fn offset_in(hunk: &(u32, Vec<u8>), address: u32) -> Option<u32>
-    ensures { MatchOption result (byte_in hunk.now.0 hunk.now.1.items address ≡ None) (λ offset. IsIn hunk.now.0 hunk.now.1.items address offset) }
+    ensures { MatchOption result (byte_in hunk.now.0 hunk.now.1.items address ≡ None)
+        (λ offset. IsIn hunk.now.0 hunk.now.1.items address offset) }
 {
     let offset = address.checked_sub(hunk.0)?;
     if (offset as usize) < hunk.1.len() {

@@ -44,7 +44,8 @@ pub extern "C" fn amihunk_c_feed_file(
     piece: &[u8],
     answer: &mut Answer,
 ) -> u32
-    ensures fed { StepsHandle (FeedsFile piece.now) handle.old.session handle.new.session answer.new }
+    ensures fed { StepsHandle
+        (FeedsFile piece.now) handle.old.session handle.new.session answer.new }
     ensures status { result ≡ answer.new.status }
 {
     *answer = match handle.take(alloc) {
@@ -97,7 +98,8 @@ pub extern "C" fn amihunk_c_load_file(
     answer: &mut Answer,
 ) -> u32
     ensures file { file.new.session ≡ file.old.session }
-    ensures loaded { LoadsFile bases.now file.old.session loader.old.session loader.new.session answer.new }
+    ensures loaded { LoadsFile bases.now file.old.session loader.old.session
+        loader.new.session answer.new }
     ensures status { result ≡ answer.new.status }
 {
     *answer = match loader.take(alloc) {

@@ -57,8 +57,10 @@ impl Header {
         bases: &[u32],
     ) -> Result<ImageLoader, PlaceRefusal>
         ensures same { self.new ≡ self.old }
-        ensures placed { IfOk result (λ loader. HasFed bases.now self.old.bytes loader × CanPlace bases.now self.old.hunks × StaysPlaced bases.now self.old.bytes) }
-        ensures refused { IfErr result (λ refusal. IsUnplaced bases.now self.old (unplaced_answer refusal)) }
+        ensures placed { IfOk result (λ loader. HasFed bases.now self.old.bytes loader ×
+            CanPlace bases.now self.old.hunks × StaysPlaced bases.now self.old.bytes) }
+        ensures refused { IfErr result
+            (λ refusal. IsUnplaced bases.now self.old (unplaced_answer refusal)) }
     {
         let rooms = self.take_rooms(alloc);
         self.loader.place_in(bases, rooms)

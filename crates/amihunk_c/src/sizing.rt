@@ -47,7 +47,8 @@ pub extern "C" fn amihunk_c_feed_header(
     taken: &mut u64,
     answer: &mut Answer,
 ) -> u32
-    ensures fed { StepsHandle (FeedsHeader piece.now taken.new) handle.old.session handle.new.session answer.new }
+    ensures fed { StepsHandle
+        (FeedsHeader piece.now taken.new) handle.old.session handle.new.session answer.new }
     ensures status { result ≡ answer.new.status }
 {
     *taken = 0;
@@ -102,7 +103,8 @@ pub extern "C" fn amihunk_c_place(
     bases: &[u32],
     answer: &mut Answer,
 ) -> u32
-    ensures placed { StepsHandle (PlacesHunks bases.now) handle.old.session handle.new.session answer.new }
+    ensures placed { StepsHandle
+        (PlacesHunks bases.now) handle.old.session handle.new.session answer.new }
     ensures status { result ≡ answer.new.status }
 {
     *answer = match handle.take(alloc) {

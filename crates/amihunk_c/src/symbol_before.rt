@@ -20,8 +20,10 @@ pub(crate) fn symbol_before(symbols: &[(Name, u32)], offset: u32) -> Option<&(Na
 
 /// Whether a value is higher than that of the symbol found so far, if there is one.
 fn is_higher(value: u32, found: Option<&(Name, u32)>) -> bool
-    ensures higher { IsTrue result → IsHigher value (option_map (λ symbol. symbol.now) found.entry) }
-    ensures lower { IsFalse result → IsNoHigher value (option_map (λ symbol. symbol.now) found.entry) }
+    ensures higher { IsTrue result →
+        IsHigher value (option_map (λ symbol. symbol.now) found.entry) }
+    ensures lower { IsFalse result →
+        IsNoHigher value (option_map (λ symbol. symbol.now) found.entry) }
 {
     match found {
         Some(before) => before.1 < value,

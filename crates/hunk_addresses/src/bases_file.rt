@@ -77,9 +77,11 @@ pub fn read_bases<R: Source, A: Allocator + Copy>(
     alloc: A,
     reader: &mut R,
 ) -> Result<Vec<u32, A>, BasesFileFault>
-    ensures numbers { IfOk result (λ bases. HasRead (R.left reader.old) (R.left reader.new) (IsFileOf bases.items)) }
+    ensures numbers { IfOk result
+        (λ bases. HasRead (R.left reader.old) (R.left reader.new) (IsFileOf bases.items)) }
     ensures ended { OnOk result (IsTrue (R.ended reader.new)) }
-    ensures refused { IfErr result (IsBasesFileFault (R.left reader.old) (R.left reader.new) (R.failed reader.new)) }
+    ensures refused { IfErr result
+        (IsBasesFileFault (R.left reader.old) (R.left reader.new) (R.failed reader.new)) }
 {
     let mut found = FoundBases::new(alloc);
     let mut buffer = [0; PIECE];
@@ -119,10 +121,11 @@ impl<A: Allocator + Copy> FoundBases<A> {
 
     /// Takes the next bytes.
     fn feed(&mut self, piece: &[u8]) -> Result<(), BasesFileFault>
-        ensures stands { OnOk result ((bytes : List ℕ) → StandsFor self.old.bases.items self.old.digits bytes
-            → StandsFor self.new.bases.items self.new.digits (bytes ++ piece.now)) }
-        ensures rejected { IfErr result (λ fault. (bytes : List ℕ) → StandsFor self.old.bases.items self.old.digits bytes
-            → IsRejected (bytes ++ piece.now) fault) }
+        ensures stands { OnOk result
+            ((bytes : List ℕ) → StandsFor self.old.bases.items self.old.digits bytes →
+            StandsFor self.new.bases.items self.new.digits (bytes ++ piece.now)) }
+        ensures rejected { IfErr result (λ fault. (bytes : List ℕ) → StandsFor self.old.bases.items
+            self.old.digits bytes → IsRejected (bytes ++ piece.now) fault) }
     {
         for byte in piece {
             self.push(*byte)?;
@@ -132,10 +135,11 @@ impl<A: Allocator + Copy> FoundBases<A> {
 
     /// Takes the next byte.
     fn push(&mut self, byte: u8) -> Result<(), BasesFileFault>
-        ensures stands { OnOk result ((bytes : List ℕ) → StandsFor self.old.bases.items self.old.digits bytes
-            → StandsFor self.new.bases.items self.new.digits (bytes ++ byte ∷ [])) }
-        ensures rejected { IfErr result (λ fault. (bytes : List ℕ) → StandsFor self.old.bases.items self.old.digits bytes
-            → IsRejected (bytes ++ byte ∷ []) fault) }
+        ensures stands { OnOk result
+            ((bytes : List ℕ) → StandsFor self.old.bases.items self.old.digits bytes →
+            StandsFor self.new.bases.items self.new.digits (bytes ++ byte ∷ [])) }
+        ensures rejected { IfErr result (λ fault. (bytes : List ℕ) → StandsFor self.old.bases.items
+            self.old.digits bytes → IsRejected (bytes ++ byte ∷ []) fault) }
     {
         if is_separator(byte) {
             return self.end_part();
@@ -150,9 +154,10 @@ impl<A: Allocator + Copy> FoundBases<A> {
     /// Ends the part that is being read, if there is one.
     fn end_part(&mut self) -> Result<(), BasesFileFault>
         ensures none { self.new.digits.count ≡ 0 }
-        ensures ends { IfOk result (λ _. self.new.bases.items ≡ self.old.bases.items ++ ended_number self.old.digits) }
-        ensures rejected { IfErr result (λ fault. (bytes : List ℕ) → StandsFor self.old.bases.items self.old.digits bytes
-            → IsRejected bytes fault) }
+        ensures ends { IfOk result
+            (λ _. self.new.bases.items ≡ self.old.bases.items ++ ended_number self.old.digits) }
+        ensures rejected { IfErr result (λ fault. (bytes : List ℕ) →
+            StandsFor self.old.bases.items self.old.digits bytes → IsRejected bytes fault) }
     {
         if self.digits.count > 0 {
             let base = self.digits.value;
@@ -167,10 +172,10 @@ impl<A: Allocator + Copy> FoundBases<A> {
 
     /// The addresses, after the last byte.
     fn finish(mut self) -> Result<Vec<u32, A>, BasesFileFault>
-        ensures numbers { IfOk result (λ bases. (bytes : List ℕ) → StandsFor self.bases.items self.digits bytes
-            → length bytes ≤ most_bytes → IsFileOf bases.items bytes) }
-        ensures rejected { IfErr result (λ fault. (bytes : List ℕ) → StandsFor self.bases.items self.digits bytes
-            → IsRejected bytes fault) }
+        ensures numbers { IfOk result (λ bases. (bytes : List ℕ) → StandsFor self.bases.items
+            self.digits bytes → length bytes ≤ most_bytes → IsFileOf bases.items bytes) }
+        ensures rejected { IfErr result (λ fault. (bytes : List ℕ) →
+            StandsFor self.bases.items self.digits bytes → IsRejected bytes fault) }
     {
         self.end_part()?;
         let FoundBases { bases, digits: _ } = self;

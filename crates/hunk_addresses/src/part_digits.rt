@@ -29,9 +29,9 @@ impl PartDigits {
 
     /// These digits with `byte` after them, if together they are 1 to 8 hexadecimal digits.
     pub fn with(self, byte: u8) -> Option<PartDigits>
-        ensures { MatchOption result
-            ((part : List ℕ) → AreDigits self part → (rest : List ℕ) → number_of (part ++ byte ∷ rest) ≡ None)
-            (λ longer. (part : List ℕ) → AreDigits self part → AreDigits longer (part ++ byte ∷ [])) }
+        ensures { MatchOption result ((part : List ℕ) → AreDigits self part → (rest : List ℕ) →
+            number_of (part ++ byte ∷ rest) ≡ None) (λ longer. (part : List ℕ) →
+            AreDigits self part → AreDigits longer (part ++ byte ∷ [])) }
     {
         let digit = char::from(byte).to_digit(HEXADECIMAL)?;
         if self.count == MOST_DIGITS {

@@ -54,7 +54,8 @@ fn likely_count(sites: usize, offset: u32) -> usize
 fn count_below<T>(sites: &[(u32, T)], offset: u32) -> usize
     requires { AreSpaced sites.now }
     ensures within { result ≤ length sites.now }
-    ensures parts { IsPartitionPoint (λ (site : ℕ × T). site.0 < offset) (λ (site : ℕ × T). offset ≤ site.0) sites.now result }
+    ensures parts { IsPartitionPoint (λ (site : ℕ × T). site.0 < offset)
+        (λ (site : ℕ × T). offset ≤ site.0) sites.now result }
 {
     match sites.first() {
         Some((first, _)) if *first < offset => (),
@@ -74,7 +75,8 @@ fn count_below<T>(sites: &[(u32, T)], offset: u32) -> usize
 fn is_apart<T>(sites: &[(u32, T)], place: usize, offset: u32) -> bool
     requires spaced { AreSpaced sites.now }
     requires within { place ≤ length sites.now }
-    requires parts { IsPartitionPoint (λ (site : ℕ × T). site.0 < offset) (λ (site : ℕ × T). offset ≤ site.0) sites.now place }
+    requires parts { IsPartitionPoint (λ (site : ℕ × T). site.0 < offset)
+        (λ (site : ℕ × T). offset ≤ site.0) sites.now place }
     ensures { MatchBool result (IsFreePlace sites.now offset place) (Meets sites.now offset) }
 {
     if 0 < place && offset - sites[place - 1].0 < SITE_BYTES {
@@ -127,7 +129,8 @@ impl<T: Copy, A: Allocator + Copy> SiteList<T, A> {
     /// so the last one is looked at first.
     fn count_before(&self, offset: u32) -> usize
         ensures within { result ≤ length self.now }
-        ensures parts { IsPartitionPoint (λ (site : ℕ × T). site.0 < offset) (λ (site : ℕ × T). offset ≤ site.0) self.now result }
+        ensures parts { IsPartitionPoint (λ (site : ℕ × T). site.0 < offset)
+            (λ (site : ℕ × T). offset ≤ site.0) self.now result }
     {
         match self.sites.last() {
             Some((last, _)) if *last < offset => self.sites.len(),
@@ -196,7 +199,8 @@ impl<T: Copy, A: Allocator + Copy> SiteList<T, A> {
     pub fn add(&mut self, offset: u32, target: T) -> Result<(), SiteRefusal>
         ensures outside { result ≢ Err SiteRefusal.Outside }
         ensures overlap { (result ≡ Err SiteRefusal.Overlap) ↔ Meets self.old offset }
-        ensures added { self.new ≡ (if is_ok result then insert_entry nat_cmp self.old offset target else self.old) }
+        ensures added { self.new ≡
+            (if is_ok result then insert_entry nat_cmp self.old offset target else self.old) }
     {
         let added = match self.sites.last() {
             Some((last, _)) if *last < offset => {

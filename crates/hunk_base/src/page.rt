@@ -141,7 +141,8 @@ impl<T: Copy, A: Allocator + Copy> Page<T, A> {
         requires { LieInPage (offset / 4096) self.old }
         ensures outside { result ≢ Err SiteRefusal.Outside }
         ensures overlap { (result ≡ Err SiteRefusal.Overlap) ↔ Meets self.old offset }
-        ensures added { self.new ≡ (if is_ok result then insert_entry nat_cmp self.old offset target else self.old) }
+        ensures added { self.new ≡
+            (if is_ok result then insert_entry nat_cmp self.old offset target else self.old) }
     {
         match &mut self.form {
             Form::List(list) => list.add(offset, target),
@@ -157,7 +158,8 @@ impl<T: Copy, A: Allocator + Copy> Page<T, A> {
         requires in_page { LieInPage (offset / 4096) self.old }
         ensures outside { result ≢ Err SiteRefusal.Outside }
         ensures overlap { (result ≡ Err SiteRefusal.Overlap) ↔ Meets self.old offset }
-        ensures added { self.new ≡ (if is_ok result then insert_entry nat_cmp self.old offset target else self.old) }
+        ensures added { self.new ≡
+            (if is_ok result then insert_entry nat_cmp self.old offset target else self.old) }
     {
         if !self.is_free(offset) {
             return Err(SiteRefusal::Overlap);
@@ -174,7 +176,8 @@ impl<T: Copy, A: Allocator + Copy> Page<T, A> {
         requires { LieInPage (offset / 4096) self.old }
         ensures outside { result ≢ Err SiteRefusal.Outside }
         ensures overlap { (result ≡ Err SiteRefusal.Overlap) ↔ Meets self.old offset }
-        ensures added { self.new ≡ (if is_ok result then insert_entry nat_cmp self.old offset target else self.old) }
+        ensures added { self.new ≡
+            (if is_ok result then insert_entry nat_cmp self.old offset target else self.old) }
     {
         if self.is_crowded_at(offset) {
             self.spread_and_add(offset, target)
@@ -191,7 +194,8 @@ impl<T: Copy, A: Allocator + Copy> Page<T, A> {
         requires { LieInPage (offset / 4096) self.old }
         ensures outside { result ≢ Err SiteRefusal.Outside }
         ensures overlap { (result ≡ Err SiteRefusal.Overlap) ↔ Meets self.old offset }
-        ensures added { self.new ≡ (if is_ok result then insert_entry nat_cmp self.old offset target else self.old) }
+        ensures added { self.new ≡
+            (if is_ok result then insert_entry nat_cmp self.old offset target else self.old) }
     {
         match &mut self.form {
             Form::List(list) if list.ends_before(offset) => list.add(offset, target),

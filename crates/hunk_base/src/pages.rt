@@ -30,7 +30,8 @@ fn is_free_in<T: Copy, A: Allocator + Copy>(
     number: usize,
     offset: u32,
 ) -> bool
-    ensures { MatchBool result (Meets (page_at pages.now number) offset → ⊥) (Meets (page_at pages.now number) offset) }
+    ensures { MatchBool result (Meets (page_at pages.now number) offset → ⊥)
+        (Meets (page_at pages.now number) offset) }
 {
     match pages.get(number) {
         Some(page) => page.is_free(offset),
@@ -45,7 +46,8 @@ fn is_free_far<T: Copy, A: Allocator + Copy>(
     number: usize,
     offset: u32,
 ) -> bool
-    ensures { MatchBool result (Meets (page_at pages.now number) offset → ⊥) (Meets (page_at pages.now number) offset) }
+    ensures { MatchBool result (Meets (page_at pages.now number) offset → ⊥)
+        (Meets (page_at pages.now number) offset) }
 {
     is_free_in(pages, number, offset)
 }
@@ -54,7 +56,8 @@ fn is_free_far<T: Copy, A: Allocator + Copy>(
 /// one with them only within three bytes of either end of its page.
 fn is_free_beside<T: Copy, A: Allocator + Copy>(pages: &[Page<T, A>], offset: u32) -> bool
     requires { LieInPages 0 pages.now }
-    ensures free { OnTrue result (Meets (all_sites pages.now) offset → Meets (page_at pages.now (offset / 4096)) offset) }
+    ensures free { OnTrue result
+        (Meets (all_sites pages.now) offset → Meets (page_at pages.now (offset / 4096)) offset) }
     ensures meets { OnFalse result (Meets (all_sites pages.now) offset) }
 {
     let number = page_number(u64::from(offset));
@@ -137,8 +140,10 @@ fn grow_and_add<T: Copy, A: Allocator + Copy>(
     requires number { number ≡ offset / 4096 }
     ensures in_pages { LieInPages 0 pages.new.items }
     ensures outside { result ≢ Err SiteRefusal.Outside }
-    ensures overlap { (result ≡ Err SiteRefusal.Overlap) ↔ Meets (page_at pages.old.items number) offset }
-    ensures added { all_sites pages.new.items ≡ (if is_ok result then insert_entry nat_cmp (all_sites pages.old.items) offset target else all_sites pages.old.items) }
+    ensures overlap { (result ≡ Err SiteRefusal.Overlap) ↔
+        Meets (page_at pages.old.items number) offset }
+    ensures added { all_sites pages.new.items ≡ (if is_ok result then insert_entry nat_cmp
+        (all_sites pages.old.items) offset target else all_sites pages.old.items) }
 {
     if !is_free_in(pages, number, offset) {
         return Err(SiteRefusal::Overlap);
@@ -159,8 +164,10 @@ pub fn add<T: Copy, A: Allocator + Copy>(
     requires { LieInPages 0 pages.old.items }
     ensures in_pages { LieInPages 0 pages.new.items }
     ensures outside { result ≢ Err SiteRefusal.Outside }
-    ensures overlap { (result ≡ Err SiteRefusal.Overlap) ↔ Meets (all_sites pages.old.items) offset }
-    ensures added { all_sites pages.new.items ≡ (if is_ok result then insert_entry nat_cmp (all_sites pages.old.items) offset target else all_sites pages.old.items) }
+    ensures overlap { (result ≡ Err SiteRefusal.Overlap) ↔
+        Meets (all_sites pages.old.items) offset }
+    ensures added { all_sites pages.new.items ≡ (if is_ok result then insert_entry nat_cmp
+        (all_sites pages.old.items) offset target else all_sites pages.old.items) }
 {
     if !is_free_beside(pages, offset) {
         return Err(SiteRefusal::Overlap);

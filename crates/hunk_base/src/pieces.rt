@@ -58,10 +58,13 @@ impl<A: Allocator> Source for Pieces<A> {
 
     fn read(&mut self, buffer: &mut [u8]) -> Result<usize, DeviceFault>
         ensures count { IfOk result (λ n. n ≤ length buffer.old) }
-        ensures bytes { IfOk result (λ n. Consumes (Some (bytes_left self.old)) (Some (bytes_left self.new)) (take n buffer.new)) }
+        ensures bytes { IfOk result (λ n. Consumes (Some (bytes_left self.old))
+            (Some (bytes_left self.new)) (take n buffer.new)) }
         ensures failed { has_failed self.new ≡ (is_err result || has_failed self.old) }
-        ensures ended { has_ended self.new ≡ (ends result (length buffer.old) || has_ended self.old) }
-        ensures unread { OnErr result (Keeps (Some (bytes_left self.old)) (Some (bytes_left self.new))) }
+        ensures ended { has_ended self.new ≡
+            (ends result (length buffer.old) || has_ended self.old) }
+        ensures unread { OnErr result
+            (Keeps (Some (bytes_left self.old)) (Some (bytes_left self.new))) }
         ensures answer { result ≡ answer_of self.old (length buffer.old) }
         ensures counted { IsCounted self.old self.new }
     {

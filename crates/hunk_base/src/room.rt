@@ -66,9 +66,12 @@ impl<A: Allocator> Sink for Room<A> {
 
     fn write(&mut self, buffer: &[u8]) -> Result<usize, DeviceFault>
         ensures count { IfOk result (λ n. n ≤ length buffer.now) }
-        ensures bytes { IfOk result (λ n. Appends (Some (bytes_taken self.old)) (Some (bytes_taken self.new)) (take n buffer.now)) }
-        ensures nothing { OnErr result (Keeps (Some (bytes_taken self.old)) (Some (bytes_taken self.new))) }
-        ensures failed { has_failed self.new ≡ (refuses result (length buffer.now) || has_failed self.old) }
+        ensures bytes { IfOk result (λ n. Appends (Some (bytes_taken self.old))
+            (Some (bytes_taken self.new)) (take n buffer.now)) }
+        ensures nothing { OnErr result
+            (Keeps (Some (bytes_taken self.old)) (Some (bytes_taken self.new))) }
+        ensures failed { has_failed self.new ≡
+            (refuses result (length buffer.now) || has_failed self.old) }
         ensures answer { result ≡ answer_of self.old (length buffer.now) }
         ensures rules { KeepsRules self.old self.new }
     {

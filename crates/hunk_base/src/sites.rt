@@ -53,7 +53,8 @@ impl<T, A: Allocator + Copy> Model for Sites<T, A> {
 
     ghost view = { λ s. record { limit = s.limit; entries = all_sites s.pages.items } };
 
-    ghost invariant = { λ s. StandFrom 0 s.limit (all_sites s.pages.items) × LieInPages 0 s.pages.items × (s.limit < 2 ^ 64) };
+    ghost invariant = { λ s. StandFrom 0 s.limit (all_sites s.pages.items) ×
+        LieInPages 0 s.pages.items × (s.limit < 2 ^ 64) };
 }
 
 impl<T: Copy, A: Allocator + Copy> Sites<T, A> {
@@ -74,9 +75,12 @@ impl<T: Copy, A: Allocator + Copy> Sites<T, A> {
     /// changes nothing.
     pub fn try_add(&mut self, offset: u32, target: T) -> Result<(), SiteRefusal>
         ensures outside { (result ≡ Err SiteRefusal.Outside) ↔ (self.old.limit < offset + 4) }
-        ensures overlap { (result ≡ Err SiteRefusal.Overlap) ↔ ((offset + 4 ≤ self.old.limit) × Meets self.old.entries offset) }
-        ensures adds { OnOk result (self.new ≡ record self.old { entries = insert_entry nat_cmp self.old.entries offset target }) }
-        ensures targets { OnOk result ((other : ℕ) → target_at self.new.entries other ≡ (if offset == other then Some target else target_at self.old.entries other)) }
+        ensures overlap { (result ≡ Err SiteRefusal.Overlap) ↔
+            ((offset + 4 ≤ self.old.limit) × Meets self.old.entries offset) }
+        ensures adds { OnOk result (self.new ≡
+            record self.old { entries = insert_entry nat_cmp self.old.entries offset target }) }
+        ensures targets { OnOk result ((other : ℕ) → target_at self.new.entries other ≡
+            (if offset == other then Some target else target_at self.old.entries other)) }
         ensures refused { OnErr result (self.new ≡ self.old) }
     {
         if u64::from(offset) + u64::from(SITE_BYTES) > self.limit {
@@ -164,7 +168,8 @@ impl<'a, T, A: Allocator + Copy> Model for Walk<'a, T, A> {
 
     ghost view = { λ w. iter_rest w.list ++ w.table ++ all_sites (iter_rest w.pages) };
 
-    ghost invariant = { λ w. length (iter_rest w.list ++ w.table ++ all_sites (iter_rest w.pages)) < 2 ^ 64 };
+    ghost invariant = { λ w.
+        length (iter_rest w.list ++ w.table ++ all_sites (iter_rest w.pages)) < 2 ^ 64 };
 }
 
 impl<'a, T, A: Allocator + Copy> Iterator for Walk<'a, T, A> {

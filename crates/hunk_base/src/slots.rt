@@ -36,7 +36,8 @@ fn slot_number(offset: u32) -> usize
 fn is_apart(first: u32, marks: &[u8], number: usize, offset: u32) -> bool
     requires inside { number < length marks.now }
     requires fits { first + 4 * length marks.now ≤ 2 ^ 32 }
-    ensures { MatchBool result (SharesWithMark first marks.now number offset → ⊥) (SharesWithMark first marks.now number offset) }
+    ensures { MatchBool result (SharesWithMark first marks.now number offset → ⊥)
+        (SharesWithMark first marks.now number offset) }
 {
     let mark = marks[number];
     if NO_SITE <= mark {
@@ -51,7 +52,8 @@ fn is_apart(first: u32, marks: &[u8], number: usize, offset: u32) -> bool
 fn is_free_in(first: u32, marks: &[u8], offset: u32) -> bool
     requires all { length marks.now ≡ 1024 }
     requires page { first % 4096 ≡ 0 }
-    ensures { MatchBool result (SharesWithMarks first marks.now offset → ⊥) (SharesWithMarks first marks.now offset) }
+    ensures { MatchBool result (SharesWithMarks first marks.now offset → ⊥)
+        (SharesWithMarks first marks.now offset) }
 {
     let number = slot_number(offset);
     is_apart(first, marks, (number + SLOTS - 1) % SLOTS, offset)
@@ -151,7 +153,8 @@ impl<T: Copy, A: Allocator + Copy> Slots<T, A> {
         requires { LieInPage (offset / 4096) self.old }
         ensures outside { result ≢ Err SiteRefusal.Outside }
         ensures overlap { (result ≡ Err SiteRefusal.Overlap) ↔ Meets self.old offset }
-        ensures added { self.new ≡ (if is_ok result then insert_entry nat_cmp self.old offset target else self.old) }
+        ensures added { self.new ≡
+            (if is_ok result then insert_entry nat_cmp self.old offset target else self.old) }
     {
         if !self.is_free(offset) {
             return Err(SiteRefusal::Overlap);
@@ -192,7 +195,8 @@ impl<'a, T> Model for SlotsIter<'a, T> {
 
     ghost view = { λ s. present (slots_from s.start (iter_rest s.marks) (iter_rest s.targets)) };
 
-    ghost invariant = { λ s. (s.start + 4 * length (iter_rest s.marks) ≤ 2 ^ 32) × (length (iter_rest s.marks) ≡ length (iter_rest s.targets)) };
+    ghost invariant = { λ s. (s.start + 4 * length (iter_rest s.marks) ≤ 2 ^ 32) ×
+        (length (iter_rest s.marks) ≡ length (iter_rest s.targets)) };
 }
 
 impl<'a, T> SlotsIter<'a, T> {
@@ -209,7 +213,8 @@ impl<'a, T> SlotsIter<'a, T> {
 
     /// The next site.
     pub fn next_site(&mut self) -> Option<(u32, &'a T)>
-        ensures { MatchOption result ((self.old ≡ []) × (self.new ≡ [])) (λ site. self.old ≡ (site.0, site.1.now) ∷ self.new) }
+        ensures { MatchOption result ((self.old ≡ []) × (self.new ≡ []))
+            (λ site. self.old ≡ (site.0, site.1.now) ∷ self.new) }
     {
         while let (Some(mark), Some(target)) = (self.marks.next(), self.targets.next()) {
             let start = self.start;

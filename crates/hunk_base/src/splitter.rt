@@ -33,7 +33,8 @@ impl Splitter {
 
     /// Takes one byte. If it is the last byte of a longword, returns that longword.
     pub fn push(&mut self, byte: u8) -> Option<u32>
-        ensures stands { (bytes : List ℕ) → StandsFor self.old bytes → StandsFor self.new (bytes ++ byte ∷ []) }
+        ensures stands { (bytes : List ℕ) → StandsFor self.old bytes →
+            StandsFor self.new (bytes ++ byte ∷ []) }
         ensures word { (bytes : List ℕ) → StandsFor self.old bytes →
             longwords (bytes ++ byte ∷ []) ≡ longwords bytes ++ option_to_list result }
     {
@@ -59,7 +60,8 @@ impl Splitter {
 
     /// The number of bytes of an unfinished longword that it holds, 0 to 3.
     pub fn rest(&self) -> u8
-        ensures rest { (bytes : List ℕ) → StandsFor self.now bytes → result ≡ length (unfinished bytes) }
+        ensures rest { (bytes : List ℕ) → StandsFor self.now bytes →
+            result ≡ length (unfinished bytes) }
         ensures few { result ≤ 3 }
     {
         match self.held {

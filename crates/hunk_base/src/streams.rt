@@ -28,7 +28,8 @@ pub trait Source {
     /// [`DeviceFault`] if the read failed. It has then taken no byte.
     fn read(&mut self, buffer: &mut [u8]) -> Result<usize, DeviceFault>
         ensures count { IfOk result (λ n. n ≤ length buffer.old) }
-        ensures bytes { IfOk result (λ n. Consumes (left self.old) (left self.new) (take n buffer.new)) }
+        ensures bytes { IfOk result
+            (λ n. Consumes (left self.old) (left self.new) (take n buffer.new)) }
         ensures failed { failed self.new ≡ (is_err result || failed self.old) }
         ensures ended { ended self.new ≡ (ends result (length buffer.old) || ended self.old) }
         ensures unread { OnErr result (Keeps (left self.old) (left self.new)) };
@@ -56,9 +57,11 @@ pub trait Sink {
     /// [`DeviceFault`] if the write failed. It has then taken no byte.
     fn write(&mut self, buffer: &[u8]) -> Result<usize, DeviceFault>
         ensures count { IfOk result (λ n. n ≤ length buffer.now) }
-        ensures bytes { IfOk result (λ n. Appends (taken self.old) (taken self.new) (take n buffer.now)) }
+        ensures bytes { IfOk result
+            (λ n. Appends (taken self.old) (taken self.new) (take n buffer.now)) }
         ensures nothing { OnErr result (Keeps (taken self.old) (taken self.new)) }
-        ensures failed { failed self.new ≡ (refuses result (length buffer.now) || failed self.old) };
+        ensures failed { failed self.new ≡
+            (refuses result (length buffer.now) || failed self.old) };
 
     /// Whether a write has failed so far, or has taken none of at least one byte.
     fn failed(&self) -> bool
@@ -78,10 +81,12 @@ pub trait Feed {
 
     /// Takes the next bytes. It returns an error if there are more than 2^28 longwords, or earlier.
     fn feed(&mut self, piece: &[u8]) -> Result<(), Refusal>
-        ensures stands { (bytes : List ℕ) → stands_for self.old bytes → stands_for self.new (bytes ++ piece.now) }
+        ensures stands { (bytes : List ℕ) → stands_for self.old bytes →
+            stands_for self.new (bytes ++ piece.now) }
         ensures keeps { IfErr result (λ refusal. refused self.new refusal) }
         ensures given { given self.new ≡ given self.old }
-        ensures bounded { OnOk result ((bytes : List ℕ) → stands_for self.new bytes → length bytes < 2 ^ 30 + 4) };
+        ensures bounded { OnOk result
+            ((bytes : List ℕ) → stands_for self.new bytes → length bytes < 2 ^ 30 + 4) };
 }
 
 /// Each read but the last one brings at least a byte, and a file has fewer bytes than this.
@@ -99,10 +104,12 @@ const PIECE: usize = 65536;
 /// - [`ReadFault::Device`] only if a read failed.
 pub fn read_all<R: Source, D: Feed>(reader: &mut R, decoder: &mut D) -> Result<(), ReadFault>
     requires { D.stands_for decoder.old [] }
-    ensures whole { OnOk result (HasRead (R.left reader.old) (R.left reader.new) (D.stands_for decoder.new)) }
+    ensures whole { OnOk result
+        (HasRead (R.left reader.old) (R.left reader.new) (D.stands_for decoder.new)) }
     ensures ended { OnOk result (IsTrue (R.ended reader.new)) }
     ensures given { D.given decoder.new ≡ D.given decoder.old }
-    ensures stopped { IfErr result (ReadStopped (R.left reader.old) (R.left reader.new) (R.failed reader.new) (D.stands_for decoder.new) (D.refused decoder.new)) }
+    ensures stopped { IfErr result (ReadStopped (R.left reader.old) (R.left reader.new)
+        (R.failed reader.new) (D.stands_for decoder.new) (D.refused decoder.new)) }
 {
     let mut buffer = [0; PIECE];
     'reads: for _number in 0..MOST_READS {

@@ -112,8 +112,11 @@ impl<'w, W: Sink> Text<'w, W> {
     /// [`WriteFault::Device`] only if a write failed or took no byte, with the exact number of bytes
     /// of the text that the writer has taken, if the text has fewer than 2^64.
     pub fn finish(self) -> Result<(), WriteFault>
-        ensures wrote { (start : W) (bytes : List ℕ) → Holds W.taken W.failed start self.entry bytes → WroteText W.taken W.failed start self.exit.0.now bytes result }
-        ensures counted { (start : W) (bytes : List ℕ) → length bytes < 2 ^ 64 → Holds W.taken W.failed start self.entry bytes → WroteAll W.taken W.failed start self.exit.0.now bytes result }
+        ensures wrote { (start : W) (bytes : List ℕ) → Holds W.taken W.failed start self.entry
+            bytes → WroteText W.taken W.failed start self.exit.0.now bytes result }
+        ensures counted { (start : W) (bytes : List ℕ) → length bytes < 2 ^ 64 →
+            Holds W.taken W.failed start self.entry bytes →
+            WroteAll W.taken W.failed start self.exit.0.now bytes result }
         ensures device { IfErr result IsDevice }
     {
         let Text {
@@ -133,7 +136,9 @@ impl<'w, W: Sink> Text<'w, W> {
     /// [`WriteFault::OutOfMemory`], with the exact number of bytes of the text that the writer has
     /// taken.
     pub fn out_of_memory(self) -> WriteFault
-        ensures { (start : W) (bytes rest : List ℕ) → length (bytes ++ rest) < 2 ^ 64 → Holds W.taken W.failed start self.entry bytes → WriteStopped W.taken W.failed start self.exit.0.now (bytes ++ rest) result }
+        ensures { (start : W) (bytes rest : List ℕ) → length (bytes ++ rest) < 2 ^ 64 →
+            Holds W.taken W.failed start self.entry bytes →
+            WriteStopped W.taken W.failed start self.exit.0.now (bytes ++ rest) result }
     {
         let Text {
             writer: _,

@@ -62,11 +62,14 @@ impl<T: Read> Source for Watched<T> {
     /// read takes no byte.
     fn read(&mut self, buffer: &mut [u8]) -> Result<usize, DeviceFault>
         ensures count { IfOk result (λ n. n ≤ length buffer.old) }
-        ensures bytes { IfOk result (λ n. Consumes (T.remaining (inner_of self.old)) (T.remaining (inner_of self.new)) (take n buffer.new)) }
+        ensures bytes { IfOk result (λ n. Consumes (T.remaining (inner_of self.old))
+            (T.remaining (inner_of self.new)) (take n buffer.new)) }
         ensures failed { saw_failure self.new ≡ (is_err result || saw_failure self.old) }
         ensures ended { saw_end self.new ≡ (ends result (length buffer.old) || saw_end self.old) }
-        ensures at_end { IfOk result (λ n. n ≡ 0 → 0 < length buffer.old → IsAtEnd (T.remaining (inner_of self.new))) }
-        ensures unread { OnErr result (Keeps (T.remaining (inner_of self.old)) (T.remaining (inner_of self.new))) }
+        ensures at_end { IfOk result
+            (λ n. n ≡ 0 → 0 < length buffer.old → IsAtEnd (T.remaining (inner_of self.new))) }
+        ensures unread { OnErr result
+            (Keeps (T.remaining (inner_of self.old)) (T.remaining (inner_of self.new))) }
     {
         match self.inner.read(buffer) {
             Ok(count) => {

@@ -14,11 +14,3 @@ pub mod Text
 pub mod Version
 pub mod Headline
 pub mod KnownFiles
-pub use Rattle.hunk_store.specs.Addresses
-pub use Rattle.hunk_store.specs.Failure
-pub use Rattle.hunk_store.specs.FileList
-pub use Rattle.hunk_store.specs.Inputs
-pub use Rattle.hunk_store.specs.MemoryStore
-pub use Rattle.hunk_store.specs.NameReader
-pub use Rattle.hunk_store.specs.Output
-pub use Rattle.hunk_store.specs.Store

@@ -27,7 +27,8 @@ fn is_regular<S: Store>(store: &S, name: &str) -> bool
 /// - [`Unexplained::NotRegular`] if it is not a regular file.
 /// - [`Unexplained::Changed`] if it cannot be opened.
 pub(crate) fn open_again<S: Store>(store: &S, name: &str) -> Result<S::File, Unexplained>
-    ensures there { IfOk result (λ file. IsContent (S.content store.now name.now) (S.File.left file)) }
+    ensures there { IfOk result
+        (λ file. IsContent (S.content store.now name.now) (S.File.left file)) }
     ensures err { IfErr result (IsNotOpenedAgain (S.content store.now name.now)) }
 {
     if !is_regular(store, name) {
@@ -67,7 +68,8 @@ pub(crate) fn units_again<S: Store>(
     store: &S,
     files: &[&str],
 ) -> Result<ObjectFiles, Unexplained>
-    ensures units { IfOk result (λ units. HaveUnits (S.content store.now) (file_names files.now) units) }
+    ensures units { IfOk result
+        (λ units. HaveUnits (S.content store.now) (file_names files.now) units) }
     ensures err { IfErr result (AreNoUnitsAgain (S.content store.now) (file_names files.now)) }
 {
     all_regular(store, files)?;
@@ -91,7 +93,8 @@ pub(crate) fn linked_again<S: Store>(
     store: &S,
     files: &[&str],
 ) -> Result<LoadFile, Unexplained>
-    ensures linked { IfOk result (DoLinkTo false true (S.content store.now) (file_names files.now)) }
+    ensures linked { IfOk result
+        (DoLinkTo false true (S.content store.now) (file_names files.now)) }
     ensures err { IfErr result (IsNotLinkedAgain (S.content store.now) (file_names files.now)) }
 {
     all_regular(store, files)?;
@@ -110,8 +113,10 @@ pub(crate) fn addresses_again<S: Store>(
     store: &S,
     addresses: Addresses<'_>,
 ) -> Result<Vec<u32>, Unexplained>
-    ensures numbers { IfOk result (λ bases. HaveNumbers (S.content store.now) (source_of addresses.entry) bases.items) }
-    ensures err { IfErr result (AreNoAddressesAgain (S.content store.now) (source_of addresses.entry)) }
+    ensures numbers { IfOk result
+        (λ bases. HaveNumbers (S.content store.now) (source_of addresses.entry) bases.items) }
+    ensures err { IfErr result
+        (AreNoAddressesAgain (S.content store.now) (source_of addresses.entry)) }
 {
     match addresses {
         Addresses::File(name) if !is_regular(store, name) => Err(Unexplained::NotRegular),

@@ -36,7 +36,9 @@ pub(crate) fn fail<S: Store, W: Sink>(
     failure: &Failure<'_>,
 ) -> u8
     requires { map string_bytes names.now ≡ file_names files.now }
-    ensures { IsFailed W.taken W.failed errors.old errors.new (λ told. told ≡ failure.now) (IfAsked explain (AreLinesOf (S.content store.now) command.entry (file_names files.now))) (file_names files.now) result }
+    ensures { IsFailed W.taken W.failed errors.old errors.new (λ told. told ≡ failure.now)
+        (IfAsked explain (AreLinesOf (S.content store.now) command.entry (file_names files.now)))
+        (file_names files.now) result }
 {
     let status = report_failure(errors, names, failure);
     if explain {
@@ -56,7 +58,9 @@ pub(crate) fn answer_load<S: Store, O: Output, W: Sink>(
     explain: bool,
     file: &str,
 ) -> u8
-    ensures { EndsLoad (S.content store.now) (printed_of O.taken O.failed O.waiting output.old output.new) W.taken W.failed errors.old errors.new (source_of addresses.entry) text explain file.now result }
+    ensures { EndsLoad (S.content store.now)
+        (printed_of O.taken O.failed O.waiting output.old output.new) W.taken W.failed errors.old
+        errors.new (source_of addresses.entry) text explain file.now result }
 {
     let Ok(name) = String::from_str(alloc, file) else {
         return report_failure(errors, &[], &Failure::out_of_memory());
@@ -90,7 +94,9 @@ pub(crate) fn answer_image<S: Store, O: Output, W: Sink>(
     explain: bool,
     files: &[&str],
 ) -> u8
-    ensures { EndsImage (S.content store.now) (printed_of O.taken O.failed O.waiting output.old output.new) W.taken W.failed errors.old errors.new (source_of addresses.entry) text explain (file_names files.now) result }
+    ensures { EndsImage (S.content store.now)
+        (printed_of O.taken O.failed O.waiting output.old output.new) W.taken W.failed errors.old
+        errors.new (source_of addresses.entry) text explain (file_names files.now) result }
 {
     let Ok(names) = names_of(alloc, files) else {
         return report_failure(errors, &[], &Failure::out_of_memory());
@@ -115,7 +121,8 @@ pub(crate) fn answer_names<S: Store, O: Output, W: Sink>(
     errors: &mut W,
     files: &[&str],
 ) -> u8
-    ensures { EndsNames (S.content store.now) (printed_of O.taken O.failed O.waiting output.old output.new) W.taken W.failed errors.old errors.new (file_names files.now) result }
+    ensures { EndsNames (S.content store.now) (printed_of O.taken O.failed O.waiting output.old
+        output.new) W.taken W.failed errors.old errors.new (file_names files.now) result }
 {
     let Ok(names) = names_of(alloc, files) else {
         return report_failure(errors, &[], &Failure::out_of_memory());
@@ -136,7 +143,9 @@ pub(crate) fn answer_survey<S: Store, O: Output, W: Sink>(
     files: &[&[u8]],
     list: Option<FileList<'_>>,
 ) -> u8
-    ensures { EndsSurvey options (S.content store.now) (printed_of O.taken O.failed O.waiting output.old output.new) W.taken W.failed errors.old errors.new (file_names files.now) (given_list list.entry) result }
+    ensures { EndsSurvey options (S.content store.now)
+        (printed_of O.taken O.failed O.waiting output.old output.new) W.taken W.failed errors.old
+        errors.new (file_names files.now) (given_list list.entry) result }
 {
     match survey(alloc, store, output, options, files, list) {
         Ok(status) => status,
@@ -154,7 +163,8 @@ pub(crate) fn answer_copy<S: Store, W: Sink>(
     explain: bool,
     file: &str,
 ) -> u8
-    ensures { EndsCopy (S.content store.old) (S.content store.new) W.taken W.failed errors.old errors.new out.now form explain file.now result }
+    ensures { EndsCopy (S.content store.old) (S.content store.new) W.taken W.failed errors.old
+        errors.new out.now form explain file.now result }
 {
     let Ok(name) = String::from_str(alloc, file) else {
         return report_failure(errors, &[], &Failure::out_of_memory());
@@ -187,7 +197,9 @@ pub(crate) fn answer_compare<S: Store, O: Output, W: Sink>(
     first: &str,
     second: &str,
 ) -> u8
-    ensures { EndsCompare (S.content store.now) (printed_of O.taken O.failed O.waiting output.old output.new) W.taken W.failed errors.old errors.new with_symbols first.now second.now result }
+    ensures { EndsCompare (S.content store.now)
+        (printed_of O.taken O.failed O.waiting output.old output.new) W.taken W.failed errors.old
+        errors.new with_symbols first.now second.now result }
 {
     let Ok(names) = names_of(alloc, &[first, second]) else {
         return report_failure(errors, &[], &Failure::out_of_memory());
@@ -204,7 +216,8 @@ pub(crate) fn answer_compare<S: Store, O: Output, W: Sink>(
 
 /// Does `--version`, and returns the exit status.
 pub(crate) fn answer_version<O: Output, W: Sink>(output: &mut O, errors: &mut W) -> u8
-    ensures { EndsVersion (printed_of O.taken O.failed O.waiting output.old output.new) W.taken W.failed errors.old errors.new result }
+    ensures { EndsVersion (printed_of O.taken O.failed O.waiting output.old output.new) W.taken
+        W.failed errors.old errors.new result }
 {
     match print_version(output) {
         Ok(()) => DONE,
@@ -214,7 +227,8 @@ pub(crate) fn answer_version<O: Output, W: Sink>(output: &mut O, errors: &mut W)
 
 /// Prints a help text, and returns the exit status.
 pub(crate) fn answer_help<O: Output, W: Sink>(output: &mut O, errors: &mut W, text: &str) -> u8
-    ensures { EndsHelp text.now (printed_of O.taken O.failed O.waiting output.old output.new) W.taken W.failed errors.old errors.new result }
+    ensures { EndsHelp text.now (printed_of O.taken O.failed O.waiting output.old output.new)
+        W.taken W.failed errors.old errors.new result }
 {
     match print(output, text.as_bytes()) {
         Ok(()) => DONE,
@@ -232,7 +246,8 @@ pub(crate) fn answer_text<S: Store, O: Output, W: Sink>(
     explain: bool,
     file: &str,
 ) -> u8
-    ensures { EndsText (S.content store.now) (printed_of O.taken O.failed O.waiting output.old output.new) W.taken W.failed errors.old errors.new text explain file.now result }
+    ensures { EndsText (S.content store.now) (printed_of O.taken O.failed O.waiting output.old
+        output.new) W.taken W.failed errors.old errors.new text explain file.now result }
 {
     let Ok(name) = String::from_str(alloc, file) else {
         return report_failure(errors, &[], &Failure::out_of_memory());

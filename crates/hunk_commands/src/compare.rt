@@ -25,8 +25,11 @@ pub fn compare<'a, S: Store, O: Output>(
     first: &'a str,
     second: &'a str,
 ) -> Result<bool, Failure<'a>>
-    ensures ok { IfOk result (λ same. AreCompared with_symbols same (S.content store.now) first.entry.now second.entry.now (printed_of O.taken O.failed O.waiting output.old output.new)) }
-    ensures err { IfErr result (IsCompareFailure with_symbols (S.content store.now) first.entry.now second.entry.now (printed_of O.taken O.failed O.waiting output.old output.new)) }
+    ensures ok { IfOk result (λ same.
+        AreCompared with_symbols same (S.content store.now) first.entry.now second.entry.now
+        (printed_of O.taken O.failed O.waiting output.old output.new)) }
+    ensures err { IfErr result (IsCompareFailure with_symbols (S.content store.now) first.entry.now
+        second.entry.now (printed_of O.taken O.failed O.waiting output.old output.new)) }
 {
     let mut one = open(store, first)?;
     let mut other = open(store, second)?;

@@ -28,8 +28,10 @@ pub fn copy<'a, S: Store>(
     form: CopyForm,
     file: &'a str,
 ) -> Result<(), Failure<'a>>
-    ensures ok { OnOk result (IsCopiedOut form (S.content store.old) file.entry.now out.entry.now (S.content store.new)) }
-    ensures err { IfErr result (IsCopyFailure form (S.content store.old) file.entry.now out.entry.now) }
+    ensures ok { OnOk result (IsCopiedOut form (S.content store.old) file.entry.now out.entry.now
+        (S.content store.new)) }
+    ensures err { IfErr result
+        (IsCopyFailure form (S.content store.old) file.entry.now out.entry.now) }
     ensures unchanged { OnErr result (AreUnchanged (S.content store.old) (S.content store.new)) }
 {
     let mut reader = open(store, file)?;

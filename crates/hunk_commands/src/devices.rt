@@ -47,8 +47,10 @@ pub fn begin<'a, S: Store>(store: &S, out: &str) -> Result<S::New, Failure<'a>>
 ///
 /// [`Failure::Printing`] if the output did not take or pass on all of them.
 pub fn print<'a, O: Output>(output: &mut O, bytes: &[u8]) -> Result<(), Failure<'a>>
-    ensures ok { OnOk result (IsPrinted bytes.now (printed_of O.taken O.failed O.waiting output.old output.new)) }
-    ensures err { IfErr result (IsUnprinted (printed_of O.taken O.failed O.waiting output.old output.new)) }
+    ensures ok { OnOk result
+        (IsPrinted bytes.now (printed_of O.taken O.failed O.waiting output.old output.new)) }
+    ensures err { IfErr result
+        (IsUnprinted (printed_of O.taken O.failed O.waiting output.old output.new)) }
 {
     let mut text = Text::new(output);
     text.put(bytes);

@@ -59,7 +59,8 @@ pub fn explain_failure<S: Store, W: Sink>(
     files: &[&str],
     failure: &Failure<'_>,
 )
-    ensures told { TellsMore W.taken W.failed errors.old errors.new (AreLinesOf (S.content store.now) command.entry (file_names files.now) failure.now) }
+    ensures told { TellsMore W.taken W.failed errors.old errors.new
+        (AreLinesOf (S.content store.now) command.entry (file_names files.now) failure.now) }
     ensures silent { IsTrue (W.failed errors.old) → errors.new ≡ errors.old }
 {
     if errors.failed() {
@@ -89,7 +90,8 @@ fn explain_fault<S: Store, W: Sink>(
     files: &[&str],
     fault: &ToolFault,
 )
-    ensures { TellsMore W.taken W.failed errors.old errors.new (AreLinesOf (S.content store.now) command.entry (file_names files.now) (Failure.Tool fault.now)) }
+    ensures { TellsMore W.taken W.failed errors.old errors.new (AreLinesOf
+        (S.content store.now) command.entry (file_names files.now) (Failure.Tool fault.now)) }
 {
     match fault {
         ToolFault::Input { file, fault } => {
@@ -160,7 +162,9 @@ fn explain_offence<S: Store, W: Sink>(
     name: &str,
     fault: Fault,
 ) -> Result<(), Unexplained>
-    ensures { TellsUnless W.taken W.failed errors.old errors.new (AreOffenceLines (S.content store.now name.now) (kind_read command.entry) fault) (IsNotExplained (S.content store.now name.now) (kind_read command.entry) fault) result }
+    ensures { TellsUnless W.taken W.failed errors.old errors.new
+        (AreOffenceLines (S.content store.now name.now) (kind_read command.entry) fault)
+        (IsNotExplained (S.content store.now name.now) (kind_read command.entry) fault) result }
 {
     let mut reader = open_again(store, name)?;
     let Some(explanation) = explanation_of(alloc, command, fault, &mut reader)? else {
@@ -185,8 +189,10 @@ pub fn explanation_of<R: Source>(
     fault: Fault,
     reader: &mut R,
 ) -> Result<Option<Explanation>, ReadFault>
-    ensures given { IfOk result (λ given. HasRead (R.left reader.old) (R.left reader.new) (IsGiven (kind_read command.entry) fault given)) }
-    ensures ended { IfOk result (λ given. IfSome given (λ e. IsEnd e.found → IsTrue (R.ended reader.new))) }
+    ensures given { IfOk result (λ given. HasRead (R.left reader.old) (R.left reader.new)
+        (IsGiven (kind_read command.entry) fault given)) }
+    ensures ended { IfOk result
+        (λ given. IfSome given (λ e. IsEnd e.found → IsTrue (R.ended reader.new))) }
     ensures stopped { IfErr result (IsUnexplained (R.failed reader.new)) }
 {
     let Some(explanation) = explain(alloc, command, reader)? else {
@@ -206,8 +212,10 @@ fn explain<R: Source>(
     command: Command<'_>,
     reader: &mut R,
 ) -> Result<Option<Explanation>, ReadFault>
-    ensures explained { IfOk result (λ given. HasRead (R.left reader.old) (R.left reader.new) (λ bytes. IsExplained (kind_read command.entry bytes) given bytes)) }
-    ensures ended { IfOk result (λ given. IfSome given (λ e. IsEnd e.found → IsTrue (R.ended reader.new))) }
+    ensures explained { IfOk result (λ given. HasRead (R.left reader.old) (R.left reader.new)
+        (λ bytes. IsExplained (kind_read command.entry bytes) given bytes)) }
+    ensures ended { IfOk result
+        (λ given. IfSome given (λ e. IsEnd e.found → IsTrue (R.ended reader.new))) }
     ensures stopped { IfErr result (IsUnexplained (R.failed reader.new)) }
 {
     match command {
@@ -227,7 +235,8 @@ fn explain_units<S: Store, W: Sink>(
     files: &[&str],
     refusal: &LinkRefusal,
 )
-    ensures { TellsMore W.taken W.failed errors.old errors.new (AreRefusalLinesOf (S.content store.now) command.entry (file_names files.now) refusal.now) }
+    ensures { TellsMore W.taken W.failed errors.old errors.new
+        (AreRefusalLinesOf (S.content store.now) command.entry (file_names files.now) refusal.now) }
 {
     match command {
         Command::Link | Command::Image(_) => {
@@ -248,7 +257,9 @@ fn explain_refusal<S: Store, W: Sink>(
     files: &[&str],
     refusal: &LinkRefusal,
 ) -> Result<(), Unexplained>
-    ensures { TellsUnless W.taken W.failed errors.old errors.new (AreRefusalLines (S.content store.now) (file_names files.now) refusal.now) (AreNoUnitsAgain (S.content store.now) (file_names files.now)) result }
+    ensures { TellsUnless W.taken W.failed errors.old errors.new
+        (AreRefusalLines (S.content store.now) (file_names files.now) refusal.now)
+        (AreNoUnitsAgain (S.content store.now) (file_names files.now)) result }
 {
     let units = units_again(alloc, store, files)?;
     let names = names_of(alloc, files)?;
@@ -267,7 +278,8 @@ fn explain_places<S: Store, W: Sink>(
     command: Command<'_>,
     files: &[&str],
 )
-    ensures { TellsMore W.taken W.failed errors.old errors.new (ArePlaceLinesOf (S.content store.now) command.entry (file_names files.now)) }
+    ensures { TellsMore W.taken W.failed errors.old errors.new
+        (ArePlaceLinesOf (S.content store.now) command.entry (file_names files.now)) }
 {
     match command {
         Command::Load(addresses) => {
@@ -293,7 +305,10 @@ fn explain_loaded_places<S: Store, W: Sink>(
     addresses: Addresses<'_>,
     name: &str,
 ) -> Result<(), Unexplained>
-    ensures { TellsUnless W.taken W.failed errors.old errors.new (ArePlaceLines (S.content store.now) (source_of addresses.entry) (IsLoadFile (S.content store.now name.now))) (IsNotPlacedAgain (S.content store.now) (source_of addresses.entry) (IsNotLoadedAgain (S.content store.now name.now))) result }
+    ensures { TellsUnless W.taken W.failed errors.old errors.new
+        (ArePlaceLines (S.content store.now) (source_of addresses.entry)
+        (IsLoadFile (S.content store.now name.now))) (IsNotPlacedAgain (S.content store.now)
+        (source_of addresses.entry) (IsNotLoadedAgain (S.content store.now name.now))) result }
 {
     let bases = addresses_again(alloc, store, addresses)?;
     let mut reader = open_again(store, name)?;
@@ -310,7 +325,11 @@ fn explain_linked_places<S: Store, W: Sink>(
     addresses: Addresses<'_>,
     files: &[&str],
 ) -> Result<(), Unexplained>
-    ensures { TellsUnless W.taken W.failed errors.old errors.new (ArePlaceLines (S.content store.now) (source_of addresses.entry) (DoLinkTo false true (S.content store.now) (file_names files.now))) (IsNotPlacedAgain (S.content store.now) (source_of addresses.entry) (IsNotLinkedAgain (S.content store.now) (file_names files.now))) result }
+    ensures { TellsUnless W.taken W.failed errors.old errors.new
+        (ArePlaceLines (S.content store.now) (source_of addresses.entry)
+        (DoLinkTo false true (S.content store.now) (file_names files.now)))
+        (IsNotPlacedAgain (S.content store.now) (source_of addresses.entry)
+        (IsNotLinkedAgain (S.content store.now) (file_names files.now))) result }
 {
     let bases = addresses_again(alloc, store, addresses)?;
     let loaded = linked_again(alloc, store, files)?;
@@ -320,7 +339,8 @@ fn explain_linked_places<S: Store, W: Sink>(
 
 /// Tells of these hunks, beside the numbers of these addresses.
 fn tell_places<W: Sink>(errors: &mut W, hunks: &[LoadHunk], bases: &[u32])
-    ensures { TellsLine W.taken W.failed errors.old errors.new (places_text (sizes_of hunks.now) bases.now) }
+    ensures { TellsLine W.taken W.failed errors.old errors.new
+        (places_text (sizes_of hunks.now) bases.now) }
 {
     let mut text = Text::new(errors);
     write_places(&mut text, hunks, bases);

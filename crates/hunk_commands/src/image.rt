@@ -30,8 +30,12 @@ pub fn image<'a, S: Store, O: Output>(
     text: LoadText,
     files: &[&'a str],
 ) -> Result<(), Failure<'a>>
-    ensures ok { OnOk result (AreImaged text (S.content store.now) (source_of addresses.entry) (file_names files.entry.now) (printed_of O.taken O.failed O.waiting output.old output.new)) }
-    ensures err { IfErr result (IsImageFailure text (S.content store.now) (source_of addresses.entry) (file_names files.entry.now) (printed_of O.taken O.failed O.waiting output.old output.new)) }
+    ensures ok { OnOk result (AreImaged text (S.content store.now)
+        (source_of addresses.entry) (file_names files.entry.now)
+        (printed_of O.taken O.failed O.waiting output.old output.new)) }
+    ensures err { IfErr result (IsImageFailure text (S.content store.now)
+        (source_of addresses.entry) (file_names files.entry.now)
+        (printed_of O.taken O.failed O.waiting output.old output.new)) }
 {
     let bases = addresses_of(alloc, store, addresses)?;
     let mut inputs = open_inputs(alloc, store, files)?;
@@ -60,9 +64,16 @@ pub fn image_to<R: Source, W: Sink>(
     hasher: NameHasher,
     writer: &mut W,
 ) -> Result<(), ToolFault>
-    ensures ok { OnOk result (HaveRead (inputs_of R.left R.failed R.ended inputs.old inputs.new) (IsUnitsText (is_stripped text) (units_text text) bases.now (W.taken writer.old) (W.taken writer.new))) }
-    ensures err { IfErr result (IsUnitsFault (is_stripped text) (units_text text) bases.now (inputs_of R.left R.failed R.ended inputs.old inputs.new)
-        (record { old = W.taken writer.old; new = W.taken writer.new; failed = W.failed writer.new })) }
+    ensures ok { OnOk result
+        (HaveRead (inputs_of R.left R.failed R.ended inputs.old inputs.new) (IsUnitsText
+        (is_stripped text) (units_text text) bases.now (W.taken writer.old) (W.taken writer.new))) }
+    ensures err { IfErr result (IsUnitsFault (is_stripped text) (units_text text) bases.now
+        (inputs_of R.left R.failed R.ended inputs.old inputs.new) (record {
+          old = W.taken
+              writer.old;
+          new = W.taken writer.new;
+          failed = W.failed writer.new;
+        })) }
 {
     match text {
         LoadText::Image(form) => image_run_with(alloc, inputs, bases, form, hasher, writer),

@@ -1,8 +1,9 @@
 //! What the program `amihunk` does for each of its commands: with the files of any store, and any output.
 //!
 //! - `request`: what a command line asks for; `answers`: doing it; `refusal`: telling what is refused.
-//! - `explain`: what is told of a failure after its line; `again`: what is read once more for it; `unexplained`: why
-//!   it is not; `reason`: why a file cannot be opened.
+//! - `explain`: what is told of a failure after its line; `again`: what is read once more for it.
+//! - `unexplained`: why nothing is told of a failure after its line.
+//! - `reason`: why a file cannot be opened.
 //! - `devices`: the file that a command replaces, and what it prints.
 //! - `file_names`: the names of the files that a command reads.
 //! - `load`: the command `load`.

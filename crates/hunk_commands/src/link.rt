@@ -39,8 +39,10 @@ pub fn link<'a, S: Store>(
     globals: bool,
     files: &[&'a str],
 ) -> Result<(), Failure<'a>>
-    ensures ok { OnOk result (IsMade globals options (S.content store.old) (file_names files.entry.now) out.entry.now (S.content store.new)) }
-    ensures err { IfErr result (IsLinkFailure globals options (S.content store.old) (file_names files.entry.now) out.entry.now) }
+    ensures ok { OnOk result (IsMade globals options (S.content store.old)
+        (file_names files.entry.now) out.entry.now (S.content store.new)) }
+    ensures err { IfErr result (IsLinkFailure globals options (S.content store.old)
+        (file_names files.entry.now) out.entry.now) }
     ensures unchanged { OnErr result (AreUnchanged (S.content store.old) (S.content store.new)) }
 {
     let mut inputs = open_inputs(alloc, store, files)?;
@@ -82,9 +84,13 @@ pub fn link_with_map<'a, S: Store>(
     files: &[&'a str],
     names: &[String],
 ) -> Result<(), Failure<'a>>
-    ensures ok { OnOk result (IsMapped globals options (map string_bytes names.now) (S.content store.old) (file_names files.entry.now) out.entry.now map_file.entry.now (S.content store.new)) }
-    ensures one { out.entry.now ≡ map_file.entry.now → result ≡ Err (Failure.SameFile map_file.entry) }
-    ensures err { IfErr result (IsMapFailure globals options (S.content store.old) (file_names files.entry.now) out.entry.now map_file.entry.now (S.content store.new)) }
+    ensures ok { OnOk result
+        (IsMapped globals options (map string_bytes names.now) (S.content store.old)
+        (file_names files.entry.now) out.entry.now map_file.entry.now (S.content store.new)) }
+    ensures one { out.entry.now ≡ map_file.entry.now →
+        result ≡ Err (Failure.SameFile map_file.entry) }
+    ensures err { IfErr result (IsMapFailure globals options (S.content store.old)
+        (file_names files.entry.now) out.entry.now map_file.entry.now (S.content store.new)) }
 {
     if store.is_one_file(out, map_file) {
         return Err(Failure::SameFile(map_file));
@@ -99,7 +105,8 @@ pub fn link_with_map<'a, S: Store>(
 
 /// Whether the file with this name is one of `files`.
 fn is_among<S: Store>(store: &S, name: &str, files: &[&str]) -> bool
-    ensures { result ≡ true → IsKnown (S.content store.now name.now) → Contains (file_names files.now) name.now }
+    ensures { result ≡ true → IsKnown (S.content store.now name.now) →
+        Contains (file_names files.now) name.now }
 {
     files.iter().any(|file| store.is_one_file(name, file))
 }
@@ -113,9 +120,11 @@ pub(crate) fn linked<'a, S: Store>(
     globals: bool,
     files: &[&'a str],
 ) -> Result<LoadFile, Failure<'a>>
-    ensures ok { IfOk result (λ file. DoLinkTo globals strip (S.content store.now) (file_names files.entry.now) file) }
+    ensures ok { IfOk result
+        (λ file. DoLinkTo globals strip (S.content store.now) (file_names files.entry.now) file) }
     ensures short { IfOk result (λ file. IsShortEnough file) }
-    ensures err { IfErr result (AreUnlinked globals strip (S.content store.now) (file_names files.entry.now)) }
+    ensures err { IfErr result
+        (AreUnlinked globals strip (S.content store.now) (file_names files.entry.now)) }
 {
     let mut inputs = open_inputs(alloc, store, files)?;
     let hasher = store.name_hasher();
@@ -130,10 +139,12 @@ fn linked_files<'a, S: Store>(
     globals: bool,
     files: &[&'a str],
 ) -> Result<(ObjectFiles, LoadFile), Failure<'a>>
-    ensures ok { IfOk result (λ linked. DoLinkFiles globals strip (S.content store.now) (file_names files.entry.now) linked.0 linked.1) }
+    ensures ok { IfOk result (λ linked. DoLinkFiles globals strip (S.content store.now)
+        (file_names files.entry.now) linked.0 linked.1) }
     ensures short { IfOk result (λ linked. IsShortEnough linked.1) }
     ensures matched { IfOk result (λ linked. length (origins linked.0) ≡ length linked.1) }
-    ensures err { IfErr result (AreUnlinked globals strip (S.content store.now) (file_names files.entry.now)) }
+    ensures err { IfErr result
+        (AreUnlinked globals strip (S.content store.now) (file_names files.entry.now)) }
 {
     let mut inputs = open_inputs(alloc, store, files)?;
     let hasher = store.name_hasher();
@@ -149,7 +160,8 @@ fn write_out<'a, S: Store>(
     options: LinkOptions,
     linked: LoadFile,
 ) -> Result<LoadFile, Failure<'a>>
-    ensures ok { IfOk result (IsWrittenOut options linked out.entry.now (S.content store.old) (S.content store.new)) }
+    ensures ok { IfOk result
+        (IsWrittenOut options linked out.entry.now (S.content store.old) (S.content store.new)) }
     ensures err { IfErr result (IsUnwritten (S.content store.old out.entry.now) out.entry.now) }
     ensures unchanged { OnErr result (AreUnchanged (S.content store.old) (S.content store.new)) }
 {
@@ -169,8 +181,10 @@ fn write_map_file<'a, S: Store>(
     file: &LoadFile,
 ) -> Result<(), Failure<'a>>
     requires { length (origins units.now) ≡ length file.now }
-    ensures ok { OnOk result (HasMap (map string_bytes names.now) file.now units.now map_file.entry.now (S.content store.old) (S.content store.new)) }
-    ensures err { IfErr result (IsUnmapped (S.content store.old map_file.entry.now) map_file.entry.now) }
+    ensures ok { OnOk result (HasMap (map string_bytes names.now) file.now units.now
+        map_file.entry.now (S.content store.old) (S.content store.new)) }
+    ensures err { IfErr result
+        (IsUnmapped (S.content store.old map_file.entry.now) map_file.entry.now) }
     ensures unchanged { OnErr result (AreUnchanged (S.content store.old) (S.content store.new)) }
 {
     let mut new = begin(store, map_file)?;
@@ -203,7 +217,8 @@ pub fn write_map_to<W: Sink>(
     writer: &mut W,
 ) -> Result<(), WriteFault>
     requires { length (origins units.now) ≡ length file.now }
-    ensures { WroteText W.taken W.failed writer.old writer.new (map_text (map string_bytes names.now) file.now units.now) result }
+    ensures { WroteText W.taken W.failed writer.old writer.new
+        (map_text (map string_bytes names.now) file.now units.now) result }
 {
     let mut text = Text::new(writer);
     write_map(&mut text, units, names, file);

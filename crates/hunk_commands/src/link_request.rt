@@ -28,7 +28,9 @@ pub(crate) fn answer_link<S: Store, W: Sink>(
     files: &[&str],
     list: Option<FileList<'_>>,
 ) -> u8
-    ensures { EndsLink (S.content store.old) (S.content store.new) W.taken W.failed errors.old errors.new out.now (given_text map_file.entry) options globals explain (file_names files.now) (given_list list.entry) result }
+    ensures { EndsLink (S.content store.old) (S.content store.new) W.taken W.failed
+        errors.old errors.new out.now (given_text map_file.entry) options globals explain
+        (file_names files.now) (given_list list.entry) result }
 {
     let Some(list) = list else {
         return answer_link_of_given(
@@ -61,7 +63,9 @@ fn answer_link_of_given<S: Store, W: Sink>(
     explain: bool,
     files: &[&str],
 ) -> u8
-    ensures { EndsLinkOf (S.content store.old) (S.content store.new) W.taken W.failed errors.old errors.new out.now (given_text map_file.entry) options globals explain (file_names files.now) result }
+    ensures { EndsLinkOf (S.content store.old)
+        (S.content store.new) W.taken W.failed errors.old errors.new out.now
+        (given_text map_file.entry) options globals explain (file_names files.now) result }
 {
     let Ok(names) = names_of(alloc, files) else {
         return report_failure(errors, &[], &Failure::out_of_memory());
@@ -79,7 +83,9 @@ fn all_names<'a, S: Store>(
     files: &[&str],
     list: FileList<'a>,
 ) -> Result<Vec<String>, Failure<'a>>
-    ensures ok { IfOk result (λ names. (listed : List (List ℕ)) × AreNamesIn (S.content store.now list.entry.file.now) list.entry.end listed × (map string_bytes names.items ≡ file_names files.now ++ listed)) }
+    ensures ok { IfOk result (λ names. (listed : List (List ℕ)) ×
+        AreNamesIn (S.content store.now list.entry.file.now) list.entry.end listed ×
+        (map string_bytes names.items ≡ file_names files.now ++ listed)) }
     ensures err { IfErr result (IsListFailure (S.content store.now) (list_of list.entry)) }
 {
     let listed = listed_names(alloc, store, list)?;
@@ -91,7 +97,8 @@ fn all_names<'a, S: Store>(
 
 /// The names of these files, and after them others.
 fn joined(alloc: Global, files: &[&str], mut others: Vec<String>) -> Result<Vec<String>, AllocError>
-    ensures { IfOk result (λ names. map string_bytes names.items ≡ file_names files.now ++ map string_bytes others.items) }
+    ensures { IfOk result (λ names. map string_bytes names.items ≡ file_names files.now ++
+        map string_bytes others.items) }
 {
     let mut names = names_of(alloc, files)?;
     names.append(&mut others)?;
@@ -110,7 +117,9 @@ fn answer_link_of<S: Store, W: Sink>(
     explain: bool,
     names: &[String],
 ) -> u8
-    ensures { EndsLinkOf (S.content store.old) (S.content store.new) W.taken W.failed errors.old errors.new out.now (given_text map_file.entry) options globals explain (map string_bytes names.now) result }
+    ensures { EndsLinkOf (S.content store.old)
+        (S.content store.new) W.taken W.failed errors.old errors.new out.now
+        (given_text map_file.entry) options globals explain (map string_bytes names.now) result }
 {
     let Ok(texts) = texts_of(alloc, names) else {
         return report_failure(errors, &[], &Failure::out_of_memory());
@@ -150,8 +159,12 @@ fn link_as_asked<'a, S: Store>(
     names: &[String],
 ) -> Result<(), Failure<'a>>
     requires { map string_bytes names.now ≡ file_names files.now }
-    ensures ok { OnOk result (IsDone globals options (S.content store.old) (file_names files.entry.now) out.entry.now (given_text map_file.entry) (S.content store.new)) }
-    ensures err { IfErr result (IsUndone globals options (S.content store.old) (file_names files.entry.now) out.entry.now (given_text map_file.entry) (S.content store.new)) }
+    ensures ok { OnOk result
+        (IsDone globals options (S.content store.old) (file_names files.entry.now) out.entry.now
+        (given_text map_file.entry) (S.content store.new)) }
+    ensures err { IfErr result
+        (IsUndone globals options (S.content store.old) (file_names files.entry.now) out.entry.now
+        (given_text map_file.entry) (S.content store.new)) }
 {
     match map_file {
         None => link(alloc, store, out, options, globals, files),

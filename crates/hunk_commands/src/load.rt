@@ -38,8 +38,10 @@ pub fn load<'a, S: Store, O: Output>(
     text: LoadText,
     file: &'a str,
 ) -> Result<(), Failure<'a>>
-    ensures ok { OnOk result (IsLoaded text (S.content store.now) (source_of addresses.entry) file.entry.now (printed_of O.taken O.failed O.waiting output.old output.new)) }
-    ensures err { IfErr result (IsLoadFailure text (S.content store.now) (source_of addresses.entry) file.entry.now (printed_of O.taken O.failed O.waiting output.old output.new)) }
+    ensures ok { OnOk result (IsLoaded text (S.content store.now) (source_of addresses.entry)
+        file.entry.now (printed_of O.taken O.failed O.waiting output.old output.new)) }
+    ensures err { IfErr result (IsLoadFailure text (S.content store.now) (source_of addresses.entry)
+        file.entry.now (printed_of O.taken O.failed O.waiting output.old output.new)) }
 {
     let bases = addresses_of(alloc, store, addresses)?;
     let mut reader = open(store, file)?;
@@ -59,7 +61,8 @@ pub fn load_to<R: Source, W: Sink>(
     text: LoadText,
     writer: &mut W,
 ) -> Result<(), ToolFault>
-    ensures ok { OnOk result (HasRead (R.left reader.old) (R.left reader.new) (IsWrittenAt (text_of text) bases.now (W.taken writer.old) (W.taken writer.new))) }
+    ensures ok { OnOk result (HasRead (R.left reader.old) (R.left reader.new)
+        (IsWrittenAt (text_of text) bases.now (W.taken writer.old) (W.taken writer.new))) }
     ensures ended { OnOk result (IsTrue (R.ended reader.new)) }
     ensures err { IfErr result (IsFaultAt (text_of text) bases.now (ends_of
         (R.left reader.old) (R.left reader.new) (R.failed reader.new) (R.ended reader.new)

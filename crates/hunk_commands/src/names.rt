@@ -30,8 +30,10 @@ pub fn print_names<'a, S: Store, O: Output>(
     output: &mut O,
     files: &[&'a str],
 ) -> Result<(), Failure<'a>>
-    ensures ok { OnOk result (AreListed (S.content store.now) (file_names files.entry.now) (printed_of O.taken O.failed O.waiting output.old output.new)) }
-    ensures err { IfErr result (IsNamesFailure (S.content store.now) (file_names files.entry.now) (printed_of O.taken O.failed O.waiting output.old output.new)) }
+    ensures ok { OnOk result (AreListed (S.content store.now) (file_names files.entry.now)
+        (printed_of O.taken O.failed O.waiting output.old output.new)) }
+    ensures err { IfErr result (IsNamesFailure (S.content store.now) (file_names files.entry.now)
+        (printed_of O.taken O.failed O.waiting output.old output.new)) }
 {
     let named = named_files(alloc, store, files)?;
     let Ok(names) = NameList::of(alloc, &named, store.name_hasher()) else {
@@ -49,7 +51,8 @@ fn named_files<'a, S: Store>(
     store: &S,
     files: &[&'a str],
 ) -> Result<NamedFiles, Failure<'a>>
-    ensures ok { IfOk result (λ named. OfWholeFiles (S.content store.now) (file_names files.entry.now) (AreNamedFiles named)) }
+    ensures ok { IfOk result (λ named. OfWholeFiles (S.content store.now)
+        (file_names files.entry.now) (AreNamedFiles named)) }
     ensures err { IfErr result (AreUnread (S.content store.now) (file_names files.entry.now)) }
 {
     let mut inputs = open_inputs(alloc, store, files)?;

@@ -138,7 +138,8 @@ pub fn answer<S: Store, O: Output, W: Sink>(
     errors: &mut W,
     request: Request<'_>,
 ) -> u8
-    ensures { Ends (run_between S.content O.taken O.failed O.waiting store.old store.new output.old output.new) W.taken W.failed errors.old errors.new request.entry result }
+    ensures { Ends (run_between S.content O.taken O.failed O.waiting store.old store.new output.old
+        output.new) W.taken W.failed errors.old errors.new request.entry result }
 {
     match request {
         Request::Link {

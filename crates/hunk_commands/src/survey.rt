@@ -61,8 +61,10 @@ pub fn survey<'a, S: Store, O: Output>(
     files: &[&[u8]],
     list: Option<FileList<'a>>,
 ) -> Result<u8, Failure<'a>>
-    ensures ok { IfOk result (AreSurveyed options (S.content store.now) (file_names files.now) (given_list list.entry) (printed_of O.taken O.failed O.waiting output.old output.new)) }
-    ensures err { IfErr result (IsSurveyFailure options (S.content store.now) (file_names files.now) (given_list list.entry) (printed_of O.taken O.failed O.waiting output.old output.new)) }
+    ensures ok { IfOk result (AreSurveyed options (S.content store.now) (file_names files.now)
+        (given_list list.entry) (printed_of O.taken O.failed O.waiting output.old output.new)) }
+    ensures err { IfErr result (IsSurveyFailure options (S.content store.now) (file_names files.now)
+        (given_list list.entry) (printed_of O.taken O.failed O.waiting output.old output.new)) }
 {
     let plan = plan_of(options, files, list);
     let tally = tell_of_all(alloc, store, output, plan, files, list)?;
@@ -97,8 +99,10 @@ fn tell_of_all<'a, S: Store, O: Output>(
     files: &[&[u8]],
     list: Option<FileList<'a>>,
 ) -> Result<Tally, Failure<'a>>
-    ensures ok { IfOk result (AreAllTold plan (S.content store.now) (file_names files.now) (given_list list.entry) (O.taken output.old) (O.taken output.new)) }
-    ensures err { IfErr result (AreNotAllTold plan (S.content store.now) (file_names files.now) (given_list list.entry) (O.taken output.old) (O.taken output.new) (O.failed output.new)) }
+    ensures ok { IfOk result (AreAllTold plan (S.content store.now) (file_names files.now)
+        (given_list list.entry) (O.taken output.old) (O.taken output.new)) }
+    ensures err { IfErr result (AreNotAllTold plan (S.content store.now) (file_names files.now)
+        (given_list list.entry) (O.taken output.old) (O.taken output.new) (O.failed output.new)) }
 {
     match list {
         None => tell_of_files(alloc, store, output, plan, files),
@@ -118,8 +122,11 @@ fn tell_of_files<'a, S: Store, O: Output>(
     plan: Plan,
     files: &[&[u8]],
 ) -> Result<Tally, Failure<'a>>
-    ensures ok { IfOk result (AreTold plan (S.content store.now) (file_names files.now) (O.taken output.old) (O.taken output.new)) }
-    ensures err { (list : Option NamedList) → IfErr result (AreUntold plan (S.content store.now) list (file_names files.now) (O.taken output.old) (O.taken output.new) (O.failed output.new)) }
+    ensures ok { IfOk result (AreTold plan (S.content store.now) (file_names files.now)
+        (O.taken output.old) (O.taken output.new)) }
+    ensures err { (list : Option NamedList) →
+        IfErr result (AreUntold plan (S.content store.now) list (file_names files.now)
+        (O.taken output.old) (O.taken output.new) (O.failed output.new)) }
 {
     let mut tally = Tally::new();
     for name in files {
@@ -138,10 +145,16 @@ fn tell_of_list<'a, S: Store, O: Output>(
     list: FileList<'a>,
     names: NameReader<S::File>,
 ) -> Result<Tally, Failure<'a>>
-    ensures ok { (names_before : List (List ℕ)) (start : Option (List ℕ)) → AreTold plan (S.content store.now) names_before start (O.taken output.old) others
-        → IfOk result (λ tally. (listed : List (List ℕ)) × AreAllNames names.end (unread S.File.left names) listed × AreTold plan (S.content store.now) (names_before ++ listed) start (O.taken output.new) tally) }
-    ensures err { (names_before : List (List ℕ)) (start : Option (List ℕ)) → AreTold plan (S.content store.now) names_before start (O.taken output.old) others
-        → IfErr result (λ failure. (listed : List (List ℕ)) × AreFirstNames names.end (unread S.File.left names) listed × AreUntold plan (S.content store.now) (Some (list_of list.entry)) (names_before ++ listed) start (O.taken output.new) (O.failed output.new) failure) }
+    ensures ok { (names_before : List (List ℕ)) (start : Option (List ℕ)) →
+        AreTold plan (S.content store.now) names_before start (O.taken output.old) others →
+        IfOk result (λ tally. (listed : List (List ℕ)) ×
+        AreAllNames names.end (unread S.File.left names) listed × AreTold plan (S.content store.now)
+        (names_before ++ listed) start (O.taken output.new) tally) }
+    ensures err { (names_before : List (List ℕ)) (start : Option (List ℕ)) → AreTold plan
+        (S.content store.now) names_before start (O.taken output.old) others → IfErr result
+        (λ failure. (listed : List (List ℕ)) × AreFirstNames names.end (unread S.File.left names)
+        listed × AreUntold plan (S.content store.now) (Some (list_of list.entry))
+        (names_before ++ listed) start (O.taken output.new) (O.failed output.new) failure) }
 {
     let mut names = names;
     let mut tally = others;
@@ -167,10 +180,13 @@ fn tell_of<'a, S: Store, O: Output>(
     tally: &mut Tally,
     name: &[u8],
 ) -> Result<(), Failure<'a>>
-    ensures ok { (names : List (List ℕ)) (start : Option (List ℕ)) → AreTold plan (S.content store.now) names start (O.taken output.old) tally.old
-        → OnOk result (AreTold plan (S.content store.now) (names ++ name.now ∷ []) start (O.taken output.new) tally.new) }
-    ensures err { (names : List (List ℕ)) (start : Option (List ℕ)) (list : Option NamedList) → AreTold plan (S.content store.now) names start (O.taken output.old) tally.old
-        → IfErr result (AreUntold plan (S.content store.now) list (names ++ name.now ∷ []) start (O.taken output.new) (O.failed output.new)) }
+    ensures ok { (names : List (List ℕ)) (start : Option (List ℕ)) → AreTold plan
+        (S.content store.now) names start (O.taken output.old) tally.old → OnOk result (AreTold plan
+        (S.content store.now) (names ++ name.now ∷ []) start (O.taken output.new) tally.new) }
+    ensures err { (names : List (List ℕ)) (start : Option (List ℕ)) (list : Option NamedList) →
+        AreTold plan (S.content store.now) names start (O.taken output.old) tally.old →
+        IfErr result (AreUntold plan (S.content store.now) list (names ++ name.now ∷ []) start
+        (O.taken output.new) (O.failed output.new)) }
 {
     let Ok(finding) = find_file(alloc, store, name, plan.find) else {
         return Err(Failure::out_of_memory());
@@ -189,7 +205,8 @@ fn write_line<W: Sink>(
     name: &[u8],
     finding: Finding,
 ) -> Result<(), WriteFault>
-    ensures { WroteText W.taken W.failed writer.old writer.new (survey_line json name.now finding) result }
+    ensures { WroteText W.taken W.failed writer.old writer.new
+        (survey_line json name.now finding) result }
 {
     let mut text = Text::new(writer);
     if json {

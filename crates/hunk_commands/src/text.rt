@@ -52,8 +52,10 @@ pub fn print_text<'a, S: Store, O: Output>(
     text: Text,
     file: &'a str,
 ) -> Result<(), Failure<'a>>
-    ensures ok { OnOk result (IsTold text (S.content store.now) file.entry.now (printed_of O.taken O.failed O.waiting output.old output.new)) }
-    ensures err { IfErr result (IsTextFailure text (S.content store.now) file.entry.now (printed_of O.taken O.failed O.waiting output.old output.new)) }
+    ensures ok { OnOk result (IsTold text (S.content store.now) file.entry.now
+        (printed_of O.taken O.failed O.waiting output.old output.new)) }
+    ensures err { IfErr result (IsTextFailure text (S.content store.now) file.entry.now
+        (printed_of O.taken O.failed O.waiting output.old output.new)) }
 {
     let mut reader = open(store, file)?;
     print_text_to(alloc, text, &mut reader, output)?;
@@ -72,7 +74,8 @@ pub fn print_text_to<R: Source, W: Sink>(
     reader: &mut R,
     writer: &mut W,
 ) -> Result<(), ToolFault>
-    ensures ok { OnOk result (HasRead (R.left reader.old) (R.left reader.new) (IsWritten (text_of text) (W.taken writer.old) (W.taken writer.new))) }
+    ensures ok { OnOk result (HasRead (R.left reader.old) (R.left reader.new)
+        (IsWritten (text_of text) (W.taken writer.old) (W.taken writer.new))) }
     ensures ended { OnOk result (IsTrue (R.ended reader.new)) }
     ensures err { IfErr result (IsTextFault (text_of text) (ends_of
         (R.left reader.old) (R.left reader.new) (R.failed reader.new) (R.ended reader.new)

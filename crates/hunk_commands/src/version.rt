@@ -18,8 +18,10 @@ const LINE: &[u8] = b"amihunk 0.1.0\n";
 ///
 /// [`Failure::Printing`] if the output did not take or pass on all of the line.
 pub fn print_version<'a, O: Output>(output: &mut O) -> Result<(), Failure<'a>>
-    ensures ok { OnOk result (IsPrinted version_line (printed_of O.taken O.failed O.waiting output.old output.new)) }
-    ensures err { IfErr result (IsUnprinted (printed_of O.taken O.failed O.waiting output.old output.new)) }
+    ensures ok { OnOk result
+        (IsPrinted version_line (printed_of O.taken O.failed O.waiting output.old output.new)) }
+    ensures err { IfErr result
+        (IsUnprinted (printed_of O.taken O.failed O.waiting output.old output.new)) }
 {
     print(output, LINE)
 }

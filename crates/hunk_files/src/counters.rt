@@ -19,7 +19,8 @@ fn begin<A: Allocator + Copy>(
     alloc: A,
     limit: u64,
 ) -> Result<(), SiteRefusal>
-    ensures holds { (before : ℕ) (seen : List ℕ) → HoldsSites before seen hunk.old → OnOk result (HoldsSites limit seen hunk.new) }
+    ensures holds { (before : ℕ) (seen : List ℕ) → HoldsSites before seen hunk.old →
+        OnOk result (HoldsSites limit seen hunk.new) }
     ensures refuses { OnErr result (hunk.new ≡ hunk.old) }
     ensures judges { JudgesNone result }
 {
@@ -32,7 +33,8 @@ fn begin<A: Allocator + Copy>(
 
 /// The hunk ends: it has no sites any more.
 fn end<A: Allocator + Copy>(hunk: &mut PartialHunk<u32, A>, alloc: A)
-    ensures { (limit : ℕ) (seen : List ℕ) → HoldsSites limit seen hunk.old → HoldsSites limit [] hunk.new }
+    ensures { (limit : ℕ) (seen : List ℕ) → HoldsSites limit seen hunk.old →
+        HoldsSites limit [] hunk.new }
 {
     *hunk = PartialHunk::new(alloc, hunk.limit());
 }
@@ -77,7 +79,8 @@ impl<A: Allocator + Copy> ObjectCounter<A> {
 
     /// A hunk of the current unit ends. In a file a unit has begun.
     fn end_hunk(&mut self) -> Result<(), SiteRefusal>
-        ensures takes { (told : List Event) → ObjectStandsFor self.old told → length told < 2 ^ 29 → OnOk result (ObjectStandsFor self.new (told ++ Event.HunkEnd ∷ [])) }
+        ensures takes { (told : List Event) → ObjectStandsFor self.old told → length told < 2 ^ 29 →
+            OnOk result (ObjectStandsFor self.new (told ++ Event.HunkEnd ∷ [])) }
         ensures refuses { OnErr result (self.new ≡ self.old) }
         ensures judges { JudgesNone result }
     {

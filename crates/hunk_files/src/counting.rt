@@ -30,9 +30,11 @@ pub fn count_file<A: Allocator + Copy, R: Source>(
     alloc: A,
     reader: &mut R,
 ) -> Result<CountedFile<A>, ReadFault>
-    ensures file { IfOk result (λ counted. HasRead (R.left reader.old) (R.left reader.new) (λ bytes. IsFileOf CountsObject CountsLoad (kind_of_bytes bytes) counted bytes)) }
+    ensures file { IfOk result (λ counted. HasRead (R.left reader.old) (R.left reader.new)
+        (λ bytes. IsFileOf CountsObject CountsLoad (kind_of_bytes bytes) counted bytes)) }
     ensures ended { OnOk result (IsTrue (R.ended reader.new)) }
-    ensures refused { IfErr result (IsReadFault (R.left reader.old) (R.left reader.new) (R.failed reader.new) (R.ended reader.new)) }
+    ensures refused { IfErr result (IsReadFault (R.left reader.old) (R.left reader.new)
+        (R.failed reader.new) (R.ended reader.new)) }
 {
     let object: ValueDecoder<ObjectCounter<A>> = ValueDecoder::new(alloc);
     let load: ValueDecoder<LoadCounter<A>> = ValueDecoder::new(alloc);

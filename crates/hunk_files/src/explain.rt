@@ -28,7 +28,8 @@ pub fn explain_object<A: Allocator + Copy, R: Source>(
     alloc: A,
     reader: &mut R,
 ) -> Result<Option<Explanation>, ReadFault>
-    ensures explained { IfOk result (λ given. HasRead (R.left reader.old) (R.left reader.new) (IsExplained Object given)) }
+    ensures explained { IfOk result
+        (λ given. HasRead (R.left reader.old) (R.left reader.new) (IsExplained Object given)) }
     ensures ended { IfOk result (λ given. EndsWith given (R.ended reader.new)) }
     ensures stopped { IfErr result (IsUnexplained (R.failed reader.new)) }
 {
@@ -46,7 +47,8 @@ pub fn explain_load<A: Allocator + Copy, R: Source>(
     alloc: A,
     reader: &mut R,
 ) -> Result<Option<Explanation>, ReadFault>
-    ensures explained { IfOk result (λ given. HasRead (R.left reader.old) (R.left reader.new) (IsExplained Load given)) }
+    ensures explained { IfOk result
+        (λ given. HasRead (R.left reader.old) (R.left reader.new) (IsExplained Load given)) }
     ensures ended { IfOk result (λ given. EndsWith given (R.ended reader.new)) }
     ensures stopped { IfErr result (IsUnexplained (R.failed reader.new)) }
 {
@@ -66,7 +68,8 @@ pub fn explain_file<A: Allocator + Copy, R: Source>(
     alloc: A,
     reader: &mut R,
 ) -> Result<Option<Explanation>, ReadFault>
-    ensures explained { IfOk result (λ given. HasRead (R.left reader.old) (R.left reader.new) (λ bytes. IsExplained (kind_of_bytes bytes) given bytes)) }
+    ensures explained { IfOk result (λ given. HasRead (R.left reader.old) (R.left reader.new)
+        (λ bytes. IsExplained (kind_of_bytes bytes) given bytes)) }
     ensures ended { IfOk result (λ given. EndsWith given (R.ended reader.new)) }
     ensures stopped { IfErr result (IsUnexplained (R.failed reader.new)) }
 {
@@ -87,7 +90,8 @@ fn explain_with<T: Taker, R: Source>(
     follower: Follower<T>,
 ) -> Result<Option<Explanation>, ReadFault>
     requires { StandsFor T.KIND T.stands_for follower [] }
-    ensures explained { IfOk result (λ given. HasRead (R.left reader.old) (R.left reader.new) (IsExplained T.KIND given)) }
+    ensures explained { IfOk result
+        (λ given. HasRead (R.left reader.old) (R.left reader.new) (IsExplained T.KIND given)) }
     ensures ended { IfOk result (λ given. EndsWith given (R.ended reader.new)) }
     ensures stopped { IfErr result (IsUnexplained (R.failed reader.new)) }
 {
@@ -100,9 +104,11 @@ fn explain_with<T: Taker, R: Source>(
 /// Returns whether it came to the end.
 fn read_through<R: Source, D: Feed>(reader: &mut R, decoder: &mut D) -> Result<bool, ReadFault>
     requires { D.stands_for decoder.old [] }
-    ensures read { OnOk result (HasRead (R.left reader.old) (R.left reader.new) (D.stands_for decoder.new)) }
+    ensures read { OnOk result
+        (HasRead (R.left reader.old) (R.left reader.new) (D.stands_for decoder.new)) }
     ensures ended { result ≡ Ok true → IsTrue (R.ended reader.new) }
-    ensures faulty { result ≡ Ok false → (fault : Fault) × D.refused decoder.new (Refusal.Fault fault) }
+    ensures faulty { result ≡ Ok false → (fault : Fault) ×
+        D.refused decoder.new (Refusal.Fault fault) }
     ensures stopped { IfErr result (IsUnexplained (R.failed reader.new)) }
 {
     match read_all(reader, decoder) {

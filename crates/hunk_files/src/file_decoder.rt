@@ -41,10 +41,13 @@ pub trait KindDecoder: Drop {
     ///
     /// The first offence of all bytes; or `OutOfMemory` only if an allocation failed.
     fn feed(&mut self, piece: &[u8]) -> Result<(), Refusal>
-        ensures stands { (bytes : List ℕ) → stands_for self.old bytes → stands_for self.new (bytes ++ piece.now) }
+        ensures stands { (bytes : List ℕ) → stands_for self.old bytes →
+            stands_for self.new (bytes ++ piece.now) }
         ensures front { OnOk result ((bytes : List ℕ) → stands_for self.new bytes → begins bytes) }
-        ensures refused { IfErr result (λ refusal. (bytes : List ℕ) → stands_for self.new bytes → RefusesBytes KIND bytes refusal) }
-        ensures bounded { OnOk result ((bytes : List ℕ) → stands_for self.new bytes → length bytes < 2 ^ 30 + 4) };
+        ensures refused { IfErr result (λ refusal. (bytes : List ℕ) → stands_for self.new bytes →
+            RefusesBytes KIND bytes refusal) }
+        ensures bounded { OnOk result
+            ((bytes : List ℕ) → stands_for self.new bytes → length bytes < 2 ^ 30 + 4) };
 
     /// What the whole file is.
     ///
@@ -52,8 +55,10 @@ pub trait KindDecoder: Drop {
     ///
     /// The first offence of all bytes, and their end; or `OutOfMemory` if an earlier call returned it.
     fn finish(self) -> Result<Self::Value, Refusal>
-        ensures value { IfOk result (λ value. (bytes : List ℕ) → stands_for self bytes → is_value value bytes) }
-        ensures refused { IfErr result (λ refusal. (bytes : List ℕ) → stands_for self bytes → RefusesInput KIND bytes refusal) };
+        ensures value { IfOk result
+            (λ value. (bytes : List ℕ) → stands_for self bytes → is_value value bytes) }
+        ensures refused { IfErr result (λ refusal. (bytes : List ℕ) → stands_for self bytes →
+            RefusesInput KIND bytes refusal) };
 }
 
 impl<B: Builder> KindDecoder for ValueDecoder<B> {
@@ -117,10 +122,17 @@ pub(crate) struct Decoders<O, L> {
 impl<O: KindDecoder, L: KindDecoder> Decoders<O, L> {
     /// Takes the next bytes of a file of this kind.
     fn feed(&mut self, kind: FileKind, piece: &[u8]) -> Result<(), Refusal>
-        ensures stands { (bytes : List ℕ) → KindStandsFor O.KIND O.stands_for L.KIND L.stands_for kind self.old bytes → KindStandsFor O.KIND O.stands_for L.KIND L.stands_for kind self.new (bytes ++ piece.now) }
-        ensures front { OnOk result ((bytes : List ℕ) → KindStandsFor O.KIND O.stands_for L.KIND L.stands_for kind self.new bytes → KindBegins O.begins L.begins kind bytes) }
-        ensures refused { IfErr result (λ refusal. (bytes : List ℕ) → KindStandsFor O.KIND O.stands_for L.KIND L.stands_for kind self.new bytes → RefusesBytes kind bytes refusal) }
-        ensures bounded { OnOk result ((bytes : List ℕ) → KindStandsFor O.KIND O.stands_for L.KIND L.stands_for kind self.new bytes → length bytes < 2 ^ 30 + 4) }
+        ensures stands { (bytes : List ℕ) →
+            KindStandsFor O.KIND O.stands_for L.KIND L.stands_for kind self.old bytes →
+            KindStandsFor O.KIND O.stands_for L.KIND L.stands_for kind self.new
+            (bytes ++ piece.now) }
+        ensures front { OnOk result ((bytes : List ℕ) → KindStandsFor O.KIND O.stands_for L.KIND
+            L.stands_for kind self.new bytes → KindBegins O.begins L.begins kind bytes) }
+        ensures refused { IfErr result (λ refusal. (bytes : List ℕ) →
+            KindStandsFor O.KIND O.stands_for L.KIND L.stands_for kind self.new bytes →
+            RefusesBytes kind bytes refusal) }
+        ensures bounded { OnOk result ((bytes : List ℕ) → KindStandsFor O.KIND O.stands_for L.KIND
+            L.stands_for kind self.new bytes → length bytes < 2 ^ 30 + 4) }
     {
         match kind {
             FileKind::Object => self.object.feed(piece),
@@ -130,8 +142,10 @@ impl<O: KindDecoder, L: KindDecoder> Decoders<O, L> {
 
     /// What the whole file of this kind is.
     fn finish(self, kind: FileKind) -> Result<File<O::Value, L::Value>, Refusal>
-        ensures value { IfOk result (λ file. (bytes : List ℕ) → KindStandsFor O.KIND O.stands_for L.KIND L.stands_for kind self bytes → IsFileOf O.is_value L.is_value kind file bytes) }
-        ensures refused { IfErr result (λ refusal. (bytes : List ℕ) → KindStandsFor O.KIND O.stands_for L.KIND L.stands_for kind self bytes → RefusesInput kind bytes refusal) }
+        ensures value { IfOk result (λ file. (bytes : List ℕ) → KindStandsFor O.KIND O.stands_for
+            L.KIND L.stands_for kind self bytes → IsFileOf O.is_value L.is_value kind file bytes) }
+        ensures refused { IfErr result (λ refusal. (bytes : List ℕ) → KindStandsFor O.KIND
+            O.stands_for L.KIND L.stands_for kind self bytes → RefusesInput kind bytes refusal) }
     {
         match kind {
             FileKind::Object => match self.object.finish() {
@@ -174,10 +188,16 @@ impl<O: KindDecoder, L: KindDecoder> FileDecoder<O, L> {
     ///
     /// The first offence of all bytes; or `OutOfMemory` only if an allocation failed.
     pub(crate) fn feed(&mut self, piece: &[u8]) -> Result<(), Refusal>
-        ensures stands { (bytes : List ℕ) → StandsFor O.KIND O.stands_for L.KIND L.stands_for self.old bytes → StandsFor O.KIND O.stands_for L.KIND L.stands_for self.new (bytes ++ piece.now) }
-        ensures front { OnOk result ((bytes : List ℕ) → StandsFor O.KIND O.stands_for L.KIND L.stands_for self.new bytes → 4 ≤ length bytes → KindBegins O.begins L.begins (kind_of_bytes bytes) bytes) }
-        ensures refused { IfErr result (RefusesFed O.KIND O.stands_for L.KIND L.stands_for self.new) }
-        ensures bounded { OnOk result ((bytes : List ℕ) → StandsFor O.KIND O.stands_for L.KIND L.stands_for self.new bytes → length bytes < 2 ^ 30 + 4) }
+        ensures stands { (bytes : List ℕ) →
+            StandsFor O.KIND O.stands_for L.KIND L.stands_for self.old bytes →
+            StandsFor O.KIND O.stands_for L.KIND L.stands_for self.new (bytes ++ piece.now) }
+        ensures front { OnOk result
+            ((bytes : List ℕ) → StandsFor O.KIND O.stands_for L.KIND L.stands_for self.new bytes →
+            4 ≤ length bytes → KindBegins O.begins L.begins (kind_of_bytes bytes) bytes) }
+        ensures refused { IfErr result
+            (RefusesFed O.KIND O.stands_for L.KIND L.stands_for self.new) }
+        ensures bounded { OnOk result ((bytes : List ℕ) → StandsFor O.KIND O.stands_for L.KIND
+            L.stands_for self.new bytes → length bytes < 2 ^ 30 + 4) }
     {
         if self.front.as_bytes().len() == LONGWORD {
             let kind = kind_of(self.front.as_bytes());
@@ -196,8 +216,11 @@ impl<O: KindDecoder, L: KindDecoder> FileDecoder<O, L> {
 
     /// What the whole file is. One of fewer than four bytes is read as an object file.
     pub(crate) fn finish(self) -> Result<File<O::Value, L::Value>, Refusal>
-        ensures value { IfOk result (λ file. (bytes : List ℕ) → StandsFor O.KIND O.stands_for L.KIND L.stands_for self bytes → IsFileOf O.is_value L.is_value (kind_of_bytes bytes) file bytes) }
-        ensures refused { IfErr result (λ refusal. (bytes : List ℕ) → StandsFor O.KIND O.stands_for L.KIND L.stands_for self bytes → RefusesInput (kind_of_bytes bytes) bytes refusal) }
+        ensures value { IfOk result (λ file. (bytes : List ℕ) →
+            StandsFor O.KIND O.stands_for L.KIND L.stands_for self bytes →
+            IsFileOf O.is_value L.is_value (kind_of_bytes bytes) file bytes) }
+        ensures refused { IfErr result (λ refusal. (bytes : List ℕ) → StandsFor O.KIND O.stands_for
+            L.KIND L.stands_for self bytes → RefusesInput (kind_of_bytes bytes) bytes refusal) }
     {
         let mut decoders = self.decoders;
         let front = self.front.as_bytes();
@@ -239,9 +262,11 @@ pub fn read_file<R: Source, O: KindDecoder, L: KindDecoder>(
     requires load { L.stands_for load [] }
     requires object_kind { O.KIND ≡ Object }
     requires load_kind { L.KIND ≡ Load }
-    ensures file { IfOk result (λ file. HasRead (R.left reader.old) (R.left reader.new) (λ bytes. IsFileOf O.is_value L.is_value (kind_of_bytes bytes) file bytes)) }
+    ensures file { IfOk result (λ file. HasRead (R.left reader.old) (R.left reader.new)
+        (λ bytes. IsFileOf O.is_value L.is_value (kind_of_bytes bytes) file bytes)) }
     ensures ended { OnOk result (IsTrue (R.ended reader.new)) }
-    ensures refused { IfErr result (IsReadFault (R.left reader.old) (R.left reader.new) (R.failed reader.new) (R.ended reader.new)) }
+    ensures refused { IfErr result (IsReadFault (R.left reader.old) (R.left reader.new)
+        (R.failed reader.new) (R.ended reader.new)) }
 {
     let mut decoder = FileDecoder::new(object, load);
     read_all(reader, &mut decoder)?;

@@ -44,7 +44,8 @@ impl FirstBytes {
     pub(crate) fn take(&mut self, piece: &[u8]) -> usize
         ensures within { result ≤ length piece.now }
         ensures value { self.new ≡ self.old ++ take result piece.now }
-        ensures all { (length self.new ≡ 4) ⊎ ((length self.new < 4) × (result ≡ length piece.now)) }
+        ensures all { (length self.new ≡ 4) ⊎
+            ((length self.new < 4) × (result ≡ length piece.now)) }
     {
         let taken = piece.len().min(LONGWORD - self.count);
         let end = self.count + taken;

@@ -44,7 +44,8 @@ impl<T: Taker> Follower<T> {
     /// Takes the next longword.
     fn word(&mut self, word: u32) -> Result<(), Refusal>
         requires { refusal_of self.old ≡ None }
-        ensures stands { (ws : List ℕ) → FollowsWords T.KIND T.stands_for self.old ws → FollowsWords T.KIND T.stands_for self.new (ws ++ word ∷ []) }
+        ensures stands { (ws : List ℕ) → FollowsWords T.KIND T.stands_for self.old ws →
+            FollowsWords T.KIND T.stands_for self.new (ws ++ word ∷ []) }
         ensures same { self.new.splitter ≡ self.old.splitter }
         ensures kept { Keeps (refusal_of self.new) result }
     {
@@ -63,7 +64,8 @@ impl<T: Taker> Follower<T> {
     /// Takes one byte.
     fn push(&mut self, byte: u8) -> Result<(), Refusal>
         requires { refusal_of self.old ≡ None }
-        ensures stands { (bytes : List ℕ) → StandsFor T.KIND T.stands_for self.old bytes → StandsFor T.KIND T.stands_for self.new (bytes ++ byte ∷ []) }
+        ensures stands { (bytes : List ℕ) → StandsFor T.KIND T.stands_for self.old bytes →
+            StandsFor T.KIND T.stands_for self.new (bytes ++ byte ∷ []) }
         ensures kept { Keeps (refusal_of self.new) result }
     {
         match self.splitter.push(byte) {
@@ -79,10 +81,13 @@ impl<T: Taker> Follower<T> {
     /// The first offence of all bytes; or out of memory, only if an allocation failed. After an error,
     /// every later call returns the same error.
     pub(crate) fn feed(&mut self, piece: &[u8]) -> Result<(), Refusal>
-        ensures stands { (bytes : List ℕ) → StandsFor T.KIND T.stands_for self.old bytes → StandsFor T.KIND T.stands_for self.new (bytes ++ piece.now) }
+        ensures stands { (bytes : List ℕ) → StandsFor T.KIND T.stands_for self.old bytes →
+            StandsFor T.KIND T.stands_for self.new (bytes ++ piece.now) }
         ensures kept { Keeps (refusal_of self.new) result }
-        ensures bounded { OnOk result ((bytes : List ℕ) → StandsFor T.KIND T.stands_for self.new bytes → length bytes < 2 ^ 30 + 4) }
-        ensures refused { IfErr result (λ refusal. (bytes : List ℕ) → StandsFor T.KIND T.stands_for self.new bytes → RefusesBytes T.KIND bytes refusal) }
+        ensures bounded { OnOk result ((bytes : List ℕ) →
+            StandsFor T.KIND T.stands_for self.new bytes → length bytes < 2 ^ 30 + 4) }
+        ensures refused { IfErr result (λ refusal. (bytes : List ℕ) →
+            StandsFor T.KIND T.stands_for self.new bytes → RefusesBytes T.KIND bytes refusal) }
     {
         if let Some(refusal) = self.core.refusal() {
             return Err(refusal);
@@ -102,7 +107,8 @@ impl<T: Taker> Follower<T> {
     ///
     /// Out of memory, if an earlier call returned it.
     pub(crate) fn explanation(self) -> Result<Option<Explanation>, Refusal>
-        ensures ok { IfOk result (λ given. (bytes : List ℕ) → StandsFor T.KIND T.stands_for self bytes → IsExplained T.KIND given bytes) }
+        ensures ok { IfOk result (λ given. (bytes : List ℕ) →
+            StandsFor T.KIND T.stands_for self bytes → IsExplained T.KIND given bytes) }
         ensures memory { IfErr result (λ refusal. refusal ≡ Refusal.OutOfMemory) }
     {
         match self.core.refusal() {
@@ -118,7 +124,8 @@ impl<T: Taker> Follower<T> {
     /// The same where no longword was refused.
     fn at_end(self) -> Result<Option<Explanation>, Refusal>
         requires { refusal_of self ≡ None }
-        ensures ok { IfOk result (λ given. (bytes : List ℕ) → StandsFor T.KIND T.stands_for self bytes → IsExplained T.KIND given bytes) }
+        ensures ok { IfOk result (λ given. (bytes : List ℕ) →
+            StandsFor T.KIND T.stands_for self bytes → IsExplained T.KIND given bytes) }
         ensures memory { IfErr result (λ refusal. refusal ≡ Refusal.OutOfMemory) }
     {
         let rest = self.splitter.rest();

@@ -33,9 +33,11 @@ pub fn read_hunk_file<A: Allocator + Copy, R: Source>(
     alloc: A,
     reader: &mut R,
 ) -> Result<HunkFile<A>, ReadFault>
-    ensures file { IfOk result (λ file. HasRead (R.left reader.old) (R.left reader.new) (IsOfItsKind (value_of file))) }
+    ensures file { IfOk result
+        (λ file. HasRead (R.left reader.old) (R.left reader.new) (IsOfItsKind (value_of file))) }
     ensures ended { OnOk result (IsTrue (R.ended reader.new)) }
-    ensures refused { IfErr result (IsReadFault (R.left reader.old) (R.left reader.new) (R.failed reader.new) (R.ended reader.new)) }
+    ensures refused { IfErr result (IsReadFault (R.left reader.old) (R.left reader.new)
+        (R.failed reader.new) (R.ended reader.new)) }
 {
     read_file(reader, ObjectDecoder::new(alloc), LoadDecoder::new(alloc))
 }
@@ -67,9 +69,12 @@ impl<A: Allocator + Copy> HunkFileDecoder<A> {
     ///   byte of the offending longword, and from every later call.
     /// - [`Refusal::OutOfMemory`] only if an allocation failed.
     pub fn feed(&mut self, piece: &[u8]) -> Result<(), Refusal>
-        ensures stands { (bytes : List ℕ) → StandsFor self.old bytes → StandsFor self.new (bytes ++ piece.now) }
-        ensures front { OnOk result ((bytes : List ℕ) → StandsFor self.new bytes → IsValidPrefix (kind_of_bytes bytes) (longwords bytes)) }
-        ensures refused { IfErr result (λ refusal. (bytes : List ℕ) → StandsFor self.new bytes → RefusesBytes (kind_of_bytes bytes) bytes refusal) }
+        ensures stands { (bytes : List ℕ) → StandsFor self.old bytes →
+            StandsFor self.new (bytes ++ piece.now) }
+        ensures front { OnOk result ((bytes : List ℕ) → StandsFor self.new bytes →
+            IsValidPrefix (kind_of_bytes bytes) (longwords bytes)) }
+        ensures refused { IfErr result (λ refusal. (bytes : List ℕ) → StandsFor self.new bytes →
+            RefusesBytes (kind_of_bytes bytes) bytes refusal) }
     {
         self.decoder.feed(piece)
     }
@@ -81,8 +86,10 @@ impl<A: Allocator + Copy> HunkFileDecoder<A> {
     /// [`Refusal::Fault`] with the first offence of the file, which may be that it ends too early; or
     /// [`Refusal::OutOfMemory`] if an allocation failed before.
     pub fn finish(self) -> Result<HunkFile<A>, Refusal>
-        ensures file { IfOk result (λ file. (bytes : List ℕ) → StandsFor self bytes → IsOfItsKind (value_of file) bytes) }
-        ensures refused { IfErr result (λ refusal. (bytes : List ℕ) → StandsFor self bytes → RefusesInput (kind_of_bytes bytes) bytes refusal) }
+        ensures file { IfOk result
+            (λ file. (bytes : List ℕ) → StandsFor self bytes → IsOfItsKind (value_of file) bytes) }
+        ensures refused { IfErr result (λ refusal. (bytes : List ℕ) → StandsFor self bytes →
+            RefusesInput (kind_of_bytes bytes) bytes refusal) }
     {
         self.decoder.finish()
     }

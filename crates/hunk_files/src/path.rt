@@ -47,7 +47,8 @@ impl Path {
 
     /// After one more longword, where this was due.
     pub(crate) fn after(self, due: Due, word: u32) -> Path
-        ensures { (types : List BlockType) → length types < 2 ^ 29 → IsPathOf self types → IsPathOf result (if is_type due then type_of (low word) ∷ types else types) }
+        ensures { (types : List BlockType) → length types < 2 ^ 29 → IsPathOf self types →
+            IsPathOf result (if is_type due then type_of (low word) ∷ types else types) }
     {
         if is_type(due) {
             self.with_block(BlockType::of_longword(word))
@@ -58,7 +59,8 @@ impl Path {
 
     /// After one more block.
     fn with_block(self, block: BlockType) -> Path
-        ensures { (types : List BlockType) → length types < 2 ^ 29 → IsPathOf self types → IsPathOf result (block ∷ types) }
+        ensures { (types : List BlockType) → length types < 2 ^ 29 → IsPathOf self types →
+            IsPathOf result (block ∷ types) }
     {
         let Path { units, hunks, .. } = self;
         let (units, hunks) = match block {

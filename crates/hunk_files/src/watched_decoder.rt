@@ -51,9 +51,12 @@ impl<W: Watcher, B: Builder> WatchedDecoder<W, B> {
     /// The first offence of all bytes; or out of memory, only if an allocation failed. After an error,
     /// every later call returns the same error.
     pub(crate) fn feed(&mut self, piece: &[u8]) -> Result<(), Refusal>
-        ensures stands { (bytes : List ℕ) → StandsFor B.KIND B.stands_for W.stands_for self.old bytes → StandsFor B.KIND B.stands_for W.stands_for self.new (bytes ++ piece.now) }
-        ensures bounded { OnOk result ((bytes : List ℕ) → StandsFor B.KIND B.stands_for W.stands_for self.new bytes → length bytes < 2 ^ 30 + 4) }
-        ensures refused { IfErr result (λ refusal. (bytes : List ℕ) → StandsFor B.KIND B.stands_for W.stands_for self.new bytes → RefusesBytes B.KIND bytes refusal) }
+        ensures stands { (bytes : List ℕ) → StandsFor B.KIND B.stands_for W.stands_for self.old
+            bytes → StandsFor B.KIND B.stands_for W.stands_for self.new (bytes ++ piece.now) }
+        ensures bounded { OnOk result ((bytes : List ℕ) →
+            StandsFor B.KIND B.stands_for W.stands_for self.new bytes → length bytes < 2 ^ 30 + 4) }
+        ensures refused { IfErr result (λ refusal. (bytes : List ℕ) → StandsFor B.KIND B.stands_for
+            W.stands_for self.new bytes → RefusesBytes B.KIND bytes refusal) }
     {
         self.reader.feed(piece)
     }
@@ -65,8 +68,10 @@ impl<W: Watcher, B: Builder> WatchedDecoder<W, B> {
     ///
     /// The first offence of all bytes, and their end; or out of memory if an earlier call returned it.
     pub(crate) fn finish(self) -> Result<Watched<B::Value, W>, Refusal>
-        ensures value { IfOk result (λ watched. (bytes : List ℕ) → StandsFor B.KIND B.stands_for W.stands_for self bytes → IsWatchedOf B.KIND B.is_value W.stands_for watched bytes) }
-        ensures refused { IfErr result (λ refusal. (bytes : List ℕ) → StandsFor B.KIND B.stands_for W.stands_for self bytes → RefusesInput B.KIND bytes refusal) }
+        ensures value { IfOk result (λ watched. (bytes : List ℕ) → StandsFor B.KIND B.stands_for
+            W.stands_for self bytes → IsWatchedOf B.KIND B.is_value W.stands_for watched bytes) }
+        ensures refused { IfErr result (λ refusal. (bytes : List ℕ) → StandsFor B.KIND B.stands_for
+            W.stands_for self bytes → RefusesInput B.KIND bytes refusal) }
     {
         self.reader.finish()
     }

@@ -34,9 +34,11 @@ pub fn read_watched<A: Allocator + Copy, R: Source, W: Watcher>(
 ) -> Result<Watched<HunkFile<A>, W>, ReadFault>
     requires object { W.stands_for Object object [] }
     requires load { W.stands_for Load load [] }
-    ensures file { IfOk result (λ watched. HasRead (R.left reader.old) (R.left reader.new) (IsWatchedFile W.stands_for watched)) }
+    ensures file { IfOk result (λ watched. HasRead (R.left reader.old) (R.left reader.new)
+        (IsWatchedFile W.stands_for watched)) }
     ensures ended { OnOk result (IsTrue (R.ended reader.new)) }
-    ensures refused { IfErr result (IsReadFault (R.left reader.old) (R.left reader.new) (R.failed reader.new) (R.ended reader.new)) }
+    ensures refused { IfErr result (IsReadFault (R.left reader.old) (R.left reader.new)
+        (R.failed reader.new) (R.ended reader.new)) }
 {
     let units: UnitBuilder<A> = UnitBuilder::new(alloc);
     let hunks: LoadBuilder<A> = LoadBuilder::new(alloc);

@@ -49,7 +49,8 @@ impl<W: Watcher, B: Builder> WatchedReader<W, B> {
     /// Takes the next longword.
     fn word(&mut self, word: u32) -> Result<(), Refusal>
         requires { self.old.refusal ≡ None }
-        ensures stands { (ws : List ℕ) → Reads B.KIND B.stands_for W.stands_for self.old ws → WordsStand B.KIND B.stands_for W.stands_for self.new (ws ++ word ∷ []) }
+        ensures stands { (ws : List ℕ) → Reads B.KIND B.stands_for W.stands_for self.old ws →
+            WordsStand B.KIND B.stands_for W.stands_for self.new (ws ++ word ∷ []) }
         ensures same { self.new.splitter ≡ self.old.splitter }
         ensures kept { Keeps self.new.refusal result }
     {
@@ -66,7 +67,8 @@ impl<W: Watcher, B: Builder> WatchedReader<W, B> {
     /// Takes one byte.
     fn push(&mut self, byte: u8) -> Result<(), Refusal>
         requires { self.old.refusal ≡ None }
-        ensures stands { (bytes : List ℕ) → StandsFor B.KIND B.stands_for W.stands_for self.old bytes → StandsFor B.KIND B.stands_for W.stands_for self.new (bytes ++ byte ∷ []) }
+        ensures stands { (bytes : List ℕ) → StandsFor B.KIND B.stands_for W.stands_for self.old
+            bytes → StandsFor B.KIND B.stands_for W.stands_for self.new (bytes ++ byte ∷ []) }
         ensures kept { Keeps self.new.refusal result }
     {
         match self.splitter.push(byte) {
@@ -82,9 +84,12 @@ impl<W: Watcher, B: Builder> WatchedReader<W, B> {
     /// The first offence of all bytes; or out of memory, only if an allocation failed. After an error,
     /// every later call returns the same error.
     pub(crate) fn feed(&mut self, piece: &[u8]) -> Result<(), Refusal>
-        ensures stands { (bytes : List ℕ) → StandsFor B.KIND B.stands_for W.stands_for self.old bytes → StandsFor B.KIND B.stands_for W.stands_for self.new (bytes ++ piece.now) }
-        ensures bounded { OnOk result ((bytes : List ℕ) → StandsFor B.KIND B.stands_for W.stands_for self.new bytes → length bytes < 2 ^ 30 + 4) }
-        ensures refused { IfErr result (λ refusal. (bytes : List ℕ) → StandsFor B.KIND B.stands_for W.stands_for self.new bytes → RefusesBytes B.KIND bytes refusal) }
+        ensures stands { (bytes : List ℕ) → StandsFor B.KIND B.stands_for W.stands_for self.old
+            bytes → StandsFor B.KIND B.stands_for W.stands_for self.new (bytes ++ piece.now) }
+        ensures bounded { OnOk result ((bytes : List ℕ) →
+            StandsFor B.KIND B.stands_for W.stands_for self.new bytes → length bytes < 2 ^ 30 + 4) }
+        ensures refused { IfErr result (λ refusal. (bytes : List ℕ) → StandsFor B.KIND B.stands_for
+            W.stands_for self.new bytes → RefusesBytes B.KIND bytes refusal) }
     {
         if let Some(refusal) = self.refusal {
             return Err(refusal);
@@ -106,8 +111,10 @@ impl<W: Watcher, B: Builder> WatchedReader<W, B> {
     /// The first offence of all bytes, and their end; or out of memory if an earlier call returned it.
     pub(crate) fn finish(self) -> Result<Watched<B::Value, W>, Refusal>
         requires { (bytes : List ℕ) × StandsFor B.KIND B.stands_for W.stands_for self bytes }
-        ensures value { IfOk result (λ watched. (bytes : List ℕ) → StandsFor B.KIND B.stands_for W.stands_for self bytes → IsWatchedOf B.KIND B.is_value W.stands_for watched bytes) }
-        ensures refused { IfErr result (λ refusal. (bytes : List ℕ) → StandsFor B.KIND B.stands_for W.stands_for self bytes → RefusesInput B.KIND bytes refusal) }
+        ensures value { IfOk result (λ watched. (bytes : List ℕ) → StandsFor B.KIND B.stands_for
+            W.stands_for self bytes → IsWatchedOf B.KIND B.is_value W.stands_for watched bytes) }
+        ensures refused { IfErr result (λ refusal. (bytes : List ℕ) → StandsFor B.KIND B.stands_for
+            W.stands_for self bytes → RefusesInput B.KIND bytes refusal) }
     {
         if let Some(refusal) = self.refusal {
             return Err(refusal);

@@ -18,7 +18,8 @@ pub trait Watcher: Drop {
     ///
     /// [`AllocError`] only if an allocation failed; then it stands for nothing.
     fn take(&mut self, kind: FileKind, due: Due, word: u32) -> Result<(), AllocError>
-        ensures { (before : List (Due × ℕ)) → length before < 2 ^ 29 → stands_for kind self.old before → OnOk result (stands_for kind self.new ((due, word) ∷ before)) };
+        ensures { (before : List (Due × ℕ)) → length before < 2 ^ 29 → stands_for kind self.old
+            before → OnOk result (stands_for kind self.new ((due, word) ∷ before)) };
 }
 
 /// What is in a file, and what was shown its longwords.

@@ -28,7 +28,8 @@ pub fn write_image<A: Allocator, W: Sink>(
 ) -> Result<(), WriteFault>
     requires few { length hunks.now < 2 ^ 16 }
     requires inside { All EndsInside (hunks_of hunks.now) }
-    ensures wrote { WroteAll W.taken W.failed writer.old writer.new (image_text form (hunks_of hunks.now)) result }
+    ensures wrote { WroteAll W.taken W.failed writer.old writer.new
+        (image_text form (hunks_of hunks.now)) result }
     ensures device { IfErr result IsDevice }
 {
     let mut text = Text::new(writer);

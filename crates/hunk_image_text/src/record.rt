@@ -78,7 +78,8 @@ fn put_text_record<W: Sink>(text: &mut Text<'_, W>, words: &[u8])
 
 /// Fills `line` with the record of this kind that spells out an address and these bytes.
 fn put_record(line: &mut [u8], kind: &[u8], address: &[u8], content: &[u8])
-    requires size { length line.old ≡ length kind.now + 2 * (length address.now + length content.now + 2) + 1 }
+    requires size { length line.old ≡ length kind.now + 2 *
+        (length address.now + length content.now + 2) + 1 }
     requires narrow { length address.now ≤ 4 }
     requires short { length content.now ≤ 38 }
     ensures { line.new ≡ record_line kind.now (address.now ++ content.now) }

@@ -25,7 +25,8 @@ pub(crate) fn write_content<W: Sink>(
     offset: u32,
     content: &[u8],
 )
-    ensures { Puts W.taken W.failed text.old text.new (further_members form (content_members form offset content.now)) }
+    ensures { Puts W.taken W.failed text.old text.new
+        (further_members form (content_members form offset content.now)) }
 {
     match form {
         JsonForm::Plain => {}

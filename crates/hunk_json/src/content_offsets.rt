@@ -78,9 +78,11 @@ pub(crate) fn read_placed<A: Allocator + Copy, R: Source>(
     reader: &mut R,
     form: JsonForm,
 ) -> Result<PlacedFile<A>, ReadFault>
-    ensures file { IfOk result (λ file. HasRead (R.left reader.old) (R.left reader.new) (IsPlaced form file)) }
+    ensures file { IfOk result
+        (λ file. HasRead (R.left reader.old) (R.left reader.new) (IsPlaced form file)) }
     ensures ended { OnOk result (IsTrue (R.ended reader.new)) }
-    ensures refused { IfErr result (IsReadFault (R.left reader.old) (R.left reader.new) (R.failed reader.new) (R.ended reader.new)) }
+    ensures refused { IfErr result (IsReadFault (R.left reader.old) (R.left reader.new)
+        (R.failed reader.new) (R.ended reader.new)) }
 {
     match form {
         JsonForm::Plain => match read_hunk_file(alloc, reader) {

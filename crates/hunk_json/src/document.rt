@@ -18,13 +18,15 @@ pub(crate) trait WriteJson {
 
     /// Writes the JSON text of the part.
     fn write_json<W: Sink>(&self, text: &mut Text<'_, W>, form: JsonForm)
-        ensures puts { Puts W.taken W.failed text.old text.new (document form (json form self.now)) }
+        ensures puts { Puts W.taken W.failed text.old text.new
+            (document form (json form self.now)) }
         ensures utf8 { IsUtf8 (compact_text (json form self.now)) };
 }
 
 /// Writes the array of the values of these parts.
 pub(crate) fn write_list<T: WriteJson, W: Sink>(text: &mut Text<'_, W>, form: JsonForm, parts: &[T])
-    ensures { Puts W.taken W.failed text.old text.new (document form (listed (T.json form) parts.now)) }
+    ensures { Puts W.taken W.failed text.old text.new
+        (document form (listed (T.json form) parts.now)) }
 {
     text.put(b"[");
     let mut later = false;
@@ -42,7 +44,8 @@ pub(crate) trait WriteHunk {
 
     /// Writes the JSON text of the hunk.
     fn write_hunk<W: Sink>(&self, text: &mut Text<'_, W>, form: JsonForm, offset: u32)
-        ensures puts { Puts W.taken W.failed text.old text.new (document form (json form offset self.now)) }
+        ensures puts { Puts W.taken W.failed text.old text.new
+            (document form (json form offset self.now)) }
         ensures utf8 { IsUtf8 (compact_text (json form offset self.now)) };
 }
 
@@ -54,7 +57,8 @@ pub(crate) fn write_hunks<T: WriteHunk, W: Sink>(
     offsets: &[u32],
     hunks: &[T],
 )
-    ensures { Puts W.taken W.failed text.old text.new (document form (hunks_json (T.json form) offsets.now hunks.now)) }
+    ensures { Puts W.taken W.failed text.old text.new
+        (document form (hunks_json (T.json form) offsets.now hunks.now)) }
 {
     text.put(b"[");
     let mut later = false;

@@ -29,7 +29,8 @@ fn write_characters<W: Sink>(text: &mut Text<'_, W>, form: JsonForm, string: &st
 
 /// Writes a character as it stands in a JSON string.
 fn write_character<W: Sink>(text: &mut Text<'_, W>, form: JsonForm, character: char)
-    ensures { Puts W.taken W.failed text.old text.new (with_escapes form (escape (encode_utf8 character))) }
+    ensures { Puts W.taken W.failed text.old text.new
+        (with_escapes form (escape (encode_utf8 character))) }
 {
     match short_escape(character) {
         Some(escape) => text.put(escape),
@@ -46,7 +47,8 @@ fn write_character<W: Sink>(text: &mut Text<'_, W>, form: JsonForm, character: c
 /// The escape of a character for which JSON has one of two characters.
 #[tactic(auto, unfolding(json::specs::Print::escape_byte))]
 fn short_escape(character: char) -> Option<&'static [u8]>
-    ensures { MatchOption result (escape_letter character ≡ 0) (λ escape. (0 < escape_letter character) × (escape.now ≡ escape_byte character)) }
+    ensures { MatchOption result (escape_letter character ≡ 0)
+        (λ escape. (0 < escape_letter character) × (escape.now ≡ escape_byte character)) }
 {
     match character {
         '"' => Some(b"\\\""),

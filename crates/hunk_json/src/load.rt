@@ -23,7 +23,8 @@ pub fn write_load_json<A: Allocator + Copy, W: Sink>(
     offsets: &[u32],
     hunks: &[LoadHunk<A>],
 )
-    ensures { Puts W.taken W.failed text.old text.new (document form (load_json form offsets.now hunks.now)) }
+    ensures { Puts W.taken W.failed text.old text.new
+        (document form (load_json form offsets.now hunks.now)) }
 {
     text.put(b"{\"hunks\":");
     write_hunks(text, form, offsets, hunks);
@@ -59,7 +60,8 @@ fn write_sites<A: Allocator + Copy, W: Sink>(
     form: JsonForm,
     sites: &Sites<u32, A>,
 )
-    ensures { Puts W.taken W.failed text.old text.new (document form (listed hunk_site_json sites.now.entries)) }
+    ensures { Puts W.taken W.failed text.old text.new
+        (document form (listed hunk_site_json sites.now.entries)) }
 {
     text.put(b"[");
     let mut later = false;

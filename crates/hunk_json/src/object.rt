@@ -26,7 +26,8 @@ pub fn write_object_json<A: Allocator + Copy, W: Sink>(
     offsets: &[u32],
     units: &[ProgramUnit<A>],
 )
-    ensures { Puts W.taken W.failed text.old text.new (document form (object_json form offsets.now units.now)) }
+    ensures { Puts W.taken W.failed text.old text.new
+        (document form (object_json form offsets.now units.now)) }
 {
     text.put(b"{\"kind\":\"object file\",\"units\":");
     write_units(text, form, offsets, units);
@@ -40,7 +41,8 @@ fn write_units<A: Allocator + Copy, W: Sink>(
     offsets: &[u32],
     units: &[ProgramUnit<A>],
 )
-    ensures { Puts W.taken W.failed text.old text.new (document form (listed (unit_json form) (units_at offsets.now units.now))) }
+    ensures { Puts W.taken W.failed text.old text.new
+        (document form (listed (unit_json form) (units_at offsets.now units.now))) }
 {
     text.put(b"[");
     let mut later = false;
@@ -61,7 +63,8 @@ fn write_unit<A: Allocator + Copy, W: Sink>(
     offsets: &[u32],
     unit: &ProgramUnit<A>,
 )
-    ensures { Puts W.taken W.failed text.old text.new (document form (unit_json form (offsets.now, unit.now))) }
+    ensures { Puts W.taken W.failed text.old text.new
+        (document form (unit_json form (offsets.now, unit.now))) }
 {
     text.put(b"{\"hunks\":");
     write_hunks(text, form, offsets, unit.hunks());
@@ -122,7 +125,8 @@ fn write_site<A: Allocator + Copy, W: Sink>(
     offset: u32,
     adds: Adds,
 )
-    ensures { Puts W.taken W.failed text.old text.new (document form (adds_json references.now offset adds)) }
+    ensures { Puts W.taken W.failed text.old text.new
+        (document form (adds_json references.now offset adds)) }
 {
     match adds {
         Adds::Hunk(hunk) => write_hunk_site(text, form, offset, hunk),
@@ -166,7 +170,8 @@ fn write_meaning<W: Sink>(
     absolute: bool,
     value: u32,
 )
-    ensures { Puts W.taken W.failed text.old text.new (document form (stands_for_json name.now absolute value)) }
+    ensures { Puts W.taken W.failed text.old text.new
+        (document form (stands_for_json name.now absolute value)) }
 {
     text.put(b"{\"absolute\":");
     text.put(boolean_word(absolute));

@@ -30,7 +30,8 @@ pub fn page_run<A: Allocator + Copy, R: Source, W: Sink>(
     reader: &mut R,
     writer: &mut W,
 ) -> Result<(), ToolFault<A>>
-    ensures ok { OnOk result (HasRead (R.left reader.old) (R.left reader.new) (IsWritten page_text (W.taken writer.old) (W.taken writer.new))) }
+    ensures ok { OnOk result (HasRead (R.left reader.old) (R.left reader.new)
+        (IsWritten page_text (W.taken writer.old) (W.taken writer.new))) }
     ensures ended { OnOk result (IsTrue (R.ended reader.new)) }
     ensures err { IfErr result (IsTextFault page_text (ends_of
         (R.left reader.old) (R.left reader.new) (R.failed reader.new) (R.ended reader.new)
@@ -46,7 +47,8 @@ fn write_page<A: Allocator + Copy, W: Sink>(
     writer: &mut W,
 ) -> Result<(), WriteFault>
     requires { length (page_of file.now.watcher.found.items (value_of file.now.value)) < 2 ^ 64 }
-    ensures wrote { WroteAll W.taken W.failed writer.old writer.new (page_of file.now.watcher.found.items (value_of file.now.value)) result }
+    ensures wrote { WroteAll W.taken W.failed writer.old writer.new
+        (page_of file.now.watcher.found.items (value_of file.now.value)) result }
     ensures device { IfErr result IsDevice }
 {
     let mut text = Text::new(writer);

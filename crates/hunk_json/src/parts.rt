@@ -60,7 +60,8 @@ pub(crate) fn write_hunk_site<W: Sink>(
     offset: u32,
     hunk: u32,
 )
-    ensures { Puts W.taken W.failed text.old text.new (document form (hunk_site_json (offset, hunk))) }
+    ensures { Puts W.taken W.failed text.old text.new
+        (document form (hunk_site_json (offset, hunk))) }
 {
     text.put(b"{\"hunk\":");
     text.put_decimal(u64::from(hunk));

@@ -36,7 +36,8 @@ pub fn json_run<A: Allocator + Copy, R: Source, W: Sink>(
     reader: &mut R,
     writer: &mut W,
 ) -> Result<(), ToolFault<A>>
-    ensures ok { OnOk result (HasRead (R.left reader.old) (R.left reader.new) (IsWritten (of_value json_text) (W.taken writer.old) (W.taken writer.new))) }
+    ensures ok { OnOk result (HasRead (R.left reader.old) (R.left reader.new)
+        (IsWritten (of_value json_text) (W.taken writer.old) (W.taken writer.new))) }
     ensures ended { OnOk result (IsTrue (R.ended reader.new)) }
     ensures err { IfErr result (IsTextFault (of_value json_text) (ends_of
         (R.left reader.old) (R.left reader.new) (R.failed reader.new) (R.ended reader.new)
@@ -57,7 +58,8 @@ pub fn json_run_with<A: Allocator + Copy, R: Source, W: Sink>(
     form: JsonForm,
     writer: &mut W,
 ) -> Result<(), ToolFault<A>>
-    ensures ok { OnOk result (HasRead (R.left reader.old) (R.left reader.new) (IsWritten (json_text_in form) (W.taken writer.old) (W.taken writer.new))) }
+    ensures ok { OnOk result (HasRead (R.left reader.old) (R.left reader.new)
+        (IsWritten (json_text_in form) (W.taken writer.old) (W.taken writer.new))) }
     ensures ended { OnOk result (IsTrue (R.ended reader.new)) }
     ensures err { IfErr result (IsTextFault (json_text_in form) (ends_of
         (R.left reader.old) (R.left reader.new) (R.failed reader.new) (R.ended reader.new)
@@ -73,8 +75,10 @@ fn write_line<A: Allocator + Copy, W: Sink>(
     file: &PlacedFile<A>,
     writer: &mut W,
 ) -> Result<(), WriteFault>
-    requires { length (line_of form file.now.watcher.found.items (value_of file.now.value)) < 2 ^ 64 }
-    ensures wrote { WroteAll W.taken W.failed writer.old writer.new (line_of form file.now.watcher.found.items (value_of file.now.value)) result }
+    requires { length
+        (line_of form file.now.watcher.found.items (value_of file.now.value)) < 2 ^ 64 }
+    ensures wrote { WroteAll W.taken W.failed writer.old writer.new
+        (line_of form file.now.watcher.found.items (value_of file.now.value)) result }
     ensures device { IfErr result IsDevice }
 {
     let mut text = Text::new(writer);
@@ -89,7 +93,8 @@ pub(crate) fn write_file<A: Allocator + Copy, W: Sink>(
     form: JsonForm,
     file: &PlacedFile<A>,
 )
-    ensures { Puts W.taken W.failed text.old text.new (document form (file_json form file.now.watcher.found.items (value_of file.now.value))) }
+    ensures { Puts W.taken W.failed text.old text.new
+        (document form (file_json form file.now.watcher.found.items (value_of file.now.value))) }
 {
     let offsets = file.watcher.as_slice();
     match &file.value {

@@ -81,7 +81,8 @@ fn copied_hunk<A: Allocator + Copy>(
     strip: bool,
 ) -> Result<LoadHunk<A>, AllocError>
     requires { AddsKnown first (length references.now) hunk.now }
-    ensures { IfOk result (λ carried. carried ≡ carried_hunk (addend_of first references.now) strip hunk.now) }
+    ensures { IfOk result
+        (λ carried. carried ≡ carried_hunk (addend_of first references.now) strip hunk.now) }
 {
     let mut content = Vec::from_slice(alloc, hunk.content())?;
     let sites = copied_sites(
@@ -120,7 +121,8 @@ fn moved_hunk<A: Allocator + Copy>(
     strip: bool,
 ) -> Result<LoadHunk<A>, AllocError>
     requires { AddsKnown first (length references.now) hunk }
-    ensures { IfOk result (λ carried. carried ≡ carried_hunk (addend_of first references.now) strip hunk) }
+    ensures { IfOk result
+        (λ carried. carried ≡ carried_hunk (addend_of first references.now) strip hunk) }
 {
     let HunkParts {
         kind,
@@ -160,8 +162,13 @@ fn copied_sites<A: Allocator + Copy>(
     requires inside { sites.now.limit ≤ length content.old }
     requires within { sites.now.limit ≤ 4 * size }
     requires known { All (λ site. IsKnown first (length references.now) site.1) sites.now.entries }
-    ensures content { OnOk result (content.new ≡ patched_bytes (length content.old) content.old sites.now.entries (λ adds. (addend_of first references.now adds).known)) }
-    ensures sites { IfOk result (λ left. left ≡ record { limit = 4 * size; entries = second_sites (λ adds. (addend_of first references.now adds).base) sites.now.entries }) }
+    ensures content { OnOk result (content.new ≡ patched_bytes (length content.old) content.old
+        sites.now.entries (λ adds. (addend_of first references.now adds).known)) }
+    ensures sites { IfOk result (λ left. left ≡ record {
+      limit = 4 * size;
+      entries = second_sites
+          (λ adds. (addend_of first references.now adds).base) sites.now.entries;
+    }) }
 {
     let mut left = Sites::new(alloc, 4 * u64::from(size));
     carry(content, &mut left, sites.walk(), first, references)?;
@@ -181,8 +188,13 @@ fn moved_sites<A: Allocator + Copy>(
     requires inside { sites.limit ≤ length content.old }
     requires within { sites.limit ≤ 4 * size }
     requires known { All (λ site. IsKnown first (length references.now) site.1) sites.entries }
-    ensures content { OnOk result (content.new ≡ patched_bytes (length content.old) content.old sites.entries (λ adds. (addend_of first references.now adds).known)) }
-    ensures sites { IfOk result (λ left. left ≡ record { limit = 4 * size; entries = second_sites (λ adds. (addend_of first references.now adds).base) sites.entries }) }
+    ensures content { OnOk result (content.new ≡ patched_bytes (length content.old) content.old
+        sites.entries (λ adds. (addend_of first references.now adds).known)) }
+    ensures sites { IfOk result (λ left. left ≡ record {
+      limit = 4 * size;
+      entries = second_sites
+          (λ adds. (addend_of first references.now adds).base) sites.entries;
+    }) }
 {
     let mut left = Sites::new(alloc, 4 * u64::from(size));
     for page in sites.into_pages() {
@@ -200,10 +212,15 @@ fn carry<A: Allocator + Copy>(
     first: u32,
     references: &[Addend],
 ) -> Result<(), AllocError>
-    requires behind { (from : ℕ) × LieWithin 0 from left.old.entries × StandFrom from (length content.old) sites }
+    requires behind { (from : ℕ) × LieWithin 0 from left.old.entries ×
+        StandFrom from (length content.old) sites }
     requires known { All (λ site. IsKnown first (length references.now) site.1) sites }
-    ensures content { OnOk result (content.new ≡ patched_bytes (length content.old) content.old sites.entry (λ adds. (addend_of first references.now adds).known)) }
-    ensures left { OnOk result (left.new ≡ record left.old { entries = left.old.entries ++ second_sites (λ adds. (addend_of first references.now adds).base) sites.entry }) }
+    ensures content { OnOk result (content.new ≡ patched_bytes (length content.old) content.old
+        sites.entry (λ adds. (addend_of first references.now adds).known)) }
+    ensures left { OnOk result (left.new ≡ record left.old {
+      entries = left.old.entries ++
+          second_sites (λ adds. (addend_of first references.now adds).base) sites.entry;
+    }) }
 {
     for (offset, adds) in sites {
         let addend = addend_of(first, references, *adds);

@@ -44,7 +44,8 @@ pub(crate) fn check_limits<A: Allocator + Copy>(
 
 /// The number of hunks, if a load file may have as many.
 fn hunk_count<A: Allocator + Copy>(units: &[ProgramUnit<A>]) -> Option<usize>
-    ensures count { MatchOption result (most_hunks < sum_by hunk_count units.now) (λ count. (count ≡ sum_by hunk_count units.now) × (count ≤ most_hunks)) }
+    ensures count { MatchOption result (most_hunks < sum_by hunk_count units.now)
+        (λ count. (count ≡ sum_by hunk_count units.now) × (count ≤ most_hunks)) }
     ensures typed { OnSome result (All IsUnit units.now) }
 {
     let mut count = 0;
@@ -60,7 +61,8 @@ fn hunk_count<A: Allocator + Copy>(units: &[ProgramUnit<A>]) -> Option<usize>
 
 /// Whether the hunks are short enough.
 fn is_small<A: Allocator + Copy>(units: &[ProgramUnit<A>], strip: bool) -> bool
-    ensures { MatchBool result (IsSmall strip (hunks_of units.now)) (¬ IsSmall strip (hunks_of units.now)) }
+    ensures { MatchBool result (IsSmall strip (hunks_of units.now))
+        (¬ IsSmall strip (hunks_of units.now)) }
 {
     let mut room = Room {
         size: MOST_SIZE,
@@ -81,7 +83,8 @@ fn room_behind_unit<A: Allocator + Copy>(
     unit: &ProgramUnit<A>,
     strip: bool,
 ) -> Option<Room>
-    ensures { Leaves room (sum_by (λ hunk. hunk.size) unit.now.hunks) (sum_by (carried_by strip) unit.now.hunks) result }
+    ensures { Leaves room (sum_by (λ hunk. hunk.size) unit.now.hunks)
+        (sum_by (carried_by strip) unit.now.hunks) result }
 {
     let mut left = room;
     for hunk in unit.hunks() {

@@ -137,8 +137,10 @@ fn link_names<H: BuildHasher + Drop, A: Allocator + Copy>(
     ensures own { OnOk result (AllNameOwnHunks (sites_of hunks.now)) }
     ensures once { OnOk result (DefinedOnce (definitions_of hunks.now)) }
     ensures defined { OnOk result (AllDefined (table_of hunks.now) (references_of hunks.now)) }
-    ensures addends { IfOk result (λ addends. addends.items ≡ all_addends (table_of hunks.now) hunks.now) }
-    ensures refused { (strip : Bool) → IsHunkCount hunks.now → IsSmall strip hunks.now → IfErr result (IsFirstReason hunks.now strip) }
+    ensures addends { IfOk result
+        (λ addends. addends.items ≡ all_addends (table_of hunks.now) hunks.now) }
+    ensures refused { (strip : Bool) → IsHunkCount hunks.now → IsSmall strip hunks.now →
+        IfErr result (IsFirstReason hunks.now strip) }
 {
     check_own_hunks(hunks)?;
     let table = symbol_table(alloc, hunks, hasher)?;

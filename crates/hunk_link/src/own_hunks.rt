@@ -32,7 +32,8 @@ pub(crate) fn check_own_hunks<A: Allocator + Copy>(
 /// The hunk that the first such site of one hunk names.
 fn foreign_target<A: Allocator + Copy>(ranked: &RankedHunk<'_, A>) -> Option<u32>
     ensures { MatchOption result (AllNameOwnHunks (items_of sites_in ranked.now))
-        (λ target. (offset : ℕ) × IsFirstToBreak AllNameOwnHunks (items_of sites_in ranked.now) (ranked.now, (offset, Adds.Hunk target))) }
+        (λ target. (offset : ℕ) × IsFirstToBreak AllNameOwnHunks (items_of sites_in ranked.now)
+        (ranked.now, (offset, Adds.Hunk target))) }
 {
     for (_, adds) in ranked.hunk.sites().walk() {
         if let Adds::Hunk(target) = *adds {

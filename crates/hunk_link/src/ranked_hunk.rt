@@ -27,7 +27,13 @@ impl<'a, A: Allocator + Copy> Model for RankedHunk<'a, A> {
 
     ghost Value = { Ranked };
 
-    ghost view = { λ r. record { unit = r.unit; number = r.number; first = r.first; count = r.count; hunk = r.hunk.now } };
+    ghost view = { λ r. record {
+      unit = r.unit;
+      number = r.number;
+      first = r.first;
+      count = r.count;
+      hunk = r.hunk.now;
+    } };
 }
 
 /// All hunks of the units, in the order of linking. There are `total` of them.

@@ -18,7 +18,8 @@ pub(crate) fn resolve<H: BuildHasher + Drop, A: Allocator + Copy>(
     hunks: &[RankedHunk<'_, A>],
     table: &SymbolTable<'_, H, A>,
 ) -> Result<Vec<Addend, A>, LinkRefusal<A>>
-    ensures addends { IfOk result (λ addends. addends.items ≡ flat_map (λ ranked. reference_addends table.now ranked.hunk) hunks.now) }
+    ensures addends { IfOk result (λ addends. addends.items ≡ flat_map
+        (λ ranked. reference_addends table.now ranked.hunk) hunks.now) }
     ensures defined { OnOk result (AllDefined table.now (references_of hunks.now)) }
     ensures undefined { IfErr result (IsUndefined table.now (references_of hunks.now)) }
 {
@@ -38,7 +39,8 @@ fn resolve_hunk<H: BuildHasher + Drop, A: Allocator + Copy>(
     ranked: &RankedHunk<'_, A>,
     table: &SymbolTable<'_, H, A>,
 ) -> Result<(), LinkRefusal<A>>
-    ensures addends { OnOk result (addends.new.items ≡ addends.old.items ++ reference_addends table.now ranked.now.hunk) }
+    ensures addends { OnOk result
+        (addends.new.items ≡ addends.old.items ++ reference_addends table.now ranked.now.hunk) }
     ensures defined { OnOk result (AllDefined table.now (items_of references_in ranked.now)) }
     ensures undefined { IfErr result (IsUndefined table.now (items_of references_in ranked.now)) }
 {

@@ -55,7 +55,8 @@ impl<'a, H: BuildHasher + Drop, A: Allocator + Copy> SymbolTable<'a, H, A> {
 
     /// Adds a name, or returns false if it is there.
     fn add(&mut self, name: &'a Name<A>, defined: Defined) -> Result<bool, AllocError>
-        ensures added { result ≡ Ok true → (look_up self.old name.now ≡ None) × (self.new ≡ self.old ++ (name.now, defined) ∷ []) }
+        ensures added { result ≡ Ok true → (look_up self.old name.now ≡ None) ×
+            (self.new ≡ self.old ++ (name.now, defined) ∷ []) }
         ensures there { result ≡ Ok false → look_up self.old name.now ≢ None }
     {
         match self.entries.insert(NameKey::new(name.bytes()), defined) {
@@ -67,10 +68,12 @@ impl<'a, H: BuildHasher + Drop, A: Allocator + Copy> SymbolTable<'a, H, A> {
     /// Adds the definitions of a hunk after those in the table.
     fn add_definitions(&mut self, ranked: &RankedHunk<'a, A>) -> Result<(), LinkRefusal<A>>
         requires { IsRanked ranked.now }
-        ensures added { (before : List TableDefinition) → self.old ≡ map entry before → DefinedOnce before
-            → OnOk result ((self.new ≡ map entry (before ++ items_of definitions_in ranked.now)) × DefinedOnce (before ++ items_of definitions_in ranked.now)) }
-        ensures twice { (before : List TableDefinition) → self.old ≡ map entry before → DefinedOnce before
-            → IfErr result (IsDuplicate (before ++ items_of definitions_in ranked.now)) }
+        ensures added { (before : List TableDefinition) →
+            self.old ≡ map entry before → DefinedOnce before →
+            OnOk result ((self.new ≡ map entry (before ++ items_of definitions_in ranked.now)) ×
+            DefinedOnce (before ++ items_of definitions_in ranked.now)) }
+        ensures twice { (before : List TableDefinition) → self.old ≡ map entry before → DefinedOnce
+            before → IfErr result (IsDuplicate (before ++ items_of definitions_in ranked.now)) }
     {
         for (name, definition) in ranked.hunk.definitions() {
             let defined = Defined {

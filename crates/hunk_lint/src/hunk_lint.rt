@@ -40,7 +40,8 @@ fn write_load_hunk<A: Allocator + Copy, W: Sink>(
     number: u64,
     hunk: &LoadHunk<A>,
 )
-    ensures { Puts W.taken W.failed text.old text.new (load_hunk_lints hunks.now (number, hunk.now)) }
+    ensures { Puts W.taken W.failed text.old text.new
+        (load_hunk_lints hunks.now (number, hunk.now)) }
 {
     let place = HunkPlace::InLoad { hunk: number };
     write_load_sites(text, hunks, place, &hunk.content, &hunk.sites);
@@ -55,7 +56,8 @@ fn write_load_sites<A: Allocator + Copy, W: Sink>(
     content: &[u8],
     sites: &Sites<u32, A>,
 )
-    ensures { Puts W.taken W.failed text.old text.new (flat_map (load_site_lints hunks.now place content.now) sites.now.entries) }
+    ensures { Puts W.taken W.failed text.old text.new
+        (flat_map (load_site_lints hunks.now place content.now) sites.now.entries) }
 {
     for (site, target) in sites.walk() {
         write_load_site(text, hunks, place, content, site, *target);
@@ -71,7 +73,8 @@ fn write_load_site<A: Allocator + Copy, W: Sink>(
     site: u32,
     target: u32,
 )
-    ensures { Puts W.taken W.failed text.old text.new (load_site_lints hunks.now place content.now (site, target)) }
+    ensures { Puts W.taken W.failed text.old text.new
+        (load_site_lints hunks.now place content.now (site, target)) }
 {
     write_odd(text, place, site);
     write_past(text, place, content, site, target, load_size(hunks, target));
@@ -134,7 +137,8 @@ fn write_unit_hunks<A: Allocator + Copy, W: Sink>(
     unit: u64,
     hunks: &[UnitHunk<A>],
 )
-    ensures { Puts W.taken W.failed text.old text.new (flat_map (unit_hunk_lints hunks.now unit) (enumerate_from 0 hunks.now)) }
+    ensures { Puts W.taken W.failed text.old text.new
+        (flat_map (unit_hunk_lints hunks.now unit) (enumerate_from 0 hunks.now)) }
 {
     for (number, hunk) in hunks.iter().enumerate() {
         write_unit_hunk(text, hunks, unit, number as u64, hunk);
@@ -149,7 +153,8 @@ fn write_unit_hunk<A: Allocator + Copy, W: Sink>(
     number: u64,
     hunk: &UnitHunk<A>,
 )
-    ensures { Puts W.taken W.failed text.old text.new (unit_hunk_lints hunks.now unit (number, hunk.now)) }
+    ensures { Puts W.taken W.failed text.old text.new
+        (unit_hunk_lints hunks.now unit (number, hunk.now)) }
 {
     let place = HunkPlace::InUnit { unit, hunk: number };
     write_unit_sites(text, hunks, place, hunk.content(), hunk.sites());
@@ -164,7 +169,8 @@ fn write_unit_sites<A: Allocator + Copy, W: Sink>(
     content: &[u8],
     sites: &Sites<Adds, A>,
 )
-    ensures { Puts W.taken W.failed text.old text.new (flat_map (unit_site_lints hunks.now place content.now) sites.now.entries) }
+    ensures { Puts W.taken W.failed text.old text.new
+        (flat_map (unit_site_lints hunks.now place content.now) sites.now.entries) }
 {
     for (site, adds) in sites.walk() {
         write_unit_site(text, hunks, place, content, site, *adds);
@@ -180,7 +186,8 @@ fn write_unit_site<A: Allocator + Copy, W: Sink>(
     site: u32,
     adds: Adds,
 )
-    ensures { Puts W.taken W.failed text.old text.new (unit_site_lints hunks.now place content.now (site, adds)) }
+    ensures { Puts W.taken W.failed text.old text.new
+        (unit_site_lints hunks.now place content.now (site, adds)) }
 {
     write_odd(text, place, site);
     write_target(text, hunks, place, content, site, adds);
@@ -195,7 +202,8 @@ fn write_target<A: Allocator + Copy, W: Sink>(
     site: u32,
     adds: Adds,
 )
-    ensures { Puts W.taken W.failed text.old text.new (target_lints hunks.now place content.now site adds) }
+    ensures { Puts W.taken W.failed text.old text.new
+        (target_lints hunks.now place content.now site adds) }
 {
     match adds {
         Adds::Hunk(target) => {

@@ -39,7 +39,8 @@ pub(crate) fn write_past<W: Sink>(
     target: u32,
     size: Option<u32>,
 )
-    ensures { Puts W.taken W.failed text.old text.new (past_lints place content.now site target size) }
+    ensures { Puts W.taken W.failed text.old text.new
+        (past_lints place content.now site target size) }
 {
     if let Some(size) = size {
         let offset = pointed_to(content, site);
@@ -98,7 +99,8 @@ pub(crate) fn write_symbols<A: Allocator + Copy, W: Sink>(
     size: u32,
     symbols: &[(Name<A>, u32)],
 )
-    ensures { Puts W.taken W.failed text.old text.new (flat_map (symbol_lints place size) symbols.now) }
+    ensures { Puts W.taken W.failed text.old text.new
+        (flat_map (symbol_lints place size) symbols.now) }
 {
     for symbol in symbols {
         write_symbol(text, place, size, symbol);

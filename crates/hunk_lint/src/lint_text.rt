@@ -16,7 +16,8 @@ use std::alloc::Allocator;
 /// Writes a line for each thing that is odd about a file: first about its longwords, by rising place and
 /// for one longword in the order of [`Oddity`], and then about its hunks. Does not allocate.
 pub fn write_lints<A: Allocator + Copy, W: Sink>(text: &mut Text<'_, W>, file: &LintedFile<A>)
-    ensures { Puts W.taken W.failed text.old text.new (lint_lines (oddities_of file.now) (value_of file.now)) }
+    ensures { Puts W.taken W.failed text.old text.new
+        (lint_lines (oddities_of file.now) (value_of file.now)) }
 {
     match file {
         File::Object(linted) => {

@@ -40,9 +40,11 @@ pub fn read_linted<A: Allocator + Copy, R: Source>(
     alloc: A,
     reader: &mut R,
 ) -> Result<LintedFile<A>, ReadFault>
-    ensures file { IfOk result (λ file. HasRead (R.left reader.old) (R.left reader.new) (IsLinted file)) }
+    ensures file { IfOk result
+        (λ file. HasRead (R.left reader.old) (R.left reader.new) (IsLinted file)) }
     ensures ended { OnOk result (IsTrue (R.ended reader.new)) }
-    ensures refused { IfErr result (IsReadFault (R.left reader.old) (R.left reader.new) (R.failed reader.new) (R.ended reader.new)) }
+    ensures refused { IfErr result (IsReadFault (R.left reader.old) (R.left reader.new)
+        (R.failed reader.new) (R.ended reader.new)) }
 {
     let object = Lints::new(alloc);
     let load = Lints::new(alloc);

@@ -28,7 +28,8 @@ fn tell<A: Allocator>(
     is_odd: bool,
     oddity: Oddity,
 ) -> Result<(), AllocError>
-    ensures { OnOk result (found.new.items ≡ found.old.items ++ map (lint_at place) (told_if is_odd oddity)) }
+    ensures { OnOk result
+        (found.new.items ≡ found.old.items ++ map (lint_at place) (told_if is_odd oddity)) }
 {
     if is_odd {
         found.push(LongwordLint { place, oddity })?;
@@ -42,7 +43,8 @@ fn tell_again<A: Allocator>(
     place: u32,
     again: Option<u32>,
 ) -> Result<(), AllocError>
-    ensures { OnOk result (found.new.items ≡ found.old.items ++ map (lint_at place) (told_again again)) }
+    ensures { OnOk result
+        (found.new.items ≡ found.old.items ++ map (lint_at place) (told_again again)) }
 {
     match again {
         Some(hunk) => tell(found, place, true, Oddity::SameHunk(hunk)),

@@ -57,7 +57,8 @@ fn block_begun(due: Due, word: u32) -> Option<BlockType>
 
 /// The number of the hunk after this block, which may end one or begin a unit.
 fn after_block(hunk: u32, block: BlockType) -> u32
-    ensures { (types : List BlockType) → hunk < 2 ^ 29 → hunk ≡ hunks_ended types → result ≡ hunks_ended (block ∷ types) }
+    ensures { (types : List BlockType) → hunk < 2 ^ 29 → hunk ≡ hunks_ended types →
+        result ≡ hunks_ended (block ∷ types) }
 {
     match block {
         BlockType::Unit => 0,
@@ -68,7 +69,8 @@ fn after_block(hunk: u32, block: BlockType) -> u32
 
 /// The number of the hunk after one more longword.
 fn hunk_after(hunk: u32, due: Due, word: u32) -> u32
-    ensures { (before : List (Due × ℕ)) → length before < 2 ^ 29 → hunk ≡ hunks_ended (types_of before) → result ≡ hunks_ended (types_of ((due, word) ∷ before)) }
+    ensures { (before : List (Due × ℕ)) → length before < 2 ^ 29 → hunk ≡ hunks_ended
+        (types_of before) → result ≡ hunks_ended (types_of ((due, word) ∷ before)) }
 {
     if is_type(due) {
         after_block(hunk, BlockType::of_longword(word))
@@ -102,7 +104,8 @@ fn part_after_word(part: NamePart, word: u32) -> NamePart
 
 /// The name that goes on after one more longword.
 fn name_after(part: NamePart, due: Due, word: u32) -> NamePart
-    ensures { (name : Option (List ℕ)) → part ≡ name_part name → result ≡ name_part (odd.name_after due word name) }
+    ensures { (name : Option (List ℕ)) → part ≡ name_part name →
+        result ≡ name_part (odd.name_after due word name) }
 {
     match due {
         Due::UnitLength | Due::NameLength | Due::SymbolEntry | Due::ExtEntry => NamePart::Open,
@@ -124,7 +127,8 @@ fn becomes_ignored(before: NamePart, after: NamePart) -> bool
 
 /// Keeps the size of a hunk in the header.
 fn keep_size<A: Allocator>(sizes: &mut Vec<u32, A>, due: Due, word: u32) -> Result<(), AllocError>
-    ensures { OnOk result (sizes.new.items ≡ if odd.is_header_size due then sizes.old.items ++ low word ∷ [] else sizes.old.items) }
+    ensures { OnOk result (sizes.new.items ≡ if odd.is_header_size due
+        then sizes.old.items ++ low word ∷ [] else sizes.old.items) }
 {
     if due == Due::HeaderSize {
         sizes.push(low(word))?;
@@ -138,7 +142,8 @@ fn keep_hunk<A: Allocator + Copy>(
     due: Due,
     word: u32,
 ) -> Result<(), AllocError>
-    ensures { OnOk result ((before : List (Due × ℕ)) → HasHunksNamed named.old before → HasHunksNamed named.new ((due, word) ∷ before)) }
+    ensures { OnOk result ((before : List (Due × ℕ)) → HasHunksNamed named.old before →
+        HasHunksNamed named.new ((due, word) ∷ before)) }
 {
     if is_type(due) {
         named.clear();
@@ -169,7 +174,8 @@ impl<A: Allocator + Copy> Watch<A> {
 
     /// Whether a relocation block begins with the count 0.
     pub(crate) fn has_no_offsets(&self, due: Due, word: u32) -> bool
-        ensures { (before : List (Due × ℕ)) → IsWatchOf self.now before → result ≡ odd.has_no_offsets before (due, word) }
+        ensures { (before : List (Due × ℕ)) → IsWatchOf self.now before →
+            result ≡ odd.has_no_offsets before (due, word) }
     {
         self.begun.is_some() && counts_none(due, word)
     }
@@ -193,7 +199,8 @@ impl<A: Allocator + Copy> Watch<A> {
 
     /// Whether this is the size of a BSS block, and not the size of the hunk in the header.
     pub(crate) fn has_other_size(&self, kind: FileKind, due: Due, word: u32) -> bool
-        ensures { (before : List (Due × ℕ)) → IsWatchOf self.now before → result ≡ odd.has_other_size kind before (due, word) }
+        ensures { (before : List (Due × ℕ)) → IsWatchOf self.now before →
+            result ≡ odd.has_other_size kind before (due, word) }
     {
         match kind {
             FileKind::Object => false,
@@ -205,14 +212,16 @@ impl<A: Allocator + Copy> Watch<A> {
 
     /// Whether bytes of a name are ignored that this longword has, and none before it.
     pub(crate) fn ignores_name_bytes(&self, due: Due, word: u32) -> bool
-        ensures { (before : List (Due × ℕ)) → IsWatchOf self.now before → result ≡ odd.ignores_name_bytes before (due, word) }
+        ensures { (before : List (Due × ℕ)) → IsWatchOf self.now before →
+            result ≡ odd.ignores_name_bytes before (due, word) }
     {
         becomes_ignored(self.name, name_after(self.name, due, word))
     }
 
     /// The hunk of a second group of a relocation block for the same hunk.
     pub(crate) fn named_again(&self, due: Due, word: u32) -> Option<u32>
-        ensures { (before : List (Due × ℕ)) → IsWatchOf self.now before → result ≡ odd.named_again before (due, word) }
+        ensures { (before : List (Due × ℕ)) → IsWatchOf self.now before →
+            result ≡ odd.named_again before (due, word) }
     {
         match hunk_named(due, word) {
             Some(hunk) if self.named.contains(&hunk) => Some(hunk),
@@ -226,7 +235,8 @@ impl<A: Allocator + Copy> Watch<A> {
     ///
     /// [`AllocError`] only if an allocation failed; then it stands for nothing.
     pub(crate) fn take(&mut self, due: Due, word: u32) -> Result<(), AllocError>
-        ensures { (before : List (Due × ℕ)) → length before < 2 ^ 29 → IsWatchOf self.old before → OnOk result (IsWatchOf self.new ((due, word) ∷ before)) }
+        ensures { (before : List (Due × ℕ)) → length before < 2 ^ 29 → IsWatchOf self.old before →
+            OnOk result (IsWatchOf self.new ((due, word) ∷ before)) }
     {
         keep_size(&mut self.sizes, due, word)?;
         keep_hunk(&mut self.named, due, word)?;

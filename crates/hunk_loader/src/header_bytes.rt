@@ -51,14 +51,16 @@ impl<A: Allocator + Copy> HeaderBytes<A> {
 
     /// Whether the header is whole.
     pub(crate) fn is_whole(&self) -> bool
-        ensures { IsTrue result ↔ header_length (longwords self.now.bytes.items) ≤ length self.now.bytes.items }
+        ensures { IsTrue result ↔ header_length (longwords self.now.bytes.items) ≤
+            length self.now.bytes.items }
     {
         self.end() <= self.bytes.len() as u64
     }
 
     /// Takes bytes of the piece until there are `end`, and returns how many.
     fn take_until(&mut self, end: u64, piece: &[u8]) -> Result<usize, LoadRefusal>
-        ensures taken { (bytes : List ℕ) → Holds self.old bytes → TakesUntil end bytes piece.now self.new result }
+        ensures taken { (bytes : List ℕ) → Holds self.old bytes →
+            TakesUntil end bytes piece.now self.new result }
         ensures within { IfOk result (λ taken. taken ≤ length piece.now) }
     {
         let room = end.saturating_sub(self.bytes.len() as u64);
@@ -71,7 +73,8 @@ impl<A: Allocator + Copy> HeaderBytes<A> {
 
     /// Takes bytes of the piece until the header is whole, and returns how many.
     pub(crate) fn take(&mut self, piece: &[u8]) -> Result<usize, LoadRefusal>
-        ensures { (bytes : List ℕ) → Holds self.old bytes → length bytes ≤ header_length (longwords bytes) → TakesHeader bytes piece.now self.new result }
+        ensures { (bytes : List ℕ) → Holds self.old bytes → length bytes ≤ header_length
+            (longwords bytes) → TakesHeader bytes piece.now self.new result }
     {
         let front = self.take_until(LONGWORD as u64 * (COUNT as u64 + 1), piece)?;
         let more = self.take_until(self.end(), &piece[front..])?;

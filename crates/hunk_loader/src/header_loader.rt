@@ -65,7 +65,8 @@ impl<A: Allocator + Copy> Model for HeaderLoader<A> {
 
     ghost Value = { HeaderState };
 
-    ghost view = { λ h. record { bytes = h.header.bytes.items; hunks = hunks_told h.hunks; refusal = h.refusal } };
+    ghost view = { λ h.
+        record { bytes = h.header.bytes.items; hunks = hunks_told h.hunks; refusal = h.refusal } };
 
     ghost invariant = { λ h. IsSound h.header (hunks_told h.hunks) h.refusal };
 }
@@ -98,7 +99,8 @@ impl<A: Allocator + Copy> HeaderLoader<A> {
     pub fn feed(&mut self, piece: &[u8]) -> Result<usize, LoadRefusal>
         ensures taken { self.old.refusal ≡ None → TakesPiece piece.now self.old self.new result }
         ensures keeps { Keeps self.new.refusal result }
-        ensures again { (refusal : LoadRefusal) → self.old.refusal ≡ Some refusal → (result ≡ Err refusal) × (self.new ≡ self.old) }
+        ensures again { (refusal : LoadRefusal) → self.old.refusal ≡ Some refusal →
+            (result ≡ Err refusal) × (self.new ≡ self.old) }
     {
         match self.refusal {
             Some(refusal) => return Err(refusal),
@@ -125,7 +127,8 @@ impl<A: Allocator + Copy> HeaderLoader<A> {
     ///
     /// They are those of every load file that begins with the bytes taken.
     pub fn hunks(&self) -> Option<&[HeaderHunk]>
-        ensures hunks { MatchOption result (self.now.hunks ≡ None) (λ hunks. self.now.hunks ≡ Some hunks.now) }
+        ensures hunks { MatchOption result (self.now.hunks ≡ None)
+            (λ hunks. self.now.hunks ≡ Some hunks.now) }
         ensures file { MatchOption result ⊤ (λ hunks. AreOfFile hunks.now self.now.bytes) }
     {
         match &self.hunks {
@@ -152,8 +155,10 @@ impl<A: Allocator + Copy> HeaderLoader<A> {
         ensures none { IfOk result (λ loader. refusal_of loader ≡ None) }
         ensures placed { IsOk result → CanPlace bases.now self.now.hunks }
         ensures stays { IsOk result → StaysPlaced bases.now self.now.bytes }
-        ensures incomplete { (result ≡ Err PlaceRefusal.HeaderIncomplete) ↔ (self.now.hunks ≡ None) }
-        ensures refused { (fault : PlaceFault) → (result ≡ Err (PlaceRefusal.Place fault)) ↔ CannotPlace bases.now fault self.now.hunks }
+        ensures incomplete { (result ≡ Err PlaceRefusal.HeaderIncomplete) ↔
+            (self.now.hunks ≡ None) }
+        ensures refused { (fault : PlaceFault) → (result ≡ Err (PlaceRefusal.Place fault)) ↔
+            CannotPlace bases.now fault self.now.hunks }
     {
         self.place_in(bases, Vec::new(self.alloc))
     }
@@ -176,8 +181,10 @@ impl<A: Allocator + Copy> HeaderLoader<A> {
         ensures none { IfOk result (λ loader. refusal_of loader ≡ None) }
         ensures placed { IsOk result → CanPlace bases.now self.now.hunks }
         ensures stays { IsOk result → StaysPlaced bases.now self.now.bytes }
-        ensures incomplete { (result ≡ Err PlaceRefusal.HeaderIncomplete) ↔ (self.now.hunks ≡ None) }
-        ensures refused { (fault : PlaceFault) → (result ≡ Err (PlaceRefusal.Place fault)) ↔ CannotPlace bases.now fault self.now.hunks }
+        ensures incomplete { (result ≡ Err PlaceRefusal.HeaderIncomplete) ↔
+            (self.now.hunks ≡ None) }
+        ensures refused { (fault : PlaceFault) → (result ≡ Err (PlaceRefusal.Place fault)) ↔
+            CannotPlace bases.now fault self.now.hunks }
     {
         let hunks = match &self.hunks {
             Some(hunks) => hunks.as_slice(),
@@ -214,7 +221,8 @@ fn read_header<A: Allocator + Copy>(
     header: &mut HeaderBytes<A>,
     piece: &[u8],
 ) -> Result<(usize, Option<Vec<HeaderHunk, A>>), LoadRefusal>
-    ensures { (bytes : List ℕ) → Holds header.old bytes → HeaderRead bytes None → ReadsHeader bytes piece.now header.new result }
+    ensures { (bytes : List ℕ) → Holds header.old bytes → HeaderRead bytes None →
+        ReadsHeader bytes piece.now header.new result }
 {
     let taken = header.take(piece)?;
     if header.is_whole() {

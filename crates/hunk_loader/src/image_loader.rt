@@ -50,7 +50,8 @@ impl<A: Allocator + Copy> ImageLoader<A> {
         bases: &[u32],
         rooms: Vec<Vec<u8, A>, A>,
     ) -> Result<Self, AllocError>
-        ensures { IfOk result (λ loader. StandsFor loader [] × (bases_of loader ≡ bases.now) × (refusal_of loader ≡ None)) }
+        ensures { IfOk result (λ loader. StandsFor loader [] × (bases_of loader ≡ bases.now) ×
+            (refusal_of loader ≡ None)) }
     {
         let mut copy = Vec::with_capacity(alloc, bases.len())?;
         copy.extend_from_slice(bases)?;
@@ -71,12 +72,15 @@ impl<A: Allocator + Copy> ImageLoader<A> {
     /// [`LoadRefusal::Place`] is never returned here. After an error, every later call returns the
     /// same error.
     pub fn feed(&mut self, piece: &[u8]) -> Result<(), LoadRefusal>
-        ensures stands { (bytes : List ℕ) → StandsFor self.old bytes → StandsFor self.new (bytes ++ piece.now) }
+        ensures stands { (bytes : List ℕ) → StandsFor self.old bytes →
+            StandsFor self.new (bytes ++ piece.now) }
         ensures given { bases_of self.new ≡ bases_of self.old }
         ensures fed { (bytes : List ℕ) → StandsFor self.new bytes → Fed bytes result }
         ensures keeps { Keeps (refusal_of self.new) result }
-        ensures bounded { OnOk result ((bytes : List ℕ) → StandsFor self.new bytes → IsBoundedBy (holds_of self.new) (events_told bytes)) }
-        ensures again { (refusal : LoadRefusal) → refusal_of self.old ≡ Some refusal → result ≡ Err refusal }
+        ensures bounded { OnOk result ((bytes : List ℕ) → StandsFor self.new bytes →
+            IsBoundedBy (holds_of self.new) (events_told bytes)) }
+        ensures again { (refusal : LoadRefusal) →
+            refusal_of self.old ≡ Some refusal → result ≡ Err refusal }
         ensures empty { piece.now ≡ [] → self.new ≡ self.old }
     {
         Ok(self.decoder.feed(piece)?)
@@ -92,9 +96,12 @@ impl<A: Allocator + Copy> ImageLoader<A> {
     ///   returns that fault for the sizes of its hunks.
     /// - The error of an earlier call, which is returned again.
     pub fn finish(self) -> Result<Image<A>, LoadRefusal>
-        ensures answer { (bytes : List ℕ) → StandsFor self bytes → Finished (bases_of self) bytes result }
-        ensures again { (refusal : LoadRefusal) → refusal_of self ≡ Some refusal → result ≡ Err refusal }
-        ensures memory { result ≡ Err LoadRefusal.OutOfMemory → refusal_of self ≡ Some LoadRefusal.OutOfMemory }
+        ensures answer { (bytes : List ℕ) → StandsFor self bytes →
+            Finished (bases_of self) bytes result }
+        ensures again { (refusal : LoadRefusal) →
+            refusal_of self ≡ Some refusal → result ≡ Err refusal }
+        ensures memory { result ≡ Err LoadRefusal.OutOfMemory →
+            refusal_of self ≡ Some LoadRefusal.OutOfMemory }
     {
         self.decoder.finish()?.image()
     }

@@ -65,9 +65,11 @@ pub fn read_image<A: Allocator + Copy, R: Source>(
     reader: &mut R,
     bases: &[u32],
 ) -> Result<Image<A>, ImageFault>
-    ensures image { IfOk result (λ image. HasRead (R.left reader.old) (R.left reader.new) (λ bytes. LoadsAs bases.now bytes image)) }
+    ensures image { IfOk result (λ image. HasRead (R.left reader.old) (R.left reader.new)
+        (λ bytes. LoadsAs bases.now bytes image)) }
     ensures ended { OnOk result (IsTrue (R.ended reader.new)) }
-    ensures refused { IfErr result (IsImageFault bases.now (R.left reader.old) (R.left reader.new) (R.failed reader.new) (R.ended reader.new)) }
+    ensures refused { IfErr result (IsImageFault bases.now (R.left reader.old) (R.left reader.new)
+        (R.failed reader.new) (R.ended reader.new)) }
 {
     let mut loader = ImageLoader::new(alloc, bases)?;
     read_all(reader, &mut loader)?;

@@ -190,7 +190,8 @@ fn loaded_bytes<A: Allocator + Copy>(
     requires inside { sites.now.limit ≡ 4 * size }
     requires apart { AreApart sites.now }
     requires based { All (λ site. site.1 < length bases.now) sites.now.entries }
-    ensures { IfOk result (λ bytes. bytes.items ≡ patched_bytes (4 * size) content.items sites.now.entries (slice_index bases.now)) }
+    ensures { IfOk result (λ bytes. bytes.items ≡ patched_bytes
+        (4 * size) content.items sites.now.entries (slice_index bases.now)) }
 {
     let mut bytes = content;
     bytes.resize(4 * size as usize, 0)?;

@@ -44,7 +44,8 @@ impl<A: Allocator + Copy> OpenImage<A> {
 
     /// The next word is not content.
     pub(crate) fn end_content(&mut self)
-        ensures { self.new ≡ record self.old { partial = record self.old.partial { in_content = false } } }
+        ensures { self.new ≡
+            record self.old { partial = record self.old.partial { in_content = false } } }
     {
         self.partial.end_content();
     }
@@ -52,7 +53,8 @@ impl<A: Allocator + Copy> OpenImage<A> {
     /// Takes a word, which is kept if it is content. Fails if an allocation failed, or if the hunk
     /// is full, in which case the decoder has already rejected the file.
     pub(crate) fn add_word(&mut self, word: u32) -> Result<(), AllocError>
-        ensures adds { OnOk result (self.new ≡ record self.old { partial = hunk_with_word self.old.partial word }) }
+        ensures adds { OnOk result
+            (self.new ≡ record self.old { partial = hunk_with_word self.old.partial word }) }
         ensures fits { length self.new.partial.content ≤ self.new.partial.sites.limit }
         ensures refused { OnErr result (self.new ≡ self.old) }
     {
@@ -61,7 +63,8 @@ impl<A: Allocator + Copy> OpenImage<A> {
 
     /// Takes the bytes of a run of words, as [`OpenImage::add_word`] takes a word.
     pub(crate) fn add_bytes(&mut self, bytes: &[u8]) -> Result<(), AllocError>
-        ensures adds { OnOk result (self.new ≡ record self.old { partial = hunk_with_bytes self.old.partial bytes.now }) }
+        ensures adds { OnOk result
+            (self.new ≡ record self.old { partial = hunk_with_bytes self.old.partial bytes.now }) }
         ensures fits { length self.new.partial.content ≤ self.new.partial.sites.limit }
         ensures refused { OnErr result (self.new ≡ self.old) }
     {
@@ -71,9 +74,12 @@ impl<A: Allocator + Copy> OpenImage<A> {
     /// Takes a site. Returns `OutOfMemory` too if the file has no hunk `target`, in which case the
     /// decoder has already rejected the file.
     pub(crate) fn add_site(&mut self, offset: u32, target: u32) -> Result<(), SiteRefusal>
-        ensures adds { OnOk result (self.new ≡ record self.old { partial = hunk_with_site self.old.partial offset target }) }
-        ensures holds { (limit : ℕ) (seen : List ℕ) → HoldsSites limit seen self.old.partial → OnOk result (HoldsSites limit (offset ∷ seen) self.new.partial) }
-        ensures judges { (limit : ℕ) (seen : List ℕ) → HoldsSites limit seen self.old.partial → JudgesSite limit seen offset result }
+        ensures adds { OnOk result (self.new ≡
+            record self.old { partial = hunk_with_site self.old.partial offset target }) }
+        ensures holds { (limit : ℕ) (seen : List ℕ) → HoldsSites limit seen self.old.partial →
+            OnOk result (HoldsSites limit (offset ∷ seen) self.new.partial) }
+        ensures judges { (limit : ℕ) (seen : List ℕ) → HoldsSites limit seen self.old.partial →
+            JudgesSite limit seen offset result }
         ensures apart { AreApart self.old.partial.sites → AreApart self.new.partial.sites }
         ensures refused { OnErr result (self.new ≡ self.old) }
     {
@@ -86,7 +92,9 @@ impl<A: Allocator + Copy> OpenImage<A> {
     /// The bytes of the hunk in memory, if the hunks are placed at the bases: its content, zeros
     /// after it up to its size, and the base of a hunk added at each site that names it.
     pub(crate) fn close(&mut self, alloc: A, bases: &[u32]) -> Result<Vec<u8, A>, AllocError>
-        ensures loaded { IfOk result (λ bytes. bytes.items ≡ patched_bytes self.old.partial.sites.limit self.old.partial.content self.old.partial.sites.entries (slice_index bases.now)) }
+        ensures loaded { IfOk result
+            (λ bytes. bytes.items ≡ patched_bytes self.old.partial.sites.limit
+            self.old.partial.content self.old.partial.sites.entries (slice_index bases.now)) }
         ensures refused { OnErr result (self.new ≡ self.old) }
     {
         if self.count > bases.len() {

@@ -89,7 +89,8 @@ fn rising_extents<A: Allocator + Copy, S: Sizes>(
     bases: &[u32],
 ) -> Result<Vec<Extent, A>, AllocError>
     requires { length (S.sizes sizes.now) ≡ length bases.now }
-    ensures { IfOk result (λ extents. AreRisingExtents (S.sizes sizes.now) bases.now extents.items) }
+    ensures { IfOk result
+        (λ extents. AreRisingExtents (S.sizes sizes.now) bases.now extents.items) }
 {
     let mut extents = Vec::with_capacity(alloc, bases.len())?;
     for hunk in 0..bases.len() {

@@ -75,7 +75,8 @@ pub fn check_sizes<S: Sizes>(sizes: &S, bases: &[u32]) -> Result<(), PlaceFault>
 ///
 /// [`PlaceFault::WrongCount`] and [`PlaceFault::PastEnd`], as [`check_places`] returns them.
 pub(crate) fn are_in_order<S: Sizes>(sizes: &S, bases: &[u32]) -> Result<bool, PlaceFault>
-    ensures order { IfOk result (λ ordered. IsTrue ordered ↔ IsInEitherOrder (S.sizes sizes.now) bases.now) }
+    ensures order { IfOk result
+        (λ ordered. IsTrue ordered ↔ IsInEitherOrder (S.sizes sizes.now) bases.now) }
     ensures fit { OnOk result (Fit (S.sizes sizes.now) bases.now) }
     ensures refused { IfErr result (IsFirstRefusal (S.sizes sizes.now) bases.now) }
 {

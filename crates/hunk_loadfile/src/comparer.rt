@@ -72,8 +72,9 @@ impl<A: Allocator + Copy> Comparer<A> {
 
     /// Takes the next bytes of the content.
     fn take_content(&mut self, bytes: &[u8]) -> Result<(), AllocError>
-        ensures compares { (told : EventValue) (watch : SiteContext) (ws : List ℕ) → Compares self.old told watch → bytes.now ≡ bytes_of ws →
-            MatchResult result (λ done. Compares self.new (with_content told ws) watch) (λ e. Compares self.new told watch) }
+        ensures compares { (told : EventValue) (watch : SiteContext) (ws : List ℕ) →
+            Compares self.old told watch → bytes.now ≡ bytes_of ws → MatchResult result (λ done.
+            Compares self.new (with_content told ws) watch) (λ e. Compares self.new told watch) }
         ensures first { self.new.first ≡ self.old.first }
     {
         let content = content_at(&self.first, self.current.ended());
@@ -112,8 +113,10 @@ impl<A: Allocator + Copy> Comparer<A> {
     /// has come, and is not at hand.
     fn compare_hunk(&mut self, number: usize, second: LoadHunk<A>)
         requires { second.sites.limit ≡ 4 * second.size }
-        ensures found { (seconds : List FileHunk) (content : List ℕ) → HasFound self.old.found self.old.first seconds → number ≡ length seconds → length content ≤ 4 * second.size →
-            Follows self.old.content (content_at self.old.first number) content → HasFound self.new.found self.old.first (seconds ++ with_bytes second content ∷ []) }
+        ensures found { (seconds : List FileHunk) (content : List ℕ) → HasFound self.old.found
+            self.old.first seconds → number ≡ length seconds → length content ≤ 4 * second.size →
+            Follows self.old.content (content_at self.old.first number) content →
+            HasFound self.new.found self.old.first (seconds ++ with_bytes second content ∷ []) }
         ensures rest { self.new ≡ record self.old { found = self.new.found } }
     {
         match self.first.hunks().get(number) {
@@ -140,7 +143,8 @@ impl<A: Allocator + Copy> Comparer<A> {
 
     /// The first file, and how the file whose events it has taken compares with it.
     fn finish(self) -> (LoadFile<A>, Comparison<A>)
-        ensures compared { (bytes : List ℕ) → TellsBytes Load (StandsFor self) bytes → IsComparedWith result.0 result.1 bytes }
+        ensures compared { (bytes : List ℕ) → TellsBytes Load (StandsFor self) bytes →
+            IsComparedWith result.0 result.1 bytes }
         ensures first { result.0 ≡ self.first }
         ensures valid { IsLoadFile self.first }
     {
@@ -201,10 +205,12 @@ pub fn read_comparison<R: Source, A: Allocator + Copy>(
     first: LoadFile<A>,
     reader: &mut R,
 ) -> Result<(LoadFile<A>, Comparison<A>), ReadFault>
-    ensures compared { IfOk result (λ both. HasRead (R.left reader.old) (R.left reader.new) (IsComparedWith both.0 both.1)) }
+    ensures compared { IfOk result
+        (λ both. HasRead (R.left reader.old) (R.left reader.new) (IsComparedWith both.0 both.1)) }
     ensures first { IfOk result (λ both. both.0 ≡ first) }
     ensures ended { OnOk result (IsTrue (R.ended reader.new)) }
-    ensures refused { IfErr result (RefusesRead Load (R.left reader.old) (R.left reader.new) (R.ended reader.new) (R.failed reader.new)) }
+    ensures refused { IfErr result (RefusesRead Load (R.left reader.old) (R.left reader.new)
+        (R.ended reader.new) (R.failed reader.new)) }
 {
     let mut decoder = Decoder::new(Comparer::new(alloc, first));
     read_all(reader, &mut decoder)?;

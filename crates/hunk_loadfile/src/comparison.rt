@@ -47,8 +47,10 @@ impl<A: Allocator + Copy> Comparison<A> {
     )
         requires first { LiesInItsSize first.now }
         requires limit { second.sites.limit ≡ 4 * second.size }
-        ensures { (firsts seconds : List FileHunk) (content : List ℕ) → HasFound self.old firsts seconds → IsUnlike first.now second content unlike →
-            number ≡ length seconds → slice_get firsts number ≡ Some first.now → HasFound self.new firsts (seconds ++ with_bytes second content ∷ []) }
+        ensures { (firsts seconds : List FileHunk) (content : List ℕ) →
+            HasFound self.old firsts seconds → IsUnlike first.now second content unlike →
+            number ≡ length seconds → slice_get firsts number ≡ Some first.now →
+            HasFound self.new firsts (seconds ++ with_bytes second content ∷ []) }
     {
         if self.difference.is_none() {
             self.difference = hunk_difference_with(number, first, &second, unlike);

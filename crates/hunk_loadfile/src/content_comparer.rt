@@ -43,7 +43,8 @@ impl ContentComparer {
     /// changes nothing.
     pub(crate) fn take(&mut self, first: &[u8], bytes: &[u8]) -> Result<(), AllocError>
         ensures { (content : List ℕ) → Follows self.old first.now content →
-            MatchResult result (λ done. Follows self.new first.now (content ++ bytes.now)) (λ e. Follows self.new first.now content) }
+            MatchResult result (λ done. Follows self.new first.now (content ++ bytes.now))
+            (λ e. Follows self.new first.now content) }
     {
         let count = self.count.saturating_add(bytes.len());
         if count > u32::MAX as usize {
@@ -60,7 +61,8 @@ impl ContentComparer {
     /// and the byte of the content there.
     pub(crate) fn end(self, first: &[u8]) -> Option<(u32, u8)>
         requires { length first.now < 2 ^ 32 }
-        ensures { (content : List ℕ) → Follows self first.now content → result ≡ unlike_byte first.now content (max (length first.now) (length content)) }
+        ensures { (content : List ℕ) → Follows self first.now content →
+            result ≡ unlike_byte first.now content (max (length first.now) (length content)) }
     {
         if self.unlike.is_some() || first.len() <= self.count {
             return self.unlike;

@@ -32,7 +32,8 @@ fn write_each_symbol<A: Allocator + Copy, W: Sink>(
     symbols: &[(Name<A>, u32)],
 )
     requires { All (λ s. length s.0 ≤ most_name) symbols.now }
-    ensures { Puts W.taken W.failed text.old text.new (flat_map (λ symbol. bytes_of (symbol_words symbol)) symbols.now) }
+    ensures { Puts W.taken W.failed text.old text.new
+        (flat_map (λ symbol. bytes_of (symbol_words symbol)) symbols.now) }
 {
     for symbol in symbols {
         write_symbol(text, symbol);
@@ -75,7 +76,8 @@ pub(crate) fn write_debugs<A: Allocator + Copy, W: Sink>(
     debugs: &[Vec<u32, A>],
 )
     requires { All (λ debug. length debug.items < 2 ^ 32) debugs.now }
-    ensures { Puts W.taken W.failed text.old text.new (flat_map (λ debug. bytes_of (debug_words debug.items)) debugs.now) }
+    ensures { Puts W.taken W.failed text.old text.new
+        (flat_map (λ debug. bytes_of (debug_words debug.items)) debugs.now) }
 {
     for debug in debugs {
         write_debug(text, debug);

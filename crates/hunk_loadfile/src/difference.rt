@@ -128,7 +128,8 @@ pub(crate) fn hunk_difference_with<A: Allocator + Copy, B: Allocator + Copy>(
 ) -> Option<Difference>
     requires first { LiesInItsSize first.now }
     requires limit { second.now.sites.limit ≡ 4 * second.now.size }
-    ensures { (content : List ℕ) → IsUnlike first.now second.now content unlike → result ≡ hunk_difference number first.now (with_bytes second.now content) }
+    ensures { (content : List ℕ) → IsUnlike first.now second.now content unlike →
+        result ≡ hunk_difference number first.now (with_bytes second.now content) }
 {
     let difference = head_difference(number, first, second);
     if difference.is_some() {
@@ -180,7 +181,8 @@ fn inside_difference<A: Allocator + Copy, B: Allocator + Copy>(
     requires size { first.now.size ≡ second.now.size }
     requires first { LiesInItsSize first.now }
     requires limit { second.now.sites.limit ≡ 4 * second.now.size }
-    ensures { (content : List ℕ) → IsUnlike first.now second.now content unlike → result ≡ inside_difference number first.now (with_bytes second.now content) }
+    ensures { (content : List ℕ) → IsUnlike first.now second.now content unlike →
+        result ≡ inside_difference number first.now (with_bytes second.now content) }
 {
     let site = first_site(&first.sites, &second.sites);
     match (unlike, site) {
@@ -221,7 +223,8 @@ fn site_difference<A: Allocator + Copy, B: Allocator + Copy>(
     second: &LoadHunk<B>,
     offset: u32,
 ) -> Difference
-    ensures { result ≡ difference_is.Site number offset (target_of first.now offset) (target_of second.now offset) }
+    ensures { result ≡ difference_is.Site number offset (target_of first.now offset)
+        (target_of second.now offset) }
 {
     Difference::Site {
         hunk: number,
@@ -246,7 +249,8 @@ pub(crate) fn byte_at(content: &[u8], offset: usize) -> u8
 fn unlike_byte(first: &[u8], second: &[u8]) -> Option<(u32, u8)>
     requires first { length first.now < 2 ^ 32 }
     requires second { length second.now < 2 ^ 32 }
-    ensures { result ≡ unlike_byte first.now second.now (max (length first.now) (length second.now)) }
+    ensures { result ≡ unlike_byte first.now second.now
+        (max (length first.now) (length second.now)) }
 {
     match first_byte(first, second) {
         Some(offset) => Some((offset as u32, byte_at(second, offset))),
@@ -256,7 +260,8 @@ fn unlike_byte(first: &[u8], second: &[u8]) -> Option<(u32, u8)>
 
 /// The lowest offset at which two contents have another byte, with zeros after the shorter one.
 pub(crate) fn first_byte(first: &[u8], second: &[u8]) -> Option<usize>
-    ensures { result ≡ lowest (λ offset. not (has_same_byte first.now second.now offset)) 0 (max (length first.now) (length second.now)) }
+    ensures { result ≡ lowest (λ offset. not (has_same_byte first.now second.now offset)) 0
+        (max (length first.now) (length second.now)) }
 {
     let unlike = first_unlike(first, second);
     if unlike.is_some() {
@@ -274,7 +279,8 @@ pub(crate) fn first_byte(first: &[u8], second: &[u8]) -> Option<usize>
 /// Most contents that are compared are the same, and whole slices are compared faster than their bytes one
 /// by one.
 fn first_unlike(first: &[u8], second: &[u8]) -> Option<usize>
-    ensures { result ≡ lowest (λ offset. not (has_same_byte first.now second.now offset)) 0 (min (length first.now) (length second.now)) }
+    ensures { result ≡ lowest (λ offset. not (has_same_byte first.now second.now offset)) 0
+        (min (length first.now) (length second.now)) }
 {
     let count = first.len().min(second.len());
     if first[..count] == second[..count] {
@@ -291,7 +297,8 @@ fn first_unlike(first: &[u8], second: &[u8]) -> Option<usize>
 /// The lowest offset of a byte that is not 0, from `start` on.
 pub(crate) fn first_nonzero(content: &[u8], start: usize) -> Option<usize>
     requires { start ≤ length content.now }
-    ensures { result ≡ lowest (λ offset. not (byte_or_zero content.now offset == 0)) start (length content.now - start) }
+    ensures { result ≡ lowest (λ offset. not (byte_or_zero content.now offset == 0)) start
+        (length content.now - start) }
 {
     for offset in start..content.len() {
         if content[offset] != 0 {
@@ -308,7 +315,8 @@ fn first_site<A: Allocator + Copy, B: Allocator + Copy>(
     second: &Sites<u32, B>,
 ) -> Option<u32>
     requires { first.now.limit ≡ second.now.limit }
-    ensures { result ≡ lowest (λ offset. not (has_same_target first.now.entries second.now.entries offset)) 0 first.now.limit }
+    ensures { result ≡ lowest (λ offset.
+        not (has_same_target first.now.entries second.now.entries offset)) 0 first.now.limit }
 {
     let mut others = second.walk();
     for (offset, target) in first.walk() {

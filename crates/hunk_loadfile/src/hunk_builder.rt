@@ -68,14 +68,16 @@ impl<A: Allocator + Copy> HunkBuilder<A> {
 
     /// The limit for the sites of the current hunk, in bytes.
     pub(crate) fn limit(&self) -> u64
-        ensures { (told : EventValue) (watch : SiteContext) → Builds self.now told watch → result ≡ watch.position.limit }
+        ensures { (told : EventValue) (watch : SiteContext) → Builds self.now told watch →
+            result ≡ watch.position.limit }
     {
         self.hunk.limit()
     }
 
     /// Whether the next word is content.
     pub(crate) fn takes_content(&self) -> bool
-        ensures { (told : EventValue) (watch : SiteContext) → Builds self.now told watch → result ≡ goes_to_content told.receiver }
+        ensures { (told : EventValue) (watch : SiteContext) → Builds self.now told watch →
+            result ≡ goes_to_content told.receiver }
     {
         matches!(&self.receiver, Receiver::Content)
     }
@@ -93,7 +95,8 @@ impl<A: Allocator + Copy> HunkBuilder<A> {
     /// The bits and the size in the header for the current hunk.
     fn header(&self) -> Option<(u8, u32)>
         ensures within { IfSome result (λ header. self.now.ended < length self.now.sizes.items) }
-        ensures value { IfSome result (λ header. header ≡ slice_index_or self.now.sizes.items self.now.ended header) }
+        ensures value { IfSome result
+            (λ header. header ≡ slice_index_or self.now.sizes.items self.now.ended header) }
     {
         match self.sizes.get(self.ended) {
             Some(header) => Some(*header),
@@ -203,7 +206,8 @@ impl<A: Allocator + Copy> HunkBuilder<A> {
     /// Adds a site: the four bytes from `offset`, to which the base of the hunk `target` is added.
     pub(crate) fn add_site(&mut self, offset: u32, target: u32) -> Result<(), SiteRefusal>
         ensures steps { Steps self.old self.new result (Event.Site offset target) }
-        ensures judges { (told : EventValue) (watch : SiteContext) → Builds self.old told watch → JudgesSite watch.position.limit watch.seen offset result }
+        ensures judges { (told : EventValue) (watch : SiteContext) → Builds self.old told watch →
+            JudgesSite watch.position.limit watch.seen offset result }
     {
         self.hunk.add_site(offset, target)
     }
@@ -211,7 +215,8 @@ impl<A: Allocator + Copy> HunkBuilder<A> {
     /// Takes the bytes of a run of words if they are content. Returns whether they are.
     pub(crate) fn add_bytes(&mut self, bytes: &[u8]) -> Result<bool, AllocError>
         requires { IsWhole bytes.now }
-        ensures { (told : EventValue) (watch : SiteContext) → Builds self.old told watch → RunBuilt self.new told watch (longwords bytes.now) result }
+        ensures { (told : EventValue) (watch : SiteContext) → Builds self.old told watch →
+            RunBuilt self.new told watch (longwords bytes.now) result }
     {
         match &self.receiver {
             Receiver::Content => {}

@@ -27,9 +27,11 @@ pub fn read_load<R: Source, A: Allocator + Copy>(
     alloc: A,
     reader: &mut R,
 ) -> Result<LoadFile<A>, ReadFault>
-    ensures file { IfOk result (λ file. HasRead (R.left reader.old) (R.left reader.new) (IsLoadOf file)) }
+    ensures file { IfOk result
+        (λ file. HasRead (R.left reader.old) (R.left reader.new) (IsLoadOf file)) }
     ensures ended { OnOk result (IsTrue (R.ended reader.new)) }
-    ensures refused { IfErr result (RefusesRead Load (R.left reader.old) (R.left reader.new) (R.ended reader.new) (R.failed reader.new)) }
+    ensures refused { IfErr result (RefusesRead Load (R.left reader.old) (R.left reader.new)
+        (R.ended reader.new) (R.failed reader.new)) }
 {
     read_value::<R, LoadBuilder<A>>(alloc, reader)
 }

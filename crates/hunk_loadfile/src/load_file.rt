@@ -43,8 +43,10 @@ impl<A: Allocator + Copy> LoadFile<A> {
     /// The first [`BuildFault`](crate::BuildFault) in the order of its list, with the hunks as they
     /// were passed in.
     pub fn new(hunks: Vec<LoadHunk<A>, A>) -> Result<Self, BuildRefusal<A>>
-        ensures accepted { IfOk result (λ file. (build_fault hunks.items ≡ None) × (file ≡ hunks.items)) }
-        ensures refused { IfErr result (λ r. (build_fault hunks.items ≡ Some r.fault) × (r.hunks.items ≡ hunks.items)) }
+        ensures accepted { IfOk result
+            (λ file. (build_fault hunks.items ≡ None) × (file ≡ hunks.items)) }
+        ensures refused { IfErr result
+            (λ r. (build_fault hunks.items ≡ Some r.fault) × (r.hunks.items ≡ hunks.items)) }
     {
         match build_fault(&hunks) {
             None => Ok(LoadFile { hunks }),

@@ -34,7 +34,16 @@ impl<A: Allocator + Copy> Model for LoadHunk<A> {
 
     ghost Value = { FileHunk };
 
-    ghost view = { λ h. record { kind = h.kind; memory = h.memory; size = h.size; content = h.content.items; sites = h.sites; symbols = h.symbols.items; debugs = lists_of h.debugs.items } };
+    ghost view = { λ h.
+        record {
+          kind = h.kind;
+          memory = h.memory;
+          size = h.size;
+          content = h.content.items;
+          sites = h.sites;
+          symbols = h.symbols.items;
+          debugs = lists_of h.debugs.items;
+        } };
 }
 
 impl<A: Allocator + Copy> LoadHunk<A> {

@@ -31,7 +31,8 @@ pub fn write_load<A: Allocator + Copy, W: Sink>(
     file: &LoadFile<A>,
     writer: &mut W,
 ) -> Result<(), WriteFault>
-    ensures wrote { WroteAll W.taken W.failed writer.old writer.new (bytes_of (written_form file.now)) result }
+    ensures wrote { WroteAll W.taken W.failed writer.old writer.new
+        (bytes_of (written_form file.now)) result }
 {
     write_load_with(alloc, file, LoadForm::Plain, writer)
 }
@@ -52,7 +53,8 @@ pub fn write_load_with<A: Allocator + Copy, W: Sink>(
     form: LoadForm,
     writer: &mut W,
 ) -> Result<(), WriteFault>
-    ensures wrote { WroteAll W.taken W.failed writer.old writer.new (bytes_of (written_in form file.now)) result }
+    ensures wrote { WroteAll W.taken W.failed writer.old writer.new
+        (bytes_of (written_in form file.now)) result }
 {
     let mut text = Text::new(writer);
     match write_file(alloc, &mut text, file, form) {
@@ -72,8 +74,10 @@ pub(crate) fn write_file<A: Allocator + Copy, W: Sink>(
     file: &LoadFile<A>,
     form: LoadForm,
 ) -> Result<(), AllocError>
-    ensures wrote { OnOk result (Puts W.taken W.failed text.old text.new (bytes_of (written_in form file.now))) }
-    ensures stopped { OnErr result (PutsFront W.taken W.failed text.old text.new (bytes_of (written_in form file.now))) }
+    ensures wrote { OnOk result
+        (Puts W.taken W.failed text.old text.new (bytes_of (written_in form file.now))) }
+    ensures stopped { OnErr result
+        (PutsFront W.taken W.failed text.old text.new (bytes_of (written_in form file.now))) }
     ensures short { length (bytes_of (written_in form file.now)) < 2 ^ 64 }
 {
     let hunks = file.hunks();
@@ -144,8 +148,10 @@ fn write_hunks<A: Allocator + Copy, W: Sink>(
     hunks: &[LoadHunk<A>],
 ) -> Result<(), AllocError>
     requires { IsLoadFile hunks.now }
-    ensures wrote { OnOk result (Puts W.taken W.failed text.old text.new (flat_map (λ hunk. bytes_of (hunk_words form (length hunks.now) hunk)) hunks.now)) }
-    ensures stopped { OnErr result (PutsFront W.taken W.failed text.old text.new (flat_map (λ hunk. bytes_of (hunk_words form (length hunks.now) hunk)) hunks.now)) }
+    ensures wrote { OnOk result (Puts W.taken W.failed text.old text.new
+        (flat_map (λ hunk. bytes_of (hunk_words form (length hunks.now) hunk)) hunks.now)) }
+    ensures stopped { OnErr result (PutsFront W.taken W.failed text.old text.new
+        (flat_map (λ hunk. bytes_of (hunk_words form (length hunks.now) hunk)) hunks.now)) }
 {
     for hunk in hunks {
         if text.is_stopped() {
@@ -169,8 +175,10 @@ fn write_hunk<A: Allocator + Copy, W: Sink>(
 ) -> Result<(), AllocError>
     requires valid { IsLoadHunk most_hunks hunk.now }
     requires carries { carried_by hunk.now ≤ 2 ^ 28 }
-    ensures wrote { (count : ℕ) → All (λ site. site.1 < count) hunk.now.sites.entries → OnOk result (Puts W.taken W.failed text.old text.new (bytes_of (hunk_words form count hunk.now))) }
-    ensures stopped { (count : ℕ) → OnErr result (PutsFront W.taken W.failed text.old text.new (bytes_of (hunk_words form count hunk.now))) }
+    ensures wrote { (count : ℕ) → All (λ site. site.1 < count) hunk.now.sites.entries → OnOk result
+        (Puts W.taken W.failed text.old text.new (bytes_of (hunk_words form count hunk.now))) }
+    ensures stopped { (count : ℕ) → OnErr result
+        (PutsFront W.taken W.failed text.old text.new (bytes_of (hunk_words form count hunk.now))) }
 {
     write_content(text, hunk);
     write_sites(alloc, text, form, &hunk.sites)?;
@@ -183,7 +191,8 @@ fn write_hunk<A: Allocator + Copy, W: Sink>(
 /// Writes what a file has for the content of a hunk. The bytes are put unchanged, in one call.
 fn write_content<A: Allocator + Copy, W: Sink>(text: &mut Text<'_, W>, hunk: &LoadHunk<A>)
     requires { IsLoadHunk most_hunks hunk.now }
-    ensures { Puts W.taken W.failed text.old text.new (bytes_of (content_words hunk.now.kind hunk.now.size (longwords hunk.now.content))) }
+    ensures { Puts W.taken W.failed text.old text.new
+        (bytes_of (content_words hunk.now.kind hunk.now.size (longwords hunk.now.content))) }
 {
     write_longwords(text, &content_head(hunk));
     text.put(&hunk.content);
@@ -192,7 +201,8 @@ fn write_content<A: Allocator + Copy, W: Sink>(text: &mut Text<'_, W>, hunk: &Lo
 /// The longwords of a content block before its content.
 fn content_head<A: Allocator + Copy>(hunk: &LoadHunk<A>) -> [u32; 2]
     requires valid { IsLoadHunk most_hunks hunk.now }
-    ensures { result ++ longwords hunk.now.content ≡ content_words hunk.now.kind hunk.now.size (longwords hunk.now.content) }
+    ensures { result ++ longwords hunk.now.content ≡ content_words hunk.now.kind hunk.now.size
+        (longwords hunk.now.content) }
 {
     match hunk.kind {
         HunkKind::Code => [HUNK_CODE, hunk.stored()],

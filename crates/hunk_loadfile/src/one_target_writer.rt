@@ -43,7 +43,9 @@ pub(crate) fn write_to_one_target<W: Sink, A: Allocator + Copy>(
     requires apart { AreApart sites.now }
     requires few { length sites.now.entries ≤ 2 ^ 30 }
     requires same { All (λ site. site.1 ≡ target) sites.now.entries }
-    ensures { (count : ℕ) → target < count → Puts W.taken W.failed text.old text.new (block_bytes Word count (short_sites form sites.now.entries) ++ block_bytes Longword count (long_sites form sites.now.entries)) }
+    ensures { (count : ℕ) → target < count → Puts W.taken W.failed text.old text.new
+        (block_bytes Word count (short_sites form sites.now.entries) ++ block_bytes Longword count
+        (long_sites form sites.now.entries)) }
 {
     let (short, long) = block_counts(form, sites);
     let mut walk = sites.walk();
@@ -61,7 +63,8 @@ fn write_only_group<W: Sink, A: Allocator + Copy>(
 )
     requires few { count ≤ 2 ^ 30 }
     requires enough { count ≤ length walk.old }
-    ensures wrote { (hunks : ℕ) → target < hunks → All (λ site. site.1 ≡ target) walk.old → Puts W.taken W.failed text.old text.new (block_bytes width hunks (take count walk.old)) }
+    ensures wrote { (hunks : ℕ) → target < hunks → All (λ site. site.1 ≡ target) walk.old →
+        Puts W.taken W.failed text.old text.new (block_bytes width hunks (take count walk.old)) }
     ensures rest { walk.new ≡ drop count walk.old }
 {
     if count == 0 {
@@ -84,7 +87,8 @@ fn write_next_offsets<W: Sink, A: Allocator + Copy>(
     walk: &mut Walk<'_, u32, A>,
 )
     requires enough { count ≤ length walk.old }
-    ensures wrote { Puts W.taken W.failed text.old text.new (bytes_in width (map (λ site. site.0) (take count walk.old))) }
+    ensures wrote { Puts W.taken W.failed text.old text.new
+        (bytes_in width (map (λ site. site.0) (take count walk.old))) }
     ensures rest { walk.new ≡ drop count walk.old }
 {
     let mut room = [0; CHUNK];

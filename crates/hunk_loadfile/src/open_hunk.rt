@@ -35,7 +35,8 @@ impl<A: Allocator + Copy> OpenHunk<A> {
 
     /// The limit for its sites.
     pub(crate) fn limit(&self) -> u64
-        ensures shown { (limit : ℕ) (seen : List ℕ) (in_content : Bool) (told : Hunk) → Shows self.now limit seen in_content told → result ≡ limit }
+        ensures shown { (limit : ℕ) (seen : List ℕ) (in_content : Bool) (told : Hunk) →
+            Shows self.now limit seen in_content told → result ≡ limit }
         ensures kept { result ≡ self.now.partial.sites.limit }
     {
         self.partial.limit()
@@ -44,10 +45,12 @@ impl<A: Allocator + Copy> OpenHunk<A> {
     /// Takes the type of the content, which begins, and the limit for the sites. If there already is
     /// content or a site, it returns `false` and is left as it was.
     pub(crate) fn begin_content(&mut self, alloc: A, kind: HunkKind, limit: u64) -> bool
-        ensures takes { (before : ℕ) (seen : List ℕ) (in_content : Bool) (told : Hunk) (bits size : ℕ) → Shows self.old before seen in_content told →
-            IsTrue result → Shows self.new limit seen true (record told { kind = kind; memory = bits; size = size }) }
-        ensures refuses { (before : ℕ) (seen : List ℕ) (in_content : Bool) (told : Hunk) → Shows self.old before seen in_content told →
-            IsFalse result → Shows self.new before seen in_content told }
+        ensures takes { (before : ℕ) (seen : List ℕ) (in_content : Bool) (told : Hunk)
+            (bits size : ℕ) → Shows self.old before seen in_content told → IsTrue result → Shows
+            self.new limit seen true (record told { kind = kind; memory = bits; size = size }) }
+        ensures refuses { (before : ℕ) (seen : List ℕ) (in_content : Bool) (told : Hunk) →
+            Shows self.old before seen in_content told → IsFalse result →
+            Shows self.new before seen in_content told }
     {
         if !self.partial.begin_content(alloc, limit) {
             return false;
@@ -65,7 +68,8 @@ impl<A: Allocator + Copy> OpenHunk<A> {
 
     /// Takes the bytes of a run of words, which are kept if they are content.
     pub(crate) fn add_bytes(&mut self, bytes: &[u8]) -> Result<(), AllocError>
-        ensures takes { OnOk result (self.new ≡ record self.old { partial = hunk_with_bytes self.old.partial bytes.now }) }
+        ensures takes { OnOk result
+            (self.new ≡ record self.old { partial = hunk_with_bytes self.old.partial bytes.now }) }
         ensures refuses { OnErr result (self.new ≡ self.old) }
     {
         self.partial.add_bytes(bytes)
@@ -73,7 +77,8 @@ impl<A: Allocator + Copy> OpenHunk<A> {
 
     /// The next word is not content.
     pub(crate) fn end_content(&mut self)
-        ensures { (limit : ℕ) (seen : List ℕ) (in_content : Bool) (told : Hunk) → Shows self.old limit seen in_content told → Shows self.new limit seen false told }
+        ensures { (limit : ℕ) (seen : List ℕ) (in_content : Bool) (told : Hunk) →
+            Shows self.old limit seen in_content told → Shows self.new limit seen false told }
     {
         self.partial.end_content();
     }
@@ -92,7 +97,8 @@ impl<A: Allocator + Copy> OpenHunk<A> {
         name: &mut OpenName<A>,
         value: u32,
     ) -> Result<(), AllocError>
-        ensures takes { (words : List ℕ) → Opens name.old words → Takes self.old self.new result (λ in_content told. with_tables told (one_symbol words value)) }
+        ensures takes { (words : List ℕ) → Opens name.old words → Takes self.old self.new result
+            (λ in_content told. with_tables told (one_symbol words value)) }
         ensures name { OnErr result (name.new ≡ name.old) }
     {
         self.debug_info.add_symbol(alloc, name, value)
@@ -100,21 +106,30 @@ impl<A: Allocator + Copy> OpenHunk<A> {
 
     /// Begins a debug block.
     pub(crate) fn add_debug(&mut self, alloc: A) -> Result<(), AllocError>
-        ensures { Takes self.old self.new result (λ in_content told. with_tables told (one_debug [])) }
+        ensures { Takes self.old self.new result
+            (λ in_content told. with_tables told (one_debug [])) }
     {
         self.debug_info.begin_debug(alloc)
     }
 
     /// Takes a longword of the last debug block, if there is one.
     pub(crate) fn add_debug_word(&mut self, word: u32) -> Result<(), AllocError>
-        ensures { Takes self.old self.new result (λ in_content told. record told { tables = record told.tables { debugs = on_last (λ ws. ws ++ word ∷ []) told.tables.debugs } }) }
+        ensures { Takes self.old self.new result
+            (λ in_content told. record told {
+              tables = record told.tables {
+                debugs = on_last
+                    (λ ws. ws ++ word ∷ []) told.tables.debugs;
+              };
+            }) }
     {
         self.debug_info.add_debug_word(word)
     }
 
     /// The hunk, with the memory and the size that the header has for it.
     pub(crate) fn close(self, memory: Memory, size: u32) -> LoadHunk<A>
-        ensures value { (bits : ℕ) (seen : List ℕ) (in_content : Bool) (told : Hunk) → Shows self (4 * size) seen in_content told → memory ≡ memory_of bits → result ≡ file_hunk bits size told }
+        ensures value { (bits : ℕ) (seen : List ℕ) (in_content : Bool) (told : Hunk) →
+            Shows self (4 * size) seen in_content told → memory ≡ memory_of bits →
+            result ≡ file_hunk bits size told }
         ensures size { result.size ≡ size }
         ensures limit { result.sites.limit ≡ self.partial.sites.limit }
     {

@@ -16,7 +16,8 @@ use std::alloc::Allocator;
 pub fn patch<A: Allocator + Copy>(bytes: &mut [u8], sites: &Sites<u32, A>, bases: &[u32])
     requires inside { sites.now.limit ≤ length bytes.old }
     requires based { All (λ site. site.1 < length bases.now) sites.now.entries }
-    ensures { bytes.new ≡ patched_bytes (length bytes.old) bytes.old sites.now.entries (slice_index bases.now) }
+    ensures { bytes.new ≡ patched_bytes (length bytes.old) bytes.old sites.now.entries
+        (slice_index bases.now) }
 {
     for (offset, target) in sites.walk() {
         add_at(bytes, offset as usize, bases[*target as usize]);
@@ -27,7 +28,8 @@ pub fn patch<A: Allocator + Copy>(bytes: &mut [u8], sites: &Sites<u32, A>, bases
 /// lie within the bytes.
 pub fn add_at(bytes: &mut [u8], offset: usize, addend: u32)
     requires { offset + 4 ≤ length bytes.old }
-    ensures { bytes.new ≡ patched_bytes (length bytes.old) bytes.old ((offset, addend) ∷ []) (λ added. added) }
+    ensures { bytes.new ≡ patched_bytes (length bytes.old) bytes.old
+        ((offset, addend) ∷ []) (λ added. added) }
 {
     // Most sites of object files name hunks of their own unit, where the linker adds nothing; then the
     // content need not be read.

@@ -35,7 +35,9 @@ pub(crate) fn write_sites<W: Sink, A: Allocator + Copy>(
 ) -> Result<(), AllocError>
     requires apart { AreApart sites.now }
     requires targets { All (λ site. site.1 < 2 ^ 16) sites.now.entries }
-    ensures wrote { (count : ℕ) → All (λ site. site.1 < count) sites.now.entries → OnOk result (Puts W.taken W.failed text.old text.new (bytes_of (relocation_words form count sites.now.entries))) }
+    ensures wrote { (count : ℕ) → All (λ site. site.1 < count) sites.now.entries →
+        OnOk result (Puts W.taken W.failed text.old text.new
+        (bytes_of (relocation_words form count sites.now.entries))) }
     ensures nothing { OnErr result (Puts W.taken W.failed text.old text.new []) }
 {
     match only_target(sites) {
@@ -56,7 +58,9 @@ fn write_by_target<W: Sink, A: Allocator + Copy>(
 ) -> Result<(), AllocError>
     requires apart { AreApart sites.now }
     requires targets { All (λ site. site.1 < 2 ^ 16) sites.now.entries }
-    ensures wrote { (count : ℕ) → All (λ site. site.1 < count) sites.now.entries → OnOk result (Puts W.taken W.failed text.old text.new (bytes_of (relocation_words form count sites.now.entries))) }
+    ensures wrote { (count : ℕ) → All (λ site. site.1 < count) sites.now.entries →
+        OnOk result (Puts W.taken W.failed text.old text.new
+        (bytes_of (relocation_words form count sites.now.entries))) }
     ensures nothing { OnErr result (Puts W.taken W.failed text.old text.new []) }
 {
     let (short, long) = by_target(alloc, form, sites)?;
@@ -72,9 +76,12 @@ fn by_target<A: Allocator + Copy>(
     form: LoadForm,
     sites: &Sites<u32, A>,
 ) -> Result<(Vec<(u32, u32), A>, Vec<(u32, u32), A>), AllocError>
-    ensures short { IfOk result (λ pairs. AreByTarget (short_sites form sites.now.entries) pairs.0.items) }
-    ensures long { IfOk result (λ pairs. AreByTarget (long_sites form sites.now.entries) pairs.1.items) }
-    ensures few { IfOk result (λ pairs. (length pairs.0.items ≤ 2 ^ 30) × (length pairs.1.items ≤ 2 ^ 30)) }
+    ensures short { IfOk result
+        (λ pairs. AreByTarget (short_sites form sites.now.entries) pairs.0.items) }
+    ensures long { IfOk result
+        (λ pairs. AreByTarget (long_sites form sites.now.entries) pairs.1.items) }
+    ensures few { IfOk result
+        (λ pairs. (length pairs.0.items ≤ 2 ^ 30) × (length pairs.1.items ≤ 2 ^ 30)) }
 {
     let (short_count, long_count) = block_counts(form, sites);
     let mut short = Vec::with_capacity(alloc, short_count)?;
@@ -115,7 +122,8 @@ pub(crate) fn block_counts<A: Allocator + Copy>(
 fn write_block<W: Sink>(text: &mut Text<'_, W>, width: NumberWidth, pairs: &[(u32, u32)])
     requires rise { IsNonDecreasingBy (λ pair. pair.1) pairs.now }
     requires few { length pairs.now < 2 ^ 32 }
-    ensures { (count : ℕ) → All (λ pair. pair.1 < count) pairs.now → Puts W.taken W.failed text.old text.new (block_bytes width count pairs.now) }
+    ensures { (count : ℕ) → All (λ pair. pair.1 < count) pairs.now →
+        Puts W.taken W.failed text.old text.new (block_bytes width count pairs.now) }
 {
     if pairs.is_empty() {
         return;
@@ -139,8 +147,10 @@ pub(crate) fn write_block_end<W: Sink>(text: &mut Text<'_, W>, width: NumberWidt
 fn write_groups<W: Sink>(text: &mut Text<'_, W>, width: NumberWidth, pairs: &[(u32, u32)]) -> usize
     requires rise { IsNonDecreasingBy (λ pair. pair.1) pairs.now }
     requires few { length pairs.now < 2 ^ 32 }
-    ensures wrote { (count : ℕ) → All (λ pair. pair.1 < count) pairs.now → Puts W.taken W.failed text.old text.new (bytes_in width (groups_words count pairs.now)) }
-    ensures counts { (count : ℕ) → All (λ pair. pair.1 < count) pairs.now → result ≡ length (groups_words count pairs.now) }
+    ensures wrote { (count : ℕ) → All (λ pair. pair.1 < count) pairs.now →
+        Puts W.taken W.failed text.old text.new (bytes_in width (groups_words count pairs.now)) }
+    ensures counts { (count : ℕ) → All (λ pair. pair.1 < count) pairs.now →
+        result ≡ length (groups_words count pairs.now) }
     ensures few { result ≤ 3 * length pairs.now }
 {
     let mut numbers = 0;
@@ -169,7 +179,8 @@ fn split_group(pairs: &[(u32, u32)], target: u32) -> (&[(u32, u32)], &[(u32, u32
 fn group_length(pairs: &[(u32, u32)], target: u32) -> usize
     ensures within { result ≤ length pairs.now }
     ensures before { (k : ℕ) (d : ℕ × ℕ) → k < result → (slice_index_or pairs.now k d).1 ≡ target }
-    ensures stops { (d : ℕ × ℕ) → result < length pairs.now → (slice_index_or pairs.now result d).1 ≢ target }
+    ensures stops { (d : ℕ × ℕ) → result < length pairs.now →
+        (slice_index_or pairs.now result d).1 ≢ target }
 {
     for (index, pair) in pairs.iter().enumerate() {
         if pair.1 != target {
@@ -188,7 +199,8 @@ fn write_group<W: Sink>(
 )
     requires some { 0 < length group.now }
     requires few { length group.now < 2 ^ 32 }
-    ensures { Puts W.taken W.failed text.old text.new (bytes_in width (group_words target (map (λ pair. pair.0) group.now))) }
+    ensures { Puts W.taken W.failed text.old text.new
+        (bytes_in width (group_words target (map (λ pair. pair.0) group.now))) }
 {
     write_numbers(text, width, &[group.len() as u32, target]);
     write_offsets(text, width, group);
@@ -199,7 +211,8 @@ const CHUNK: usize = 256;
 
 /// Writes the offsets of these sites. They go through an array of fixed size.
 fn write_offsets<W: Sink>(text: &mut Text<'_, W>, width: NumberWidth, group: &[(u32, u32)])
-    ensures { Puts W.taken W.failed text.old text.new (bytes_in width (map (λ pair. pair.0) group.now)) }
+    ensures { Puts W.taken W.failed text.old text.new
+        (bytes_in width (map (λ pair. pair.0) group.now)) }
 {
     let mut room = [0; CHUNK];
     for chunk in group.chunks(CHUNK) {

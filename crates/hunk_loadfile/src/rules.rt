@@ -108,7 +108,8 @@ fn debug_longwords(debug: &[u32]) -> u64
 
 /// What is left of `room` longwords after these symbols, if they take no more.
 fn room_behind_symbols<A: Allocator + Copy>(room: u64, symbols: &[(Name<A>, u32)]) -> Option<u64>
-    ensures room { MatchOption result (room < sum_by symbol_longwords symbols.now) (λ left. left + sum_by symbol_longwords symbols.now ≡ room) }
+    ensures room { MatchOption result (room < sum_by symbol_longwords symbols.now)
+        (λ left. left + sum_by symbol_longwords symbols.now ≡ room) }
     ensures typed { OnSome result (All IsTypedSymbol symbols.now) }
 {
     let mut left = room;
@@ -124,7 +125,9 @@ fn room_behind_symbols<A: Allocator + Copy>(room: u64, symbols: &[(Name<A>, u32)
 
 /// The same after these debug blocks.
 fn room_behind_debugs<A: Allocator + Copy>(room: u64, debugs: &[Vec<u32, A>]) -> Option<u64>
-    ensures room { MatchOption result (room < sum_by (λ debug. debug_longwords debug.items) debugs.now) (λ left. left + sum_by (λ debug. debug_longwords debug.items) debugs.now ≡ room) }
+    ensures room { MatchOption result
+        (room < sum_by (λ debug. debug_longwords debug.items) debugs.now)
+        (λ left. left + sum_by (λ debug. debug_longwords debug.items) debugs.now ≡ room) }
     ensures typed { OnSome result (All (All IsLongword) (lists_of debugs.now)) }
 {
     let mut left = room;
@@ -145,7 +148,8 @@ pub fn room_behind<A: Allocator + Copy>(
     symbols: &[(Name<A>, u32)],
     debugs: &[Vec<u32, A>],
 ) -> Option<u64>
-    ensures room { MatchOption result (room < info_longwords symbols.now (lists_of debugs.now)) (λ left. left + info_longwords symbols.now (lists_of debugs.now) ≡ room) }
+    ensures room { MatchOption result (room < info_longwords symbols.now (lists_of debugs.now))
+        (λ left. left + info_longwords symbols.now (lists_of debugs.now) ≡ room) }
     ensures symbols { OnSome result (All IsTypedSymbol symbols.now) }
     ensures debugs { OnSome result (All (All IsLongword) (lists_of debugs.now)) }
 {
@@ -157,7 +161,8 @@ pub fn room_behind<A: Allocator + Copy>(
 
 /// The same after those of a hunk of a load file.
 fn room_behind_hunk<A: Allocator + Copy>(room: u64, hunk: &LoadHunk<A>) -> Option<u64>
-    ensures room { MatchOption result (room < carried_by hunk.now) (λ left. left + carried_by hunk.now ≡ room) }
+    ensures room { MatchOption result (room < carried_by hunk.now)
+        (λ left. left + carried_by hunk.now ≡ room) }
     ensures symbols { OnSome result (All IsTypedSymbol hunk.now.symbols) }
     ensures debugs { OnSome result (All (All IsLongword) hunk.now.debugs) }
 {

@@ -101,7 +101,8 @@ fn with_symbols<A: Allocator + Copy>(
     more: Vec<(Name<A>, u32), A>,
 ) -> Result<UnitHunk<A>, AllocError>
     requires { All (λ symbol. length symbol.0 ≤ most_name) more.items }
-    ensures value { IfOk result (λ made. made ≡ record hunk { symbols = hunk.symbols ++ more.items }) }
+    ensures value { IfOk result
+        (λ made. made ≡ record hunk { symbols = hunk.symbols ++ more.items }) }
     ensures valid { IfOk result (λ made. IsUnitHunk made) }
 {
     let UnitHunk {
@@ -138,7 +139,8 @@ fn missing_symbols<H: BuildHasher + Copy, A: Allocator + Copy>(
     hunk: &UnitHunk<A>,
     hasher: H,
 ) -> Result<Vec<(Name<A>, u32), A>, AllocError>
-    ensures value { IfOk result (λ more. more.items ≡ others hunk.now.symbols (global_symbols hunk.now.definitions)) }
+    ensures value { IfOk result
+        (λ more. more.items ≡ others hunk.now.symbols (global_symbols hunk.now.definitions)) }
     ensures short { IfOk result (λ more. All (λ symbol. length symbol.0 ≤ most_name) more.items) }
 {
     let mut more = Vec::new(alloc);
@@ -177,7 +179,8 @@ impl<'a, H: BuildHasher + Copy, A: Allocator + Copy> Model for Symbols<'a, H, A>
 impl<'a, H: BuildHasher + Copy, A: Allocator + Copy> Symbols<'a, H, A> {
     /// These symbols.
     fn of(alloc: A, symbols: &'a [(Name<A>, u32)], hasher: H) -> Result<Self, AllocError>
-        ensures { IfOk result (λ made. (symbol : Symbol) → is_among made symbol ≡ is_among symbols.now symbol) }
+        ensures { IfOk result
+            (λ made. (symbol : Symbol) → is_among made symbol ≡ is_among symbols.now symbol) }
     {
         let mut made = Symbols {
             symbols: IndexSet::with_capacity_and_hasher(alloc, symbols.len(), hasher)?,
@@ -197,7 +200,8 @@ impl<'a, H: BuildHasher + Copy, A: Allocator + Copy> Symbols<'a, H, A> {
 
     /// Adds a symbol, unless it is there.
     fn add(&mut self, name: &'a Name<A>, value: u32) -> Result<(), AllocError>
-        ensures { OnOk result ((symbol : Symbol) → is_among self.new symbol ≡ (is_among self.old symbol || is_symbol symbol (name.now, value))) }
+        ensures { OnOk result ((symbol : Symbol) → is_among self.new symbol ≡
+            (is_among self.old symbol || is_symbol symbol (name.now, value))) }
     {
         match self.symbols.insert((name, value)) {
             Ok(_) => Ok(()),

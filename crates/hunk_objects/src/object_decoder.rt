@@ -29,9 +29,11 @@ pub fn read_object<R: Source, A: Allocator + Copy>(
     alloc: A,
     reader: &mut R,
 ) -> Result<Vec<ProgramUnit<A>, A>, ReadFault>
-    ensures file { IfOk result (λ units. HasRead (R.left reader.old) (R.left reader.new) (IsObjectOf units.items)) }
+    ensures file { IfOk result
+        (λ units. HasRead (R.left reader.old) (R.left reader.new) (IsObjectOf units.items)) }
     ensures ended { OnOk result (IsTrue (R.ended reader.new)) }
-    ensures refused { IfErr result (RefusesRead Object (R.left reader.old) (R.left reader.new) (R.ended reader.new) (R.failed reader.new)) }
+    ensures refused { IfErr result (RefusesRead Object (R.left reader.old) (R.left reader.new)
+        (R.ended reader.new) (R.failed reader.new)) }
 {
     read_value::<R, UnitBuilder<A>>(alloc, reader)
 }

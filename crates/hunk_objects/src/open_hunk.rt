@@ -53,12 +53,21 @@ impl<A: Allocator + Copy> Model for OpenHunk<A> {
 
     ghost Value = { UnitHunkSoFar A };
 
-    ghost view = { λ h. record { name = h.name; kind = h.kind; memory = h.memory; size = h.size; partial = h.partial; references = h.references.items; definitions = h.definitions.items; debug_info = h.debug_info } };
+    ghost view = { λ h. record {
+      name = h.name;
+      kind = h.kind;
+      memory = h.memory;
+      size = h.size;
+      partial = h.partial;
+      references = h.references.items;
+      definitions = h.definitions.items;
+      debug_info = h.debug_info;
+    } };
 
     // what it hands on to the hunk that it becomes
-    ghost invariant = { λ h. All (IsAmong (length h.references.items)) (values_of h.partial.sites.entries)
-        × All (λ definition. length definition.0 ≤ most_name) h.definitions.items
-        × All (λ symbol. length symbol.0 ≤ most_name) h.debug_info.symbols };
+    ghost invariant = { λ h. All (IsAmong (length h.references.items))
+        (values_of h.partial.sites.entries) × All (λ definition. length definition.0 ≤ most_name)
+        h.definitions.items × All (λ symbol. length symbol.0 ≤ most_name) h.debug_info.symbols };
 }
 
 /// The bytes that a unit has for a hunk of this kind and this size, in longwords.
@@ -100,8 +109,10 @@ impl<A: Allocator + Copy> OpenHunk<A> {
     /// Takes a longword of its name.
     pub(crate) fn add_name_word(&mut self, word: u32) -> Result<(), AllocError>
         ensures same { self.new ≡ record self.old { name = self.new.name } }
-        ensures takes { (words : List ℕ) → Opens self.old.name words → OnOk result (Opens self.new.name (words ++ word ∷ [])) }
-        ensures refuses { (words : List ℕ) → Opens self.old.name words → OnErr result (Opens self.new.name words) }
+        ensures takes { (words : List ℕ) → Opens self.old.name words →
+            OnOk result (Opens self.new.name (words ++ word ∷ [])) }
+        ensures refuses { (words : List ℕ) → Opens self.old.name words →
+            OnErr result (Opens self.new.name words) }
     {
         self.name.push(word)
     }
@@ -115,8 +126,14 @@ impl<A: Allocator + Copy> OpenHunk<A> {
         memory: Memory,
         size: u32,
     ) -> bool
-        ensures begins { IsTrue result → self.new ≡ record self.old { kind = kind; memory = memory; size = size; partial = begun_hunk (content_bytes kind size) } }
-        ensures first { IsTrue result → (self.old.partial.content ≡ []) × (self.old.partial.sites.entries ≡ []) }
+        ensures begins { IsTrue result → self.new ≡ record self.old {
+          kind = kind;
+          memory = memory;
+          size = size;
+          partial = begun_hunk (content_bytes kind size);
+        } }
+        ensures first { IsTrue result → (self.old.partial.content ≡ []) ×
+            (self.old.partial.sites.entries ≡ []) }
         ensures refused { IsFalse result → self.new ≡ self.old }
     {
         if !self.partial.begin_content(alloc, content_len(kind, size)) {
@@ -130,7 +147,8 @@ impl<A: Allocator + Copy> OpenHunk<A> {
 
     /// Takes a word, which is kept if it is content.
     pub(crate) fn add_word(&mut self, word: u32) -> Result<(), AllocError>
-        ensures adds { OnOk result (self.new ≡ record self.old { partial = hunk_with_word self.old.partial word }) }
+        ensures adds { OnOk result
+            (self.new ≡ record self.old { partial = hunk_with_word self.old.partial word }) }
         ensures refused { OnErr result (self.new ≡ self.old) }
     {
         self.partial.add_word(word)
@@ -138,7 +156,8 @@ impl<A: Allocator + Copy> OpenHunk<A> {
 
     /// Takes the bytes of a run of words, which are kept if they are content.
     pub(crate) fn add_bytes(&mut self, bytes: &[u8]) -> Result<(), AllocError>
-        ensures adds { OnOk result (self.new ≡ record self.old { partial = hunk_with_bytes self.old.partial bytes.now }) }
+        ensures adds { OnOk result
+            (self.new ≡ record self.old { partial = hunk_with_bytes self.old.partial bytes.now }) }
         ensures refused { OnErr result (self.new ≡ self.old) }
     {
         self.partial.add_bytes(bytes)
@@ -146,16 +165,20 @@ impl<A: Allocator + Copy> OpenHunk<A> {
 
     /// The next word is not content.
     pub(crate) fn end_content(&mut self)
-        ensures { self.new ≡ record self.old { partial = record self.old.partial { in_content = false } } }
+        ensures { self.new ≡
+            record self.old { partial = record self.old.partial { in_content = false } } }
     {
         self.partial.end_content();
     }
 
     /// Adds the site of the four bytes from an offset, to which the base of a hunk is added.
     pub(crate) fn add_site(&mut self, offset: u32, hunk: u32) -> Result<(), SiteRefusal>
-        ensures adds { OnOk result (self.new ≡ record self.old { partial = hunk_with_site self.old.partial offset (Adds.Hunk hunk) }) }
-        ensures holds { (limit : ℕ) (seen : List ℕ) → HoldsSites limit seen self.old.partial → OnOk result (HoldsSites limit (offset ∷ seen) self.new.partial) }
-        ensures judges { (limit : ℕ) (seen : List ℕ) → HoldsSites limit seen self.old.partial → JudgesSite limit seen offset result }
+        ensures adds { OnOk result (self.new ≡
+            record self.old { partial = hunk_with_site self.old.partial offset (Adds.Hunk hunk) }) }
+        ensures holds { (limit : ℕ) (seen : List ℕ) → HoldsSites limit seen self.old.partial →
+            OnOk result (HoldsSites limit (offset ∷ seen) self.new.partial) }
+        ensures judges { (limit : ℕ) (seen : List ℕ) → HoldsSites limit seen self.old.partial →
+            JudgesSite limit seen offset result }
         ensures refused { OnErr result (self.new ≡ self.old) }
     {
         self.partial.add_site(offset, Adds::Hunk(hunk))
@@ -163,9 +186,14 @@ impl<A: Allocator + Copy> OpenHunk<A> {
 
     /// Adds a site that refers to the name of the last reference.
     pub(crate) fn add_reference_site(&mut self, offset: u32) -> Result<(), SiteRefusal>
-        ensures adds { OnOk result (self.new ≡ record self.old { partial = hunk_with_site self.old.partial offset (Adds.Reference (pred (length self.old.references))) }) }
-        ensures holds { (limit : ℕ) (seen : List ℕ) → HoldsSites limit seen self.old.partial → OnOk result (HoldsSites limit (offset ∷ seen) self.new.partial) }
-        ensures judges { (limit : ℕ) (seen : List ℕ) → HoldsSites limit seen self.old.partial → JudgesSite limit seen offset result }
+        ensures adds { OnOk result (self.new ≡ record self.old {
+          partial = hunk_with_site
+              self.old.partial offset (Adds.Reference (pred (length self.old.references)));
+        }) }
+        ensures holds { (limit : ℕ) (seen : List ℕ) → HoldsSites limit seen self.old.partial →
+            OnOk result (HoldsSites limit (offset ∷ seen) self.new.partial) }
+        ensures judges { (limit : ℕ) (seen : List ℕ) → HoldsSites limit seen self.old.partial →
+            JudgesSite limit seen offset result }
         ensures refused { OnErr result (self.new ≡ self.old) }
     {
         match self.references.len().checked_sub(1) {
@@ -187,7 +215,8 @@ impl<A: Allocator + Copy> OpenHunk<A> {
         name: &mut OpenName<A>,
         value: u32,
     ) -> Result<(), AllocError>
-        ensures takes { (words : List ℕ) → Opens name.old words → Takes self.old self.new result (value_to (receiver_of named words) value) }
+        ensures takes { (words : List ℕ) → Opens name.old words →
+            Takes self.old self.new result (value_to (receiver_of named words) value) }
         ensures refused { OnErr result (self.new ≡ self.old) }
         ensures name { OnErr result (name.new ≡ name.old) }
     {
@@ -208,7 +237,8 @@ impl<A: Allocator + Copy> OpenHunk<A> {
         name: &mut OpenName<A>,
         count: u32,
     ) -> Result<(), AllocError>
-        ensures takes { (words : List ℕ) → Opens name.old words → Takes self.old self.new result (count_to (receiver_of named words) count) }
+        ensures takes { (words : List ℕ) → Opens name.old words →
+            Takes self.old self.new result (count_to (receiver_of named words) count) }
         ensures refused { OnErr result (self.new ≡ self.old) }
         ensures name { OnErr result (name.new ≡ name.old) }
     {
@@ -224,7 +254,8 @@ impl<A: Allocator + Copy> OpenHunk<A> {
     }
 
     fn add_reference(&mut self, alloc: A, name: &mut OpenName<A>) -> Result<(), AllocError>
-        ensures adds { OnOk result (self.new ≡ record self.old { references = self.old.references ++ bytes_so_far name.old ∷ [] }) }
+        ensures adds { OnOk result (self.new ≡
+            record self.old { references = self.old.references ++ bytes_so_far name.old ∷ [] }) }
         ensures refused { OnErr result (self.new ≡ self.old) }
         ensures name { OnErr result (name.new ≡ name.old) }
     {
@@ -240,7 +271,9 @@ impl<A: Allocator + Copy> OpenHunk<A> {
         name: &mut OpenName<A>,
         definition: Definition,
     ) -> Result<(), AllocError>
-        ensures adds { OnOk result (self.new ≡ record self.old { definitions = self.old.definitions ++ (bytes_so_far name.old, definition) ∷ [] }) }
+        ensures adds { OnOk result (self.new ≡ record self.old {
+          definitions = self.old.definitions ++ (bytes_so_far name.old, definition) ∷ [];
+        }) }
         ensures refused { OnErr result (self.new ≡ self.old) }
         ensures name { OnErr result (name.new ≡ name.old) }
     {
@@ -254,7 +287,12 @@ impl<A: Allocator + Copy> OpenHunk<A> {
     }
 
     fn add_symbol(&mut self, alloc: A, name: &mut OpenName<A>, value: u32) -> Result<(), AllocError>
-        ensures adds { OnOk result (self.new ≡ record self.old { debug_info = record self.old.debug_info { symbols = self.old.debug_info.symbols ++ (bytes_so_far name.old, value) ∷ [] } }) }
+        ensures adds { OnOk result
+            (self.new ≡ record self.old {
+              debug_info = record self.old.debug_info {
+                symbols = self.old.debug_info.symbols ++ (bytes_so_far name.old, value) ∷ [];
+              };
+            }) }
         ensures refused { OnErr result (self.new ≡ self.old) }
         ensures name { OnErr result (name.new ≡ name.old) }
     {
@@ -266,7 +304,12 @@ impl<A: Allocator + Copy> OpenHunk<A> {
 
     /// Begins a debug block.
     pub(crate) fn begin_debug(&mut self, alloc: A) -> Result<(), AllocError>
-        ensures begins { OnOk result (self.new ≡ record self.old { debug_info = record self.old.debug_info { debugs = self.old.debug_info.debugs ++ [] ∷ [] } }) }
+        ensures begins { OnOk result
+            (self.new ≡ record self.old {
+              debug_info = record self.old.debug_info {
+                debugs = self.old.debug_info.debugs ++ [] ∷ [];
+              };
+            }) }
         ensures refused { OnErr result (self.new ≡ self.old) }
     {
         self.debug_info.begin_debug(alloc)
@@ -274,7 +317,13 @@ impl<A: Allocator + Copy> OpenHunk<A> {
 
     /// Takes a longword of the last debug block, if there is one.
     pub(crate) fn add_debug_word(&mut self, word: u32) -> Result<(), AllocError>
-        ensures adds { OnOk result (self.new ≡ record self.old { debug_info = record self.old.debug_info { debugs = on_last (λ ws. ws ++ word ∷ []) self.old.debug_info.debugs } }) }
+        ensures adds { OnOk result
+            (self.new ≡ record self.old {
+              debug_info = record self.old.debug_info {
+                debugs = on_last
+                    (λ ws. ws ++ word ∷ []) self.old.debug_info.debugs;
+              };
+            }) }
         ensures refused { OnErr result (self.new ≡ self.old) }
     {
         self.debug_info.add_debug_word(word)
@@ -282,8 +331,10 @@ impl<A: Allocator + Copy> OpenHunk<A> {
 
     /// Whether its content is whole, as that of each hunk of a file is at its end.
     pub(crate) fn is_whole(&self) -> bool
-        ensures whole { IsTrue result → length self.now.partial.content ≡ self.now.partial.sites.limit }
-        ensures limit { IsTrue result → self.now.partial.sites.limit ≡ content_bytes self.now.kind self.now.size }
+        ensures whole { IsTrue result →
+            length self.now.partial.content ≡ self.now.partial.sites.limit }
+        ensures limit { IsTrue result →
+            self.now.partial.sites.limit ≡ content_bytes self.now.kind self.now.size }
         ensures apart { IsTrue result → AreApart self.now.partial.sites }
     {
         self.partial.is_full() && self.partial.limit() == content_len(self.kind, self.size)
@@ -294,7 +345,8 @@ impl<A: Allocator + Copy> OpenHunk<A> {
         requires whole { length self.partial.content ≡ self.partial.sites.limit }
         requires limit { self.partial.sites.limit ≡ content_bytes self.kind self.size }
         requires apart { AreApart self.partial.sites }
-        ensures value { (limit : ℕ) (seen : List ℕ) (in_content : Bool) (told : Hunk) → Shows self limit seen in_content told → result ≡ object_hunk told }
+        ensures value { (limit : ℕ) (seen : List ℕ) (in_content : Bool) (told : Hunk) →
+            Shows self limit seen in_content told → result ≡ object_hunk told }
         ensures valid { IsUnitHunk result }
     {
         let (content, sites) = self.partial.into_parts();

@@ -48,8 +48,10 @@ impl<A: Allocator + Copy> OpenUnit<A> {
     /// Takes a longword of its name.
     pub(crate) fn add_name_word(&mut self, word: u32) -> Result<(), AllocError>
         ensures same { self.new.hunks ≡ self.old.hunks }
-        ensures takes { (words : List ℕ) → Opens self.old.name words → OnOk result (Opens self.new.name (words ++ word ∷ [])) }
-        ensures refuses { (words : List ℕ) → Opens self.old.name words → OnErr result (Opens self.new.name words) }
+        ensures takes { (words : List ℕ) → Opens self.old.name words →
+            OnOk result (Opens self.new.name (words ++ word ∷ [])) }
+        ensures refuses { (words : List ℕ) → Opens self.old.name words →
+            OnErr result (Opens self.new.name words) }
     {
         self.name.push(word)
     }
@@ -57,7 +59,9 @@ impl<A: Allocator + Copy> OpenUnit<A> {
     /// Takes the current hunk, whose place a new one takes. Also fails if its content is not whole.
     pub(crate) fn add_hunk(&mut self, alloc: A, hunk: &mut OpenHunk<A>) -> Result<(), AllocError>
         ensures name { self.new.name ≡ self.old.name }
-        ensures adds { (limit : ℕ) (seen : List ℕ) (in_content : Bool) (told : Hunk) → Shows hunk.old limit seen in_content told → OnOk result (self.new.hunks ≡ self.old.hunks ++ object_hunk told ∷ []) }
+        ensures adds { (limit : ℕ) (seen : List ℕ) (in_content : Bool) (told : Hunk) →
+            Shows hunk.old limit seen in_content told →
+            OnOk result (self.new.hunks ≡ self.old.hunks ++ object_hunk told ∷ []) }
         ensures begins { OnOk result (Shows hunk.new hunk.old.partial.sites.limit [] false empty) }
         ensures refused { OnErr result (self.new ≡ self.old) }
         ensures kept { OnErr result (hunk.new ≡ hunk.old) }

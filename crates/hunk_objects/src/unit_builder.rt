@@ -96,7 +96,8 @@ impl<A: Allocator + Copy> UnitBuilder<A> {
 
     /// The next words are a name in an entry.
     fn begin_named(&mut self, named: Named)
-        ensures { (told : EventValue) (context : SiteContext) → Holds self.old told context → Holds self.new (record told { receiver = receiver_of named [] }) context }
+        ensures { (told : EventValue) (context : SiteContext) → Holds self.old told context →
+            Holds self.new (record told { receiver = receiver_of named [] }) context }
     {
         self.hunk.end_content();
         self.receiver = Receiver::Name(named, OpenName::new(self.alloc));

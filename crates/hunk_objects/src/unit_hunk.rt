@@ -76,9 +76,31 @@ impl<A: Allocator + Copy> Model for UnitHunk<A> {
 
     ghost Value = { ObjectHunk };
 
-    ghost view = { λ h. record { name = h.name; kind = h.kind; memory = h.memory; size = h.size; content = h.content.items; sites = h.sites; references = h.references.items; definitions = h.definitions.items; symbols = h.symbols.items; debugs = lists_of h.debugs.items } };
+    ghost view = { λ h. record {
+      name = h.name;
+      kind = h.kind;
+      memory = h.memory;
+      size = h.size;
+      content = h.content.items;
+      sites = h.sites;
+      references = h.references.items;
+      definitions = h.definitions.items;
+      symbols = h.symbols.items;
+      debugs = lists_of h.debugs.items;
+    } };
 
-    ghost invariant = { λ h. IsUnitHunk (record { name = h.name; kind = h.kind; memory = h.memory; size = h.size; content = h.content.items; sites = h.sites; references = h.references.items; definitions = h.definitions.items; symbols = h.symbols.items; debugs = lists_of h.debugs.items }) };
+    ghost invariant = { λ h. IsUnitHunk (record {
+      name = h.name;
+      kind = h.kind;
+      memory = h.memory;
+      size = h.size;
+      content = h.content.items;
+      sites = h.sites;
+      references = h.references.items;
+      definitions = h.definitions.items;
+      symbols = h.symbols.items;
+      debugs = lists_of h.debugs.items;
+    }) };
 }
 
 impl<A: Allocator + Copy> UnitHunk<A> {

@@ -61,7 +61,8 @@ impl<'a, A: Allocator + Copy> DefinedNames<'a, A> {
 
     /// Adds the names that a hunk defines.
     fn add_hunk(&mut self, hunk: &'a UnitHunk<A>) -> Result<(), AllocError>
-        ensures { OnOk result ((name : List ℕ) → list_any (is_name name) self.new ≡ (list_any (is_name name) self.old || defines name hunk.now)) }
+        ensures { OnOk result ((name : List ℕ) → list_any (is_name name) self.new ≡
+            (list_any (is_name name) self.old || defines name hunk.now)) }
     {
         for (name, _) in hunk.definitions() {
             self.add(name.bytes())?;
@@ -71,7 +72,8 @@ impl<'a, A: Allocator + Copy> DefinedNames<'a, A> {
 
     /// Adds a name.
     fn add(&mut self, name: &'a [u8]) -> Result<(), AllocError>
-        ensures { OnOk result ((other : List ℕ) → list_any (is_name other) self.new ≡ (list_any (is_name other) self.old || is_name other name.now)) }
+        ensures { OnOk result ((other : List ℕ) → list_any (is_name other) self.new ≡
+            (list_any (is_name other) self.old || is_name other name.now)) }
     {
         match self.names.insert(NameKey::new(name)) {
             Ok(_) => Ok(()),

@@ -25,7 +25,8 @@ pub fn write_link_explanation<N: FileName, A: Allocator + Copy, W: Sink>(
     names: &[N],
     explanation: &LinkExplanation<'_, A>,
 )
-    ensures { Puts W.taken W.failed text.old text.new (told_text (map N.bytes names.now) explanation.now) }
+    ensures { Puts W.taken W.failed text.old text.new
+        (told_text (map N.bytes names.now) explanation.now) }
 {
     write_place(text, names, &explanation.place);
     write_first(text, names, &explanation.first);
@@ -38,7 +39,8 @@ fn write_place<N: FileName, A: Allocator + Copy, W: Sink>(
     names: &[N],
     place: &Option<Place<'_, A>>,
 )
-    ensures { Puts W.taken W.failed text.old text.new (place_line (map N.bytes names.now) place.now) }
+    ensures { Puts W.taken W.failed text.old text.new
+        (place_line (map N.bytes names.now) place.now) }
 {
     if let Some(place) = place {
         write_known_place(text, names, place);
@@ -51,7 +53,8 @@ fn write_known_place<N: FileName, A: Allocator + Copy, W: Sink>(
     names: &[N],
     place: &Place<'_, A>,
 )
-    ensures { Puts W.taken W.failed text.old text.new (known_place_line (map N.bytes names.now) place.now) }
+    ensures { Puts W.taken W.failed text.old text.new
+        (known_place_line (map N.bytes names.now) place.now) }
 {
     text.put(b"  unit ");
     text.put_decimal(place.unit as u64);
@@ -68,7 +71,8 @@ fn write_first<N: FileName, A: Allocator + Copy, W: Sink>(
     names: &[N],
     first: &Option<Origin<'_, A>>,
 )
-    ensures { Puts W.taken W.failed text.old text.new (first_line (map N.bytes names.now) first.now) }
+    ensures { Puts W.taken W.failed text.old text.new
+        (first_line (map N.bytes names.now) first.now) }
 {
     if let Some(origin) = first {
         text.put(b"  first defined in ");
@@ -101,7 +105,8 @@ fn write_use<N: FileName, A: Allocator + Copy, W: Sink>(
     name: &[u8],
     used: &Use<'_, A>,
 )
-    ensures { Puts W.taken W.failed text.old text.new (use_line (map N.bytes names.now) (name.now, used.now)) }
+    ensures { Puts W.taken W.failed text.old text.new
+        (use_line (map N.bytes names.now) (name.now, used.now)) }
 {
     text.put(b"  ");
     text.put_quoted(name);

@@ -32,10 +32,13 @@ pub fn link_files<A: Allocator + Copy, R: Source>(
     globals: bool,
     hasher: NameHasher,
 ) -> Result<(ObjectFiles<A>, LoadFile<A>), ToolFault<A>>
-    ensures linked { IfOk result (λ linked. HaveRead (inputs_of R.left R.failed R.ended inputs.old inputs.new) (LinkFiles globals strip linked.0 linked.1)) }
+    ensures linked { IfOk result
+        (λ linked. HaveRead (inputs_of R.left R.failed R.ended inputs.old inputs.new)
+        (LinkFiles globals strip linked.0 linked.1)) }
     ensures short { IfOk result (λ linked. IsShortEnough linked.1) }
     ensures matched { IfOk result (λ linked. length (origins linked.0) ≡ length linked.1) }
-    ensures unlinked { IfErr result (IsUnlinked globals strip (inputs_of R.left R.failed R.ended inputs.old inputs.new)) }
+    ensures unlinked { IfErr result
+        (IsUnlinked globals strip (inputs_of R.left R.failed R.ended inputs.old inputs.new)) }
 {
     let read = read_object_files(alloc, inputs)?;
     let files = read.linked(alloc, globals, strip, hasher)?;
@@ -55,7 +58,8 @@ pub fn write_map<N: FileName, A: Allocator + Copy, W: Sink>(
     file: &LoadFile<A>,
 )
     requires { length (origins files.now) ≡ length file.now }
-    ensures { Puts W.taken W.failed text.old text.new (map_text (map N.bytes names.now) file.now files.now) }
+    ensures { Puts W.taken W.failed text.old text.new
+        (map_text (map N.bytes names.now) file.now files.now) }
 {
     let hunks = file.hunks();
     let places = files.places();
@@ -78,7 +82,8 @@ fn write_unit<N: FileName, A: Allocator + Copy, W: Sink>(
 )
     requires counted { first + length hunks.now < 2 ^ 64 }
     requires room { length unit.now.hunks ≤ length hunks.now }
-    ensures { Puts W.taken W.failed text.old text.new (map_from (map N.bytes names.now) first hunks.now (unit_origins (place, unit.now))) }
+    ensures { Puts W.taken W.failed text.old text.new
+        (map_from (map N.bytes names.now) first hunks.now (unit_origins (place, unit.now))) }
 {
     for (number, hunk) in unit.hunks().iter().enumerate() {
         let origin = Origin {
@@ -100,7 +105,8 @@ fn write_hunk<N: FileName, A: Allocator + Copy, W: Sink>(
     names: &[N],
     origin: &Origin<'_, A>,
 )
-    ensures { Puts W.taken W.failed text.old text.new (map_lines (map N.bytes names.now) (number, (hunk.now, origin.now))) }
+    ensures { Puts W.taken W.failed text.old text.new
+        (map_lines (map N.bytes names.now) (number, (hunk.now, origin.now))) }
 {
     write_line(text, number, hunk, names, origin);
     write_definitions(text, origin.hunk.definitions());
@@ -114,7 +120,8 @@ fn write_line<N: FileName, A: Allocator + Copy, W: Sink>(
     names: &[N],
     origin: &Origin<'_, A>,
 )
-    ensures { Puts W.taken W.failed text.old text.new (map_line (map N.bytes names.now) number hunk.now origin.now) }
+    ensures { Puts W.taken W.failed text.old text.new
+        (map_line (map N.bytes names.now) number hunk.now origin.now) }
 {
     write_hunk_front(text, number, hunk.kind, hunk.memory, hunk.size);
     text.put(b" ");

@@ -32,8 +32,10 @@ pub fn read_named_files<A: Allocator + Copy, R: Source>(
     alloc: A,
     inputs: &mut [R],
 ) -> Result<NamedFiles<A>, ToolFault<A>>
-    ensures read { IfOk result (λ files. HaveRead (inputs_of R.left R.failed R.ended inputs.old inputs.new) (AreNamedFiles files)) }
-    ensures refused { IfErr result (AreRefused (inputs_of R.left R.failed R.ended inputs.old inputs.new)) }
+    ensures read { IfOk result (λ files.
+        HaveRead (inputs_of R.left R.failed R.ended inputs.old inputs.new) (AreNamedFiles files)) }
+    ensures refused { IfErr result
+        (AreRefused (inputs_of R.left R.failed R.ended inputs.old inputs.new)) }
 {
     if inputs.len() == 1 {
         return read_one(alloc, &mut inputs[0]);
@@ -46,9 +48,15 @@ fn read_one<A: Allocator + Copy, R: Source>(
     alloc: A,
     input: &mut R,
 ) -> Result<NamedFiles<A>, ToolFault<A>>
-    ensures read { IfOk result (λ files. HasRead (R.left input.old) (R.left input.new) (λ bytes. AreNamedFiles files (bytes ∷ []))) }
+    ensures read { IfOk result (λ files. HasRead (R.left input.old) (R.left input.new)
+        (λ bytes. AreNamedFiles files (bytes ∷ []))) }
     ensures ended { OnOk result (IsTrue (R.ended input.new)) }
-    ensures refused { IfErr result (IsFileFault (record { left = R.left input.old; left_then = R.left input.new; failed = R.failed input.new; ended = R.ended input.new })) }
+    ensures refused { IfErr result (IsFileFault (record {
+      left = R.left input.old;
+      left_then = R.left input.new;
+      failed = R.failed input.new;
+      ended = R.ended input.new;
+    })) }
 {
     match read_hunk_file(alloc, input) {
         Ok(File::Load(file)) => Ok(NamedFiles::Load(file)),

@@ -172,8 +172,8 @@ impl<'a, A: Allocator + Copy> NameList<'a, A> {
         place: UnitPlace,
         unit: &'a ProgramUnit<A>,
     ) -> Result<(), AllocError>
-        ensures { (all : List HunkOrigin) → AreDefinedBy all defined.now
-            → OnOk result (self.new ≡ self.old ++ unit_entries all (index, (place, unit.now))) }
+        ensures { (all : List HunkOrigin) → AreDefinedBy all defined.now →
+            OnOk result (self.new ≡ self.old ++ unit_entries all (index, (place, unit.now))) }
     {
         for (number, hunk) in unit.hunks().iter().enumerate() {
             let origin = Origin {
@@ -195,8 +195,8 @@ impl<'a, A: Allocator + Copy> NameList<'a, A> {
         index: u64,
         origin: &Origin<'a, A>,
     ) -> Result<(), AllocError>
-        ensures { (all : List HunkOrigin) → AreDefinedBy all defined.now
-            → OnOk result (self.new ≡ self.old ++ hunk_entries all (Some index) origin.now) }
+        ensures { (all : List HunkOrigin) → AreDefinedBy all defined.now →
+            OnOk result (self.new ≡ self.old ++ hunk_entries all (Some index) origin.now) }
     {
         let hunk = origin.hunk;
         let number = origin.number as u64;
@@ -213,7 +213,8 @@ impl<'a, A: Allocator + Copy> NameList<'a, A> {
         kind: HunkKind,
         symbols: &'a [(Name<A>, u32)],
     ) -> Result<(), AllocError>
-        ensures { OnOk result (self.new ≡ self.old ++ map (symbol_entry unit hunk kind) symbols.now) }
+        ensures { OnOk result
+            (self.new ≡ self.old ++ map (symbol_entry unit hunk kind) symbols.now) }
     {
         for (name, value) in symbols {
             self.entries.push(NameEntry {
@@ -234,7 +235,8 @@ impl<'a, A: Allocator + Copy> NameList<'a, A> {
         kind: HunkKind,
         definitions: &'a [(Name<A>, Definition)],
     ) -> Result<(), AllocError>
-        ensures { OnOk result (self.new ≡ self.old ++ map (definition_entry (Some unit) hunk kind) definitions.now) }
+        ensures { OnOk result
+            (self.new ≡ self.old ++ map (definition_entry (Some unit) hunk kind) definitions.now) }
     {
         for (name, definition) in definitions {
             self.entries.push(NameEntry {
@@ -255,8 +257,8 @@ impl<'a, A: Allocator + Copy> NameList<'a, A> {
         unit: u64,
         origin: &Origin<'a, A>,
     ) -> Result<(), AllocError>
-        ensures { (all : List HunkOrigin) → AreDefinedBy all defined.now
-            → OnOk result (self.new ≡ self.old ++ undefined_entries all (Some unit) origin.now) }
+        ensures { (all : List HunkOrigin) → AreDefinedBy all defined.now →
+            OnOk result (self.new ≡ self.old ++ undefined_entries all (Some unit) origin.now) }
     {
         let mut uses = Uses::none(alloc, defined.hasher());
         uses.add_hunk(defined, origin)?;

@@ -16,7 +16,8 @@ pub(crate) fn write_origin<'x, N: FileName, A: Allocator + Copy, W: Sink>(
     names: &'x [N],
     origin: &'x Origin<'x, A>,
 )
-    ensures { Puts W.taken W.failed text.old text.new (origin_text (map N.bytes names.now) origin.now) }
+    ensures { Puts W.taken W.failed text.old text.new
+        (origin_text (map N.bytes names.now) origin.now) }
 {
     write_name(text, name_at(names, origin.place.file));
     text.put(b" unit ");

@@ -23,7 +23,8 @@ impl<'a, A: Allocator + Copy> Model for Origin<'a, A> {
 
     ghost Value = { HunkOrigin };
 
-    ghost view = { λ o. record { unit = (o.place, o.unit.now); number = o.number; hunk = o.hunk.now } };
+    ghost view = { λ o.
+        record { unit = (o.place, o.unit.now); number = o.number; hunk = o.hunk.now } };
 }
 
 impl<'a, A: Allocator + Copy> Origin<'a, A> {

@@ -94,8 +94,9 @@ impl<'a, A: Allocator + Copy> Uses<'a, A> {
         defined: &DefinedNames<'a, A>,
         origin: &Origin<'a, A>,
     ) -> Result<(), AllocError>
-        ensures { (before : List Reference) (hunks : List HunkOrigin) → self.old ≡ uses_of before → AreDefinedBy hunks defined.now
-            → OnOk result (self.new ≡ uses_of (before ++ undefined hunks (references_of origin.now))) }
+        ensures { (before : List Reference) (hunks : List HunkOrigin) →
+            self.old ≡ uses_of before → AreDefinedBy hunks defined.now → OnOk result
+            (self.new ≡ uses_of (before ++ undefined hunks (references_of origin.now))) }
     {
         for name in origin.hunk.references() {
             if !defined.has(name.bytes()) {
@@ -107,7 +108,8 @@ impl<'a, A: Allocator + Copy> Uses<'a, A> {
 
     /// Adds a reference to a name.
     fn add(&mut self, name: &'a [u8], origin: &Origin<'a, A>) -> Result<(), AllocError>
-        ensures { OnOk result (self.new ≡ insert_entry is_name self.old name.now (next_use (look_up self.old name.now) origin.now)) }
+        ensures { OnOk result (self.new ≡ insert_entry is_name self.old name.now
+            (next_use (look_up self.old name.now) origin.now)) }
     {
         let used = self.next_use(name, origin)?;
         match self.entries.insert(NameKey::new(name), used) {

@@ -30,7 +30,13 @@ impl<A: Allocator + Copy> Model for UndefinedName<A> {
 
     ghost Value = { NameTold };
 
-    ghost view = { λ n. record { name = n.name.items; file = n.file; unit = n.unit; hunk = n.hunk; references = n.references } };
+    ghost view = { λ n. record {
+      name = n.name.items;
+      file = n.file;
+      unit = n.unit;
+      hunk = n.hunk;
+      references = n.references;
+    } };
 }
 
 /// The names that hunks of these files refer to and none of them defines, each once, in the order in

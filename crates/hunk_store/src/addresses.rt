@@ -34,8 +34,10 @@ pub fn addresses_of<'a, S: Store>(
     store: &S,
     addresses: Addresses<'a>,
 ) -> Result<Vec<u32>, Failure<'a>>
-    ensures ok { IfOk result (λ bases. HaveNumbers (S.content store.now) (source_of addresses.entry) bases.items) }
-    ensures err { IfErr result (IsAddressesFailure (S.content store.now) (source_of addresses.entry)) }
+    ensures ok { IfOk result
+        (λ bases. HaveNumbers (S.content store.now) (source_of addresses.entry) bases.items) }
+    ensures err { IfErr result
+        (IsAddressesFailure (S.content store.now) (source_of addresses.entry)) }
 {
     match addresses {
         Addresses::List(list) => parse_list(alloc, list),
@@ -75,8 +77,10 @@ pub fn read_addresses<'a, R: Source>(
     name: &'a str,
     reader: &mut R,
 ) -> Result<Vec<u32>, Failure<'a>>
-    ensures ok { IfOk result (λ bases. HasNumbers (input_of R.left R.failed R.ended reader.old reader.new) bases.items) }
-    ensures err { IfErr result (IsReadFailure name.entry.now (input_of R.left R.failed R.ended reader.old reader.new)) }
+    ensures ok { IfOk result
+        (λ bases. HasNumbers (input_of R.left R.failed R.ended reader.old reader.new) bases.items) }
+    ensures err { IfErr result
+        (IsReadFailure name.entry.now (input_of R.left R.failed R.ended reader.old reader.new)) }
 {
     match read_bases(alloc, reader) {
         Ok(bases) => Ok(bases),

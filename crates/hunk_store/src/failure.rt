@@ -111,7 +111,8 @@ impl From<ToolFault> for Failure<'_> {
 /// line, and nothing more is written.
 pub fn report_failure<W: Sink>(errors: &mut W, files: &[String], failure: &Failure<'_>) -> u8
     ensures status { result ≡ status_of failure.now }
-    ensures line { TellsLine W.taken W.failed errors.old errors.new (failure_line (map string_bytes files.now) failure.now) }
+    ensures line { TellsLine W.taken W.failed errors.old errors.new
+        (failure_line (map string_bytes files.now) failure.now) }
 {
     tell_failure(errors, files, failure);
     failure.status()
@@ -119,7 +120,8 @@ pub fn report_failure<W: Sink>(errors: &mut W, files: &[String], failure: &Failu
 
 /// Writes the line of a failure.
 fn tell_failure<W: Sink>(errors: &mut W, files: &[String], failure: &Failure<'_>)
-    ensures { TellsLine W.taken W.failed errors.old errors.new (failure_line (map string_bytes files.now) failure.now) }
+    ensures { TellsLine W.taken W.failed errors.old errors.new
+        (failure_line (map string_bytes files.now) failure.now) }
 {
     match failure {
         Failure::BadNumber { addresses, index } => tell_bad_number(errors, *addresses, *index),
@@ -141,7 +143,8 @@ fn tell_failure<W: Sink>(errors: &mut W, files: &[String], failure: &Failure<'_>
 
 /// Writes the line for a part of the addresses that is no number.
 fn tell_bad_number<W: Sink>(errors: &mut W, addresses: Addresses<'_>, index: usize)
-    ensures { TellsLine W.taken W.failed errors.old errors.new (bad_number_line (source_of addresses.entry) index) }
+    ensures { TellsLine W.taken W.failed errors.old errors.new
+        (bad_number_line (source_of addresses.entry) index) }
 {
     let told = b" is not 1 to 8 hexadecimal digits";
     tell_of_part(errors, source_name(addresses), b": part ", index, told);
@@ -156,7 +159,8 @@ fn tell_bad_name<W: Sink>(errors: &mut W, list: &str, index: usize)
 
 /// Writes the line that tells this about the part of a file that has this kind and index.
 fn tell_of_part<W: Sink>(errors: &mut W, file: &str, kind: &[u8], index: usize, told: &[u8])
-    ensures { TellsLine W.taken W.failed errors.old errors.new (part_line file.now kind.now index told.now) }
+    ensures { TellsLine W.taken W.failed errors.old errors.new
+        (part_line file.now kind.now index told.now) }
 {
     let mut text = Text::new(errors);
     text.put(b"amihunk: ");
@@ -193,7 +197,8 @@ fn tell_about<W: Sink>(errors: &mut W, file: &str, told: &[u8])
 
 /// Writes the line for what `hunk_tool` returned.
 fn tell_fault<W: Sink>(errors: &mut W, files: &[String], fault: &ToolFault)
-    ensures { TellsLine W.taken W.failed errors.old errors.new (fault_line (map string_bytes files.now) fault.now) }
+    ensures { TellsLine W.taken W.failed errors.old errors.new
+        (fault_line (map string_bytes files.now) fault.now) }
 {
     let _ = write_fault(files, fault, errors);
 }

@@ -27,7 +27,8 @@ pub fn open_inputs<'s, 'a, S: Store>(
     store: &'s S,
     files: &[&'a str],
 ) -> Result<Vec<Input<'s, 'a, S>>, Failure<'a>>
-    ensures are { IfOk result (λ inputs. AreInputs S.content S.File.left store.now (file_names files.entry.now) inputs.items) }
+    ensures are { IfOk result (λ inputs. AreInputs S.content S.File.left store.now
+        (file_names files.entry.now) inputs.items) }
     ensures err { IfErr result (IsOpenFailure (S.content store.now) (file_names files.entry.now)) }
 {
     let mut inputs = Vec::new(alloc);
@@ -46,7 +47,8 @@ fn open_input<'s, 'a, S: Store>(
     name: &'a str,
     number: usize,
 ) -> Result<Input<'s, 'a, S>, Failure<'a>>
-    ensures is { IfOk result (λ input. IsInput S.content S.File.left store.now name.entry.now input) }
+    ensures is { IfOk result
+        (λ input. IsInput S.content S.File.left store.now name.entry.now input) }
     ensures err { IfErr result (IsOpening (S.content store.now) name.entry) }
 {
     let file = open(store, name)?;

@@ -28,7 +28,8 @@ impl<W: Write + Drop> Lines<W> {
     ///
     /// That there is no memory for the buffer.
     pub fn new(alloc: Global, writer: W) -> io::Result<Lines<W>>
-        ensures { IfOk result (λ lines. Keeps (W.contents writer) (line_contents W.contents lines)) }
+        ensures { IfOk result
+            (λ lines. Keeps (W.contents writer) (line_contents W.contents lines)) }
     {
         let buffered = BufWriter::with_capacity(alloc, LONGEST, writer)?;
         Ok(Lines { buffered })

@@ -27,7 +27,8 @@ impl<F: Source + Drop> Read for ListBytes<F> {
 impl<F: Source + Drop> ListBytes<F> {
     /// A file of which at the end no byte is left.
     pub(crate) fn new(file: F) -> ListBytes<F>
-        requires { (other : F) (bytes : List ℕ) → IsTrue (F.ended other) → F.left other ≡ Some bytes → bytes ≡ [] }
+        requires { (other : F) (bytes : List ℕ) → IsTrue (F.ended other) →
+            F.left other ≡ Some bytes → bytes ≡ [] }
         ensures { result.file ≡ file }
     {
         ListBytes { file }

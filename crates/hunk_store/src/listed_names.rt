@@ -25,7 +25,8 @@ pub fn listed_names<'a, S: Store>(
     store: &S,
     list: FileList<'a>,
 ) -> Result<Vec<String>, Failure<'a>>
-    ensures ok { IfOk result (λ names. AreNamesIn (S.content store.now list.entry.file.now) list.entry.end (map string_bytes names.items)) }
+    ensures ok { IfOk result (λ names. AreNamesIn
+        (S.content store.now list.entry.file.now) list.entry.end (map string_bytes names.items)) }
     ensures err { IfErr result (IsListFailure (S.content store.now) (list_of list.entry)) }
 {
     let mut reader = open_list(alloc, store, list)?;

@@ -50,7 +50,8 @@ impl<'m> MemoryStore<'m> {
     ///
     /// [`AllocError`] if an allocation failed. Then no file is added or replaced.
     pub fn insert(&mut self, name: &str, bytes: &[u8]) -> Result<(), AllocError>
-        ensures ok { OnOk result (IsReplaced name.now (Some bytes.now) (content_in self.old) (content_in self.new)) }
+        ensures ok { OnOk result
+            (IsReplaced name.now (Some bytes.now) (content_in self.old) (content_in self.new)) }
         ensures err { OnErr result (AreUnchanged (content_in self.old) (content_in self.new)) }
     {
         let name = String::from_str(self.alloc, name)?;

@@ -37,7 +37,8 @@ impl<F: Source + Drop> NameReader<F> {
     ///
     /// [`AllocError`] if an allocation failed.
     fn new(alloc: Global, file: F, end: NameEnd) -> Result<NameReader<F>, AllocError>
-        requires { (other : F) (bytes : List ℕ) → IsTrue (F.ended other) → F.left other ≡ Some bytes → bytes ≡ [] }
+        requires { (other : F) (bytes : List ℕ) → IsTrue (F.ended other) →
+            F.left other ≡ Some bytes → bytes ≡ [] }
         ensures unread { IfOk result (λ names. unread F.left names ≡ F.left file) }
         ensures end { IfOk result (λ names. names.end ≡ end) }
     {
@@ -56,7 +57,8 @@ impl<F: Source + Drop> NameReader<F> {
     /// - [`NameFault::OutOfMemory`] if an allocation failed.
     pub fn next(&mut self, name: &mut Vec<u8>) -> Result<bool, NameFault>
         ensures end { self.new.end ≡ self.old.end }
-        ensures some { result ≡ Ok true → TakesNames self.old.end (unread F.left self.old) (unread F.left self.new) (name.new.items ∷ []) }
+        ensures some { result ≡ Ok true → TakesNames self.old.end (unread F.left self.old)
+            (unread F.left self.new) (name.new.items ∷ []) }
         ensures none { result ≡ Ok false → HasNoName self.old.end (unread F.left self.old) }
         ensures device { result ≡ Err NameFault.Device → IsTrue (has_failed F.failed self.new) }
     {
@@ -92,7 +94,8 @@ pub fn open_list<'a, S: Store>(
     store: &S,
     list: FileList<'a>,
 ) -> Result<NameReader<S::File>, Failure<'a>>
-    ensures there { IfOk result (λ names. IsContent (S.content store.now list.entry.file.now) (unread S.File.left names)) }
+    ensures there { IfOk result
+        (λ names. IsContent (S.content store.now list.entry.file.now) (unread S.File.left names)) }
     ensures end { IfOk result (λ names. names.end ≡ list.entry.end) }
     ensures err { IfErr result (IsUnopenedList (S.content store.now) (list_of list.entry)) }
 {

@@ -12,8 +12,10 @@ use crate::store::Store;
 ///
 /// [`Failure::Opening`] if it cannot be opened.
 pub fn open<'a, S: Store>(store: &S, file: &'a str) -> Result<S::File, Failure<'a>>
-    ensures there { IfOk result (λ input. IsContent (S.content store.now file.entry.now) (S.File.left input)) }
-    ensures unread { IfOk result (λ input. (S.File.failed input ≡ false) × (S.File.ended input ≡ false)) }
+    ensures there { IfOk result
+        (λ input. IsContent (S.content store.now file.entry.now) (S.File.left input)) }
+    ensures unread { IfOk result
+        (λ input. (S.File.failed input ≡ false) × (S.File.ended input ≡ false)) }
     ensures err { IfErr result (IsOpening (S.content store.now) file.entry) }
 {
     match store.open(file) {

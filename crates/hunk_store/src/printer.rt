@@ -25,7 +25,8 @@ impl<W: Write + Drop> Printer<W> {
     ///
     /// That there is no memory for the buffer.
     pub fn new(alloc: Global, writer: W) -> io::Result<Printer<W>>
-        ensures contents { IfOk result (λ printer. Keeps (W.contents writer) (printer_contents W.contents printer)) }
+        ensures contents { IfOk result
+            (λ printer. Keeps (W.contents writer) (printer_contents W.contents printer)) }
         ensures fresh { IfOk result (λ printer. has_failed printer ≡ false) }
         ensures empty { IfOk result (λ printer. printer_waiting printer ≡ []) }
     {

@@ -136,9 +136,12 @@ impl<F: Write + Drop + OpenFile> Place<F> {
     /// Takes the first bytes of `buffer`, as a [`Sink`] does.
     fn write(&mut self, buffer: &[u8]) -> Result<usize, DeviceFault>
         ensures count { IfOk result (λ n. n ≤ length buffer.now) }
-        ensures bytes { IfOk result (λ n. Appends (taken_at F.Write.contents self.old) (taken_at F.Write.contents self.new) (take n buffer.now)) }
-        ensures nothing { OnErr result (Keeps (taken_at F.Write.contents self.old) (taken_at F.Write.contents self.new)) }
-        ensures failed { failed_at self.new ≡ (refuses result (length buffer.now) || failed_at self.old) }
+        ensures bytes { IfOk result (λ n. Appends (taken_at F.Write.contents self.old)
+            (taken_at F.Write.contents self.new) (take n buffer.now)) }
+        ensures nothing { OnErr result
+            (Keeps (taken_at F.Write.contents self.old) (taken_at F.Write.contents self.new)) }
+        ensures failed { failed_at self.new ≡
+            (refuses result (length buffer.now) || failed_at self.old) }
         ensures fresh { IsFresh self.old → failed_at self.new ≡ refuses result (length buffer.now) }
     {
         match self {

@@ -22,7 +22,8 @@ pub trait Store: FileSystem {
     /// Whether two names are of one file.
     fn is_one_file(&self, first: &str, second: &str) -> bool
         ensures same { first.now ≡ second.now → result ≡ true }
-        ensures apart { IsKnown (Self.content self.now first.now) → first.now ≢ second.now → result ≡ false };
+        ensures apart { IsKnown (Self.content self.now first.now) →
+            first.now ≢ second.now → result ≡ false };
 
     ghost name_hasher: { Self → Hasher };
 
@@ -36,7 +37,8 @@ pub trait Store: FileSystem {
     ///
     /// [`AllocError`] if an allocation failed.
     fn begin(&self, name: &str) -> Result<Self::New, AllocError>
-        ensures begun { IfOk result (λ new. IsBegun (Self.content self.now name.now) (Self.New.taken new)) }
+        ensures begun { IfOk result
+            (λ new. IsBegun (Self.content self.now name.now) (Self.New.taken new)) }
         ensures fresh { IfOk result (λ new. Self.New.failed new ≡ false) };
 
     /// Ends it, after a run that wrote to it and returned `ran`: puts what was written in the place of
@@ -57,7 +59,10 @@ pub trait Store: FileSystem {
         ran: Result<(), ToolFault>,
     ) -> Result<(), Failure<'a>>
         ensures ran { OnOk result (HasRun ran) }
-        ensures replaced { OnOk result (IsReplaced name.entry.now (Self.New.taken new) (Self.content self.old) (Self.content self.new)) }
-        ensures cause { IfErr result (IsCauseOf ran (Self.content self.old name.entry.now) name.entry.now) }
-        ensures unchanged { OnErr result (AreUnchanged (Self.content self.old) (Self.content self.new)) };
+        ensures replaced { OnOk result (IsReplaced name.entry.now (Self.New.taken new)
+            (Self.content self.old) (Self.content self.new)) }
+        ensures cause { IfErr result
+            (IsCauseOf ran (Self.content self.old name.entry.now) name.entry.now) }
+        ensures unchanged { OnErr result
+            (AreUnchanged (Self.content self.old) (Self.content self.new)) };
 }

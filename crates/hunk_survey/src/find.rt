@@ -37,7 +37,8 @@ pub fn survey_file<A: Allocator + Copy, R: Source>(
     reader: &mut R,
     digest: bool,
 ) -> Result<Finding, AllocError>
-    ensures { IfOk result (IsFound digest (R.left reader.old) (R.left reader.new) (R.failed reader.new) (R.ended reader.new)) }
+    ensures { IfOk result (IsFound digest (R.left reader.old) (R.left reader.new)
+        (R.failed reader.new) (R.ended reader.new)) }
 {
     if digest {
         find_with_digest(alloc, reader)
@@ -51,7 +52,8 @@ fn find_by_counting<A: Allocator + Copy, R: Source>(
     alloc: A,
     reader: &mut R,
 ) -> Result<Finding, AllocError>
-    ensures { IfOk result (IsFound false (R.left reader.old) (R.left reader.new) (R.failed reader.new) (R.ended reader.new)) }
+    ensures { IfOk result (IsFound false (R.left reader.old) (R.left reader.new)
+        (R.failed reader.new) (R.ended reader.new)) }
 {
     match count_file(alloc, reader) {
         Ok(File::Object(counter)) => Ok(Finding::Object {
@@ -73,7 +75,8 @@ fn find_with_digest<A: Allocator + Copy, R: Source>(
     alloc: A,
     reader: &mut R,
 ) -> Result<Finding, AllocError>
-    ensures { IfOk result (IsFound true (R.left reader.old) (R.left reader.new) (R.failed reader.new) (R.ended reader.new)) }
+    ensures { IfOk result (IsFound true (R.left reader.old) (R.left reader.new)
+        (R.failed reader.new) (R.ended reader.new)) }
 {
     match read_hunk_file(alloc, reader) {
         Ok(File::Object(units)) => Ok(Finding::Object {

@@ -40,7 +40,8 @@ fn write_members<W: Sink>(text: &mut Text<'_, W>, finding: Finding)
 
 /// Writes the members about an object file.
 fn write_object<W: Sink>(text: &mut Text<'_, W>, units: u64, hunks: u64)
-    ensures { Puts W.taken W.failed text.old text.new (finding_members (Finding.Object units hunks)) }
+    ensures { Puts W.taken W.failed text.old text.new
+        (finding_members (Finding.Object units hunks)) }
 {
     text.put(b",\"kind\":\"object file\",\"units\":");
     text.put_decimal(units);
@@ -50,7 +51,8 @@ fn write_object<W: Sink>(text: &mut Text<'_, W>, units: u64, hunks: u64)
 
 /// Writes the members about a load file.
 fn write_load<W: Sink>(text: &mut Text<'_, W>, hunks: u64, digest: Option<Digest>)
-    ensures { Puts W.taken W.failed text.old text.new (finding_members (Finding.Load hunks digest)) }
+    ensures { Puts W.taken W.failed text.old text.new
+        (finding_members (Finding.Load hunks digest)) }
 {
     text.put(b",\"kind\":\"load file\",\"hunks\":");
     text.put_decimal(hunks);

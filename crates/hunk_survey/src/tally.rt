@@ -36,7 +36,8 @@ impl Tally {
 
     /// Counts one more file, of which this was found.
     pub fn add(&mut self, finding: Finding)
-        ensures { (findings : List Finding) → self.old ≡ tally_of findings → self.new ≡ tally_of (findings ++ finding ∷ []) }
+        ensures { (findings : List Finding) → self.old ≡ tally_of findings →
+            self.new ≡ tally_of (findings ++ finding ∷ []) }
     {
         self.files = counted(self.files, true);
         self.objects = counted(self.objects, finding.is_object());

@@ -53,7 +53,8 @@ pub fn write_difference<W: Sink>(text: &mut Text<'_, W>, difference: &Difference
 
 /// Writes the numbers of hunks of the two files.
 fn write_counts<W: Sink>(text: &mut Text<'_, W>, first: u64, second: u64)
-    ensures { Puts W.taken W.failed text.old text.new (difference_text (Difference.HunkCount first second)) }
+    ensures { Puts W.taken W.failed text.old text.new
+        (difference_text (Difference.HunkCount first second)) }
 {
     text.put(b"hunks: ");
     text.put_decimal(first);
@@ -63,7 +64,8 @@ fn write_counts<W: Sink>(text: &mut Text<'_, W>, first: u64, second: u64)
 
 /// Writes two kinds of a hunk with this number.
 fn write_kinds<W: Sink>(text: &mut Text<'_, W>, hunk: u64, first: HunkKind, second: HunkKind)
-    ensures { Puts W.taken W.failed text.old text.new (difference_text (Difference.Kind hunk first second)) }
+    ensures { Puts W.taken W.failed text.old text.new
+        (difference_text (Difference.Kind hunk first second)) }
 {
     let (first, second) = (kind_word(first), kind_word(second));
     write_words(text, hunk, b" kind: ", first, second);
@@ -71,7 +73,8 @@ fn write_kinds<W: Sink>(text: &mut Text<'_, W>, hunk: u64, first: HunkKind, seco
 
 /// Writes two memories that a hunk with this number asks for.
 fn write_memories<W: Sink>(text: &mut Text<'_, W>, hunk: u64, first: Memory, second: Memory)
-    ensures { Puts W.taken W.failed text.old text.new (difference_text (Difference.Memory hunk first second)) }
+    ensures { Puts W.taken W.failed text.old text.new
+        (difference_text (Difference.Memory hunk first second)) }
 {
     let (first, second) = (memory_word(first), memory_word(second));
     write_words(text, hunk, b" memory: ", first, second);
@@ -85,7 +88,8 @@ fn write_words<W: Sink>(
     first: &[u8],
     second: &[u8],
 )
-    ensures { Puts W.taken W.failed text.old text.new (adds_hunk hunk ++ about.now ++ both first.now second.now) }
+    ensures { Puts W.taken W.failed text.old text.new
+        (adds_hunk hunk ++ about.now ++ both first.now second.now) }
 {
     write_hunk_number(text, hunk);
     text.put(about);
@@ -96,7 +100,8 @@ fn write_words<W: Sink>(
 
 /// Writes two sizes, given in longwords, of a hunk with this number.
 fn write_sizes<W: Sink>(text: &mut Text<'_, W>, hunk: u64, first: u32, second: u32)
-    ensures { Puts W.taken W.failed text.old text.new (difference_text (Difference.Size hunk first second)) }
+    ensures { Puts W.taken W.failed text.old text.new
+        (difference_text (Difference.Size hunk first second)) }
 {
     write_hunk_number(text, hunk);
     text.put(b" size: ");
@@ -107,7 +112,8 @@ fn write_sizes<W: Sink>(text: &mut Text<'_, W>, hunk: u64, first: u32, second: u
 
 /// Writes two bytes at an offset in a hunk with this number.
 fn write_bytes<W: Sink>(text: &mut Text<'_, W>, hunk: u64, offset: u32, first: u8, second: u8)
-    ensures { Puts W.taken W.failed text.old text.new (difference_text (Difference.Byte hunk offset first second)) }
+    ensures { Puts W.taken W.failed text.old text.new
+        (difference_text (Difference.Byte hunk offset first second)) }
 {
     write_hunk_number(text, hunk);
     text.put(b" offset ");
@@ -136,7 +142,8 @@ fn write_targets<W: Sink>(
     first: Option<u32>,
     second: Option<u32>,
 )
-    ensures { Puts W.taken W.failed text.old text.new (difference_text (Difference.Site hunk offset first second)) }
+    ensures { Puts W.taken W.failed text.old text.new
+        (difference_text (Difference.Site hunk offset first second)) }
 {
     write_hunk_number(text, hunk);
     text.put(b" site ");
@@ -169,7 +176,8 @@ pub fn write_info_difference<A: Allocator + Copy, B: Allocator + Copy, W: Sink>(
     second: Option<&(Name<B>, u32)>,
     difference: &InfoDifference,
 )
-    ensures { Puts W.taken W.failed text.old text.new (line (info_difference_told first.now (option_copied second.entry) difference.now)) }
+    ensures { Puts W.taken W.failed text.old text.new
+        (line (info_difference_told first.now (option_copied second.entry) difference.now)) }
 {
     match *difference {
         InfoDifference::Symbol { hunk, index } => {
@@ -186,7 +194,8 @@ pub fn write_info_difference<A: Allocator + Copy, B: Allocator + Copy, W: Sink>(
 
 /// Writes the index of something in a hunk with this number.
 fn write_index<W: Sink>(text: &mut Text<'_, W>, hunk: u64, what: &[u8], index: u64)
-    ensures { Puts W.taken W.failed text.old text.new (adds_hunk hunk ++ what.now ++ decimal index) }
+    ensures { Puts W.taken W.failed text.old text.new
+        (adds_hunk hunk ++ what.now ++ decimal index) }
 {
     write_hunk_number(text, hunk);
     text.put(what);
@@ -213,7 +222,8 @@ fn write_symbols<A: Allocator + Copy, B: Allocator + Copy, W: Sink>(
     first: Option<&(Name<A>, u32)>,
     second: Option<&(Name<B>, u32)>,
 )
-    ensures { Puts W.taken W.failed text.old text.new (symbols_text (option_copied first.entry) (option_copied second.entry)) }
+    ensures { Puts W.taken W.failed text.old text.new
+        (symbols_text (option_copied first.entry) (option_copied second.entry)) }
 {
     match (first, second) {
         (Some(first), Some(second)) => write_unlike(text, first, second),

@@ -76,7 +76,8 @@ pub(crate) fn write_debug_lines<A: Allocator + Copy, W: Sink>(
     symbols: &[(Name<A>, u32)],
     debugs: &[Vec<u32, A>],
 )
-    ensures { Puts W.taken W.failed text.old text.new (debug_lines symbols.now (lists_of debugs.now)) }
+    ensures { Puts W.taken W.failed text.old text.new
+        (debug_lines symbols.now (lists_of debugs.now)) }
 {
     write_symbols(text, symbols);
     write_debugs(text, debugs);

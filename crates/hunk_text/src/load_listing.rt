@@ -26,7 +26,8 @@ pub fn write_load_listing<A: Allocator + Copy, W: Sink>(
 
 /// Writes the lines of these hunks, which are numbered from 0.
 fn write_hunks<A: Allocator + Copy, W: Sink>(text: &mut Text<'_, W>, hunks: &[LoadHunk<A>])
-    ensures { Puts W.taken W.failed text.old text.new (flat_map load_hunk_lines (enumerate_from 0 hunks.now)) }
+    ensures { Puts W.taken W.failed text.old text.new
+        (flat_map load_hunk_lines (enumerate_from 0 hunks.now)) }
 {
     for (number, hunk) in hunks.iter().enumerate() {
         write_hunk(text, number as u64, hunk);
@@ -59,7 +60,8 @@ fn write_hunk_line<A: Allocator + Copy, W: Sink>(
 
 /// Writes a line for each site, by rising offset.
 fn write_sites<A: Allocator + Copy, W: Sink>(text: &mut Text<'_, W>, sites: &Sites<u32, A>)
-    ensures { Puts W.taken W.failed text.old text.new (flat_map (λ site. site_line site.0 (adds_hunk site.1)) sites.now.entries) }
+    ensures { Puts W.taken W.failed text.old text.new
+        (flat_map (λ site. site_line site.0 (adds_hunk site.1)) sites.now.entries) }
 {
     for (offset, hunk) in sites.walk() {
         write_hunk_site(text, offset, *hunk);

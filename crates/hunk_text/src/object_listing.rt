@@ -31,7 +31,8 @@ pub fn write_object_listing<A: Allocator + Copy, W: Sink>(
 
 /// Writes the lines of these units, which are numbered from 0.
 fn write_units<A: Allocator + Copy, W: Sink>(text: &mut Text<'_, W>, units: &[ProgramUnit<A>])
-    ensures { Puts W.taken W.failed text.old text.new (flat_map unit_lines (enumerate_from 0 units.now)) }
+    ensures { Puts W.taken W.failed text.old text.new
+        (flat_map unit_lines (enumerate_from 0 units.now)) }
 {
     for (number, unit) in units.iter().enumerate() {
         write_unit(text, number as u64, unit);
@@ -63,7 +64,8 @@ fn write_unit_line<W: Sink>(text: &mut Text<'_, W>, number: u64, name: &[u8])
 
 /// Writes the lines of the hunks of a unit, which are numbered from 0.
 fn write_hunks<A: Allocator + Copy, W: Sink>(text: &mut Text<'_, W>, hunks: &[UnitHunk<A>])
-    ensures { Puts W.taken W.failed text.old text.new (flat_map unit_hunk_lines (enumerate_from 0 hunks.now)) }
+    ensures { Puts W.taken W.failed text.old text.new
+        (flat_map unit_hunk_lines (enumerate_from 0 hunks.now)) }
 {
     for (number, hunk) in hunks.iter().enumerate() {
         write_hunk(text, number as u64, hunk);
@@ -111,7 +113,8 @@ fn write_site<A: Allocator + Copy, W: Sink>(
     adds: Adds,
     references: &[Name<A>],
 )
-    ensures { Puts W.taken W.failed text.old text.new (site_line offset (adds_text references.now adds)) }
+    ensures { Puts W.taken W.failed text.old text.new
+        (site_line offset (adds_text references.now adds)) }
 {
     match adds {
         Adds::Hunk(hunk) => write_hunk_site(text, offset, hunk),

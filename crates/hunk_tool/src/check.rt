@@ -35,7 +35,8 @@ pub fn check_run<A: Allocator + Copy, R: Source, W: Sink>(
     reader: &mut R,
     writer: &mut W,
 ) -> Result<(), ToolFault<A>>
-    ensures ok { OnOk result (HasRead (R.left reader.old) (R.left reader.new) (IsWritten (of_value check_text) (W.taken writer.old) (W.taken writer.new))) }
+    ensures ok { OnOk result (HasRead (R.left reader.old) (R.left reader.new)
+        (IsWritten (of_value check_text) (W.taken writer.old) (W.taken writer.new))) }
     ensures ended { OnOk result (IsTrue (R.ended reader.new)) }
     ensures err { IfErr result (IsTextFault (of_value check_text) (ends_of
         (R.left reader.old) (R.left reader.new) (R.failed reader.new) (R.ended reader.new)
@@ -61,7 +62,8 @@ fn write_counts<A: Allocator + Copy, W: Sink>(
 
 /// Writes the line of an object file with these numbers of units and hunks.
 fn write_object<W: Sink>(units: u64, hunks: u64, writer: &mut W) -> Result<(), WriteFault>
-    ensures wrote { WroteAll W.taken W.failed writer.old writer.new (object_line units hunks) result }
+    ensures wrote { WroteAll W.taken W.failed writer.old writer.new
+        (object_line units hunks) result }
     ensures device { IfErr result IsDevice }
 {
     let mut text = Text::new(writer);

@@ -37,11 +37,11 @@ pub fn compare_run<A: Allocator + Copy, R: Source, S: Source, W: Sink>(
     with_symbols: bool,
     writer: &mut W,
 ) -> Result<bool, ToolFault<A>>
-    ensures ok { IfOk result (λ same. BothRead
-        (input_of R.left R.failed R.ended first.old first.new) (input_of S.left S.failed S.ended second.old second.new)
+    ensures ok { IfOk result (λ same. BothRead (input_of R.left R.failed R.ended
+        first.old first.new) (input_of S.left S.failed S.ended second.old second.new)
         (IsCompared with_symbols same (W.taken writer.old) (W.taken writer.new))) }
-    ensures err { IfErr result (IsCompareFault with_symbols
-        (input_of R.left R.failed R.ended first.old first.new) (input_of S.left S.failed S.ended second.old second.new)
+    ensures err { IfErr result (IsCompareFault with_symbols (input_of R.left R.failed
+        R.ended first.old first.new) (input_of S.left S.failed S.ended second.old second.new)
         (taken_of W.taken W.failed writer.old writer.new)) }
 {
     let one = read_load(alloc, first)?;
@@ -64,7 +64,8 @@ fn write_comparison<A: Allocator + Copy, W: Sink>(
 ) -> bool
     ensures puts { (seconds : List FileHunk) → Compares found.now first.now seconds →
         Puts W.taken W.failed text.old text.new (comparison with_symbols first.now seconds) }
-    ensures same { (seconds : List FileHunk) → Compares found.now first.now seconds → result ≡ is_same with_symbols first.now seconds }
+    ensures same { (seconds : List FileHunk) → Compares found.now first.now seconds →
+        result ≡ is_same with_symbols first.now seconds }
 {
     if let Some(difference) = found.difference {
         write_difference(text, &difference);

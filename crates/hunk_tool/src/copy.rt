@@ -76,7 +76,8 @@ pub fn copy_run<A: Allocator + Copy, R: Source, W: Sink>(
     form: CopyForm,
     writer: &mut W,
 ) -> Result<(), ToolFault<A>>
-    ensures ok { OnOk result (HasRead (R.left reader.old) (R.left reader.new) (IsCopied form (W.taken writer.old) (W.taken writer.new))) }
+    ensures ok { OnOk result (HasRead (R.left reader.old) (R.left reader.new)
+        (IsCopied form (W.taken writer.old) (W.taken writer.new))) }
     ensures ended { OnOk result (IsTrue (R.ended reader.new)) }
     ensures err { IfErr result (IsCopyFault form (ends_of
         (R.left reader.old) (R.left reader.new) (R.failed reader.new) (R.ended reader.new)
@@ -94,8 +95,10 @@ pub fn copy_run<A: Allocator + Copy, R: Source, W: Sink>(
 ///
 /// [`LinkRefusal::TooLarge`].
 fn fitting<A: Allocator + Copy>(file: LoadFile<A>) -> Result<LoadFile<A>, LinkRefusal<A>>
-    ensures fits { IfOk result (λ fitting. (fitting ≡ file) × (carried_longwords file ≤ most_carried)) }
-    ensures refused { IfErr result (λ refusal. (refusal ≡ LinkRefusal.TooLarge) × (most_carried < carried_longwords file)) }
+    ensures fits { IfOk result
+        (λ fitting. (fitting ≡ file) × (carried_longwords file ≤ most_carried)) }
+    ensures refused { IfErr result
+        (λ refusal. (refusal ≡ LinkRefusal.TooLarge) × (most_carried < carried_longwords file)) }
 {
     match LoadFile::new(file.into_hunks()) {
         Ok(file) => Ok(file),

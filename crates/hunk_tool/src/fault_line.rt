@@ -27,8 +27,11 @@ pub fn write_fault<N: FileName, A: Allocator + Copy, W: Sink>(
     fault: &ToolFault<A>,
     writer: &mut W,
 ) -> Result<(), WriteFault>
-    ensures wrote { WroteText W.taken W.failed writer.old writer.new (fault_line (map N.bytes files.now) fault.now) result }
-    ensures counted { length (fault_line (map N.bytes files.now) fault.now) < 2 ^ 64 → WroteAll W.taken W.failed writer.old writer.new (fault_line (map N.bytes files.now) fault.now) result }
+    ensures wrote { WroteText W.taken W.failed writer.old writer.new
+        (fault_line (map N.bytes files.now) fault.now) result }
+    ensures counted { length (fault_line (map N.bytes files.now) fault.now) < 2 ^ 64 →
+        WroteAll W.taken W.failed writer.old writer.new
+        (fault_line (map N.bytes files.now) fault.now) result }
     ensures device { IfErr result IsDevice }
 {
     let name = named_file(files, fault);
@@ -59,7 +62,8 @@ fn write_fault_line<A: Allocator + Copy, W: Sink>(
     name: &[u8],
     fault: &ToolFault<A>,
 )
-    ensures { Puts W.taken W.failed text.old text.new (program_line (fault_text name.now fault.now)) }
+    ensures { Puts W.taken W.failed text.old text.new
+        (program_line (fault_text name.now fault.now)) }
 {
     text.put(b"amihunk: ");
     write_fault_text(text, name, fault);
@@ -178,7 +182,8 @@ fn write_last<W: Sink>(text: &mut Text<'_, W>, before: &[u8], number: u64)
 
 /// Writes the offset of a site, and what is wrong with it.
 fn write_site<W: Sink>(text: &mut Text<'_, W>, offset: u32, after: &[u8])
-    ensures { Puts W.taken W.failed text.old text.new (codes "site " ++ eight_digits offset ++ after.now) }
+    ensures { Puts W.taken W.failed text.old text.new
+        (codes "site " ++ eight_digits offset ++ after.now) }
 {
     text.put(b"site ");
     text.put_longword(offset);

@@ -57,8 +57,10 @@ pub trait FileSystem {
     ///
     /// Why it cannot be opened.
     fn open(&self, name: &str) -> Result<Self::File, OpenFault>
-        ensures there { IfOk result (λ file. IsContent (content self.now name.now) (Self.File.left file)) }
-        ensures unread { IfOk result (λ file. (Self.File.failed file ≡ false) × (Self.File.ended file ≡ false)) }
+        ensures there { IfOk result
+            (λ file. IsContent (content self.now name.now) (Self.File.left file)) }
+        ensures unread { IfOk result
+            (λ file. (Self.File.failed file ≡ false) × (Self.File.ended file ≡ false)) }
         ensures missing { IfErr result (λ fault. MayBeMissing (content self.now name.now)) };
 
     /// What stands under the name `name`, or where its symbolic links lead. It is not opened for it. A file of

@@ -22,9 +22,15 @@ pub fn image_run<A: Allocator + Copy, R: Source, W: Sink>(
     bases: &[u32],
     writer: &mut W,
 ) -> Result<(), ToolFault<A>>
-    ensures ok { OnOk result (HaveRead (inputs_of R.left R.failed R.ended inputs.old inputs.new) (IsImaged Report bases.now (W.taken writer.old) (W.taken writer.new))) }
-    ensures err { IfErr result (IsImageFault Report bases.now (inputs_of R.left R.failed R.ended inputs.old inputs.new)
-        (record { old = W.taken writer.old; new = W.taken writer.new; failed = W.failed writer.new })) }
+    ensures ok { OnOk result (HaveRead (inputs_of R.left R.failed R.ended inputs.old inputs.new)
+        (IsImaged Report bases.now (W.taken writer.old) (W.taken writer.new))) }
+    ensures err { IfErr result (IsImageFault Report bases.now
+        (inputs_of R.left R.failed R.ended inputs.old inputs.new) (record {
+          old = W.taken
+              writer.old;
+          new = W.taken writer.new;
+          failed = W.failed writer.new;
+        })) }
 {
     let hasher = NameHasher::new([0; 2]);
     image_run_with(alloc, inputs, bases, ImageForm::Report, hasher, writer)
@@ -57,9 +63,15 @@ pub fn image_run_with<A: Allocator + Copy, R: Source, W: Sink>(
     hasher: NameHasher,
     writer: &mut W,
 ) -> Result<(), ToolFault<A>>
-    ensures ok { OnOk result (HaveRead (inputs_of R.left R.failed R.ended inputs.old inputs.new) (IsImaged form bases.now (W.taken writer.old) (W.taken writer.new))) }
-    ensures err { IfErr result (IsImageFault form bases.now (inputs_of R.left R.failed R.ended inputs.old inputs.new)
-        (record { old = W.taken writer.old; new = W.taken writer.new; failed = W.failed writer.new })) }
+    ensures ok { OnOk result (HaveRead (inputs_of R.left R.failed R.ended inputs.old inputs.new)
+        (IsImaged form bases.now (W.taken writer.old) (W.taken writer.new))) }
+    ensures err { IfErr result (IsImageFault form bases.now
+        (inputs_of R.left R.failed R.ended inputs.old inputs.new) (record {
+          old = W.taken
+              writer.old;
+          new = W.taken writer.new;
+          failed = W.failed writer.new;
+        })) }
 {
     let file = link_inputs(alloc, inputs, true, false, hasher)?;
     // What `write_image` requires of the image follows from the rules for load files, which `hunks`

@@ -38,9 +38,15 @@ pub fn link_run<A: Allocator + Copy, R: Source, W: Sink>(
     options: LinkOptions,
     writer: &mut W,
 ) -> Result<(), ToolFault<A>>
-    ensures ok { OnOk result (HaveRead (inputs_of R.left R.failed R.ended inputs.old inputs.new) (IsLinked false options (W.taken writer.old) (W.taken writer.new))) }
-    ensures err { IfErr result (IsLinkFault false options (inputs_of R.left R.failed R.ended inputs.old inputs.new)
-        (record { old = W.taken writer.old; new = W.taken writer.new; failed = W.failed writer.new })) }
+    ensures ok { OnOk result (HaveRead (inputs_of R.left R.failed R.ended inputs.old inputs.new)
+        (IsLinked false options (W.taken writer.old) (W.taken writer.new))) }
+    ensures err { IfErr result (IsLinkFault false options
+        (inputs_of R.left R.failed R.ended inputs.old inputs.new) (record {
+          old = W.taken
+              writer.old;
+          new = W.taken writer.new;
+          failed = W.failed writer.new;
+        })) }
 {
     let hasher = NameHasher::new([0; 2]);
     link_run_with(alloc, inputs, options, false, hasher, writer)
@@ -65,9 +71,15 @@ pub fn link_run_with<A: Allocator + Copy, R: Source, W: Sink>(
     hasher: NameHasher,
     writer: &mut W,
 ) -> Result<(), ToolFault<A>>
-    ensures ok { OnOk result (HaveRead (inputs_of R.left R.failed R.ended inputs.old inputs.new) (IsLinked globals options (W.taken writer.old) (W.taken writer.new))) }
-    ensures err { IfErr result (IsLinkFault globals options (inputs_of R.left R.failed R.ended inputs.old inputs.new)
-        (record { old = W.taken writer.old; new = W.taken writer.new; failed = W.failed writer.new })) }
+    ensures ok { OnOk result (HaveRead (inputs_of R.left R.failed R.ended inputs.old inputs.new)
+        (IsLinked globals options (W.taken writer.old) (W.taken writer.new))) }
+    ensures err { IfErr result (IsLinkFault globals options
+        (inputs_of R.left R.failed R.ended inputs.old inputs.new) (record {
+          old = W.taken
+              writer.old;
+          new = W.taken writer.new;
+          failed = W.failed writer.new;
+        })) }
 {
     let linked = link_inputs(alloc, inputs, options.strip, globals, hasher)?;
     let file = options.trimmed(linked);
@@ -89,8 +101,11 @@ pub fn link_to_vec<A: Allocator + Copy, R: Source>(
     globals: bool,
     hasher: NameHasher,
 ) -> Result<Vec<u8, A>, ToolFault<A>>
-    ensures ok { IfOk result (λ bytes. HaveRead (inputs_of R.left R.failed R.ended inputs.old inputs.new) (IsLinked globals options (Some []) (Some bytes.items))) }
-    ensures err { IfErr result (IsUnlinked globals options.strip (inputs_of R.left R.failed R.ended inputs.old inputs.new)) }
+    ensures ok { IfOk result
+        (λ bytes. HaveRead (inputs_of R.left R.failed R.ended inputs.old inputs.new)
+        (IsLinked globals options (Some []) (Some bytes.items))) }
+    ensures err { IfErr result (IsUnlinked globals options.strip
+        (inputs_of R.left R.failed R.ended inputs.old inputs.new)) }
 {
     let linked = link_inputs(alloc, inputs, options.strip, globals, hasher)?;
     let file = options.trimmed(linked);
@@ -112,9 +127,11 @@ pub fn link_inputs<A: Allocator + Copy, R: Source>(
     globals: bool,
     hasher: NameHasher,
 ) -> Result<LoadFile<A>, ToolFault<A>>
-    ensures linked { IfOk result (λ file. HaveRead (inputs_of R.left R.failed R.ended inputs.old inputs.new) (LinkTo globals strip file)) }
+    ensures linked { IfOk result (λ file. HaveRead
+        (inputs_of R.left R.failed R.ended inputs.old inputs.new) (LinkTo globals strip file)) }
     ensures short { IfOk result (λ file. IsShortEnough file) }
-    ensures unlinked { IfErr result (IsUnlinked globals strip (inputs_of R.left R.failed R.ended inputs.old inputs.new)) }
+    ensures unlinked { IfErr result
+        (IsUnlinked globals strip (inputs_of R.left R.failed R.ended inputs.old inputs.new)) }
 {
     let files = read_object_files(alloc, inputs)?;
     let units = linked_units(alloc, files.into_units(), globals, strip, hasher)?;

@@ -19,7 +19,8 @@ pub fn load_run<A: Allocator + Copy, R: Source, W: Sink>(
     bases: &[u32],
     writer: &mut W,
 ) -> Result<(), ToolFault<A>>
-    ensures ok { OnOk result (HasRead (R.left reader.old) (R.left reader.new) (IsReported Report bases.now (W.taken writer.old) (W.taken writer.new))) }
+    ensures ok { OnOk result (HasRead (R.left reader.old) (R.left reader.new)
+        (IsReported Report bases.now (W.taken writer.old) (W.taken writer.new))) }
     ensures ended { OnOk result (IsTrue (R.ended reader.new)) }
     ensures err { IfErr result (IsLoadFault Report bases.now (ends_of
         (R.left reader.old) (R.left reader.new) (R.failed reader.new) (R.ended reader.new)
@@ -51,7 +52,8 @@ pub fn load_run_with<A: Allocator + Copy, R: Source, W: Sink>(
     form: ImageForm,
     writer: &mut W,
 ) -> Result<(), ToolFault<A>>
-    ensures ok { OnOk result (HasRead (R.left reader.old) (R.left reader.new) (IsReported form bases.now (W.taken writer.old) (W.taken writer.new))) }
+    ensures ok { OnOk result (HasRead (R.left reader.old) (R.left reader.new)
+        (IsReported form bases.now (W.taken writer.old) (W.taken writer.new))) }
     ensures ended { OnOk result (IsTrue (R.ended reader.new)) }
     ensures err { IfErr result (IsLoadFault form bases.now (ends_of
         (R.left reader.old) (R.left reader.new) (R.failed reader.new) (R.ended reader.new)

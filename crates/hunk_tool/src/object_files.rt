@@ -130,8 +130,10 @@ pub fn read_object_files<A: Allocator + Copy, R: Source>(
     alloc: A,
     inputs: &mut [R],
 ) -> Result<ObjectFiles<A>, ToolFault<A>>
-    ensures read { IfOk result (λ files. HaveRead (inputs_of R.left R.failed R.ended inputs.old inputs.new) (AreFileUnits files)) }
-    ensures stopped { IfErr result (IsInputFault (inputs_of R.left R.failed R.ended inputs.old inputs.new)) }
+    ensures read { IfOk result (λ files.
+        HaveRead (inputs_of R.left R.failed R.ended inputs.old inputs.new) (AreFileUnits files)) }
+    ensures stopped { IfErr result
+        (IsInputFault (inputs_of R.left R.failed R.ended inputs.old inputs.new)) }
 {
     let mut files = ObjectFiles::new(alloc);
     for file in 0..inputs.len() {

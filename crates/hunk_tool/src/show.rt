@@ -37,7 +37,8 @@ pub fn show_run<A: Allocator + Copy, R: Source, W: Sink>(
     reader: &mut R,
     writer: &mut W,
 ) -> Result<(), ToolFault<A>>
-    ensures ok { OnOk result (HasRead (R.left reader.old) (R.left reader.new) (IsWritten (of_value show_text) (W.taken writer.old) (W.taken writer.new))) }
+    ensures ok { OnOk result (HasRead (R.left reader.old) (R.left reader.new)
+        (IsWritten (of_value show_text) (W.taken writer.old) (W.taken writer.new))) }
     ensures ended { OnOk result (IsTrue (R.ended reader.new)) }
     ensures err { IfErr result (IsTextFault (of_value show_text) (ends_of
         (R.left reader.old) (R.left reader.new) (R.failed reader.new) (R.ended reader.new)
@@ -53,7 +54,8 @@ fn write_listing<A: Allocator + Copy, W: Sink>(
     writer: &mut W,
 ) -> Result<(), WriteFault>
     requires { length (show_text (value_of file.now)) < 2 ^ 64 }
-    ensures wrote { WroteAll W.taken W.failed writer.old writer.new (show_text (value_of file.now)) result }
+    ensures wrote { WroteAll W.taken W.failed writer.old writer.new
+        (show_text (value_of file.now)) result }
     ensures device { IfErr result IsDevice }
 {
     let mut text = Text::new(writer);

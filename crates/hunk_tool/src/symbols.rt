@@ -47,7 +47,8 @@ pub fn symbols_run<A: Allocator + Copy, R: Source, W: Sink>(
     form: SymbolForm,
     writer: &mut W,
 ) -> Result<(), ToolFault<A>>
-    ensures ok { OnOk result (HasRead (R.left reader.old) (R.left reader.new) (IsWrittenAt (symbols_text form) bases.now (W.taken writer.old) (W.taken writer.new))) }
+    ensures ok { OnOk result (HasRead (R.left reader.old) (R.left reader.new)
+        (IsWrittenAt (symbols_text form) bases.now (W.taken writer.old) (W.taken writer.new))) }
     ensures ended { OnOk result (IsTrue (R.ended reader.new)) }
     ensures err { IfErr result (IsFaultAt (symbols_text form) bases.now (ends_of
         (R.left reader.old) (R.left reader.new) (R.failed reader.new) (R.ended reader.new)
@@ -83,9 +84,16 @@ pub fn image_symbols_run<A: Allocator + Copy, R: Source, W: Sink>(
     hasher: NameHasher,
     writer: &mut W,
 ) -> Result<(), ToolFault<A>>
-    ensures ok { OnOk result (HaveRead (inputs_of R.left R.failed R.ended inputs.old inputs.new) (IsUnitsText false (unit_symbols_text form) bases.now (W.taken writer.old) (W.taken writer.new))) }
-    ensures err { IfErr result (IsUnitsFault false (unit_symbols_text form) bases.now (inputs_of R.left R.failed R.ended inputs.old inputs.new)
-        (record { old = W.taken writer.old; new = W.taken writer.new; failed = W.failed writer.new })) }
+    ensures ok { OnOk result
+        (HaveRead (inputs_of R.left R.failed R.ended inputs.old inputs.new) (IsUnitsText false
+        (unit_symbols_text form) bases.now (W.taken writer.old) (W.taken writer.new))) }
+    ensures err { IfErr result (IsUnitsFault false (unit_symbols_text form) bases.now
+        (inputs_of R.left R.failed R.ended inputs.old inputs.new) (record {
+          old = W.taken
+              writer.old;
+          new = W.taken writer.new;
+          failed = W.failed writer.new;
+        })) }
 {
     let file = link_inputs(alloc, inputs, false, false, hasher)?;
     write_symbols(alloc, &file, bases, form, writer)
@@ -99,10 +107,16 @@ fn write_symbols<A: Allocator + Copy, W: Sink>(
     form: SymbolForm,
     writer: &mut W,
 ) -> Result<(), ToolFault<A>>
-    ensures ok { OnOk result (IsPlacedText (symbols_text form) file.now bases.now
-        (record { old = W.taken writer.old; new = W.taken writer.new; failed = W.failed writer.new })) }
-    ensures err { IfErr result (IsPlacedFault (symbols_text form) file.now bases.now
-        (record { old = W.taken writer.old; new = W.taken writer.new; failed = W.failed writer.new })) }
+    ensures ok { OnOk result (IsPlacedText (symbols_text form) file.now bases.now (record {
+      old = W.taken writer.old;
+      new = W.taken writer.new;
+      failed = W.failed writer.new;
+    })) }
+    ensures err { IfErr result (IsPlacedFault (symbols_text form) file.now bases.now (record {
+      old = W.taken writer.old;
+      new = W.taken writer.new;
+      failed = W.failed writer.new;
+    })) }
 {
     match form {
         SymbolForm::Lines => write_lines(alloc, file, bases, writer),
@@ -117,10 +131,16 @@ fn write_lines<A: Allocator + Copy, W: Sink>(
     bases: &[u32],
     writer: &mut W,
 ) -> Result<(), ToolFault<A>>
-    ensures ok { OnOk result (IsPlacedText (symbols_text Lines) file.now bases.now
-        (record { old = W.taken writer.old; new = W.taken writer.new; failed = W.failed writer.new })) }
-    ensures err { IfErr result (IsPlacedFault (symbols_text Lines) file.now bases.now
-        (record { old = W.taken writer.old; new = W.taken writer.new; failed = W.failed writer.new })) }
+    ensures ok { OnOk result (IsPlacedText (symbols_text Lines) file.now bases.now (record {
+      old = W.taken writer.old;
+      new = W.taken writer.new;
+      failed = W.failed writer.new;
+    })) }
+    ensures err { IfErr result (IsPlacedFault (symbols_text Lines) file.now bases.now (record {
+      old = W.taken writer.old;
+      new = W.taken writer.new;
+      failed = W.failed writer.new;
+    })) }
 {
     let hunks = file.hunks();
     if let Err(fault) = check_sizes_with(alloc, &hunks, bases) {
@@ -137,7 +157,8 @@ fn write_all_lines<A: Allocator + Copy, W: Sink>(
 ) -> Result<(), WriteFault>
     requires valid { IsLoadFile hunks.now }
     requires based { length hunks.now ≡ length bases.now }
-    ensures wrote { WroteAll W.taken W.failed writer.old writer.new (symbol_lines Lines hunks.now bases.now) result }
+    ensures wrote { WroteAll W.taken W.failed writer.old writer.new
+        (symbol_lines Lines hunks.now bases.now) result }
     ensures device { IfErr result IsDevice }
 {
     let mut text = Text::new(writer);
@@ -153,10 +174,16 @@ fn write_records<A: Allocator + Copy, W: Sink>(
     bases: &[u32],
     writer: &mut W,
 ) -> Result<(), ToolFault<A>>
-    ensures ok { OnOk result (IsPlacedText (symbols_text Records) file.now bases.now
-        (record { old = W.taken writer.old; new = W.taken writer.new; failed = W.failed writer.new })) }
-    ensures err { IfErr result (IsPlacedFault (symbols_text Records) file.now bases.now
-        (record { old = W.taken writer.old; new = W.taken writer.new; failed = W.failed writer.new })) }
+    ensures ok { OnOk result (IsPlacedText (symbols_text Records) file.now bases.now (record {
+      old = W.taken writer.old;
+      new = W.taken writer.new;
+      failed = W.failed writer.new;
+    })) }
+    ensures err { IfErr result (IsPlacedFault (symbols_text Records) file.now bases.now (record {
+      old = W.taken writer.old;
+      new = W.taken writer.new;
+      failed = W.failed writer.new;
+    })) }
 {
     let hunks = file.hunks();
     match load(alloc, file, bases) {
@@ -179,7 +206,8 @@ fn write_all_records<A: Allocator + Copy, W: Sink>(
     requires based { length hunks.now ≡ length bases.now }
     requires counted { length image.now ≡ length hunks.now }
     requires inside { All EndsInside (hunks_of image.now) }
-    ensures wrote { WroteAll W.taken W.failed writer.old writer.new (record_text hunks.now bases.now (hunks_of image.now)) result }
+    ensures wrote { WroteAll W.taken W.failed writer.old writer.new
+        (record_text hunks.now bases.now (hunks_of image.now)) result }
     ensures device { IfErr result IsDevice }
 {
     let mut text = Text::new(writer);
@@ -253,7 +281,8 @@ fn put_hunk_lines<A: Allocator + Copy, W: Sink>(
     base: u32,
     symbols: &[(Name<A>, u32)],
 )
-    ensures { Puts W.taken W.failed text.old text.new (flat_map (symbol_line form number base) symbols.now) }
+    ensures { Puts W.taken W.failed text.old text.new
+        (flat_map (symbol_line form number base) symbols.now) }
 {
     for symbol in symbols {
         put_line(text, form, number, base, symbol);

@@ -22,7 +22,8 @@ use std::alloc::Global;
 /// - [`ToolFault::Link`] with the first reason why the units do not link.
 /// - [`ToolFault::OutOfMemory`] if an allocation failed.
 pub fn link_objects(alloc: Global, objects: &[Vec<u8>]) -> Result<Vec<u8>, ToolFault>
-    ensures linked { IfOk result (λ program. IsLinked false plain (Some []) (Some program.items) (bytes_of_each objects.now)) }
+    ensures linked { IfOk result (λ program. IsLinked false plain (Some []) (Some program.items)
+        (bytes_of_each objects.now)) }
     ensures refused { IfErr result (IsNotLinked (bytes_of_each objects.now)) }
 {
     let mut units = Vec::new(alloc);

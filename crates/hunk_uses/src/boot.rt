@@ -27,7 +27,8 @@ impl<'b> Front<'b> {
         first: u32,
         piece: &[u8],
     ) -> Result<Option<ImageLoader<&'b LocalHeap>>, LoadRefusal>
-        ensures fed { (bytes : List ℕ) → IsFront self.old bytes → FrontFed first self.new (bytes ++ piece.now) result }
+        ensures fed { (bytes : List ℕ) → IsFront self.old bytes →
+            FrontFed first self.new (bytes ++ piece.now) result }
         ensures none { IfOk result IsUnrefused }
     {
         let taken = self.header.feed(piece)?;
@@ -50,7 +51,8 @@ fn start<'b>(
     header: &[u8],
     more: &[u8],
 ) -> Result<ImageLoader<&'b LocalHeap>, LoadRefusal>
-    ensures starts { Starts (bases_from first (told_sizes hunks.now)) (header.now ++ more.now) result }
+    ensures starts { Starts (bases_from first (told_sizes hunks.now))
+        (header.now ++ more.now) result }
     ensures none { IfOk result (λ loader. refusal_of loader ≡ None) }
 {
     let bases = bases_for(budget, first, hunks)?;
@@ -113,7 +115,8 @@ impl<'b> Boot<'b> {
     ///
     /// What is wrong with the file, or else with the addresses; or an error of an earlier call.
     pub(crate) fn finish(self) -> Result<Image<&'b LocalHeap>, LoadRefusal>
-        ensures { (bytes : List ℕ) → StandsFor self.entry bytes → IsToldFrom self.entry.first bytes result }
+        ensures { (bytes : List ℕ) → StandsFor self.entry bytes →
+            IsToldFrom self.entry.first bytes result }
     {
         match self.stage {
             Stage::Header(front) => Err(front.header.finish()),

@@ -34,7 +34,8 @@ pub fn dump<A: Allocator + Copy>(
     image: &Image<A>,
     addresses: Range<u32>,
 ) -> Result<Vec<Option<u8>>, AllocError>
-    ensures { IfOk result (λ bytes. bytes.items ≡ map (memory_map image.now) (range_with_len addresses.start (addresses.end - addresses.start))) }
+    ensures { IfOk result (λ bytes. bytes.items ≡ map (memory_map image.now)
+        (range_with_len addresses.start (addresses.end - addresses.start))) }
 {
     addresses.map(|address| image.byte(address)).collect(alloc)
 }

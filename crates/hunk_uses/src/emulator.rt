@@ -21,9 +21,11 @@ pub fn load_program<'b, D: Source>(
     disk: &mut D,
     first: u32,
 ) -> Result<Image<&'b LocalHeap>, ImageFault>
-    ensures loaded { IfOk result (λ image. HasRead (D.left disk.old) (D.left disk.new) (IsLoadedFrom first image)) }
+    ensures loaded { IfOk result
+        (λ image. HasRead (D.left disk.old) (D.left disk.new) (IsLoadedFrom first image)) }
     ensures ended { OnOk result (IsTrue (D.ended disk.new)) }
-    ensures refused { IfErr result (IsNotLoadedFrom first (D.left disk.old) (D.left disk.new) (D.ended disk.new) (D.failed disk.new)) }
+    ensures refused { IfErr result (IsNotLoadedFrom first (D.left disk.old) (D.left disk.new)
+        (D.ended disk.new) (D.failed disk.new)) }
 {
     let mut boot = Boot::new(budget, first);
     read_all(disk, &mut boot)?;

@@ -13,9 +13,11 @@ use hunk_base::fault::Reason;
 
 /// What is expected when this many words follow.
 fn words(count: u32, then: AfterWords) -> Expected
-    ensures due { (a : Around) → expected_view result a ≡ times count word (after_words_view then a) }
+    ensures due { (a : Around) → expected_view result a ≡ times count word
+        (after_words_view then a) }
     ensures file { (file : FileKind) → IsAfterWordsIn then file → IsExpectedIn result file }
-    ensures sizes { (file : FileKind) (last hunk : ℕ) (sizes : List ℕ) → SizesIn file Expected.BlockType last hunk sizes → SizesIn file result last hunk sizes }
+    ensures sizes { (file : FileKind) (last hunk : ℕ) (sizes : List ℕ) →
+        SizesIn file Expected.BlockType last hunk sizes → SizesIn file result last hunk sizes }
 {
     if count > 0 {
         return Expected::Word {

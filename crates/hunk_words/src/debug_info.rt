@@ -50,7 +50,8 @@ impl<A: Allocator + Copy> DebugInfo<A> {
         name: &mut OpenName<A>,
         value: u32,
     ) -> Result<(), AllocError>
-        ensures adds { OnOk result (self.new ≡ record self.old { symbols = self.old.symbols ++ (bytes_so_far name.old, value) ∷ [] }) }
+        ensures adds { OnOk result (self.new ≡
+            record self.old { symbols = self.old.symbols ++ (bytes_so_far name.old, value) ∷ [] }) }
         ensures refused { OnErr result (self.new ≡ self.old) }
         ensures emptied { OnOk result (Opens name.new []) }
         ensures name { OnErr result (name.new ≡ name.old) }
@@ -67,7 +68,8 @@ impl<A: Allocator + Copy> DebugInfo<A> {
     ///
     /// [`AllocError`] only if an allocation failed.
     pub fn begin_debug(&mut self, alloc: A) -> Result<(), AllocError>
-        ensures begins { OnOk result (self.new ≡ record self.old { debugs = self.old.debugs ++ [] ∷ [] }) }
+        ensures begins { OnOk result
+            (self.new ≡ record self.old { debugs = self.old.debugs ++ [] ∷ [] }) }
         ensures refused { OnErr result (self.new ≡ self.old) }
     {
         match self.debugs.push(Vec::new(alloc)) {
@@ -82,7 +84,8 @@ impl<A: Allocator + Copy> DebugInfo<A> {
     ///
     /// [`AllocError`] only if an allocation failed.
     pub fn add_debug_word(&mut self, word: u32) -> Result<(), AllocError>
-        ensures adds { OnOk result (self.new ≡ record self.old { debugs = on_last (λ ws. ws ++ word ∷ []) self.old.debugs }) }
+        ensures adds { OnOk result (self.new ≡
+            record self.old { debugs = on_last (λ ws. ws ++ word ∷ []) self.old.debugs }) }
         ensures refused { OnErr result (self.new ≡ self.old) }
     {
         match self.debugs.last_mut() {

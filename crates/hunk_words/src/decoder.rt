@@ -38,7 +38,8 @@ impl<T: Taker> Decoder<T> {
     /// Takes one byte.
     fn push(&mut self, byte: u8) -> Result<(), Refusal>
         requires { refusal_of self.old ≡ None }
-        ensures stands { (bytes : List ℕ) → StandsFor T.KIND T.stands_for self.old bytes → StandsFor T.KIND T.stands_for self.new (bytes ++ byte ∷ []) }
+        ensures stands { (bytes : List ℕ) → StandsFor T.KIND T.stands_for self.old bytes →
+            StandsFor T.KIND T.stands_for self.new (bytes ++ byte ∷ []) }
         ensures kept { Keeps (refusal_of self.new) result }
         ensures given { T.given (taker_of self.new) ≡ T.given (taker_of self.old) }
     {
@@ -51,7 +52,8 @@ impl<T: Taker> Decoder<T> {
     /// Takes bytes one by one.
     fn push_all(&mut self, piece: &[u8]) -> Result<(), Refusal>
         requires { refusal_of self.old ≡ None }
-        ensures stands { (bytes : List ℕ) → StandsFor T.KIND T.stands_for self.old bytes → StandsFor T.KIND T.stands_for self.new (bytes ++ piece.now) }
+        ensures stands { (bytes : List ℕ) → StandsFor T.KIND T.stands_for self.old bytes →
+            StandsFor T.KIND T.stands_for self.new (bytes ++ piece.now) }
         ensures kept { Keeps (refusal_of self.new) result }
         ensures given { T.given (taker_of self.new) ≡ T.given (taker_of self.old) }
     {
@@ -67,7 +69,8 @@ impl<T: Taker> Decoder<T> {
     /// Takes bytes: whole longwords if none is unfinished, then the bytes left over.
     fn push_longwords(&mut self, piece: &[u8]) -> Result<(), Refusal>
         requires { refusal_of self.old ≡ None }
-        ensures stands { (bytes : List ℕ) → StandsFor T.KIND T.stands_for self.old bytes → StandsFor T.KIND T.stands_for self.new (bytes ++ piece.now) }
+        ensures stands { (bytes : List ℕ) → StandsFor T.KIND T.stands_for self.old bytes →
+            StandsFor T.KIND T.stands_for self.new (bytes ++ piece.now) }
         ensures kept { Keeps (refusal_of self.new) result }
         ensures given { T.given (taker_of self.new) ≡ T.given (taker_of self.old) }
     {
@@ -92,12 +95,16 @@ impl<T: Taker> Decoder<T> {
     ///
     /// After an error, every later call returns the same error.
     pub fn feed(&mut self, piece: &[u8]) -> Result<(), Refusal>
-        ensures stands { (bytes : List ℕ) → StandsFor T.KIND T.stands_for self.old bytes → StandsFor T.KIND T.stands_for self.new (bytes ++ piece.now) }
+        ensures stands { (bytes : List ℕ) → StandsFor T.KIND T.stands_for self.old bytes →
+            StandsFor T.KIND T.stands_for self.new (bytes ++ piece.now) }
         ensures kept { Keeps (refusal_of self.new) result }
         ensures given { T.given (taker_of self.new) ≡ T.given (taker_of self.old) }
-        ensures again { (refusal : Refusal) → refusal_of self.old ≡ Some refusal → result ≡ Err refusal }
-        ensures front { OnOk result ((bytes : List ℕ) → StandsFor T.KIND T.stands_for self.new bytes → IsValidPrefix T.KIND (longwords bytes)) }
-        ensures bounded { OnOk result ((bytes : List ℕ) → StandsFor T.KIND T.stands_for self.new bytes → length bytes < 2 ^ 30 + 4) }
+        ensures again { (refusal : Refusal) →
+            refusal_of self.old ≡ Some refusal → result ≡ Err refusal }
+        ensures front { OnOk result ((bytes : List ℕ) →
+            StandsFor T.KIND T.stands_for self.new bytes → IsValidPrefix T.KIND (longwords bytes)) }
+        ensures bounded { OnOk result ((bytes : List ℕ) →
+            StandsFor T.KIND T.stands_for self.new bytes → length bytes < 2 ^ 30 + 4) }
         ensures empty { piece.now ≡ [] → self.new ≡ self.old }
     {
         match self.core.refusal() {
@@ -123,10 +130,13 @@ impl<T: Taker> Decoder<T> {
     /// [`Refusal::Fault`] with `PartialLongword` if bytes of a longword are left over, or with
     /// `UnexpectedEnd` if the file is not complete. The error of an earlier call is returned again.
     pub fn finish(self) -> Result<T, Refusal>
-        ensures answer { (bytes : List ℕ) → StandsFor T.KIND T.stands_for self bytes → Finished T.KIND T.stands_for bytes result }
-        ensures again { (refusal : Refusal) → refusal_of self ≡ Some refusal → result ≡ Err refusal }
+        ensures answer { (bytes : List ℕ) → StandsFor T.KIND T.stands_for self bytes →
+            Finished T.KIND T.stands_for bytes result }
+        ensures again { (refusal : Refusal) →
+            refusal_of self ≡ Some refusal → result ≡ Err refusal }
         ensures given { IfOk result (λ taker. T.given taker ≡ T.given (taker_of self)) }
-        ensures memory { result ≡ Err Refusal.OutOfMemory → refusal_of self ≡ Some Refusal.OutOfMemory }
+        ensures memory { result ≡ Err Refusal.OutOfMemory →
+            refusal_of self ≡ Some Refusal.OutOfMemory }
     {
         self.core.end(self.splitter.rest())
     }

@@ -58,7 +58,8 @@ fn initial_state(file: FileKind) -> State
 
 /// The state after one more longword, if no error is kept.
 fn advance<T: Taker>(taker: &mut T, core: CoreState, word: u32) -> CoreState
-    ensures stands { (ws : List ℕ) → Behind T.KIND (T.stands_for taker.old) core ws → StandsBy T.KIND (T.stands_for taker.new) result (ws ++ word ∷ []) }
+    ensures stands { (ws : List ℕ) → Behind T.KIND (T.stands_for taker.old) core ws →
+        StandsBy T.KIND (T.stands_for taker.new) result (ws ++ word ∷ []) }
     ensures given { T.given taker.new ≡ T.given taker.old }
 {
     let CoreState { state, place, .. } = core;
@@ -101,7 +102,8 @@ fn run_length(place: u64, more: u32, bytes: &[u8]) -> usize
 /// The state after a run of this many longwords.
 fn after_run(state: State, due: Expected, place: u64, count: usize) -> CoreState
     requires room { place + count ≤ most_longwords }
-    ensures { result ≡ record { state = record state { due = due }; place = place + count; refusal = None } }
+    ensures { result ≡
+        record { state = record state { due = due }; place = place + count; refusal = None } }
 {
     CoreState {
         state: State { due, ..state },
@@ -118,8 +120,10 @@ fn take_offsets<T: Taker>(
     bytes: &[u8],
 ) -> Result<(), Refusal>
     requires room { place + length (longwords bytes.now) ≤ most_longwords }
-    ensures taken { (state : State) (more : ℕ) (ws : List ℕ) → length (longwords bytes.now) ≤ more → Behind T.KIND (T.stands_for taker.old) (in_offsets state more target place) ws →
-        OffsetsTaken T.KIND (T.stands_for taker.new) state more target place ws (longwords bytes.now) result }
+    ensures taken { (state : State) (more : ℕ) (ws : List ℕ) → length (longwords bytes.now) ≤ more →
+        Behind T.KIND (T.stands_for taker.old) (in_offsets state more target place) ws →
+        OffsetsTaken T.KIND (T.stands_for taker.new) state more target place ws
+        (longwords bytes.now) result }
     ensures given { T.given taker.new ≡ T.given taker.old }
 {
     for index in 0..bytes.len() / 4 {
@@ -141,7 +145,10 @@ fn fault(place: u64, reason: Reason) -> Refusal
 
 /// Keeps this fault of the longword at its place.
 fn refused(core: CoreState, reason: Reason) -> CoreState
-    ensures { result ≡ record core { refusal = Some (Refusal.Fault (record { place = core.place; reason = reason })) } }
+    ensures { result ≡ record core {
+      refusal = Some
+          (Refusal.Fault (record { place = core.place; reason = reason }));
+    } }
 {
     CoreState {
         refusal: Some(fault(core.place, reason)),
@@ -186,11 +193,13 @@ impl<T: Taker> Core<T> {
     ///
     /// After an error, every later call returns the same error.
     pub fn word(&mut self, word: u32) -> Result<(), Refusal>
-        ensures stands { (ws : List ℕ) → StandsFor T.KIND T.stands_for self.old ws → StandsFor T.KIND T.stands_for self.new (ws ++ word ∷ []) }
+        ensures stands { (ws : List ℕ) → StandsFor T.KIND T.stands_for self.old ws →
+            StandsFor T.KIND T.stands_for self.new (ws ++ word ∷ []) }
         ensures kept { Keeps (kept self.new) result }
         ensures given { T.given (taker_of self.new) ≡ T.given (taker_of self.old) }
         ensures again { (refusal : Refusal) → kept self.old ≡ Some refusal → result ≡ Err refusal }
-        ensures front { OnOk result ((ws : List ℕ) → StandsFor T.KIND T.stands_for self.new ws → IsValidPrefix T.KIND ws) }
+        ensures front { OnOk result
+            ((ws : List ℕ) → StandsFor T.KIND T.stands_for self.new ws → IsValidPrefix T.KIND ws) }
     {
         match self.state.refusal {
             Some(refusal) => return Err(refusal),
@@ -206,7 +215,8 @@ impl<T: Taker> Core<T> {
     /// Takes the first longword of these bytes, and returns the number taken.
     fn take_one(&mut self, bytes: &[u8]) -> Result<usize, Refusal>
         requires some { 4 ≤ length bytes.now }
-        ensures stands { (ws : List ℕ) → StandsFor T.KIND T.stands_for self.old ws → SomeTaken T.KIND T.stands_for self.new ws bytes.now result }
+        ensures stands { (ws : List ℕ) → StandsFor T.KIND T.stands_for self.old ws →
+            SomeTaken T.KIND T.stands_for self.new ws bytes.now result }
         ensures count { TakesSome bytes.now result }
         ensures kept { Keeps (kept self.new) result }
         ensures given { T.given (taker_of self.new) ≡ T.given (taker_of self.old) }
@@ -223,7 +233,8 @@ impl<T: Taker> Core<T> {
         requires some { 4 ≤ length bytes.now }
         requires due { self.old.state.state.due ≡ Expected.Word more then }
         requires none { kept self.old ≡ None }
-        ensures stands { (ws : List ℕ) → StandsFor T.KIND T.stands_for self.old ws → SomeTaken T.KIND T.stands_for self.new ws bytes.now result }
+        ensures stands { (ws : List ℕ) → StandsFor T.KIND T.stands_for self.old ws →
+            SomeTaken T.KIND T.stands_for self.new ws bytes.now result }
         ensures count { TakesSome bytes.now result }
         ensures kept { Keeps (kept self.new) result }
         ensures given { T.given (taker_of self.new) ≡ T.given (taker_of self.old) }
@@ -256,7 +267,8 @@ impl<T: Taker> Core<T> {
         requires some { 4 ≤ length bytes.now }
         requires due { self.old.state.state.due ≡ Expected.Offset more target }
         requires none { kept self.old ≡ None }
-        ensures stands { (ws : List ℕ) → StandsFor T.KIND T.stands_for self.old ws → SomeTaken T.KIND T.stands_for self.new ws bytes.now result }
+        ensures stands { (ws : List ℕ) → StandsFor T.KIND T.stands_for self.old ws →
+            SomeTaken T.KIND T.stands_for self.new ws bytes.now result }
         ensures count { TakesSome bytes.now result }
         ensures kept { Keeps (kept self.new) result }
         ensures given { T.given (taker_of self.new) ≡ T.given (taker_of self.old) }
@@ -287,7 +299,8 @@ impl<T: Taker> Core<T> {
     fn take_some(&mut self, bytes: &[u8]) -> Result<usize, Refusal>
         requires some { 4 ≤ length bytes.now }
         requires none { kept self.old ≡ None }
-        ensures stands { (ws : List ℕ) → StandsFor T.KIND T.stands_for self.old ws → SomeTaken T.KIND T.stands_for self.new ws bytes.now result }
+        ensures stands { (ws : List ℕ) → StandsFor T.KIND T.stands_for self.old ws →
+            SomeTaken T.KIND T.stands_for self.new ws bytes.now result }
         ensures count { TakesSome bytes.now result }
         ensures kept { Keeps (kept self.new) result }
         ensures given { T.given (taker_of self.new) ≡ T.given (taker_of self.old) }
@@ -303,7 +316,8 @@ impl<T: Taker> Core<T> {
     /// words or of offsets, it does not look up what is expected for each of them.
     pub(crate) fn words(&mut self, bytes: &[u8]) -> Result<(), Refusal>
         requires { kept self.old ≡ None }
-        ensures stands { (ws : List ℕ) → StandsFor T.KIND T.stands_for self.old ws → StandsFor T.KIND T.stands_for self.new (ws ++ longwords bytes.now) }
+        ensures stands { (ws : List ℕ) → StandsFor T.KIND T.stands_for self.old ws →
+            StandsFor T.KIND T.stands_for self.new (ws ++ longwords bytes.now) }
         ensures kept { Keeps (kept self.new) result }
         ensures given { T.given (taker_of self.new) ≡ T.given (taker_of self.old) }
     {
@@ -327,7 +341,8 @@ impl<T: Taker> Core<T> {
 
     /// The number of longwords taken, which is the place of the next one.
     pub fn place(&self) -> u64
-        ensures { (ws : List ℕ) → kept self.now ≡ None → StandsFor T.KIND T.stands_for self.now ws → result ≡ length ws }
+        ensures { (ws : List ℕ) → kept self.now ≡ None →
+            StandsFor T.KIND T.stands_for self.now ws → result ≡ length ws }
     {
         self.state.place
     }
@@ -335,8 +350,11 @@ impl<T: Taker> Core<T> {
     /// What is due after the longwords taken, if it keeps no error. Where two 16-bit words are due, it is
     /// the first of them.
     pub fn due(&self) -> Due
-        ensures due { (ws : List ℕ) → kept self.now ≡ None → StandsFor T.KIND T.stands_for self.now ws → Dues T.KIND ws result }
-        ensures read { (ws : List ℕ) (w : ℕ) → kept self.now ≡ None → StandsFor T.KIND T.stands_for self.now ws → dues_read T.KIND (ws ++ w ∷ []) ≡ dues_read T.KIND ws ++ (result, w) ∷ [] }
+        ensures due { (ws : List ℕ) → kept self.now ≡ None →
+            StandsFor T.KIND T.stands_for self.now ws → Dues T.KIND ws result }
+        ensures read { (ws : List ℕ) (w : ℕ) → kept self.now ≡ None →
+            StandsFor T.KIND T.stands_for self.now ws →
+            dues_read T.KIND (ws ++ w ∷ []) ≡ dues_read T.KIND ws ++ (result, w) ∷ [] }
     {
         due_of(self.state.state.due)
     }
@@ -349,7 +367,8 @@ impl<T: Taker> Core<T> {
     /// `PartialLongword` if bytes of a further longword follow. The error of an earlier call is
     /// returned again.
     pub fn end(self, rest: u8) -> Result<T, Refusal>
-        ensures answer { (ws : List ℕ) → StandsFor T.KIND T.stands_for self ws → EndAnswered T.KIND T.stands_for ws rest result }
+        ensures answer { (ws : List ℕ) → StandsFor T.KIND T.stands_for self ws →
+            EndAnswered T.KIND T.stands_for ws rest result }
         ensures again { (refusal : Refusal) → kept self ≡ Some refusal → result ≡ Err refusal }
         ensures given { IfOk result (λ taker. T.given taker ≡ T.given (taker_of self)) }
         ensures memory { result ≡ Err Refusal.OutOfMemory → kept self ≡ Some Refusal.OutOfMemory }

@@ -31,8 +31,8 @@ pub enum NumberRefusal {
 
 /// The size of this hunk in the header, if the size of its content is expected.
 fn size_asked<T: Taker>(taker: &T, state: State) -> u32
-    ensures { (told : List Event) → T.stands_for taker.now told → state.file ≡ T.KIND → IsState state (sizes_told T.KIND told) →
-        SizeIsGiven state (sizes_told T.KIND told) result }
+    ensures { (told : List Event) → T.stands_for taker.now told → state.file ≡ T.KIND →
+        IsState state (sizes_told T.KIND told) → SizeIsGiven state (sizes_told T.KIND told) result }
 {
     match state.due {
         Expected::ContentSize { .. } => match state.file {
@@ -56,8 +56,10 @@ fn refused_site(number: u32, refusal: SiteRefusal) -> NumberRefusal
 
 /// Sends the taker the event of a number, if it has one.
 fn tell<T: Taker>(taker: &mut T, event: Option<Event>) -> Result<(), SiteRefusal>
-    ensures takes { (told : List Event) → T.stands_for taker.old told → length told < 2 ^ 29 → OnOk result (T.stands_for taker.new (told ++ with_event event [])) }
-    ensures judges { (told : List Event) → T.stands_for taker.old told → length told < 2 ^ 29 → JudgesEvent (context_of T.KIND told) event result }
+    ensures takes { (told : List Event) → T.stands_for taker.old told → length told < 2 ^ 29 →
+        OnOk result (T.stands_for taker.new (told ++ with_event event [])) }
+    ensures judges { (told : List Event) → T.stands_for taker.old told → length told < 2 ^ 29 →
+        JudgesEvent (context_of T.KIND told) event result }
     ensures given { T.given taker.new ≡ T.given taker.old }
 {
     match event {
@@ -72,7 +74,8 @@ pub fn take_number<T: Taker>(
     state: State,
     number: u32,
 ) -> Result<State, NumberRefusal>
-    ensures answer { (fs : List Field) (at : Progress) → Reached T.KIND (T.stands_for taker.old) state fs at → MayCome fs at number →
+    ensures answer { (fs : List Field) (at : Progress) →
+        Reached T.KIND (T.stands_for taker.old) state fs at → MayCome fs at number →
         NumberAnswered T.KIND (T.stands_for taker.new) fs at number result }
     ensures given { T.given taker.new ≡ T.given taker.old }
 {
@@ -88,8 +91,10 @@ pub fn take_number<T: Taker>(
 
 /// Takes an offset of a list of 32-bit relocations that another offset to the same hunk follows.
 pub fn take_offset<T: Taker>(taker: &mut T, target: u32, offset: u32) -> Result<(), NumberRefusal>
-    ensures answer { (state : State) (more : ℕ) (fs : List Field) (at : Progress) → Reached T.KIND (T.stands_for taker.old) (at_offset state (suc more) target) fs at → length (events fs) + 1 < 2 ^ 29 →
-        WordAnswered T.KIND (T.stands_for taker.new) fs at offset (with_state (at_offset state more target) result) }
+    ensures answer { (state : State) (more : ℕ) (fs : List Field) (at : Progress) →
+        Reached T.KIND (T.stands_for taker.old) (at_offset state (suc more) target) fs at →
+        length (events fs) + 1 < 2 ^ 29 → WordAnswered T.KIND (T.stands_for taker.new) fs at offset
+        (with_state (at_offset state more target) result) }
     ensures given { T.given taker.new ≡ T.given taker.old }
 {
     match taker.take(Event::Site { offset, target }) {
@@ -113,7 +118,8 @@ fn is_halved(due: Expected) -> bool
 
 /// Takes a longword: one number, or two halves, the upper one first.
 pub fn take_word<T: Taker>(taker: &mut T, state: State, word: u32) -> Result<State, NumberRefusal>
-    ensures answer { (fs : List Field) (at : Progress) → Reached T.KIND (T.stands_for taker.old) state fs at → length (events fs) + 1 < 2 ^ 29 →
+    ensures answer { (fs : List Field) (at : Progress) →
+        Reached T.KIND (T.stands_for taker.old) state fs at → length (events fs) + 1 < 2 ^ 29 →
         WordAnswered T.KIND (T.stands_for taker.new) fs at word result }
     ensures given { T.given taker.new ≡ T.given taker.old }
 {
@@ -129,7 +135,9 @@ pub fn take_word<T: Taker>(taker: &mut T, state: State, word: u32) -> Result<Sta
 
 /// Takes the longwords of a run of words, one after the other.
 fn take_each_word<T: Taker>(taker: &mut T, bytes: &[u8]) -> Result<(), NumberRefusal>
-    ensures takes { (told : List Event) → T.stands_for taker.old told → length told + length (longwords bytes.now) < 2 ^ 29 → OnOk result (T.stands_for taker.new (told ++ word_events (longwords bytes.now))) }
+    ensures takes { (told : List Event) → T.stands_for taker.old told →
+        length told + length (longwords bytes.now) < 2 ^ 29 →
+        OnOk result (T.stands_for taker.new (told ++ word_events (longwords bytes.now))) }
     ensures memory { IfErr result (λ stop. stop ≡ NumberRefusal.OutOfMemory) }
     ensures given { T.given taker.new ≡ T.given taker.old }
 {
@@ -147,7 +155,9 @@ fn take_each_word<T: Taker>(taker: &mut T, bytes: &[u8]) -> Result<(), NumberRef
 /// Takes the longwords of a run of words: at once, if the taker has a way to do so.
 pub fn take_words<T: Taker>(taker: &mut T, bytes: &[u8]) -> Result<(), NumberRefusal>
     requires { IsWhole bytes.now }
-    ensures takes { (told : List Event) → T.stands_for taker.old told → length told + length (longwords bytes.now) < 2 ^ 29 → OnOk result (T.stands_for taker.new (told ++ word_events (longwords bytes.now))) }
+    ensures takes { (told : List Event) → T.stands_for taker.old told →
+        length told + length (longwords bytes.now) < 2 ^ 29 →
+        OnOk result (T.stands_for taker.new (told ++ word_events (longwords bytes.now))) }
     ensures memory { IfErr result (λ stop. stop ≡ NumberRefusal.OutOfMemory) }
     ensures given { T.given taker.new ≡ T.given taker.old }
 {

@@ -34,7 +34,8 @@ impl<T, A: Allocator + Copy> Model for PartialHunk<T, A> {
 
     ghost Value = { HunkSoFar T };
 
-    ghost view = { λ h. record { content = h.content.items; sites = h.sites; in_content = h.in_content } };
+    ghost view = { λ h.
+        record { content = h.content.items; sites = h.sites; in_content = h.in_content } };
 
     ghost invariant = { λ h. length h.content.items ≤ h.sites.limit };
 }
@@ -140,8 +141,10 @@ impl<T: Copy, A: Allocator + Copy> PartialHunk<T, A> {
     /// [`SiteRefusal::OutOfMemory`] only if an allocation failed. An error changes nothing.
     pub fn add_site(&mut self, offset: u32, target: T) -> Result<(), SiteRefusal>
         ensures adds { OnOk result (self.new ≡ hunk_with_site self.old offset target) }
-        ensures holds { (limit : ℕ) (seen : List ℕ) → HoldsSites limit seen self.old → OnOk result (HoldsSites limit (offset ∷ seen) self.new) }
-        ensures judges { (limit : ℕ) (seen : List ℕ) → HoldsSites limit seen self.old → JudgesSite limit seen offset result }
+        ensures holds { (limit : ℕ) (seen : List ℕ) → HoldsSites limit seen self.old →
+            OnOk result (HoldsSites limit (offset ∷ seen) self.new) }
+        ensures judges { (limit : ℕ) (seen : List ℕ) → HoldsSites limit seen self.old →
+            JudgesSite limit seen offset result }
         ensures apart { AreApart self.old.sites → AreApart self.new.sites }
         ensures refused { OnErr result (self.new ≡ self.old) }
     {

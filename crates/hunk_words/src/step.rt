@@ -12,7 +12,8 @@ use hunk_base::fault::Reason;
 /// Judges a number, and returns what is expected after it and its event. If the size of content is
 /// expected in a load file, `size` is the size of this hunk in the header, in longwords.
 pub fn step(state: State, size: u32, number: u32) -> Result<Step, Reason>
-    ensures { (sizes : List ℕ) → IsState state sizes → SizeIsGiven state sizes size → Stepped state sizes number result }
+    ensures { (sizes : List ℕ) → IsState state sizes → SizeIsGiven state sizes size →
+        Stepped state sizes number result }
 {
     match state.due {
         Expected::ObjectStart => types::object_start(state, number),

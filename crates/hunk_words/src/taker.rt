@@ -37,9 +37,12 @@ pub trait Taker: Drop {
     ///   sites of the earlier events, and for no other event.
     /// - `OutOfMemory` only if an allocation failed.
     fn take(&mut self, event: Event) -> Result<(), SiteRefusal>
-        ensures takes { (told : List Event) → stands_for self.old told → length told < 2 ^ 29 → OnOk result (stands_for self.new (told ++ event ∷ [])) }
-        ensures refuses { (told : List Event) → stands_for self.old told → length told < 2 ^ 29 → OnErr result (stands_for self.new told) }
-        ensures judges { (told : List Event) → stands_for self.old told → length told < 2 ^ 29 → Judges (context_of KIND told) event result }
+        ensures takes { (told : List Event) → stands_for self.old told → length told < 2 ^ 29 →
+            OnOk result (stands_for self.new (told ++ event ∷ [])) }
+        ensures refuses { (told : List Event) → stands_for self.old told → length told < 2 ^ 29 →
+            OnErr result (stands_for self.new told) }
+        ensures judges { (told : List Event) → stands_for self.old told → length told < 2 ^ 29 →
+            Judges (context_of KIND told) event result }
         ensures given { given self.new ≡ given self.old };
 
     /// Takes the events of a run of words at once: an [`Event::Word`] for each longword of these
@@ -54,7 +57,9 @@ pub trait Taker: Drop {
     /// [`AllocError`] only if an allocation failed. An error leaves what it stands for unchanged.
     fn take_words(&mut self, bytes: &[u8]) -> Result<bool, AllocError>
         requires { IsWhole bytes.now }
-        ensures takes { (told : List Event) → stands_for self.old told → length told + length (longwords bytes.now) < 2 ^ 29 → RunTaken (stands_for self.new) told (longwords bytes.now) result }
+        ensures takes { (told : List Event) → stands_for self.old told →
+            length told + length (longwords bytes.now) < 2 ^ 29 →
+            RunTaken (stands_for self.new) told (longwords bytes.now) result }
         ensures given { given self.new ≡ given self.old }
     {
         Ok(false)
@@ -63,6 +68,6 @@ pub trait Taker: Drop {
     /// The size of a hunk in the header, in longwords. It is called only for the kind `Load`, and
     /// only for a size that was taken.
     fn size_of(&self, hunk: u32) -> u32
-        ensures { (told : List Event) → stands_for self.now told → KIND ≡ Load → hunk < length (sizes_told KIND told) →
-            result ≡ slice_index (sizes_told KIND told) hunk };
+        ensures { (told : List Event) → stands_for self.now told → KIND ≡ Load → hunk < length
+            (sizes_told KIND told) → result ≡ slice_index (sizes_told KIND told) hunk };
 }

@@ -33,7 +33,8 @@ pub trait Builder: Taker {
     /// The value of the file whose events it has taken. Does not allocate.
     fn into_value(self) -> Self::Value
         requires { (bytes : List ℕ) × TellsBytes Self.KIND (Self.stands_for self) bytes }
-        ensures { (bytes : List ℕ) → TellsBytes Self.KIND (Self.stands_for self) bytes → is_value result bytes };
+        ensures { (bytes : List ℕ) →
+            TellsBytes Self.KIND (Self.stands_for self) bytes → is_value result bytes };
 }
 
 /// A decoder of the bytes of a file, in pieces of any size, to the value that a builder makes of them.
@@ -78,12 +79,17 @@ impl<B: Builder> ValueDecoder<B> {
     ///
     /// After an error, every later call returns the same error.
     pub fn feed(&mut self, piece: &[u8]) -> Result<(), Refusal>
-        ensures stands { (bytes : List ℕ) → StandsFor B.KIND B.stands_for self.old bytes → StandsFor B.KIND B.stands_for self.new (bytes ++ piece.now) }
+        ensures stands { (bytes : List ℕ) → StandsFor B.KIND B.stands_for self.old bytes →
+            StandsFor B.KIND B.stands_for self.new (bytes ++ piece.now) }
         ensures kept { Keeps (refusal_of self.new) result }
-        ensures again { (refusal : Refusal) → refusal_of self.old ≡ Some refusal → result ≡ Err refusal }
-        ensures front { OnOk result ((bytes : List ℕ) → StandsFor B.KIND B.stands_for self.new bytes → IsValidPrefix B.KIND (longwords bytes)) }
-        ensures refused { IfErr result (λ refusal. (bytes : List ℕ) → StandsFor B.KIND B.stands_for self.new bytes → RefusesBytes B.KIND bytes refusal) }
-        ensures bounded { OnOk result ((bytes : List ℕ) → StandsFor B.KIND B.stands_for self.new bytes → length bytes < 2 ^ 30 + 4) }
+        ensures again { (refusal : Refusal) →
+            refusal_of self.old ≡ Some refusal → result ≡ Err refusal }
+        ensures front { OnOk result ((bytes : List ℕ) →
+            StandsFor B.KIND B.stands_for self.new bytes → IsValidPrefix B.KIND (longwords bytes)) }
+        ensures refused { IfErr result (λ refusal. (bytes : List ℕ) →
+            StandsFor B.KIND B.stands_for self.new bytes → RefusesBytes B.KIND bytes refusal) }
+        ensures bounded { OnOk result ((bytes : List ℕ) →
+            StandsFor B.KIND B.stands_for self.new bytes → length bytes < 2 ^ 30 + 4) }
         ensures empty { piece.now ≡ [] → self.new ≡ self.old }
     {
         self.decoder.feed(piece)
@@ -97,10 +103,14 @@ impl<B: Builder> ValueDecoder<B> {
     /// `UnexpectedEnd` if the file is not complete. The error of an earlier call is returned again,
     /// and `OutOfMemory` is returned in no other case.
     pub fn finish(self) -> Result<B::Value, Refusal>
-        ensures file { IfOk result (λ value. (bytes : List ℕ) → StandsFor B.KIND B.stands_for self bytes → B.is_value value bytes) }
-        ensures refused { IfErr result (λ refusal. (bytes : List ℕ) → StandsFor B.KIND B.stands_for self bytes → RefusesInput B.KIND bytes refusal) }
-        ensures again { (refusal : Refusal) → refusal_of self ≡ Some refusal → result ≡ Err refusal }
-        ensures memory { result ≡ Err Refusal.OutOfMemory → refusal_of self ≡ Some Refusal.OutOfMemory }
+        ensures file { IfOk result (λ value. (bytes : List ℕ) →
+            StandsFor B.KIND B.stands_for self bytes → B.is_value value bytes) }
+        ensures refused { IfErr result (λ refusal. (bytes : List ℕ) →
+            StandsFor B.KIND B.stands_for self bytes → RefusesInput B.KIND bytes refusal) }
+        ensures again { (refusal : Refusal) →
+            refusal_of self ≡ Some refusal → result ≡ Err refusal }
+        ensures memory { result ≡ Err Refusal.OutOfMemory →
+            refusal_of self ≡ Some Refusal.OutOfMemory }
     {
         match self.decoder.finish() {
             Ok(builder) => Ok(builder.into_value()),
@@ -132,9 +142,11 @@ pub fn read_value<R: Source, B: Builder>(
     alloc: B::Alloc,
     reader: &mut R,
 ) -> Result<B::Value, ReadFault>
-    ensures file { IfOk result (λ value. HasRead (R.left reader.old) (R.left reader.new) (B.is_value value)) }
+    ensures file { IfOk result
+        (λ value. HasRead (R.left reader.old) (R.left reader.new) (B.is_value value)) }
     ensures ended { OnOk result (IsTrue (R.ended reader.new)) }
-    ensures refused { IfErr result (RefusesRead B.KIND (R.left reader.old) (R.left reader.new) (R.ended reader.new) (R.failed reader.new)) }
+    ensures refused { IfErr result (RefusesRead B.KIND (R.left reader.old) (R.left reader.new)
+        (R.ended reader.new) (R.failed reader.new)) }
 {
     let mut decoder: ValueDecoder<B> = ValueDecoder::new(alloc);
     read_all(reader, &mut decoder)?;

@@ -34,8 +34,10 @@ impl<A: Allocator + Copy> OpenName<A> {
     ///
     /// [`AllocError`] only if an allocation failed; then the name is as it was.
     pub fn push(&mut self, word: u32) -> Result<(), AllocError>
-        ensures takes { (words : List ℕ) → Opens self.old words → OnOk result (Opens self.new (words ++ word ∷ [])) }
-        ensures refuses { (words : List ℕ) → Opens self.old words → OnErr result (Opens self.new words) }
+        ensures takes { (words : List ℕ) → Opens self.old words →
+            OnOk result (Opens self.new (words ++ word ∷ [])) }
+        ensures refuses { (words : List ℕ) → Opens self.old words →
+            OnErr result (Opens self.new words) }
     {
         self.append(&big_endian(word), 0)
     }
@@ -47,8 +49,10 @@ impl<A: Allocator + Copy> OpenName<A> {
     ///
     /// [`AllocError`] only if an allocation failed; then the name is as it was.
     pub fn push_bytes(&mut self, bytes: &[u8]) -> Result<(), AllocError>
-        ensures takes { (words more : List ℕ) → bytes_of more ≡ bytes.now → Opens self.old words → OnOk result (Opens self.new (words ++ more)) }
-        ensures refuses { (words : List ℕ) → Opens self.old words → OnErr result (Opens self.new words) }
+        ensures takes { (words more : List ℕ) → bytes_of more ≡ bytes.now → Opens self.old words →
+            OnOk result (Opens self.new (words ++ more)) }
+        ensures refuses { (words : List ℕ) → Opens self.old words →
+            OnErr result (Opens self.new words) }
     {
         self.append(bytes, LONGWORD)
     }
@@ -56,8 +60,10 @@ impl<A: Allocator + Copy> OpenName<A> {
     /// Takes the bytes of the next longwords, up to the first zero byte, with memory for `spare` bytes
     /// more.
     fn append(&mut self, bytes: &[u8], spare: usize) -> Result<(), AllocError>
-        ensures takes { (words more : List ℕ) → bytes_of more ≡ bytes.now → Opens self.old words → OnOk result (Opens self.new (words ++ more)) }
-        ensures refuses { (words : List ℕ) → Opens self.old words → OnErr result (Opens self.new words) }
+        ensures takes { (words more : List ℕ) → bytes_of more ≡ bytes.now → Opens self.old words →
+            OnOk result (Opens self.new (words ++ more)) }
+        ensures refuses { (words : List ℕ) → Opens self.old words →
+            OnErr result (Opens self.new words) }
     {
         if self.ended {
             return Ok(());
