@@ -94,6 +94,8 @@ fn bytes_at<R: Env>(rt: &R, alloc: Global, index: usize) -> Result<Option<Vec<u8
         match rt.arg(index, bytes.as_mut_slice()) {
             Ok(length) => {
                 bytes.truncate(length);
+                // All arguments are kept, and most are short.
+                bytes.shrink_to_fit();
                 return Ok(Some(bytes));
             }
             Err(FillError::NotPresent) => return Ok(None),

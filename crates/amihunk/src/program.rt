@@ -7,12 +7,11 @@ ghost use Rattle.hunk_store.specs.Addresses.{AddressSource};
 ghost use Rattle.hunk_commands.specs.declared.load.LoadText.{LoadText};
 ghost use Rattle.hunk_commands.specs.declared.text.ShowText.{ShowText};
 ghost use Rattle.hunk_commands.specs.Request.{EndsCompare, EndsCopy, EndsImage, EndsLink, EndsLoad, EndsNames, EndsSurvey, EndsText, EndsVersion, Reads, Replaces, Run, run_between};
-ghost use Rattle.amihunk.specs.Arguments.{AreArguments};
 ghost use Rattle.amihunk.specs.Program.{EndsLine, EndsStart, IsNotBegun, IsRejected};
 ghost use Rattle.amihunk.specs.CommandLine.{AreRefused, IsNoFlag, IsNoFlagIn, IsVersionWord, brief_link_line, compare_line, copy_line, file_line, image_line, link_line, load_line};
 ghost use Rattle.amihunk.specs.CommandLine.{names_line, no_survey_options, normal_line, show_line, survey_line, text_in, version_line};
 
-use crate::arguments::{Argument, are_texts, arguments_of, read_arguments};
+use crate::arguments::{are_texts, arguments_of, read_arguments};
 use crate::command_line::read_words;
 use crate::standard_input::STANDARD_INPUT;
 use hunk_commands::{
@@ -39,19 +38,6 @@ pub fn begin<R: Env + Files + Print + RandomSource + AllocGlobal, W: Sink>(
     ensures status { result ≤ 4 }
 {
     let _input = in_place_of_input(rt);
-    begin_with_input(rt, errors, has_stack)
-}
-
-/// Does it where no file takes the place of the standard input.
-fn begin_with_input<R: Env + Files + Print + RandomSource + AllocGlobal, W: Sink>(
-    rt: &R,
-    errors: &mut W,
-    has_stack: bool,
-) -> u8
-    ensures begun { ((run : Run) × EndsStart run W.taken W.failed errors.old errors.new result) ⊎
-        IsNotBegun W.taken W.failed errors.old errors.new result }
-    ensures status { result ≤ 4 }
-{
     match Printer::new(rt.alloc(), io::writer(rt)) {
         Ok(mut output) => {
             let hasher = NameHasher::new(random_key(rt));
@@ -88,29 +74,14 @@ fn start<R: Env + AllocGlobal, S: Store, O: Output, W: Sink>(
     if !has_stack {
         return answer(alloc, store, output, errors, Request::OutOfMemory);
     }
-    match arguments_of(rt) {
-        Ok(arguments) => run_arguments(alloc, store, output, errors, arguments.as_slice()),
-        Err(_) => answer(alloc, store, output, errors, Request::OutOfMemory),
+    let Ok(arguments) = arguments_of(rt) else {
+        return answer(alloc, store, output, errors, Request::OutOfMemory);
+    };
+    let words = arguments.as_slice();
+    if are_texts(words) {
+        return run(alloc, store, output, errors, words);
     }
-}
-
-/// Does what the arguments of a command line ask for, and gives the exit status.
-fn run_arguments<S: Store, O: Output, W: Sink>(
-    alloc: Global,
-    store: &mut S,
-    output: &mut O,
-    errors: &mut W,
-    arguments: &[Argument],
-) -> u8
-    requires { AreArguments arguments.now }
-    ensures ends { EndsStart (run_between S.content O.taken O.failed O.waiting store.old store.new
-        output.old output.new) W.taken W.failed errors.old errors.new result }
-    ensures status { result ≤ 4 }
-{
-    if are_texts(arguments) {
-        return run(alloc, store, output, errors, arguments);
-    }
-    let request = read_arguments(alloc, arguments);
+    let request = read_arguments(alloc, words);
     answer(alloc, store, output, errors, request)
 }
 

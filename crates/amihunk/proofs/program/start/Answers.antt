@@ -6,5 +6,5 @@ use Rattle.amihunk.proofs.program.start.Goals as goal
 pub returns-then-not-has_stack-clause-ends : goal.returns-then-not-has_stack-clause-ends
 returns-then-not-has_stack-clause-ends g c = record { request = OutOfMemory; is_start = inr refl; ends = c.answer.ensures }
 
-pub returns-in-Err-clause-ends : goal.returns-in-Err-clause-ends
-returns-in-Err-clause-ends g c = record { request = OutOfMemory; is_start = inr refl; ends = c.answer-in-Err.ensures }
+pub returns-in_default-clause-ends : goal.returns-in_default-clause-ends
+returns-in_default-clause-ends g c = record { request = OutOfMemory; is_start = inr refl; ends = c.answer-in_default.ensures }
