@@ -4,8 +4,8 @@
 Each crate, call, clause, law, test, must-fail edit and file that docs/PROMISES.md and README.md name exists where they say, and each
 public call of the libraries, each of its clauses, each law and each edit stands in docs/PROMISES.md. Of the other pages each test, each
 file and each word of the sources that they name is there, and the code that they quote. The crates stand in the tables of
-docs/ARCHITECTURE.md and CONTRIBUTING.md, and the scripts of bench/ in that of bench/README.md. A row counts as one test, and so does a
-page.
+docs/ARCHITECTURE.md and CONTRIBUTING.md, and the scripts of bench/ in that of bench/README.md. No clause has longer lines than
+CONTRIBUTING.md says. A row counts as one test, and so does a page.
 The last line is 'N passed, M failed', and the status is 0 if M is 0. With a folder as its argument it checks the copy of the
 repository there.
 """
@@ -357,6 +357,15 @@ def check_benches(text):
         check(name == "README.md" or name.startswith("__") or f"`{name}`" in text, f"{BENCHES}: `bench/{name}` is not told")
 
 
+def check_clauses():
+    """Each line of a clause has at most as many columns as CONTRIBUTING.md says."""
+    columns = int(re.search(r"A clause has lines of at most (\d+) columns", text_of(GUIDE))[1])
+    for folder, _, files in os.walk(os.path.join(sources.TOP, "crates")):
+        for file in [os.path.join(folder, it) for it in files if it.endswith(".rt")]:
+            long = [it for it in text_of(file).split("\n") if len(it) > columns and re.match(r" +(?:requires|ensures)\b", it)]
+            check(not long, f"{os.path.relpath(file, sources.TOP)}: a clause with more than {columns} columns: {long[:1]}")
+
+
 # ---- the README
 
 
@@ -418,6 +427,8 @@ def main():
     with counted():
         check_way(text_of(CRATES))
         check_homes(" ".join(text_of(CRATES).split()))
+    with counted():
+        check_clauses()
     with counted():
         check_benches(text_of(BENCHES))
     with counted():
