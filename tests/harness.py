@@ -31,9 +31,10 @@ class Program:
     def at(self, name):
         return os.path.join(self.folder, name)
 
-    def run(self, *words_, stdout=subprocess.PIPE, stderr=subprocess.PIPE, stdin=subprocess.DEVNULL, limit=None, before=None, input=None):
+    def run(self, *words_, stdout=subprocess.PIPE, stderr=subprocess.PIPE, stdin=subprocess.DEVNULL, limit=None, before=None, input=None,
+            environment=None):
         """Runs it as `amihunk` with these words, and returns its status and what it wrote. The process calls `before` first, and
-        is then put under a limit of a resource."""
+        is then put under a limit of a resource. Its environment has these variables too."""
         def begin():
             if before:
                 before()
@@ -42,6 +43,7 @@ class Program:
 
         how = {"input": input} if input is not None else {"stdin": stdin}
         how |= {"executable": self.path, "cwd": self.folder, "preexec_fn": begin if before or limit else None, "timeout": 60}
+        how |= {"env": os.environ | environment} if environment else {}
         ran = subprocess.run(["amihunk", *words_], stdout=stdout, stderr=stderr, **how)
         return ran.returncode, *((it or b"").decode("latin-1") for it in (ran.stdout, ran.stderr))
 

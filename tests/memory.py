@@ -81,6 +81,7 @@ def write_files(program):
     program.write("y.o", model.object_file([[other]]))
     program.write("one.o", OBJECT_FILE)
     program.write("x", LOAD_FILE)
+    program.write("addresses", b"10000\n")
     program.write("bad", LOAD_FILE + words(0x1234))
     program.write("odd", LOAD_FILE.replace(words(CODE), words(CODE | 1 << 30)))
     symbol = words(SYMBOL, 1) + b"loop" + words(2, 0, END)
@@ -101,63 +102,76 @@ STEPS = (*range(1024, 256, -64), *range(256, -1, -1))
 LARGE_STEPS = (*range(4096, 1024, -256), *range(1024, -1, -8))
 
 
-@test
-def with_little_memory_a_text_is_printed_or_none_is(program):
-    units = write_files(program)
-    bases, least = [0x1000, 0x2000], least_pages(program)
+def texts(program):
+    """Commands over files that are written here, each with the text that it prints, but surveys."""
+    units, bases = write_files(program), [0x1000, 0x2000]
     listing = "load file: 1 hunks\nhunk 0 code any 1 longwords, 1 stored\n"
     document = ('{"hunks":[{"debugs":[],"kind":"code","memory":"any","sites":[],"size":1,"stored":1,"symbols":[]}],'
                 '"kind":"load file"}\n')
     with_content = document.replace('"symbols"', '"content":"TnVOcQ==","content_offset":32,"symbols"')
+    named = f"$$ amihunk\n  loop $00010002\n$$ \n{RECORDS}"
+    return (
+        (("load", "--at", "10000", "x"), REPORT),
+        (("load", "--at-file", "addresses", "x"), REPORT),
+        (("load", "--at", "10000", "--srec", "x"), RECORDS),
+        (("load", "--at", "10000", "--symbols", "named"), '00010002 hunk 0 "loop"\n'),
+        (("load", "--at", "10000", "--srec", "--symbols", "named"), named),
+        (("image", "--at", "1000,2000", "x.o", "y.o"), model.report_of(bases, model.memory_of(units, bases))),
+        (("image", "--at", "10000", "--symbols", "named.o"), '00010002 hunk 0 "loop"\n'),
+        (("image", "--at", "10000", "--srec", "--symbols", "named.o"), named),
+        (("check", "x"), "load file: 1 hunks\n"),
+        (("check", "--lint", "odd"), "load file: 1 hunks\nlongword 6: the upper bits of the type are ignored\n"),
+        (("show", "x"), listing),
+        (("show", "--json", "x"), document),
+        (("show", "--json", "--content", "x"), with_content),
+        (("show", "--html", "x"), page_of(with_content)),
+        (("show", "--names", "x.o", "y.o"), model.names_of(units)),
+        (("compare", "x", "x"), ""),
+    )
+
+
+@test
+def with_little_memory_a_text_is_printed_or_none_is(program):
     survey = ["one.o: object file: 1 units, 1 hunks\n", "x: load file: 1 hunks\n",
               "2 files: 1 object files, 1 load files, 0 refused, 0 unreadable\n0 refused, of which 0 are no hunk files\n"]
     # A survey prints what it knows of a file before it opens the next.
     parts_of_survey = [(NO_MEMORY, "".join(survey[:lines]), TOLD) for lines in range(1, 3)]
-    named = f"$$ amihunk\n  loop $00010002\n$$ \n{RECORDS}"
+    commands = [(words_, told, ()) for words_, told in texts(program)]
+    least = least_pages(program)
     for words_, told, also in (
         (("--version",), program.run("--version")[1], ()),
-        (("load", "--at", "10000", "x"), REPORT, ()),
-        (("load", "--at", "10000", "--srec", "x"), RECORDS, ()),
-        (("load", "--at", "10000", "--symbols", "named"), '00010002 hunk 0 "loop"\n', ()),
-        (("load", "--at", "10000", "--srec", "--symbols", "named"), named, ()),
-        (("image", "--at", "1000,2000", "x.o", "y.o"), model.report_of(bases, model.memory_of(units, bases)), ()),
-        (("image", "--at", "10000", "--symbols", "named.o"), '00010002 hunk 0 "loop"\n', ()),
-        (("image", "--at", "10000", "--srec", "--symbols", "named.o"), named, ()),
-        (("check", "x"), "load file: 1 hunks\n", ()),
-        (("check", "--lint", "odd"), "load file: 1 hunks\nlongword 6: the upper bits of the type are ignored\n", ()),
-        (("show", "x"), listing, ()),
-        (("show", "--json", "x"), document, ()),
-        (("show", "--json", "--content", "x"), with_content, ()),
-        (("show", "--html", "x"), page_of(with_content), ()),
-        (("show", "--names", "x.o", "y.o"), model.names_of(units), ()),
-        (("compare", "x", "x"), "", ()),
+        *commands,
         (("survey", "one.o", "x"), "".join(survey), parts_of_survey),
         (("survey", "--digest", "--json", "x"), trees.survey_of([(b"x", LOADED)], ("--digest", "--json"))[1], ()),
     ):
         falls(program, least, STEPS, (DONE, told, ""), words_, also)
 
 
+# Refusals over the files of `write_files`, each with its line and what is told with `--explain`.
+REFUSALS = (
+    (
+        ("load", "--explain", "--at", "10000", "bad"),
+        "amihunk: bad: longword 10: data after the last hunk\n",
+        "  at byte 40 (00000028)\n  found 00001234\n  path: hunk 0, after HUNK_END\n  due: the end of the file\n",
+    ),
+    (
+        ("load", "--explain", "--at", "10000,20000", "x"),
+        "amihunk: places: wrong number of addresses\n",
+        "  hunks: 1, addresses: 2\n  hunk 0: 4 bytes at 00010000\n",
+    ),
+    (
+        ("link", "--explain", "--out", "out", "x.o"),
+        'amihunk: link: unit 0 hunk 0: "other" not defined\n',
+        '  unit 0 hunk 0: x.o unit 0 "" hunk 0 ""\n  "other", references: 1, first in x.o unit 0 "" hunk 0 ""\n',
+    ),
+)
+
+
 @test
 def with_little_memory_a_refusal_is_told_with_more_or_without(program):
     write_files(program)
     least = least_pages(program)
-    for words_, line, more in (
-        (
-            ("load", "--explain", "--at", "10000", "bad"),
-            "amihunk: bad: longword 10: data after the last hunk\n",
-            "  at byte 40 (00000028)\n  found 00001234\n  path: hunk 0, after HUNK_END\n  due: the end of the file\n",
-        ),
-        (
-            ("load", "--explain", "--at", "10000,20000", "x"),
-            "amihunk: places: wrong number of addresses\n",
-            "  hunks: 1, addresses: 2\n  hunk 0: 4 bytes at 00010000\n",
-        ),
-        (
-            ("link", "--explain", "--out", "out", "x.o"),
-            'amihunk: link: unit 0 hunk 0: "other" not defined\n',
-            '  unit 0 hunk 0: x.o unit 0 "" hunk 0 ""\n  "other", references: 1, first in x.o unit 0 "" hunk 0 ""\n',
-        ),
-    ):
+    for words_, line, more in REFUSALS:
         falls(program, least, STEPS, (REFUSED, "", line + more), words_, [(REFUSED, "", line + "  not explained: out of memory\n")])
         assert not os.path.lexists(program.at("out"))
 

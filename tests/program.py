@@ -17,6 +17,7 @@ import completions
 import comparisons
 import copies
 import explanations
+import failing
 import globals
 import json_documents
 import limits

@@ -1,8 +1,8 @@
-//! The file that a request replaces, and the output that it prints to.
-ghost use Rattle.std.specs.Prelude.{◌≡◌, false, IfErr, IfOk, OnErr, OnOk, IsTrue, [], refl};
+//! The files that a request replaces, and the output that it prints to.
+ghost use Rattle.std.specs.Prelude.{◌≡◌, ◌≢◌, false, true, IfErr, IfOk, Ok, OnErr, OnOk, IsTrue, [], refl};
 ghost use Rattle.std.specs.Io.KnownBytes.{Keeps};
 ghost use Rattle.hunk_store.specs.Output.{IsPrinted, IsUnprinted, printed_of};
-ghost use Rattle.hunk_store.specs.Store.{IsBegun};
+ghost use Rattle.hunk_store.specs.Store.{IsBegun, IsKnown};
 
 use hunk_store::{Failure, Output, Store};
 use hunk_tool::ToolFault;
@@ -37,6 +37,23 @@ pub fn begin<'a, S: Store>(store: &S, out: &str) -> Result<S::New, Failure<'a>>
 {
     match store.begin(out) {
         Ok(new) => Ok(new),
+        Err(_) => Err(Failure::out_of_memory()),
+    }
+}
+
+/// Whether two names are of one file.
+///
+/// # Errors
+///
+/// [`Failure::out_of_memory`] if an allocation failed.
+pub fn is_one_file<'a, S: Store>(store: &S, first: &str, second: &str) -> Result<bool, Failure<'a>>
+    ensures same { first.now ≡ second.now → result ≡ Ok true }
+    ensures apart { IsKnown (S.content store.now first.now) → first.now ≢ second.now →
+        IfOk result (λ is. is ≡ false) }
+    ensures err { IfErr result (λ failure. failure ≡ Failure.Tool (ToolFault.OutOfMemory 0)) }
+{
+    match store.is_one_file(first, second) {
+        Ok(is) => Ok(is),
         Err(_) => Err(Failure::out_of_memory()),
     }
 }

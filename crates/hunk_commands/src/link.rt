@@ -1,5 +1,5 @@
 //! The request `link`: the load file of object files, and the map of it.
-ghost use Rattle.std.specs.Prelude.{◌≡◌, true, Contains, Err, IfOk, IfErr, OnErr, OnOk, length, map};
+ghost use Rattle.std.specs.Prelude.{◌≡◌, true, Contains, Err, IfOk, IfErr, Ok, OnErr, OnOk, length, map};
 ghost use Rattle.std.specs.String.{string_bytes};
 ghost use Rattle.hunk_base.specs.Streams.{WroteText};
 ghost use Rattle.hunk_loadfile.specs.WrittenForm.{IsShortEnough};
@@ -9,7 +9,7 @@ ghost use Rattle.hunk_origins.specs.Origins.{origins};
 ghost use Rattle.hunk_store.specs.Store.{AreUnchanged, IsKnown, run_of};
 ghost use Rattle.hunk_commands.specs.Link.{AreUnlinked, DoLinkFiles, DoLinkTo, HasMap, IsLinkFailure, IsMade, IsMapFailure, IsMapped, IsUnmapped, IsUnwritten, IsWrittenOut, map_failure};
 
-use crate::devices::begin;
+use crate::devices::{begin, is_one_file};
 use hunk_loadfile::{LoadFile, write_load_with};
 use hunk_origins::{link_files, write_map};
 use hunk_store::{Failure, Store, open_inputs};
@@ -92,10 +92,10 @@ pub fn link_with_map<'a, S: Store>(
     ensures err { IfErr result (IsMapFailure globals options (S.content store.old)
         (file_names files.entry.now) out.entry.now map_file.entry.now (S.content store.new)) }
 {
-    if store.is_one_file(out, map_file) {
+    if is_one_file(store, out, map_file)? {
         return Err(Failure::SameFile(map_file));
     }
-    if is_among(store, map_file, files) {
+    if is_among(store, map_file, files)? {
         return Err(Failure::MapOverFile(map_file));
     }
     let (units, linked) = linked_files(alloc, store, options.strip, globals, files)?;
@@ -104,11 +104,21 @@ pub fn link_with_map<'a, S: Store>(
 }
 
 /// Whether the file with this name is one of `files`.
-fn is_among<S: Store>(store: &S, name: &str, files: &[&str]) -> bool
-    ensures { result ≡ true → IsKnown (S.content store.now name.now) →
+///
+/// # Errors
+///
+/// [`Failure::out_of_memory`] if an allocation failed.
+fn is_among<'a, S: Store>(store: &S, name: &str, files: &[&str]) -> Result<bool, Failure<'a>>
+    ensures among { result ≡ Ok true → IsKnown (S.content store.now name.now) →
         Contains (file_names files.now) name.now }
+    ensures err { IfErr result (λ failure. failure ≡ Failure.Tool (ToolFault.OutOfMemory 0)) }
 {
-    files.iter().any(|file| store.is_one_file(name, file))
+    for file in files {
+        if is_one_file(store, name, file)? {
+            return Ok(true);
+        }
+    }
+    Ok(false)
 }
 
 /// The load file of the object files named `files`. With `strip`, symbols and debug blocks are left

@@ -229,8 +229,11 @@ impl<'a> Files for FakeFiles<'a> {
     }
 
     fn canonicalize<B: Allocator>(&self, alloc: B, path: &str) -> io::Result<PathBuf<B>> {
+        if let Some(kind) = self.log.faults.canonicalize.get() {
+            return failed(kind);
+        }
         let target = followed(path);
-        if self.log.faults.canonicalize.get() || self.kind(target)?.is_none() {
+        if self.kind(target)?.is_none() {
             return failed(ErrorKind::NotFound);
         }
         Ok(PathBuf::from_str(alloc, target)?)

@@ -115,8 +115,12 @@ impl Seek for Handle<'_> {
 }
 
 impl OpenFile for Handle<'_> {
+    // An open file tells what it is, also one of which its name tells nothing.
     fn metadata(&self) -> io::Result<Metadata> {
-        metadata_of(self.kind)
+        match self.log.faults.metadata.get() {
+            Some(kind) => Err(io::Error::from(kind)),
+            None => Ok(metadata_of(self.kind).unwrap_or(Metadata::of_symlink(0))),
+        }
     }
 
     fn set_len(&self, _size: u64) -> io::Result<()> {

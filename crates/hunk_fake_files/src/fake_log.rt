@@ -21,8 +21,10 @@ pub struct Faults {
     pub rename: Cell<Option<ErrorKind>>,
     /// Whether a file fails to reach the disk.
     pub sync: Cell<bool>,
-    /// Whether the path that a name leads to cannot be told.
-    pub canonicalize: Cell<bool>,
+    /// Why the path that a name leads to cannot be told, if none can.
+    pub canonicalize: Cell<Option<ErrorKind>>,
+    /// Why an open file does not tell what it is, if none does.
+    pub metadata: Cell<Option<ErrorKind>>,
 }
 
 /// What was done with files.
@@ -61,7 +63,8 @@ impl Faults {
             new_file: Cell::new(None),
             rename: Cell::new(None),
             sync: Cell::new(false),
-            canonicalize: Cell::new(false),
+            canonicalize: Cell::new(None),
+            metadata: Cell::new(None),
         }
     }
 }

@@ -165,8 +165,8 @@ impl<'m> Store for MemoryStore<'m> {
         true
     }
 
-    fn is_one_file(&self, first: &str, second: &str) -> bool {
-        first == second
+    fn is_one_file(&self, first: &str, second: &str) -> Result<bool, AllocError> {
+        Ok(first == second)
     }
 
     ghost name_hasher = { λ store. keyless };

@@ -10,11 +10,11 @@ use crate::open_fault::reason_of;
 use hunk_tool::OpenFault;
 use hunk_words::Watched;
 use std::alloc::{AllocError, Global};
-use std::fs;
 use std::fs::{OpenFile, OpenOptions, Permissions};
 use std::io::{BufWriter, ErrorKind, Write};
 use std::path::Path;
 use std::rt::Files;
+use std::{fs, io};
 
 /// How many names are tried for a new file.
 const MOST_NAMES: u32 = 10_000;
@@ -98,6 +98,15 @@ impl From<AllocError> for NoNewFile {
     }
 }
 
+impl From<io::Error> for NoNewFile {
+    fn from(error: io::Error) -> NoNewFile {
+        match error.kind() {
+            ErrorKind::OutOfMemory => NoNewFile::OutOfMemory,
+            _ => NoNewFile::Refused(reason_of(&error)),
+        }
+    }
+}
+
 /// Creates a file in the directory of `target`, under the first name that no file has there. Returns
 /// it and its path.
 fn create_beside<R: Files + AllocGlobal>(
@@ -113,7 +122,7 @@ fn create_beside<R: Files + AllocGlobal>(
         {
             Ok(file) => return Ok((file, path)),
             Err(error) if error.kind() == ErrorKind::AlreadyExists => {}
-            Err(error) => return Err(NoNewFile::Refused(reason_of(&error))),
+            Err(error) => return Err(NoNewFile::from(error)),
         }
     }
     Err(NoNewFile::Refused(OpenFault::Unknown))

@@ -12,8 +12,9 @@ use crate::open_fault::reason_of;
 use hunk_tool::{OpenFault, ToolFault};
 use hunk_words::{DeviceFault, Sink};
 use std::alloc::{AllocError, Global};
-use std::fs::{OpenFile, OpenOptions};
+use std::fs::{OpenFile, OpenOptions, Permissions};
 use std::io::{ErrorKind, Write};
+use std::path::PathBuf;
 use std::rt::Files;
 use std::{fs, io};
 
@@ -276,15 +277,32 @@ fn begin<R: Files + AllocGlobal>(rt: &R, name: &str) -> Place<R::File>
 fn begin_over<R: Files + AllocGlobal>(rt: &R, name: &str, old: R::File) -> Place<R::File>
     ensures { IsFresh result }
 {
-    let Some(metadata) = old.metadata().ok().filter(|it| it.is_file()) else {
-        return in_memory(rt.alloc(), Some(old));
+    match old.metadata() {
+        Ok(metadata) if metadata.is_file() => {
+            // It takes none of the files that may be open at once.
+            drop(old);
+            begin_beside(rt, name, metadata.permissions())
+        }
+        Ok(_) => in_memory(rt.alloc(), Some(old)),
+        // What may be a regular file is not written as a device is.
+        Err(error) => Place::Nowhere(reason_of(&error)),
+    }
+}
+
+/// Begins what replaces a regular file with these permissions.
+fn begin_beside<R: Files + AllocGlobal>(
+    rt: &R,
+    name: &str,
+    permissions: Permissions,
+) -> Place<R::File>
+    ensures { IsFresh result }
+{
+    let beside = match target_of(rt, name) {
+        Ok(Some(target)) => NewFile::beside(rt, target.as_str(), Some(permissions)),
+        Ok(None) => NewFile::beside(rt, name, Some(permissions)),
+        Err(reason) => Err(reason),
     };
-    // It takes none of the files that may be open at once.
-    drop(old);
-    let Ok(target) = fs::canonicalize(rt, name) else {
-        return in_memory(rt.alloc(), None);
-    };
-    match NewFile::beside(rt, target.as_str(), Some(metadata.permissions())) {
+    match beside {
         Ok(file) => Place::Beside(file),
         Err(NoNewFile::OutOfMemory) => Place::Exhausted,
         // It is written in place only if the directory takes no file: what else is in the way, such as a
@@ -293,6 +311,15 @@ fn begin_over<R: Files + AllocGlobal>(rt: &R, name: &str, old: R::File) -> Place
             in_memory(rt.alloc(), None),
         Err(NoNewFile::Refused(reason)) => Place::Nowhere(reason),
     }
+}
+
+/// The path of the file that a symbolic link with this name leads to. `None` if the name is that of the file
+/// itself: then a new file takes its place under this name, whatever the directories are that lead to it.
+fn target_of<R: Files + AllocGlobal>(rt: &R, name: &str) -> Result<Option<PathBuf>, NoNewFile> {
+    if !fs::symlink_metadata(rt, name)?.is_symlink() {
+        return Ok(None);
+    }
+    Ok(Some(fs::canonicalize(rt, name)?))
 }
 
 /// Begins a file that is not there yet.

@@ -1,7 +1,9 @@
 //! Whether two names are of one file.
-ghost use Rattle.std.specs.Prelude.{◌≡◌, true};
+ghost use Rattle.std.specs.Prelude.{◌≡◌, Ok, true};
 
+use std::alloc::AllocError;
 use std::fs;
+use std::io::ErrorKind;
 use std::os::unix::fs::MetadataExt;
 use std::path::{Path, PathBuf};
 use std::rt::Files;
@@ -11,24 +13,36 @@ const MOST_LINKS: u32 = 40;
 
 /// Whether two names are of one file, as far as the system tells: they are equal; or lead to one file,
 /// by links of any kind; or there is no file yet, and they lead to one name in one directory.
-pub fn is_one_file<R: Files + AllocGlobal>(rt: &R, first: &str, second: &str) -> bool
-    ensures { first.now ≡ second.now → result ≡ true }
+///
+/// # Errors
+///
+/// [`AllocError`] if an allocation failed.
+pub fn is_one_file<R: Files + AllocGlobal>(
+    rt: &R,
+    first: &str,
+    second: &str,
+) -> Result<bool, AllocError>
+    ensures { first.now ≡ second.now → result ≡ Ok true }
 {
     if first == second {
-        return true;
+        return Ok(true);
     }
     match (identity(rt, first), identity(rt, second)) {
-        (Some(first), Some(second)) => first == second,
+        (Some(first), Some(second)) => Ok(first == second),
         (None, None) => is_one_place(rt, first, second),
-        _ => false,
+        _ => Ok(false),
     }
 }
 
 /// Whether two names, of which neither leads to a file, lead to one name in one directory.
-fn is_one_place<R: Files + AllocGlobal>(rt: &R, first: &str, second: &str) -> bool {
-    match (followed(rt, first), followed(rt, second)) {
-        (Some(first), Some(second)) => is_one_path(rt, first.as_path(), second.as_path()),
-        _ => false,
+fn is_one_place<R: Files + AllocGlobal>(
+    rt: &R,
+    first: &str,
+    second: &str,
+) -> Result<bool, AllocError> {
+    match (followed(rt, first)?, followed(rt, second)?) {
+        (Some(first), Some(second)) => Ok(is_one_path(rt, first.as_path(), second.as_path())),
+        _ => Ok(false),
     }
 }
 
@@ -44,18 +58,23 @@ fn is_one_path<R: Files>(rt: &R, first: Path<'_>, second: Path<'_>) -> bool {
 }
 
 /// The path that a name leads to by symbolic links, of which the last leads to no file.
-fn followed<R: Files + AllocGlobal>(rt: &R, name: &str) -> Option<PathBuf> {
+fn followed<R: Files + AllocGlobal>(rt: &R, name: &str) -> Result<Option<PathBuf>, AllocError> {
     let alloc = rt.alloc();
-    let mut path = PathBuf::from_str(alloc, name).ok()?;
+    let mut path = PathBuf::from_str(alloc, name)?;
     for _ in 0..MOST_LINKS {
-        let Ok(target) = fs::read_link(rt, path.as_path()) else {
-            return Some(path);
+        let target = match fs::read_link(rt, path.as_path()) {
+            Ok(target) => target,
+            Err(error) if error.kind() == ErrorKind::OutOfMemory => return Err(AllocError),
+            // There is no link.
+            Err(_) => return Ok(Some(path)),
         };
-        let folder = path.as_path().parent()?;
-        let next = folder.join(alloc, target.as_path()).ok()?;
+        let Some(folder) = path.as_path().parent() else {
+            return Ok(None);
+        };
+        let next = folder.join(alloc, target.as_path())?;
         path = next;
     }
-    None
+    Ok(None)
 }
 
 /// The directory of a path.

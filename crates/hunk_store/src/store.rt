@@ -1,6 +1,6 @@
 //! The files that the program reads and replaces.
 
-ghost use Rattle.std.specs.Prelude.{◌≡◌, ◌≢◌, true, false, IfErr, IfOk, OnErr, OnOk};
+ghost use Rattle.std.specs.Prelude.{◌≡◌, ◌≢◌, true, false, IfErr, IfOk, Ok, OnErr, OnOk};
 ghost use Rattle.hunk_link.specs.declared.name_hasher.NameHasher.{NameHasher as Hasher};
 ghost use Rattle.hunk_store.specs.Store.{AreUnchanged, HasRun, IsBegun, IsCauseOf, IsKnown, IsReplaced};
 
@@ -20,10 +20,14 @@ pub trait Store: FileSystem {
     fn can_be_opened_again(&self, file: &Self::File) -> bool;
 
     /// Whether two names are of one file.
-    fn is_one_file(&self, first: &str, second: &str) -> bool
-        ensures same { first.now ≡ second.now → result ≡ true }
-        ensures apart { IsKnown (Self.content self.now first.now) →
-            first.now ≢ second.now → result ≡ false };
+    ///
+    /// # Errors
+    ///
+    /// [`AllocError`] if an allocation failed.
+    fn is_one_file(&self, first: &str, second: &str) -> Result<bool, AllocError>
+        ensures same { first.now ≡ second.now → result ≡ Ok true }
+        ensures apart { IsKnown (Self.content self.now first.now) → first.now ≢ second.now →
+            IfOk result (λ is. is ≡ false) };
 
     ghost name_hasher: { Self → Hasher };
 

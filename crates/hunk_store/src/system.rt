@@ -69,8 +69,11 @@ impl<'r, R: Files + Print + AllocGlobal> Store for System<'r, R> {
         file.is_regular()
     }
 
-    fn is_one_file(&self, first: &str, second: &str) -> bool {
-        first == second || is_one_file(self.rt, path_written(first), path_written(second))
+    fn is_one_file(&self, first: &str, second: &str) -> Result<bool, AllocError> {
+        if first == second {
+            return Ok(true);
+        }
+        is_one_file(self.rt, path_written(first), path_written(second))
     }
 
     ghost name_hasher = { λ system. system.hasher };

@@ -12,6 +12,7 @@
 //! - `outcomes`: assertions about how a request ends, and about what was done with files.
 //! - `replacements`: each way in which a load file takes the place of another file.
 //! - `systems`: requests and commands over the files of a system.
+//! - `untold`: links to an OUT of which the system does not tell what it is, or where.
 
 mod asserts;
 mod copies;
@@ -25,3 +26,4 @@ mod maps;
 mod outcomes;
 mod replacements;
 mod systems;
+mod untold;
