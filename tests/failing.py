@@ -13,11 +13,8 @@ import tempfile
 from typing import NamedTuple
 
 import memory
-import model
-import trees
 from harness import BAD_WORDS, DEVICE, DONE, NO_MEMORY, REFUSED, equals, test
-from memory import OLD, TOLD, write_files
-from model import CODE, END, HEADER, RELOC32, words
+from memory import OLD, TOLD, write_files, write_linked
 from runs import LOAD_FILE
 from sources import TOP
 from surveys import LOADED, OBJECT
@@ -104,13 +101,13 @@ def is_done_or_told(program, command, kinds, faults, ended, names):
         program.write(name, OLD)
 
 
-def fails_one_by_one(program, command, kinds=KINDS):
+def fails_one_by_one(program, command):
     """Each call of each kind fails, alone and then with all later ones. Returns how many there are of each kind, as often as it is
     the only one that fails."""
     for name in command.writes:
         program.write(name, OLD)
     names, counts = sorted(os.listdir(program.folder)), {}
-    for kind, later in itertools.product(kinds, ("", "+")):
+    for kind, later in itertools.product(KINDS, ("", "+")):
         for number in itertools.count(1):
             faults = f"{kind}:{number}{later}"
             ended, was_called = run(program, faults, command)
@@ -184,9 +181,7 @@ def a_refusal_is_explained_or_a_line_tells_why_not(program):
 
 def linked(program):
     """Links of x.o and y.o to OUT, with a map and without, and copies of x."""
-    units = write_files(program)
-    out = words(HEADER, 0, 2, 0, 1, 1, 2, CODE, 1, 0x4E714E71 + 4, RELOC32, 1, 1, 0, 0, END, CODE, 2, 7, 8, RELOC32, 1, 0, 4, 0, END)
-    map_ = model.map_of([("x.o", units[:1]), ("y.o", units[1:])]).encode()
+    out, map_ = write_linked(program)
     program.write("list", b"x.o\0y.o\0")
     done = (DONE, "", "")
     yield Command(("link", "--out", "out", "x.o", "y.o"), done, ("x.o", "y.o"), {"out": out})

@@ -195,12 +195,17 @@ def out_is_old_or_new(program, steps, new, map_, *files, before=None):
         falls(program, least, steps, (DONE, "", ""), ("link", "--out", "out", *more, *files), before=before, after=compare)
 
 
-@test
-def with_little_memory_out_is_old_or_new(program):
+def write_linked(program):
+    """Writes the files, and returns the load file of x.o and y.o, and its map."""
     units = write_files(program)
     # The first hunk adds 4 and the address of the second at its first byte, and the second that of the first at its last longword.
-    new = words(HEADER, 0, 2, 0, 1, 1, 2, CODE, 1, 0x4E714E71 + 4, RELOC32, 1, 1, 0, 0, END, CODE, 2, 7, 8, RELOC32, 1, 0, 4, 0, END)
-    map_ = model.map_of([("x.o", units[:1]), ("y.o", units[1:])]).encode()
+    out = words(HEADER, 0, 2, 0, 1, 1, 2, CODE, 1, 0x4E714E71 + 4, RELOC32, 1, 1, 0, 0, END, CODE, 2, 7, 8, RELOC32, 1, 0, 4, 0, END)
+    return out, model.map_of([("x.o", units[:1]), ("y.o", units[1:])]).encode()
+
+
+@test
+def with_little_memory_out_is_old_or_new(program):
+    new, map_ = write_linked(program)
     out_is_old_or_new(program, STEPS, new, map_, "x.o", "y.o")
 
 
