@@ -7,7 +7,7 @@ use Rattle.std.specs.List.{zip}
 use Rattle.hunk_words.specs.EventValue.{EventValue, step, on_last}
 use Rattle.hunk_base.specs.Name.{bytes_of}
 use Rattle.hunk_words.specs.SiteContext.{SameSites}
-use Rattle.hunk_words.specs.PartialHunk.{HoldsSites, begun_hunk, hunk_with_site}
+use Rattle.hunk_words.specs.PartialHunk.{HoldsSites, HunkSoFar, begun_hunk, hunk_with_site}
 use Rattle.hunk_base.specs.Sites.{AreApart}
 use Rattle.hunk_words.specs.Taker.{JudgesSite}
 use Rattle.hunk_words.specs.Values.{Hunk, Part}
@@ -25,7 +25,6 @@ use Rattle.hunk_words.specs.SiteContext.{context_with}
 use Rattle.hunk_loader.specs.ImageBuilder.{BuilderState, Holds, Loads, IsUnplaced, Shows, ShowsNone, ShowsOpen, TakesEvent, KeepsHunk, bytes_loaded}
 use Rattle.hunk_loader.specs.Placing.{Decides, Settled}
 use Rattle.hunk_loader.specs.Loading.{loaded, loaded_bytes}
-use Rattle.hunk_loader.specs.OpenImage.{CountedHunk}
 use Rattle.hunk_loader.specs.declared.placing.Placing.{Placing}
 use Rattle.hunk_loader.specs.declared.placing.Placing.TheVariants.{Unknown, Placed, Refused}
 use Rattle.hunk_loader.proofs.ImageBuilderLemmas.{Holds-shows, same-current, same-part}
@@ -33,17 +32,14 @@ use Rattle.hunk_loader.proofs.ImageBuilderLemmas.{Holds-shows, same-current, sam
 -- ---- a hunk that begins
 
 -- a hunk of which nothing is known yet
-abbrev pub begun_open : BuilderState → CountedHunk
-begun_open m = record { partial = begun_hunk (4 * slice_index m.sizes m.ended); count = length m.sizes }
+abbrev pub begun_open : BuilderState → HunkSoFar ℕ
+begun_open m = begun_hunk (4 * slice_index m.sizes m.ended)
 
 abbrev pub with_begun : BuilderState → Placing → BuilderState
 with_begun m p = record m { placing = p; current = Some (begun_open m) }
 
-pub begun-is : (m : BuilderState) (p : Placing) (o : CountedHunk) (size count : ℕ) → o ≡ record { partial = begun_hunk (4 * size); count = count }
-    → size ≡ slice_index m.sizes m.ended → count ≡ length m.sizes → record m { placing = p; current = Some o } ≡ with_begun m p
-begun-is m p o size count is size_is count_is =
-    same-current (record m { placing = p }) o (begun_open m)
-    (is ∙ ap (λ n. record { partial = begun_hunk (4 * n); count = count }) size_is ∙ ap (λ n. record { partial = begun_hunk (4 * slice_index m.sizes m.ended); count = n }) count_is)
+pub begun-is : (m : BuilderState) (p : Placing) (o : HunkSoFar ℕ) (size : ℕ) → o ≡ begun_hunk (4 * size) → size ≡ slice_index m.sizes m.ended → record m { placing = p; current = Some o } ≡ with_begun m p
+begun-is m p o size is size_is = same-current (record m { placing = p }) o (begun_open m) (is ∙ ap (λ n. begun_hunk (4 * n)) size_is)
 
 pub file_hunks-none : (ss : List (ℕ × ℕ)) → file_hunks ss [] ≡ []
 file_hunks-none [] = refl
@@ -89,11 +85,10 @@ Holds-begin m p b w kind bits size none within settled h =
       shows = record {
         words = refl;
         sites = ap (λ ss. with_sites [] ss) (sym s.sites);
-        holds = record { same_limit = limit; same_sites = subst (λ seen. SameSites seen (begun_open m).partial.sites.entries) (sym s.seen) SameSites-none };
+        holds = record { same_limit = limit; same_sites = subst (λ seen. SameSites seen (begun_open m).sites.entries) (sym s.seen) SameSites-none };
         limit = refl;
         within = subst (λ n. n < length w.position.sizes) h.ended (subst (λ ss. m.ended < length ss) h.sizes within);
         apart = tt;
-        count = ap length h.sizes;
         content = λ placed. ap bytes_of (sym s.content);
         none = λ unplaced. refl;
         fits = omega arith;
@@ -111,11 +106,11 @@ TakesEvent-begin m n p kind bits size none within settled is = record {
 -- ---- sites
 
 -- the hunk with one more site
-abbrev pub with_one : CountedHunk → ℕ → ℕ → CountedHunk
-with_one o at target = record o { partial = hunk_with_site o.partial at target }
+abbrev pub with_one : HunkSoFar ℕ → ℕ → ℕ → HunkSoFar ℕ
+with_one o at target = hunk_with_site o at target
 
-Holds-site : (m : BuilderState) (b : EventValue) (w : SiteContext) (o : CountedHunk) (at target : ℕ) → m.current ≡ Some o
-    → HoldsSites w.position.limit (at ∷ w.seen) (with_one o at target).partial → AreApart (with_one o at target).partial.sites
+Holds-site : (m : BuilderState) (b : EventValue) (w : SiteContext) (o : HunkSoFar ℕ) (at target : ℕ) → m.current ≡ Some o
+    → HoldsSites w.position.limit (at ∷ w.seen) (with_one o at target) → AreApart (with_one o at target).sites
     → Holds m b w → Holds (record m { current = Some (with_one o at target) }) (step b (event.Site at target)) (context_with Load w (event.Site at target))
 Holds-site m b w o at target current holds apart h =
     let s : ShowsOpen m.placing o b w = subst (λ q. Shows m.placing q b w) current h.shows in
@@ -126,16 +121,15 @@ Holds-site m b w o at target current holds apart h =
       limit = s.limit;
       within = s.within;
       apart = apart;
-      count = s.count;
       content = s.content;
       none = s.none;
       fits = s.fits;
     })
 
-pub TakesEvent-site : (m : BuilderState) (o n : CountedHunk) (answer : Result (Unit {0}) SiteRefusal) (at target : ℕ) → m.current ≡ Some o
-    → OnOk answer (n ≡ with_one o at target) → OnErr answer (n ≡ o) → (AreApart o.partial.sites → AreApart n.partial.sites)
-    → ((limit : ℕ) (seen : List ℕ) → HoldsSites limit seen o.partial → OnOk answer (HoldsSites limit (at ∷ seen) n.partial))
-    → ((limit : ℕ) (seen : List ℕ) → HoldsSites limit seen o.partial → JudgesSite limit seen at answer)
+pub TakesEvent-site : (m : BuilderState) (o n : HunkSoFar ℕ) (answer : Result (Unit {0}) SiteRefusal) (at target : ℕ) → m.current ≡ Some o
+    → OnOk answer (n ≡ with_one o at target) → OnErr answer (n ≡ o) → (AreApart o.sites → AreApart n.sites)
+    → ((limit : ℕ) (seen : List ℕ) → HoldsSites limit seen o → OnOk answer (HoldsSites limit (at ∷ seen) n))
+    → ((limit : ℕ) (seen : List ℕ) → HoldsSites limit seen o → JudgesSite limit seen at answer)
     → TakesEvent m (record m { current = Some n }) answer (event.Site at target)
 TakesEvent-site m o n answer at target current adds refused apart holds judges = record {
   takes = λ b w h. taken answer adds b w h (holds w.position.limit w.seen (shown b w h).holds) (apart (shown b w h).apart);
@@ -147,10 +141,10 @@ TakesEvent-site m o n answer at target current adds refused apart holds judges =
     shown : (b : EventValue) (w : SiteContext) → Holds m b w → ShowsOpen m.placing o b w
     shown b w h = subst (λ q. Shows m.placing q b w) current h.shows
 
-    taken : (r : Result (Unit {0}) SiteRefusal) → OnOk r (n ≡ with_one o at target) → (b : EventValue) (w : SiteContext) → Holds m b w → OnOk r (HoldsSites w.position.limit (at ∷ w.seen) n.partial) → AreApart n.partial.sites
+    taken : (r : Result (Unit {0}) SiteRefusal) → OnOk r (n ≡ with_one o at target) → (b : EventValue) (w : SiteContext) → Holds m b w → OnOk r (HoldsSites w.position.limit (at ∷ w.seen) n) → AreApart n.sites
         → OnOk r (Holds (record m { current = Some n }) (step b (event.Site at target)) (context_with Load w (event.Site at target)))
     taken (Ok d) is b w h holds apart = subst (λ q. Holds (record m { current = Some q }) (step b (event.Site at target)) (context_with Load w (event.Site at target))) (sym is)
-        (Holds-site m b w o at target current (subst (λ q. HoldsSites w.position.limit (at ∷ w.seen) q.partial) is holds) (subst (λ q. AreApart q.partial.sites) is apart) h)
+        (Holds-site m b w o at target current (subst (λ q. HoldsSites w.position.limit (at ∷ w.seen) q) is holds) (subst (λ q. AreApart q.sites) is apart) h)
     taken (Err e) is b w h holds apart = tt
 
     left : (r : Result (Unit {0}) SiteRefusal) → OnErr r (n ≡ o) → (b : EventValue) (w : SiteContext) → Holds m b w → OnErr r (Holds (record m { current = Some n }) b w)
@@ -183,7 +177,7 @@ with_ended m made = record m { made = made; current = None; ended = m.ended + 1 
 ended-part : (b : EventValue) (p : Part) → b.parts ≡ p ∷ [] → (step b event.HunkEnd).parts ≡ record p { hunks = p.hunks ++ (b.hunk ∷ []) } ∷ []
 ended-part b p is = ap (λ ps. on_last (λ q. record q { hunks = q.hunks ++ (b.hunk ∷ []) }) ps) is
 
-Holds-end : (m : BuilderState) (made : List (ℕ × List ℕ)) (b : EventValue) (w : SiteContext) (o : CountedHunk) → m.current ≡ Some o → (h : Holds m b w)
+Holds-end : (m : BuilderState) (made : List (ℕ × List ℕ)) (b : EventValue) (w : SiteContext) (o : HunkSoFar ℕ) → m.current ≡ Some o → (h : Holds m b w)
     → Loads m.placing (with_ended m made) (step b event.HunkEnd) (h.part.hunks ++ (b.hunk ∷ []))
     → Holds (with_ended m made) (step b event.HunkEnd) (context_with Load w event.HunkEnd)
 Holds-end m made b w o current h loads =
@@ -211,14 +205,14 @@ end-placed Unknown m made b hs is l next = cc
 end-placed Placed m made b hs is l next = (l.0, next l.1)
 end-placed (Refused fault) m made b hs is l next = cc
 
-bytes_loaded-current : (bases : List ℕ) (p : Placing) (o : CountedHunk) (b : EventValue) (w : SiteContext) → p ≡ Placed → ShowsOpen p o b w → bytes_loaded bases o ≡ hunk_loaded bases (slice_index w.position.sizes w.position.ended) b.hunk
+bytes_loaded-current : (bases : List ℕ) (p : Placing) (o : HunkSoFar ℕ) (b : EventValue) (w : SiteContext) → p ≡ Placed → ShowsOpen p o b w → bytes_loaded bases o ≡ hunk_loaded bases (slice_index w.position.sizes w.position.ended) b.hunk
 bytes_loaded-current bases p o b w placed s =
     let sites = s.sites in
     let content = s.content placed in
-    let limit : o.partial.sites.limit ≡ 4 * slice_index w.position.sizes w.position.ended = s.holds.same_limit ∙ s.limit in
+    let limit : o.sites.limit ≡ 4 * slice_index w.position.sizes w.position.ended = s.holds.same_limit ∙ s.limit in
     rw (sites, content, limit) refl
 
-made-end : (m : BuilderState) (b : EventValue) (w : SiteContext) (o : CountedHunk) (h : Holds m b w) → m.placing ≡ Placed → m.ended < length m.bases → ShowsOpen m.placing o b w
+made-end : (m : BuilderState) (b : EventValue) (w : SiteContext) (o : HunkSoFar ℕ) (h : Holds m b w) → m.placing ≡ Placed → m.ended < length m.bases → ShowsOpen m.placing o b w
     → m.made ≡ loaded (file_hunks b.sizes h.part.hunks) m.bases
     → m.made ++ ((slice_index m.bases m.ended, bytes_loaded m.bases o) ∷ []) ≡ loaded (file_hunks b.sizes (h.part.hunks ++ (b.hunk ∷ []))) m.bases
 made-end m b w o h placed based s is =
@@ -232,7 +226,7 @@ made-end m b w o h placed based s is =
     ∙ ap (λ i. loaded (file_hunks b.sizes hs) m.bases ++ ((slice_index m.bases i, hunk_loaded m.bases (slice_index (map (λ s. s.1) b.sizes) (length hs)) b.hunk) ∷ [])) (sym at)
     ∙ sym (loaded_at-append m.bases m.bases b.sizes hs b.hunk sized (omega (arith, at, based)))
 
-pub TakesEvent-end-unplaced : (m n : BuilderState) (o : CountedHunk) → m.placing ≢ Placed → m.current ≡ Some o → n ≡ with_ended m m.made → TakesEvent m n (Ok tt) event.HunkEnd
+pub TakesEvent-end-unplaced : (m n : BuilderState) (o : HunkSoFar ℕ) → m.placing ≢ Placed → m.current ≡ Some o → n ≡ with_ended m m.made → TakesEvent m n (Ok tt) event.HunkEnd
 TakesEvent-end-unplaced m n o unplaced current is = record {
   takes = λ b w h. subst (λ q. Holds q (step b event.HunkEnd) (context_with Load w event.HunkEnd)) (sym is)
       (Holds-end m m.made b w o current h (end-unplaced m.placing m b (step b event.HunkEnd) h.part.hunks (h.part.hunks ++ (b.hunk ∷ [])) unplaced (λ none. let wrong : Some o ≡ None = sym current ∙ none in cc) h.loads));

@@ -10,7 +10,7 @@ use Rattle.hunk_words.specs.EventValue.{EventValue, Receiver, value_of_events, s
 use Rattle.hunk_words.specs.EventValue.Receiver.{nothing_more, to_unit_name, to_name, to_content, to_debug, to_symbol, to_entry}
 use Rattle.hunk_base.specs.Name.{bytes_of}
 use Rattle.hunk_words.specs.Event.{word_events}
-use Rattle.hunk_words.specs.PartialHunk.{goes_to_content, hunk_with_bytes, hunk_with_word}
+use Rattle.hunk_words.specs.PartialHunk.{HunkSoFar, goes_to_content, hunk_with_bytes, hunk_with_word}
 use Rattle.hunk_words.specs.Taker.{Judges, context_of}
 use Rattle.hunk_words.specs.Values.{Hunk, Part}
 use Rattle.hunk_words.specs.SiteContext.{SiteContext, initial_context}
@@ -24,16 +24,15 @@ use Rattle.hunk_words.proofs.TakerLemmas.{value_of_events-append, context_after-
 use Rattle.hunk_loadfile.specs.LoadFile.{with_sites}
 use Rattle.hunk_words.specs.SiteContext.{context_with}
 use Rattle.hunk_loader.specs.ImageBuilder.{BuilderState, Holds, Loads, Shows, ShowsNone, ShowsOpen, StandsFor, TakesEvent, TakesRun, passed}
-use Rattle.hunk_loader.specs.OpenImage.{CountedHunk}
 use Rattle.hunk_loader.specs.declared.placing.Placing.{Placing}
 use Rattle.hunk_loader.specs.declared.placing.Placing.TheVariants.{Unknown, Placed, Refused}
 
 -- ---- the same, with a current hunk
 
-pub with-current : (m : BuilderState) (o : Option CountedHunk) → m.current ≡ o → record m { current = o } ≡ m
+pub with-current : (m : BuilderState) (o : Option (HunkSoFar ℕ)) → m.current ≡ o → record m { current = o } ≡ m
 with-current m o is = ap (λ q. record m { current = q }) (sym is)
 
-pub same-current : (m : BuilderState) (p q : CountedHunk) → p ≡ q → record m { current = Some p } ≡ record m { current = Some q }
+pub same-current : (m : BuilderState) (p q : HunkSoFar ℕ) → p ≡ q → record m { current = Some p } ≡ record m { current = Some q }
 same-current m p q is = ap (λ o. record m { current = Some o }) is
 
 -- ---- events that were taken, and one more
@@ -77,7 +76,7 @@ Loads-same Placed m n b c hs gs is none sizes hunks l = rw (is, sizes, hunks) l
 Loads-same (Refused fault) m n b c hs gs is none sizes hunks l = rw is l
 
 -- the current hunk, if words go past it or go where they went
-Shows-same : (p : Placing) (o : Option CountedHunk) (b c : EventValue) (w : SiteContext) → SameShown b c → goes_to_content c.receiver ≡ goes_to_content b.receiver → Shows p o b w → Shows p o c w
+Shows-same : (p : Placing) (o : Option (HunkSoFar ℕ)) (b c : EventValue) (w : SiteContext) → SameShown b c → goes_to_content c.receiver ≡ goes_to_content b.receiver → Shows p o b w → Shows p o c w
 Shows-same p None b c w same words s = record { content = same.content ∙ s.content; sites = same.sites ∙ s.sites; words = words ∙ s.words; seen = s.seen }
 Shows-same p (Some o) b c w same words s = record {
   words = s.words ∙ sym words;
@@ -86,13 +85,12 @@ Shows-same p (Some o) b c w same words s = record {
   within = s.within;
   holds = s.holds;
   apart = s.apart;
-  count = s.count;
   content = λ is. s.content is ∙ ap bytes_of (sym same.content);
   none = s.none;
   fits = s.fits;
 }
 
-Shows-passed : (p : Placing) (o : Option CountedHunk) (b c : EventValue) (w : SiteContext) → SameShown b c → goes_to_content c.receiver ≡ false → Shows p o b w → Shows p (passed o) c w
+Shows-passed : (p : Placing) (o : Option (HunkSoFar ℕ)) (b c : EventValue) (w : SiteContext) → SameShown b c → goes_to_content c.receiver ≡ false → Shows p o b w → Shows p (passed o) c w
 Shows-passed p None b c w same words s = record { content = same.content ∙ s.content; sites = same.sites ∙ s.sites; words = words; seen = s.seen }
 Shows-passed p (Some o) b c w same words s = record {
   words = sym words;
@@ -101,14 +99,13 @@ Shows-passed p (Some o) b c w same words s = record {
   within = s.within;
   holds = record { same_limit = s.holds.same_limit; same_sites = s.holds.same_sites };
   apart = s.apart;
-  count = s.count;
   content = λ is. s.content is ∙ ap bytes_of (sym same.content);
   none = s.none;
   fits = s.fits;
 }
 
 -- If the hunks that have ended are as they were, only the current hunk is left to show.
-pub Holds-shows : (m : BuilderState) (o : Option CountedHunk) (b c : EventValue) (w : SiteContext) (seen : List ℕ) (h : Holds m b w) → (m.current ≡ None → o ≡ None) → c.sizes ≡ b.sizes → SamePart c.parts h.part → Shows m.placing o c (record { position = w.position; seen = seen })
+pub Holds-shows : (m : BuilderState) (o : Option (HunkSoFar ℕ)) (b c : EventValue) (w : SiteContext) (seen : List ℕ) (h : Holds m b w) → (m.current ≡ None → o ≡ None) → c.sizes ≡ b.sizes → SamePart c.parts h.part → Shows m.placing o c (record { position = w.position; seen = seen })
     → Holds (record m { current = o }) c (record { position = w.position; seen = seen })
 Holds-shows m o b c w seen h none sizes parts shows = record {
   sizes = h.sizes;
@@ -125,7 +122,7 @@ Holds-shows m o b c w seen h none sizes parts shows = record {
 Holds-same : (m : BuilderState) (b c : EventValue) (w : SiteContext) → SameShown b c → goes_to_content c.receiver ≡ goes_to_content b.receiver → Holds m b w → Holds m c w
 Holds-same m b c w same words h = Holds-shows m m.current b c w w.seen h (λ is. is) same.sizes (same.parts h.part h.parts) (Shows-same m.placing m.current b c w same words h.shows)
 
-passed-none : (o : Option CountedHunk) → o ≡ None → passed o ≡ None
+passed-none : (o : Option (HunkSoFar ℕ)) → o ≡ None → passed o ≡ None
 passed-none o is = ap passed is
 
 Holds-passed : (m : BuilderState) (b c : EventValue) (w : SiteContext) → SameShown b c → goes_to_content c.receiver ≡ false → Holds m b w → Holds (record m { current = passed m.current }) c w
@@ -245,7 +242,7 @@ step-content b n is = ap (λ r. word_to r b n) (receiver-content b.receiver is)
 Holds-word-unkept : (m : BuilderState) (b : EventValue) (w : SiteContext) (n : ℕ) → m.placing ≢ Placed → goes_to_content b.receiver ≡ true → Holds m b w → Holds m (with_word b n) w
 Holds-word-unkept m b w n unplaced is h = Holds-shows m m.current b (with_word b n) w w.seen h (λ none. none) refl (same-part h.part b.parts h.parts) (go m.current h.shows)
   where
-    go : (o : Option CountedHunk) → Shows m.placing o b w → Shows m.placing o (with_word b n) w
+    go : (o : Option (HunkSoFar ℕ)) → Shows m.placing o b w → Shows m.placing o (with_word b n) w
     go None s = let wrong : true ≡ false = sym is ∙ s.words in cc
     go (Some o) s = record {
       words = s.words;
@@ -254,28 +251,26 @@ Holds-word-unkept m b w n unplaced is h = Holds-shows m m.current b (with_word b
       within = s.within;
       holds = s.holds;
       apart = s.apart;
-      count = s.count;
       content = λ placed. absurd (unplaced placed);
       none = s.none;
       fits = s.fits;
     }
 
 -- the hunk with this much content
-abbrev with_content : CountedHunk → List ℕ → CountedHunk
-with_content o bytes = record o { partial = record o.partial { content = bytes } }
+abbrev with_content : HunkSoFar ℕ → List ℕ → HunkSoFar ℕ
+with_content o bytes = record o { content = bytes }
 
-Holds-word-kept : (m : BuilderState) (b : EventValue) (w : SiteContext) (n : ℕ) (o : CountedHunk) → m.placing ≡ Placed → m.current ≡ Some o → goes_to_content b.receiver ≡ true
-    → length (o.partial.content ++ big_bytes 4 n) ≤ o.partial.sites.limit → Holds m b w → Holds (record m { current = Some (with_content o (o.partial.content ++ big_bytes 4 n)) }) (with_word b n) w
+Holds-word-kept : (m : BuilderState) (b : EventValue) (w : SiteContext) (n : ℕ) (o : HunkSoFar ℕ) → m.placing ≡ Placed → m.current ≡ Some o → goes_to_content b.receiver ≡ true
+    → length (o.content ++ big_bytes 4 n) ≤ o.sites.limit → Holds m b w → Holds (record m { current = Some (with_content o (o.content ++ big_bytes 4 n)) }) (with_word b n) w
 Holds-word-kept m b w n o placed current is fits h =
     let s : ShowsOpen m.placing o b w = subst (λ q. Shows m.placing q b w) current h.shows in
-    Holds-shows m (Some (with_content o (o.partial.content ++ big_bytes 4 n))) b (with_word b n) w w.seen h (λ none. let wrong : Some o ≡ None = sym current ∙ none in cc) refl (same-part h.part b.parts h.parts) (record {
+    Holds-shows m (Some (with_content o (o.content ++ big_bytes 4 n))) b (with_word b n) w w.seen h (λ none. let wrong : Some o ≡ None = sym current ∙ none in cc) refl (same-part h.part b.parts h.parts) (record {
       words = s.words;
       sites = s.sites;
       holds = record { same_limit = s.holds.same_limit; same_sites = s.holds.same_sites };
       limit = s.limit;
       within = s.within;
       apart = s.apart;
-      count = s.count;
       content = λ q. ap (λ bytes. bytes ++ big_bytes 4 n) (s.content q) ∙ sym (bytes_of-append b.hunk.content n);
       none = λ q. absurd (q placed);
       fits = fits;
@@ -296,11 +291,11 @@ TakesEvent-word-unplaced m n k unplaced is = record {
 }
 
 -- no hunk has begun, or the next word is not content
-abbrev pub PassesWords : Option CountedHunk → Type 0
+abbrev pub PassesWords : Option (HunkSoFar ℕ) → Type 0
 PassesWords None = Unit {0}
-PassesWords (Some o) = o.partial.in_content ≡ false
+PassesWords (Some o) = o.in_content ≡ false
 
-words-pass : (p : Placing) (o : Option CountedHunk) (b : EventValue) (w : SiteContext) → PassesWords o → Shows p o b w → goes_to_content b.receiver ≡ false
+words-pass : (p : Placing) (o : Option (HunkSoFar ℕ)) (b : EventValue) (w : SiteContext) → PassesWords o → Shows p o b w → goes_to_content b.receiver ≡ false
 words-pass p None b w pass s = s.words
 words-pass p (Some o) b w pass s = sym s.words ∙ pass
 
@@ -312,8 +307,8 @@ TakesEvent-word-past m n k pass is = record {
   bases = ap (λ q. q.bases) is;
 }
 
-TakesEvent-word-kept : (m n : BuilderState) (k : ℕ) (o : CountedHunk) → m.placing ≡ Placed → m.current ≡ Some o → o.partial.in_content ≡ true → length (o.partial.content ++ big_bytes 4 k) ≤ o.partial.sites.limit
-    → n ≡ record m { current = Some (with_content o (o.partial.content ++ big_bytes 4 k)) } → TakesEvent m n (Ok tt) (event.Word k)
+TakesEvent-word-kept : (m n : BuilderState) (k : ℕ) (o : HunkSoFar ℕ) → m.placing ≡ Placed → m.current ≡ Some o → o.in_content ≡ true → length (o.content ++ big_bytes 4 k) ≤ o.sites.limit
+    → n ≡ record m { current = Some (with_content o (o.content ++ big_bytes 4 k)) } → TakesEvent m n (Ok tt) (event.Word k)
 TakesEvent-word-kept m n k o placed current words fits is = record {
   takes = λ b w holds. subst (λ q. Holds q (step b (event.Word k)) w) (sym is) (go b w holds);
   refuses = λ b w holds. tt;
@@ -321,21 +316,21 @@ TakesEvent-word-kept m n k o placed current words fits is = record {
   bases = ap (λ q. q.bases) is;
 }
   where
-    go : (b : EventValue) (w : SiteContext) → Holds m b w → Holds (record m { current = Some (with_content o (o.partial.content ++ big_bytes 4 k)) }) (step b (event.Word k)) w
+    go : (b : EventValue) (w : SiteContext) → Holds m b w → Holds (record m { current = Some (with_content o (o.content ++ big_bytes 4 k)) }) (step b (event.Word k)) w
     go b w h =
         let s : ShowsOpen m.placing o b w = subst (λ q. Shows m.placing q b w) current h.shows in
         let is_content : goes_to_content b.receiver ≡ true = sym s.words ∙ words in
-        subst (λ c. Holds (record m { current = Some (with_content o (o.partial.content ++ big_bytes 4 k)) }) c w) (sym (step-content b k is_content)) (Holds-word-kept m b w k o placed current is_content fits h)
+        subst (λ c. Holds (record m { current = Some (with_content o (o.content ++ big_bytes 4 k)) }) c w) (sym (step-content b k is_content)) (Holds-word-kept m b w k o placed current is_content fits h)
 
 -- the current hunk takes a word, and keeps it if it is content
-pub TakesEvent-word : (m : BuilderState) (k : ℕ) (o n : CountedHunk) (in_content : Bool) → o.partial.in_content ≡ in_content → m.placing ≡ Placed → m.current ≡ Some o → n ≡ record o { partial = hunk_with_word o.partial k }
-    → length n.partial.content ≤ n.partial.sites.limit → TakesEvent m (record m { current = Some n }) (Ok tt) (event.Word k)
+pub TakesEvent-word : (m : BuilderState) (k : ℕ) (o n : HunkSoFar ℕ) (in_content : Bool) → o.in_content ≡ in_content → m.placing ≡ Placed → m.current ≡ Some o → n ≡ hunk_with_word o k
+    → length n.content ≤ n.sites.limit → TakesEvent m (record m { current = Some n }) (Ok tt) (event.Word k)
 TakesEvent-word m k o n true words placed current adds fits =
-    let kept : n ≡ with_content o (o.partial.content ++ big_bytes 4 k) = adds ∙ ap (λ p. record o { partial = p }) (hunk_with_word-kept o.partial k words) in
-    TakesEvent-word-kept m (record m { current = Some n }) k o placed current words (subst (λ (q : CountedHunk). length q.partial.content ≤ q.partial.sites.limit) kept fits)
-    (same-current m n (with_content o (o.partial.content ++ big_bytes 4 k)) kept)
+    let kept : n ≡ with_content o (o.content ++ big_bytes 4 k) = adds ∙ hunk_with_word-kept o k words in
+    TakesEvent-word-kept m (record m { current = Some n }) k o placed current words (subst (λ (q : HunkSoFar ℕ). length q.content ≤ q.sites.limit) kept fits)
+    (same-current m n (with_content o (o.content ++ big_bytes 4 k)) kept)
 TakesEvent-word m k o n false words placed current adds fits =
-    let same : n ≡ o = adds ∙ ap (λ p. record o { partial = p }) (hunk_with_word-dropped o.partial k words) in
+    let same : n ≡ o = adds ∙ hunk_with_word-dropped o k words in
     TakesEvent-word-past m (record m { current = Some n }) k (subst PassesWords (sym current) words) (with-current m (Some n) (current ∙ ap (λ q. Some q) (sym same)))
 
 -- ---- a run of words
@@ -348,30 +343,30 @@ StandsFor-words (u ∷ us) m told passes h =
     (StandsFor-words us m (told ++ event.Word u ∷ []) passes (StandsFor-takes m m (Ok tt) (event.Word u) (passes u) told h))
 
 -- the current hunk with the bytes of words
-abbrev with_bytes : CountedHunk → List ℕ → CountedHunk
-with_bytes o bytes = record o { partial = hunk_with_bytes o.partial bytes }
+abbrev with_bytes : HunkSoFar ℕ → List ℕ → HunkSoFar ℕ
+with_bytes o bytes = hunk_with_bytes o bytes
 
-word-fits : (o : CountedHunk) (u : ℕ) (more : List ℕ) → length (with_bytes o (big_bytes 4 u ++ more)).partial.content ≤ o.partial.sites.limit → length (with_bytes o (big_bytes 4 u)).partial.content ≤ o.partial.sites.limit
-word-fits o u more fits = go o.partial.in_content fits
+word-fits : (o : HunkSoFar ℕ) (u : ℕ) (more : List ℕ) → length (with_bytes o (big_bytes 4 u ++ more)).content ≤ o.sites.limit → length (with_bytes o (big_bytes 4 u)).content ≤ o.sites.limit
+word-fits o u more fits = go o.in_content fits
   where
-    go : (kept : Bool) → length (if kept then o.partial.content ++ (big_bytes 4 u ++ more) else o.partial.content) ≤ o.partial.sites.limit → length (if kept then o.partial.content ++ big_bytes 4 u else o.partial.content) ≤ o.partial.sites.limit
-    go true within = omega (arith, within, length-append o.partial.content (big_bytes 4 u ++ more), length-append o.partial.content (big_bytes 4 u), length-append (big_bytes 4 u) more)
+    go : (kept : Bool) → length (if kept then o.content ++ (big_bytes 4 u ++ more) else o.content) ≤ o.sites.limit → length (if kept then o.content ++ big_bytes 4 u else o.content) ≤ o.sites.limit
+    go true within = omega (arith, within, length-append o.content (big_bytes 4 u ++ more), length-append o.content (big_bytes 4 u), length-append (big_bytes 4 u) more)
     go false within = within
 
 -- The current hunk takes words, and keeps their bytes if they are content.
-StandsFor-bytes : (us : List ℕ) (m : BuilderState) (o : CountedHunk) (told : List Event) → m.placing ≡ Placed → m.current ≡ Some o → length (with_bytes o (bytes_of us)).partial.content ≤ o.partial.sites.limit → StandsFor m told
+StandsFor-bytes : (us : List ℕ) (m : BuilderState) (o : HunkSoFar ℕ) (told : List Event) → m.placing ≡ Placed → m.current ≡ Some o → length (with_bytes o (bytes_of us)).content ≤ o.sites.limit → StandsFor m told
     → StandsFor (record m { current = Some (with_bytes o (bytes_of us)) }) (told ++ word_events us)
 StandsFor-bytes [] m o told placed current fits h =
-    subst (λ p. StandsFor (record m { current = Some (record o { partial = p }) }) (told ++ [])) (sym (hunk_with_bytes-none o.partial))
+    subst (λ p. StandsFor (record m { current = Some p }) (told ++ [])) (sym (hunk_with_bytes-none o))
     (subst (λ q. StandsFor q (told ++ [])) (sym (with-current m (Some o) current)) (subst (StandsFor m) (sym (append-nil told)) h))
 StandsFor-bytes (u ∷ us) m o told placed current fits h =
     let n = with_bytes o (big_bytes 4 u) in
     let next = record m { current = Some n } in
-    let taken = StandsFor-takes m next (Ok tt) (event.Word u) (TakesEvent-word m u o n o.partial.in_content refl placed current refl (word-fits o u (bytes_of us) fits)) told h in
-    let same : with_bytes n (bytes_of us) ≡ with_bytes o (bytes_of (u ∷ us)) = ap (λ p. record o { partial = p }) (hunk_with_bytes-more o.partial u (bytes_of us)) in
+    let taken = StandsFor-takes m next (Ok tt) (event.Word u) (TakesEvent-word m u o n o.in_content refl placed current refl (word-fits o u (bytes_of us) fits)) told h in
+    let same : with_bytes n (bytes_of us) ≡ with_bytes o (bytes_of (u ∷ us)) = hunk_with_bytes-more o u (bytes_of us) in
     subst (λ q. StandsFor (record m { current = Some q }) (told ++ word_events (u ∷ us))) same
     (subst (StandsFor (record m { current = Some (with_bytes n (bytes_of us)) })) (append_assoc told (event.Word u ∷ []) (word_events us))
-    (StandsFor-bytes us next n (told ++ event.Word u ∷ []) placed refl (subst (λ (q : CountedHunk). length q.partial.content ≤ o.partial.sites.limit) (sym same) fits) taken))
+    (StandsFor-bytes us next n (told ++ event.Word u ∷ []) placed refl (subst (λ (q : HunkSoFar ℕ). length q.content ≤ o.sites.limit) (sym same) fits) taken))
 
 pub TakesRun-same : (m n : BuilderState) (us : List ℕ) → ((u : ℕ) → TakesEvent m m (Ok tt) (event.Word u)) → n ≡ m → TakesRun m n (Ok tt) us
 TakesRun-same m n us passes is = record {
@@ -381,14 +376,14 @@ TakesRun-same m n us passes is = record {
 }
 
 -- The current hunk takes the bytes of a run, or is left as it was.
-pub TakesRun-bytes : (m : BuilderState) (o n : CountedHunk) (bytes : List ℕ) (answer : Result (Unit {0}) AllocError) → All (λ b. b < 256) bytes → IsWhole bytes → m.placing ≡ Placed → m.current ≡ Some o
-    → OnOk answer (n ≡ with_bytes o bytes) → length n.partial.content ≤ n.partial.sites.limit → OnErr answer (n ≡ o) → TakesRun m (record m { current = Some n }) answer (longwords bytes)
+pub TakesRun-bytes : (m : BuilderState) (o n : HunkSoFar ℕ) (bytes : List ℕ) (answer : Result (Unit {0}) AllocError) → All (λ b. b < 256) bytes → IsWhole bytes → m.placing ≡ Placed → m.current ≡ Some o
+    → OnOk answer (n ≡ with_bytes o bytes) → length n.content ≤ n.sites.limit → OnErr answer (n ≡ o) → TakesRun m (record m { current = Some n }) answer (longwords bytes)
 TakesRun-bytes m o n bytes (Ok d) typed whole placed current adds fits refused =
     let same : bytes_of (longwords bytes) ≡ bytes = bytes_of-longwords bytes typed whole in
     let is : n ≡ with_bytes o (bytes_of (longwords bytes)) = adds ∙ ap (λ bs. with_bytes o bs) (sym same) in
     record {
       takes = λ told h. subst (λ q. StandsFor (record m { current = Some q }) (told ++ word_events (longwords bytes))) (sym is)
-          (StandsFor-bytes (longwords bytes) m o told placed current (subst (λ (q : CountedHunk). length q.partial.content ≤ q.partial.sites.limit) is fits) h);
+          (StandsFor-bytes (longwords bytes) m o told placed current (subst (λ (q : HunkSoFar ℕ). length q.content ≤ q.sites.limit) is fits) h);
       refused = tt;
       bases = refl;
     }

@@ -2,6 +2,7 @@
 use Rattle.std.proofs.Common.{◌≡◌, ◌≢◌, ℕ, ◌+◌, ◌*◌, ◌≤◌, List, [], ◌∷◌, ◌++◌, length, map, Option, Some, None, Result, Ok, Err, slice_index, sum_by, refl, sym, ap, subst, ◌∙◌, arith}
 use Rattle.std.proofs.lemmas.List.Sums.{sum_by-cons}
 use Rattle.std.specs.declared.alloc.AllocError.{AllocError}
+use Rattle.hunk_words.specs.PartialHunk.{HunkSoFar}
 use Rattle.hunk_words.specs.Event.{word_events}
 use Rattle.hunk_words.specs.EventValue.{EventValue, value_of_events, initial_load}
 use Rattle.hunk_words.specs.Taker.{context_of}
@@ -18,7 +19,6 @@ use Rattle.hunk_loadfile.specs.Partial.{file_hunks}
 use Rattle.hunk_loader.specs.KeptMemory.{IsBoundedBy, IsBounded, SitesInside, bytes_kept, current_bytes}
 use Rattle.hunk_loader.specs.ImageBuilder.{BuilderState, Loads, Shows, StandsFor, TakesEvent, TakesRun, initial_builder}
 use Rattle.hunk_loader.specs.Loading.{loaded_bytes}
-use Rattle.hunk_loader.specs.OpenImage.{CountedHunk}
 use Rattle.hunk_loader.specs.Places.{Placed as ArePlaced}
 use Rattle.hunk_loader.specs.declared.placing.Placing.{Placing}
 use Rattle.hunk_loader.specs.declared.placing.Placing.TheVariants.{Unknown, Placed, Refused}
@@ -68,20 +68,20 @@ made-bounded all (x ∷ bases) (s ∷ ss) (h ∷ hs) more fits =
 
 -- ---- the current hunk
 
-current-none : (p : Placing) (o : Option CountedHunk) (b : EventValue) (w : SiteContext) → p ≢ Placed → Shows p o b w → current_bytes o ≡ 0
+current-none : (p : Placing) (o : Option (HunkSoFar ℕ)) (b : EventValue) (w : SiteContext) → p ≢ Placed → Shows p o b w → current_bytes o ≡ 0
 current-none p None b w unplaced s = refl
 current-none p (Some o) b w unplaced s = ap length (s.none unplaced)
 
-current-fits : (p : Placing) (o : Option CountedHunk) (b : EventValue) (w : SiteContext) → Shows p o b w → current_bytes o ≤ 4 * slice_index w.position.sizes w.position.ended
+current-fits : (p : Placing) (o : Option (HunkSoFar ℕ)) (b : EventValue) (w : SiteContext) → Shows p o b w → current_bytes o ≤ 4 * slice_index w.position.sizes w.position.ended
 current-fits p None b w s = omega arith
 current-fits p (Some o) b w s =
     omega (arith, s.fits, s.holds.same_limit, s.limit)
 
-sites-inside : (m : BuilderState) (p : Placing) (o : Option CountedHunk) (b : EventValue) (w : SiteContext) → m.sizes ≡ w.position.sizes → m.ended ≡ w.position.ended → Shows p o b w → SitesInside m o
+sites-inside : (m : BuilderState) (p : Placing) (o : Option (HunkSoFar ℕ)) (b : EventValue) (w : SiteContext) → m.sizes ≡ w.position.sizes → m.ended ≡ w.position.ended → Shows p o b w → SitesInside m o
 sites-inside m p None b w sizes ended s = tt
 sites-inside m p (Some o) b w sizes ended s =
-    let limit : o.partial.sites.limit ≡ 4 * slice_index m.sizes m.ended = rw (sizes, ended) (s.holds.same_limit ∙ s.limit) in
-    record { limit = limit; few = omega (arith, limit, AreApart-few o.partial.sites s.apart) }
+    let limit : o.sites.limit ≡ 4 * slice_index m.sizes m.ended = rw (sizes, ended) (s.holds.same_limit ∙ s.limit) in
+    record { limit = limit; few = omega (arith, limit, AreApart-few o.sites s.apart) }
 
 -- ---- both
 

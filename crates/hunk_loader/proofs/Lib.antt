@@ -8,7 +8,7 @@ pub mod ImageReaderLemmas
 pub mod KeptMemoryLemmas
 pub mod LoadingLemmas
 pub mod ImageLemmas
-pub mod OpenImageLemmas
+pub mod TargetsLemmas
 pub mod PlacesLemmas
 pub mod PlacesOrderLemmas
 pub mod StackedLemmas

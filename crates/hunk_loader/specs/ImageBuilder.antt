@@ -1,10 +1,11 @@
 -- What a builder of an image holds after events: the partial load file of these events, loaded at the bases.
 use Rattle.std.specs.declared.alloc.AllocError.{AllocError}
-use Rattle.std.specs.Prelude.{◌≡◌, ◌≢◌, ℕ, ◌+◌, ◌*◌, ◌<◌, ◌≤◌, false, List, [], ◌∷◌, ◌++◌, length, map, Option, Some, None, Result, Ok, Err, OnOk, OnErr, slice_index}
+use Rattle.std.specs.Prelude.{◌≡◌, ◌≢◌, ℕ, ◌+◌, ◌*◌, ◌<◌, ◌≤◌, false, List, [], ◌∷◌, ◌++◌, length, map, Option, Some, None, Result, Ok, Err, OnOk, OnErr, slice_index, ⊤}
+use Rattle.std.specs.List.{All}
 use Rattle.hunk_words.specs.EventValue.{EventValue, value_of_events, step, initial_load}
 use Rattle.hunk_words.specs.Event.{word_events}
 use Rattle.hunk_base.specs.Name.{bytes_of}
-use Rattle.hunk_words.specs.PartialHunk.{HoldsContext, goes_to_content}
+use Rattle.hunk_words.specs.PartialHunk.{HoldsContext, HunkSoFar, goes_to_content}
 use Rattle.hunk_base.specs.Sites.{AreApart}
 use Rattle.hunk_words.specs.Taker.{Judges, context_of}
 use Rattle.hunk_words.specs.Values.{Hunk, Part}
@@ -17,7 +18,6 @@ use Rattle.hunk_loadfile.specs.Partial.{file_hunks}
 use Rattle.hunk_loadfile.specs.Patching.{patched_bytes}
 use Rattle.hunk_loader.specs.Image.{hunks_of}
 use Rattle.hunk_loader.specs.Loading.{loaded}
-use Rattle.hunk_loader.specs.OpenImage.{CountedHunk}
 use Rattle.hunk_loader.specs.Places.{Placed as ArePlaced, IsFirstRefusal}
 use Rattle.hunk_loader.specs.declared.image_builder.ImageBuilder.TheInside.{Inside}
 use Rattle.hunk_loader.specs.declared.loading.LoadRefusal.{LoadRefusal}
@@ -34,7 +34,7 @@ pub record BuilderState : Type 0 where
   pub placing : Placing
   pub ended : ℕ
   pub made : List (ℕ × List ℕ)
-  pub current : Option CountedHunk
+  pub current : Option (HunkSoFar ℕ)
 
 -- the state that the fields hold
 abbrev pub state_of : {A : Type 0} → Inside A → BuilderState
@@ -46,6 +46,11 @@ initial_builder bases = record { bases = bases; sizes = []; placing = Unknown; e
 
 -- ---- the current hunk
 
+-- its sites name hunks of the header
+abbrev pub NamesHunks : (count : ℕ) → Option (HunkSoFar ℕ) → Type 0
+NamesHunks count None = ⊤
+NamesHunks count (Some hunk) = All (λ site. site.1 < count) hunk.sites.entries
+
 -- there is nothing in it yet that an image has
 pub record ShowsNone (built : EventValue) (context : SiteContext) : Type 0 where
   pub content : built.hunk.content ≡ []
@@ -54,19 +59,18 @@ pub record ShowsNone (built : EventValue) (context : SiteContext) : Type 0 where
   pub seen : context.seen ≡ []
 
 -- its sites, and its content if the hunks are placed
-pub record ShowsOpen (placing : Placing) (hunk : CountedHunk) (built : EventValue) (context : SiteContext) : Type 0 where
-  pub words : hunk.partial.in_content ≡ goes_to_content built.receiver
-  pub sites : hunk.partial.sites.entries ≡ with_sites [] built.hunk.tables.sites
-  pub holds : HoldsContext context hunk.partial
+pub record ShowsOpen (placing : Placing) (hunk : HunkSoFar ℕ) (built : EventValue) (context : SiteContext) : Type 0 where
+  pub words : hunk.in_content ≡ goes_to_content built.receiver
+  pub sites : hunk.sites.entries ≡ with_sites [] built.hunk.tables.sites
+  pub holds : HoldsContext context hunk
   pub limit : context.position.limit ≡ 4 * slice_index context.position.sizes context.position.ended
   pub within : context.position.ended < length context.position.sizes
-  pub apart : AreApart hunk.partial.sites
-  pub count : hunk.count ≡ length context.position.sizes
-  pub content : placing ≡ Placed → hunk.partial.content ≡ bytes_of built.hunk.content
-  pub none : placing ≢ Placed → hunk.partial.content ≡ []
-  pub fits : length hunk.partial.content ≤ hunk.partial.sites.limit
+  pub apart : AreApart hunk.sites
+  pub content : placing ≡ Placed → hunk.content ≡ bytes_of built.hunk.content
+  pub none : placing ≢ Placed → hunk.content ≡ []
+  pub fits : length hunk.content ≤ hunk.sites.limit
 
-abbrev pub Shows : Placing → Option CountedHunk → EventValue → SiteContext → Type 0
+abbrev pub Shows : Placing → Option (HunkSoFar ℕ) → EventValue → SiteContext → Type 0
 Shows placing None built context = ShowsNone built context
 Shows placing (Some hunk) built context = ShowsOpen placing hunk built context
 
@@ -97,17 +101,17 @@ pub record Holds (state : BuilderState) (built : EventValue) (context : SiteCont
   pub shows : Shows state.placing state.current built context
 
 -- words are no longer content of the hunk
-abbrev pub passed : Option CountedHunk → Option CountedHunk
+abbrev pub passed : Option (HunkSoFar ℕ) → Option (HunkSoFar ℕ)
 passed None = None
-passed (Some hunk) = Some (record hunk { partial = record hunk.partial { in_content = false } })
+passed (Some hunk) = Some (record hunk { in_content = false })
 
 -- the bytes of the current hunk, loaded
-abbrev pub bytes_loaded : List ℕ → CountedHunk → List ℕ
-bytes_loaded bases hunk = patched_bytes hunk.partial.sites.limit hunk.partial.content hunk.partial.sites.entries (slice_index bases)
+abbrev pub bytes_loaded : List ℕ → HunkSoFar ℕ → List ℕ
+bytes_loaded bases hunk = patched_bytes hunk.sites.limit hunk.content hunk.sites.entries (slice_index bases)
 
 -- The current hunk has ended, and is kept.
 pub record KeepsHunk (old new : BuilderState) : Type 0 where
-  pub hunk : CountedHunk
+  pub hunk : HunkSoFar ℕ
   pub current : old.current ≡ Some hunk
   pub based : old.ended < length old.bases
   pub keeps : new ≡ record old { made = old.made ++ ((slice_index old.bases old.ended, bytes_loaded old.bases hunk) ∷ []); current = None; ended = old.ended + 1 }

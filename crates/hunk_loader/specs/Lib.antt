@@ -8,7 +8,6 @@ pub mod ImageLoader
 pub mod ImageReader
 pub mod KeptMemory
 pub mod Loading
-pub mod OpenImage
 pub mod Overlaps
 pub mod Places
 pub mod Placing

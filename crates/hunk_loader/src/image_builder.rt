@@ -1,18 +1,17 @@
 //! The image of a load file, made from its events with no more memory than it needs.
 
-ghost use Rattle.std.specs.Prelude.{◌≡◌, OnOk, OnErr};
+ghost use Rattle.std.specs.Prelude.{◌≡◌};
 ghost use Rattle.hunk_base.specs.Longwords.{IsWhole, longwords};
 ghost use Rattle.hunk_words.specs.declared.event.Event.{Event};
 ghost use Rattle.hunk_words.specs.declared.event.FileKind.TheVariants.{Load};
-ghost use Rattle.hunk_loader.specs.ImageBuilder.{IsImage, KeepsHunk, StandsFor, TakesEvent, TakesRun, initial_builder, passed};
+ghost use Rattle.hunk_loader.specs.ImageBuilder.{IsImage, StandsFor, TakesEvent, TakesRun, initial_builder, passed};
 ghost use Rattle.hunk_loader.specs.Placing.{Settled};
-ghost use Rattle.hunk_loader.specs.declared.placing.Placing.TheVariants.{Placed};
 
 use crate::image::Image;
 use crate::loading::LoadRefusal;
-use crate::open_image::OpenImage;
 use crate::placing::{Placing, decide};
-use hunk_words::{Event, FileKind, SiteRefusal, Taker};
+use hunk_loadfile::patch;
+use hunk_words::{Event, FileKind, PartialHunk, SiteRefusal, Taker};
 use std::alloc::{AllocError, Allocator};
 use std::marker::Model;
 use std::mem;
@@ -40,18 +39,19 @@ pub(crate) struct ImageBuilder<A: Allocator + Copy> {
     placing: Placing,
     ended: usize,
     made: Vec<(u32, Vec<u8, A>), A>,
-    current: Option<OpenImage<A>>,
+    current: Option<PartialHunk<u32, A>>,
 }
 
 impl<A: Allocator + Copy> Model for ImageBuilder<A> {
-    ghost use Rattle.hunk_loader.specs.ImageBuilder.{BuilderState, state_of};
+    ghost use Rattle.std.specs.Prelude.{length};
+    ghost use Rattle.hunk_loader.specs.ImageBuilder.{BuilderState, NamesHunks, state_of};
     ghost use Rattle.hunk_loader.specs.KeptMemory.{IsBounded};
 
     ghost Value = { BuilderState };
 
     ghost view = { state_of };
 
-    ghost invariant = { λ b. IsBounded (state_of b) };
+    ghost invariant = { λ b. IsBounded (state_of b) × NamesHunks (length b.sizes.items) b.current };
 }
 
 impl<A: Allocator + Copy> ImageBuilder<A> {
@@ -119,11 +119,11 @@ impl<A: Allocator + Copy> ImageBuilder<A> {
         }
         let placing = self.settled();
         let keeps = matches!(placing, Placing::Placed);
-        let (own, count) = (self.sizes[self.ended], self.sizes.len());
+        let own = self.sizes[self.ended];
         match take_room(self.alloc, &mut self.rooms, self.ended, keeps, own) {
             Ok(room) => {
                 self.placing = placing;
-                self.current = Some(OpenImage::new(self.alloc, own, count, room));
+                self.current = Some(PartialHunk::in_room(self.alloc, 4 * u64::from(own), room));
                 Ok(())
             }
             Err(_) => Err(SiteRefusal::OutOfMemory),
@@ -162,56 +162,51 @@ impl<A: Allocator + Copy> ImageBuilder<A> {
         current.add_bytes(bytes)
     }
 
-    /// Takes a site of the current hunk.
+    /// Takes a site of the current hunk, which names a hunk of the header.
     fn add_site(&mut self, offset: u32, target: u32) -> Result<(), SiteRefusal>
         ensures { TakesEvent self.old self.new result (Event.Site offset target) }
     {
+        if target as usize >= self.sizes.len() {
+            return Err(SiteRefusal::OutOfMemory);
+        }
         let Some(current) = &mut self.current else {
             return Err(SiteRefusal::OutOfMemory);
         };
         current.add_site(offset, target)
     }
 
-    /// Ends the hunk and keeps it, loaded at its base.
-    fn keep_hunk(&mut self) -> Result<(), AllocError>
-        requires { self.old.placing ≡ Placed }
-        ensures kept { OnOk result (KeepsHunk self.old self.new) }
-        ensures refused { OnErr result (self.new ≡ self.old) }
+    /// Ends the hunk, which is kept, loaded at its base, if the hunks are placed.
+    fn end_hunk(&mut self) -> Result<(), SiteRefusal>
+        ensures { TakesEvent self.old self.new result Event.HunkEnd }
     {
-        let Some(base) = self.bases.get(self.ended) else {
-            return Err(AllocError);
-        };
-        let base = *base;
-        self.made.reserve(1)?;
         let Some(current) = &mut self.current else {
-            return Err(AllocError);
+            return Err(SiteRefusal::OutOfMemory);
         };
-        let bytes = current.close(self.alloc, &self.bases)?;
+        match self.placing {
+            Placing::Placed => {}
+            _ => {
+                self.current = None;
+                self.ended += 1;
+                return Ok(());
+            }
+        }
+        if self.ended >= self.bases.len() || self.sizes.len() > self.bases.len() {
+            return Err(SiteRefusal::OutOfMemory);
+        }
+        let base = self.bases[self.ended];
+        let Ok(()) = self.made.reserve(1) else {
+            return Err(SiteRefusal::OutOfMemory);
+        };
+        let Ok(()) = current.fill() else {
+            return Err(SiteRefusal::OutOfMemory);
+        };
+        let filled = mem::replace(current, PartialHunk::new(self.alloc, 0));
+        let (mut bytes, sites) = filled.into_parts();
+        patch(&mut bytes, &sites, &self.bases);
         self.made.push_reserved((base, bytes));
         self.current = None;
         self.ended += 1;
         Ok(())
-    }
-
-    /// Ends the hunk, which is kept if the hunks are placed.
-    fn end_hunk(&mut self) -> Result<(), SiteRefusal>
-        ensures { TakesEvent self.old self.new result Event.HunkEnd }
-    {
-        match &self.current {
-            Some(_) => {}
-            None => return Err(SiteRefusal::OutOfMemory),
-        }
-        match self.placing {
-            Placing::Placed => match self.keep_hunk() {
-                Ok(()) => Ok(()),
-                Err(_) => Err(SiteRefusal::OutOfMemory),
-            },
-            _ => {
-                self.current = None;
-                self.ended += 1;
-                Ok(())
-            }
-        }
     }
 
     /// Takes an event after which words are not content.
@@ -223,13 +218,20 @@ impl<A: Allocator + Copy> ImageBuilder<A> {
             None => {}
         }
     }
+}
 
-    /// Takes the next event.
+impl<A: Allocator + Copy> Taker for ImageBuilder<A> {
+    ghost stands_for = { StandsFor };
+
+    ghost given = { λ b. b.bases };
+
+    ghost KIND = { Load };
+
+    const KIND: FileKind = FileKind::Load;
+
     // Each relocation is an event, so a run of them should make no call for its event.
     #[inline(always)]
-    fn take_event(&mut self, event: Event) -> Result<(), SiteRefusal>
-        ensures { TakesEvent self.old self.new result event }
-    {
+    fn take(&mut self, event: Event) -> Result<(), SiteRefusal> {
         match event {
             Event::Table(_) => Ok(()),
             Event::HunkSize { bits, size } => self.add_size(bits, size),
@@ -248,22 +250,6 @@ impl<A: Allocator + Copy> ImageBuilder<A> {
                 Ok(())
             }
         }
-    }
-}
-
-impl<A: Allocator + Copy> Taker for ImageBuilder<A> {
-    ghost stands_for = { StandsFor };
-
-    ghost given = { λ b. b.bases };
-
-    ghost KIND = { Load };
-
-    const KIND: FileKind = FileKind::Load;
-
-    // Inlined as `take_event` is.
-    #[inline(always)]
-    fn take(&mut self, event: Event) -> Result<(), SiteRefusal> {
-        self.take_event(event)
     }
 
     // Content is most of a file, so the bytes of a run of it are copied at once.

@@ -8,7 +8,6 @@
 //! - `header_hunks`: the hunks that a header tells of.
 //! - `image_reader`: the image of a load file that a reader has.
 //! - `image_builder`: a builder of images from the events of load files, with a bound on what it keeps.
-//! - `open_image`: the current hunk of an image.
 //! - `placing`: whether hunks can be placed, as far as their sizes are known.
 //! - `loading`: loading a load file at addresses.
 //! - `overlaps`: the same as `places`, with memory for the search of hunks that share an address.
@@ -25,7 +24,6 @@ pub mod image_loader;
 pub mod image_reader;
 pub mod laws;
 pub mod loading;
-mod open_image;
 pub mod overlaps;
 pub mod places;
 mod placing;

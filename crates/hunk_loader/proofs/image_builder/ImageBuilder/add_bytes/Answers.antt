@@ -7,6 +7,7 @@ use Rattle.hunk_loader.specs.declared.places.PlaceFault.{PlaceFault}
 use Rattle.hunk_loader.specs.declared.placing.Placing.TheVariants.{Unknown, Placed, Refused}
 use Rattle.hunk_loader.proofs.ImageBuilderLemmas.{PassesWords, TakesEvent-word-unplaced, TakesEvent-word-past, TakesRun-bytes, TakesRun-same}
 use Rattle.hunk_loader.proofs.KeptMemoryLemmas.{IsBounded-run}
+use Rattle.hunk_loader.proofs.TargetsLemmas.{NamesHunks-taken}
 use Rattle.hunk_loader.proofs.image_builder.ImageBuilder.add_bytes.Given.{Over}
 use Rattle.hunk_loader.proofs.image_builder.ImageBuilder.add_bytes.Goals as goal
 use Rattle.hunk_loader.proofs.image_builder.ImageBuilder.add_bytes.Goals.{After-add_bytes}
@@ -32,7 +33,7 @@ taken g c =
     TakesRun-bytes _ _ _ c.args.bytes.now _ (are-bytes _ c.type_inv.bytes) c.requires c.in-Placed.is c.in-Some.is e.adds e.fits e.refused
 
 pub invariant_of-self-2 : goal.invariant_of-self-2
-invariant_of-self-2 g c = IsBounded-run _ _ _ _ (taken g (goal.at.invariant_of-self-2 g c).After-add_bytes) c.self.invariant
+invariant_of-self-2 g c = (IsBounded-run _ _ _ _ (taken g (goal.at.invariant_of-self-2 g c).After-add_bytes) c.self.invariant.0, NamesHunks-taken _ _ _ _ _ c.add_bytes.result c.in-Some.is refl c.add_bytes.ensures.adds c.add_bytes.ensures.refused c.self.invariant.1)
 
 pub returns : goal.returns
 returns g c = rw (sym c.self.view_is) (taken g (goal.at.returns g c).After-add_bytes)
