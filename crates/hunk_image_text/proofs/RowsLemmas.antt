@@ -36,8 +36,8 @@ pub room-more : (form : ImageForm) (index count : ℕ) → index < count → lon
 room-more Report index count within = omega arith
 room-more SRecords index count within = omega arith
 
--- the lines of 1,024 bytes
-pub room-block : (form : ImageForm) (length : ℕ) → length ≤ 1024 → longest_line form * div_ceil length (row_size form) ≤ 2688
+-- the lines of 4,096 bytes
+pub room-block : (form : ImageForm) (length : ℕ) → length ≤ 4096 → longest_line form * div_ceil length (row_size form) ≤ 10752
 room-block Report length small = omega arith
 room-block SRecords length small = omega arith
 
@@ -54,12 +54,12 @@ row_lines-none : (form : ImageForm) (base : ℕ) → row_lines form base [] ≡ 
 row_lines-none Report base = refl
 row_lines-none SRecords base = refl
 
--- the rows of 1,024 bytes, and so of as many times as many
+-- the rows of 4,096 bytes, and so of as many times as many
 rows_per_block : ImageForm → ℕ
-rows_per_block Report = 64
-rows_per_block SRecords = 32
+rows_per_block Report = 256
+rows_per_block SRecords = 128
 
-rows_per_block-is : (form : ImageForm) (index : ℕ) → 1024 * index ≡ row_size form * (rows_per_block form * index)
+rows_per_block-is : (form : ImageForm) (index : ℕ) → 4096 * index ≡ row_size form * (rows_per_block form * index)
 unfolding rows_per_block
 rows_per_block-is Report index = omega arith
 rows_per_block-is SRecords index = omega arith
@@ -161,9 +161,9 @@ module _ (form : ImageForm) where
             ∙ append-nil (row_lines form base bytes))
       ]
 
-  -- the same at the end of a block of 1,024 bytes
-  pub row_lines-at_block : (base index : ℕ) (bytes : List ℕ) → row_lines form base bytes ≡ row_lines form base (take (1024 * index) bytes) ++ row_lines form (base + 1024 * index) (drop (1024 * index) bytes)
-  row_lines-at_block base index bytes = row_lines-split base (rows_per_block form * index) (1024 * index) bytes (rows_per_block-is form index)
+  -- the same at the end of a block of 4,096 bytes
+  pub row_lines-at_block : (base index : ℕ) (bytes : List ℕ) → row_lines form base bytes ≡ row_lines form base (take (4096 * index) bytes) ++ row_lines form (base + 4096 * index) (drop (4096 * index) bytes)
+  row_lines-at_block base index bytes = row_lines-split base (rows_per_block form * index) (4096 * index) bytes (rows_per_block-is form index)
 
 -- ---- lengths
 

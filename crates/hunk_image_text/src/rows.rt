@@ -8,11 +8,12 @@ use crate::image_form::ImageForm;
 use crate::record::put_data_record;
 use hunk_words::{Sink, Text};
 
-/// Bytes of the rows that are written at once: 64 rows of a report, or 32 of S-records.
-const BLOCK: usize = 1024;
+/// Bytes of the rows that are written at once: 256 rows of a report, or 128 of S-records. Their lines are longer
+/// than the buffer of a writer of std, which then passes them on as they are.
+const BLOCK: usize = 4096;
 
 /// The most bytes of the lines of these rows: 42 for each row of a report.
-const MOST_LINES: usize = 64 * 42;
+const MOST_LINES: usize = 256 * 42;
 
 /// Writes the lines of the rows of a hunk, block by block.
 pub(crate) fn write_rows<W: Sink>(text: &mut Text<'_, W>, form: ImageForm, base: u32, bytes: &[u8])
@@ -33,7 +34,7 @@ pub(crate) fn write_rows<W: Sink>(text: &mut Text<'_, W>, form: ImageForm, base:
 /// Writes the lines of the rows of a block at once. `address` is that of the block's first byte.
 fn write_block<W: Sink>(text: &mut Text<'_, W>, form: ImageForm, address: u32, block: &[u8])
     requires inside { address + length block.now ≤ 2 ^ 32 }
-    requires short { length block.now ≤ 1024 }
+    requires short { length block.now ≤ 4096 }
     ensures { Puts W.taken W.failed text.old text.new (row_lines form address block.now) }
 {
     let mut lines = [0; MOST_LINES];

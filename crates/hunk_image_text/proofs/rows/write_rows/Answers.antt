@@ -9,7 +9,7 @@ pub loop-index-preserved : goal.loop-index-preserved
 loop-index-preserved g c =
     let bytes = c.args.bytes.now in
     let index = c.loop-index.index in
-    let block = take-between bytes (1024 * index) 1024 c.min-end.result c.min-end.ensures (omega arith) in
+    let block = take-between bytes (4096 * index) 4096 c.min-end.result c.min-end.ensures (omega arith) in
     Puts-as (sym (lines_before-more c.args.form c.args.base bytes index)) (c.loop-index.invariant ⨾ (rw block at c.write_block.ensures))
 
 pub returns-then-is_stopped : goal.returns-then-is_stopped
