@@ -92,7 +92,13 @@ pub trait Feed {
 /// Each read but the last one brings at least a byte, and a file has fewer bytes than this.
 const MOST_READS: u32 = 0x4000_0004;
 
-/// Bytes per read.
+/// How many reads come first, of [`FIRST_PIECE`] bytes each. A file with fewer bytes than that ends at the second one.
+const FIRST_READS: u32 = 2;
+
+/// Bytes of each of the first reads.
+const FIRST_PIECE: usize = 8192;
+
+/// Bytes of each later read. Their buffer is cleared before it is used, for which a small file should not wait.
 const PIECE: usize = 65536;
 
 /// Feeds everything that `reader` has to a new `decoder`, until the reader ends, a read fails, or
@@ -111,6 +117,14 @@ pub fn read_all<R: Source, D: Feed>(reader: &mut R, decoder: &mut D) -> Result<(
     ensures stopped { IfErr result (ReadStopped (R.left reader.old) (R.left reader.new)
         (R.failed reader.new) (D.stands_for decoder.new) (D.refused decoder.new)) }
 {
+    let mut first = [0; FIRST_PIECE];
+    'first: for _number in 0..FIRST_READS {
+        let count = reader.read(&mut first)?;
+        if count == 0 {
+            return Ok(());
+        }
+        decoder.feed(&first[..count])?;
+    }
     let mut buffer = [0; PIECE];
     'reads: for _number in 0..MOST_READS {
         let count = reader.read(&mut buffer)?;
