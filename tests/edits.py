@@ -6,7 +6,7 @@
 With no argument it tries those of every crate. It needs the toolchain, and the libraries below a crate in their folders `out/`, where
 `rt ci` and `rt check` leave them. RT_JOBS says how many crates are worked on at a time. With --beside it waits for these libraries:
 until a run of `rt ci` says in FOLDER/log that they are proved, or there is a file FOLDER/ended. Until then it works on one crate at a
-time, and only while that leaves memory.
+time, or on two, and only while that leaves memory.
 
 An edit is a file of the crate's `must-fail-edits/`: `file: PATH`, and pairs of `old: TEXT` and `new: TEXT`. Each TEXT of a line `old`
 stands once in that file of the crate, in a function. One check tries many edits of a crate, each of which changes other functions: it
@@ -16,6 +16,7 @@ told of as if it were tried alone. That the crate is proved without an edit is f
 
 The last line is 'N passed, M failed', and the status is 0 if M is 0.
 """
+import collections
 import concurrent.futures
 import contextlib
 import functools
@@ -41,8 +42,10 @@ TAKEN_AWAY = re.compile(r"has no field|is not in scope|has no `|was not admitted
 TYPE = re.compile(r"^(?:pub(?:\(\w+\))? )?(?:struct|enum|trait) (\w+)", re.M)
 # How many edits one check tries: each that is refused takes memory, of which 28 of hunk_commands took more than 5 GB.
 TOGETHER = 12
-# How much memory, in KiB, has to be free before a check beside a proof begins: what it takes, and what the proof may still take.
+# How much memory, in KiB, has to be free before a check beside the proofs begins: what it takes, and what the proofs may still take.
 ROOM = 7 << 20
+# How many crates are worked on at a time beside the proofs, which leave two processors idle in the first ten minutes and seldom later.
+BESIDE = 2
 
 
 class Proofs:
@@ -59,13 +62,14 @@ class Proofs:
             time.sleep(5)
 
     def tell_of(self, names):
-        """Whether it tells that these libraries are proved."""
+        """Whether it tells that these libraries are proved, by this run or by one before it."""
         with open(os.path.join(self.folder, "log"), encoding="utf-8", errors="replace") as log:
-            return {f"rt: {it} proved" for it in names} <= set(log.read().split("\n"))
+            return set(names) <= set(re.findall(r"^rt: (\w+) (?:proved$|is kept:)", log.read(), re.M))
 
-    def leave_room(self):
+    def leave_room(self, checks):
+        """Whether there is the memory for so many checks beside them."""
         with open("/proc/meminfo", encoding="utf-8") as file:
-            return int(re.search(r"^MemAvailable: *(\d+)", file.read(), re.M)[1]) >= ROOM
+            return int(re.search(r"^MemAvailable: *(\d+)", file.read(), re.M)[1]) >= checks * ROOM
 
 
 def rlib(name):
@@ -244,12 +248,12 @@ def together(edits):
     return found, texts
 
 
-def try_all(edits, proofs):
+def try_all(edits, await_room):
     """What is told of each edit of a crate, and whether it is refused. Those that a check refuses are done; the others are tried again."""
     crate, told, started = edits[0].crate, [], time.monotonic()
     with tempfile.TemporaryDirectory(prefix="edits-kept-") as kept:
         while edits:
-            proofs.wait_until(proofs.leave_room)
+            await_room()
             chosen, texts = together(edits)
             lines = crate.check(chosen, texts, kept) if len(chosen) > 1 else []
             refused = {edit: reason for edit in chosen if (reason := reason_refused(edit, lines))}
@@ -264,24 +268,32 @@ def try_all(edits, proofs):
     return told
 
 
+def next_of(tasks, proofs):
+    """The edits of a crate that nobody has begun with: those of the lowest crates are ready first, and those of the highest take longest."""
+    try:
+        return tasks.pop() if proofs.are_over() else tasks.popleft()
+    except IndexError:
+        return None
+
+
 def work(lane, tasks, proofs):
-    """Tries the edits of one crate after another, of those that no other lane has begun with. All lanes but one wait for `rt ci`."""
+    """Tries the edits of one crate after another. All lanes but the first ones wait for `rt ci`."""
     told = []
-    if lane:
+    if lane >= BESIDE:
         proofs.wait_until(lambda: False)
-    for edits in tasks:
+    while edits := next_of(tasks, proofs):
         crate = edits[0].crate
         proofs.wait_until(lambda: proofs.tell_of(crate.own))
         if lacking := crate.lacking():
             told.append((False, f"{crate.name}: {lacking[0]} is not proved here: run rt check in crates/{crate.name}"))
         else:
-            told += try_all(edits, proofs)
+            told += try_all(edits, lambda: proofs.wait_until(lambda: proofs.leave_room(lane + 1)))
     return told
 
 
 def main():
     start = subprocess.run(["rt", "doc"], stdout=subprocess.PIPE, text=True, check=True).stdout.strip()
-    asked, told, tasks = sys.argv[1:], [], []
+    asked, told, tasks = sys.argv[1:], [], collections.deque()
     proofs = Proofs(asked[1] if asked[:1] == ["--beside"] else None)
     asked = asked[2:] if proofs.folder else asked
     for name, (is_static, libraries) in listed_crates().items():
@@ -294,13 +306,9 @@ def main():
                     told.append((False, str(error)))
         if edits:
             tasks.append(edits)
-    # The lowest crates are ready first, and the highest ones take longest.
-    if not proofs.folder:
-        tasks.reverse()
     lanes = int(os.environ.get("RT_JOBS") or os.cpu_count())
     with concurrent.futures.ThreadPoolExecutor(lanes) as pool:
-        shared = iter(tasks)
-        for ended in [pool.submit(work, lane, shared, proofs) for lane in range(lanes)]:
+        for ended in [pool.submit(work, lane, tasks, proofs) for lane in range(lanes)]:
             told += ended.result()
     for is_well, line in told:
         if not is_well:
