@@ -43,7 +43,7 @@ Opens-ended n ws more is_ended opens =
 
 -- One that has not takes the bytes of the longwords before their first zero byte.
 pub Opens-more : {A : Type 0} (n m : OpenName A) (ws more bytes front : List ℕ) → n.ended ≡ false → Opens n ws → bytes_of more ≡ bytes → front ≡ before_first (λ b. b == 0) bytes
-    → m.bytes.items ≡ n.bytes.items ++ front → m.ended ≡ nat_lt (length front) (length bytes) → Opens m (ws ++ more)
+    → m.bytes ≡ n.bytes ++ front → m.ended ≡ nat_lt (length front) (length bytes) → Opens m (ws ++ more)
 Opens-more n m ws more bytes front goes_on opens are cut items ends =
     let whole : length (bytes_of ws) ≤ length (name_of ws) = opens.goes_on goes_on in
     let within : length (name_of ws) ≤ length (bytes_of ws) = name_of-within ws in

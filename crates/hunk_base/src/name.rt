@@ -17,7 +17,10 @@ use std::cmp::Ordering;
 use std::hash::{Hash, Hasher};
 use std::marker::Model;
 
+mod name_bytes;
 pub mod open_name;
+
+use name_bytes::NameBytes;
 
 /// A name: bytes, none of which is zero. It may be empty.
 ///
@@ -25,7 +28,7 @@ pub mod open_name;
 /// structure"). That what follows its first zero byte is ignored is our own rule.
 #[derive(Debug, Drop)]
 pub struct Name<A: Allocator + Copy = Global> {
-    bytes: Vec<u8, A>,
+    bytes: NameBytes<A>,
 }
 
 impl<A: Allocator + Copy> Model for Name<A> {
@@ -35,16 +38,16 @@ impl<A: Allocator + Copy> Model for Name<A> {
 
     ghost Value = { List ℕ };
 
-    ghost view = { λ n. n.bytes.items };
+    ghost view = { λ n. n.bytes };
 
-    ghost invariant = { λ n. All IsNameByte n.bytes.items };
+    ghost invariant = { λ n. All IsNameByte n.bytes };
 }
 
 impl<A: Allocator + Copy> Name<A> {
     /// The name that the longwords hold: their bytes, the most significant byte of each first, up
     /// to the first zero byte, or all of them if there is none.
     ///
-    /// It allocates only the name.
+    /// It allocates only the name, and nothing for one of at most 38 bytes.
     ///
     /// # Errors
     ///
@@ -68,10 +71,11 @@ impl<A: Allocator + Copy> Name<A> {
         ensures value { IfOk result (λ ws. ws.items ≡ name_words self.now) }
         ensures fewest { IfOk result (λ ws. Writes self.now ws.items) }
     {
-        let count = self.bytes.len().div_ceil(4).max(1);
+        let bytes = self.bytes();
+        let count = bytes.len().div_ceil(4).max(1);
         let mut words = Vec::with_capacity(alloc, count)?;
         for place in 0..count {
-            words.push_reserved(longword(&self.bytes[4 * place..]));
+            words.push_reserved(longword(&bytes[4 * place..]));
         }
         Ok(words)
     }
@@ -81,7 +85,7 @@ impl<A: Allocator + Copy> Name<A> {
         ensures value { result.now ≡ self.now }
         ensures each { All IsNameByte self.now }
     {
-        &self.bytes
+        self.bytes.as_slice()
     }
 
     /// An equal name.
@@ -93,7 +97,7 @@ impl<A: Allocator + Copy> Name<A> {
         ensures { IfOk result (λ n. n ≡ self.now) }
     {
         Ok(Name {
-            bytes: Vec::from_slice(alloc, &self.bytes)?,
+            bytes: NameBytes::from_slice(alloc, self.bytes())?,
         })
     }
 }
@@ -104,7 +108,7 @@ impl<A: Allocator + Copy> PartialEq for Name<A> {
     ghost laws = { partial_equiv_from_equiv nat_list_eq_equiv };
 
     fn eq(&self, other: &Self) -> bool {
-        self.bytes.as_slice() == other.bytes.as_slice()
+        self.bytes() == other.bytes()
     }
 }
 
@@ -132,7 +136,7 @@ impl<A: Allocator + Copy> Ord for Name<A> {
     ghost matches_eq = { texts_ties };
 
     fn cmp(&self, other: &Self) -> Ordering {
-        self.bytes.as_slice().cmp(other.bytes.as_slice())
+        self.bytes().cmp(other.bytes())
     }
 }
 
@@ -142,19 +146,19 @@ impl<A: Allocator + Copy> Hash for Name<A> {
     ghost respects_eq = { Prim.search (hashing, rules) };
 
     fn hash<H: Hasher>(&self, state: &mut H) {
-        self.bytes.as_slice().hash(state);
+        self.bytes().hash(state);
     }
 }
 
 /// The bytes of the longwords before their first zero byte. It allocates only these.
-fn cut<A: Allocator>(alloc: A, words: &[u32]) -> Result<Vec<u8, A>, AllocError>
-    ensures { IfOk result (λ bytes. bytes.items ≡ name_of words.now) }
+fn cut<A: Allocator + Copy>(alloc: A, words: &[u32]) -> Result<NameBytes<A>, AllocError>
+    ensures { IfOk result (λ bytes. bytes ≡ name_of words.now) }
 {
-    let mut bytes = Vec::new(alloc);
+    let mut bytes = NameBytes::new(alloc);
     for word in words {
         let longword = big_endian(*word);
         let front = until_zero(&longword);
-        bytes.extend_from_slice(front)?;
+        bytes.extend(front, 0)?;
         if front.len() < longword.len() {
             return Ok(bytes);
         }

@@ -2,6 +2,7 @@
 //!
 //! - `unit_hunk`: a hunk of a program unit.
 //! - `program_unit`: a program unit, made of hunks.
+//! - `kept_lists`: how the lists of a unit grow.
 //! - `open_hunk`: the current hunk of a unit.
 //! - `open_unit`: the current unit of an object file.
 //! - `unit_builder`: a builder of program units from the events of their longwords.
@@ -13,6 +14,7 @@
 #![tactic(auto)]
 
 pub mod globals;
+mod kept_lists;
 pub mod laws;
 pub mod object_decoder;
 mod open_hunk;

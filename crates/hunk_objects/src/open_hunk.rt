@@ -8,6 +8,7 @@ ghost use Rattle.hunk_words.specs.Taker.{JudgesSite};
 ghost use Rattle.hunk_words.specs.Values.{Hunk, empty};
 ghost use Rattle.hunk_objects.specs.UnitHunk.{IsUnitHunk, content_bytes, object_hunk};
 
+use crate::kept_lists::reserve;
 use crate::unit_hunk::{Adds, Definition, UnitHunk};
 use hunk_words::{DebugInfo, HunkKind, Memory, Name, OpenName, PartialHunk, SiteRefusal};
 use std::alloc::{AllocError, Allocator};
@@ -259,7 +260,7 @@ impl<A: Allocator + Copy> OpenHunk<A> {
         ensures refused { OnErr result (self.new ≡ self.old) }
         ensures name { OnErr result (name.new ≡ name.old) }
     {
-        self.references.reserve(1)?;
+        reserve(&mut self.references)?;
         let whole = mem::replace(name, OpenName::new(alloc));
         self.references.push_reserved(whole.close());
         Ok(())
@@ -280,7 +281,7 @@ impl<A: Allocator + Copy> OpenHunk<A> {
         if name.len() > MOST_NAME {
             return Err(AllocError);
         }
-        self.definitions.reserve(1)?;
+        reserve(&mut self.definitions)?;
         let whole = mem::replace(name, OpenName::new(alloc));
         self.definitions.push_reserved((whole.close(), definition));
         Ok(())

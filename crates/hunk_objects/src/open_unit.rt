@@ -5,6 +5,7 @@ ghost use Rattle.hunk_words.specs.Values.{Hunk, empty};
 ghost use Rattle.hunk_objects.specs.OpenHunk.{Shows};
 ghost use Rattle.hunk_objects.specs.UnitHunk.{object_hunk};
 
+use crate::kept_lists::reserve;
 use crate::open_hunk::OpenHunk;
 use crate::program_unit::ProgramUnit;
 use crate::unit_hunk::UnitHunk;
@@ -69,7 +70,7 @@ impl<A: Allocator + Copy> OpenUnit<A> {
         if !hunk.is_whole() {
             return Err(AllocError);
         }
-        self.hunks.reserve(1)?;
+        reserve(&mut self.hunks)?;
         let limit = hunk.limit();
         let whole = mem::replace(hunk, OpenHunk::new(alloc, limit));
         self.hunks.push_reserved(whole.close());

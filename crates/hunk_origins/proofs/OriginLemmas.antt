@@ -31,3 +31,9 @@ module _ (units : List FileUnit) (index : ℕ) (place : UnitPlace) (unit : Objec
   origin_at-none number past =
       let origin : ObjectHunk → Origin = λ h. record { unit = (place, unit); number = number; hunk = h } in
       ap (option_and_then (hunk_at number)) unit_at ∙ ap (option_map origin) (slice_get_past unit.hunks number past)
+
+-- there is no such unit
+pub origin_at-past : (units : List FileUnit) (index number : ℕ) → length (units_of units) ≤ index → origin_at units index number ≡ None
+origin_at-past units index number past =
+    let second : FileUnit → ObjectUnit = λ u. u.1 in
+    ap (option_and_then (hunk_at number)) (slice_get_past units index (omega (arith, past, length-map units second)))

@@ -3,6 +3,7 @@ ghost use Rattle.std.specs.Prelude.{◌≡◌, ℕ, List, [], ◌∷◌, ◌++�
 ghost use Rattle.std.specs.List.{All};
 ghost use Rattle.hunk_base.specs.Name.{IsNameByte, bytes_of, name_of};
 
+use super::name_bytes::NameBytes;
 use super::{Name, until_zero};
 use crate::longwords::{LONGWORD, big_endian};
 use std::alloc::{AllocError, Allocator, Global};
@@ -10,9 +11,9 @@ use std::alloc::{AllocError, Allocator, Global};
 /// A name whose longwords come one after another. After its first zero byte it does not allocate.
 #[derive(Drop)]
 pub struct OpenName<A: Allocator + Copy = Global> {
-    bytes: Vec<u8, A>,
+    bytes: NameBytes<A>,
     ended: bool,
-    ghost no_zero: { All IsNameByte bytes.items },
+    ghost no_zero: { All IsNameByte bytes },
 }
 
 impl<A: Allocator + Copy> OpenName<A> {
@@ -23,7 +24,7 @@ impl<A: Allocator + Copy> OpenName<A> {
         ensures { Opens result [] }
     {
         OpenName {
-            bytes: Vec::new(alloc),
+            bytes: NameBytes::new(alloc),
             ended: false,
         }
     }
@@ -69,8 +70,7 @@ impl<A: Allocator + Copy> OpenName<A> {
             return Ok(());
         }
         let front = until_zero(bytes);
-        self.bytes.reserve(front.len().saturating_add(spare))?;
-        self.bytes.extend_from_slice(front)?;
+        self.bytes.extend(front, spare)?;
         self.ended = front.len() < bytes.len();
         Ok(())
     }

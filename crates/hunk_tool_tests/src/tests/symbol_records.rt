@@ -3,7 +3,7 @@
 use super::asserts::{equals, equals_at, holds};
 use super::devices::{Devices, WHOLE, short_of};
 use super::memory::{MOST_GROWTHS, is_done};
-use super::symbols::{NAMED, SEVERAL};
+use super::symbols::{LONG_NAMED, NAMED, SEVERAL};
 use hunk_link::LinkRefusal;
 use hunk_loader::PlaceFault;
 use hunk_test_support::{BASE, CHUNKS, KEY, ROOM, Refusing, bytes_of};
@@ -20,6 +20,12 @@ const NAMED_RECORDS: &str = "$$ amihunk\n  loop $00010002\n  a\"b\\ $0000ffff\n$
     S309000100004E754E7173\n\
     S70500000000FA\n";
 
+const LONG_NAMED_RECORDS: &str =
+    "$$ amihunk\n  _a_name_of_forty_bytes_that_is_allocated $00010002\n$$ \n\
+    S00A0000616D6968756E6B08\n\
+    S309000100004E754E7173\n\
+    S70500000000FA\n";
+
 const SEVERAL_RECORDS: &str = "$$ amihunk\n  a $00003000\n  a $00000000\n  b $0000000c\n$$ \n\
     S00A0000616D6968756E6B08\n\
     S309000030004E754E7144\n\
@@ -27,17 +33,26 @@ const SEVERAL_RECORDS: &str = "$$ amihunk\n  a $00003000\n  a $00000000\n  b $00
     S309FFFFFFFC00000001FC\n\
     S70500000000FA\n";
 
-/// Two units: code with the symbol `loop`, and memory with the symbol `a b`, which no line of records
+/// Two units: code with a symbol whose name is too long to be in place, and memory with the symbol `a b`, which no line of records
 /// can hold.
-const UNITS: [u32; 21] = [
+const UNITS: [u32; 30] = [
     0x3E7,
     0,
     0x3E9,
     1,
     0x4E75_4E71,
     0x3F0,
-    1,
-    0x6C6F_6F70,
+    10,
+    0x5F61_5F6E,
+    0x616D_655F,
+    0x6F66_5F66,
+    0x6F72_7479,
+    0x5F62_7974,
+    0x6573_5F74,
+    0x6861_745F,
+    0x6973_5F61,
+    0x6C6C_6F63,
+    0x6174_6564,
     2,
     0,
     0x3F2,
@@ -53,9 +68,11 @@ const UNITS: [u32; 21] = [
     0x3F2,
 ];
 
-const UNITS_LINES: &str = "00001002 hunk 0 \"loop\"\n00002004 hunk 1 \"a b\"\n";
+const UNITS_LINES: &str = "00001002 hunk 0 \"_a_name_of_forty_bytes_that_is_allocated\"\n\
+                           00002004 hunk 1 \"a b\"\n";
 
-const UNITS_RECORDS: &str = "$$ amihunk\n  loop $00001002\n$$ \n\
+const UNITS_RECORDS: &str =
+    "$$ amihunk\n  _a_name_of_forty_bytes_that_is_allocated $00001002\n$$ \n\
     S016000073796D626F6C73206C656674206F75743A203112\n\
     S00A0000616D6968756E6B08\n\
     S309000010004E754E7164\n\
@@ -109,16 +126,23 @@ fn is_run(
     Ok(())
 }
 
-/// The file, its content, its sizes, its symbols and their names, and the image are on the heap.
+/// The file, its content, its sizes, its symbol and the long name, and the image are on the heap.
 #[test]
 fn writes_no_records_with_each_growth_refused(rt: HostRuntime) -> Result<(), Fail> {
     for refused in 0..MOST_GROWTHS {
         let heap = Refusing::new(rt.alloc(), refused);
-        let mut reader = Pieces::new(bytes_of(rt.alloc(), &NAMED, &[])?, 64, None);
+        let mut reader = Pieces::new(bytes_of(rt.alloc(), &LONG_NAMED, &[])?, 64, None);
         let mut writer = Room::new(rt.alloc(), 64, ROOM, false)?;
         let form = SymbolForm::Records;
         let got = symbols_run(&heap, &mut reader, &[BASE], form, &mut writer);
-        if is_done(&rt, &heap, refused, &got, writer.bytes(), NAMED_RECORDS) {
+        if is_done(
+            &rt,
+            &heap,
+            refused,
+            &got,
+            writer.bytes(),
+            LONG_NAMED_RECORDS,
+        ) {
             holds(&rt, &("growths", refused), 7 <= refused);
             return Ok(());
         }

@@ -40,6 +40,36 @@ const NAMED_LINES: &str = "00010002 hunk 0 \"loop\"\n\
                            0000ffff hunk 0 \"a\\x22b\\x5c\"\n\
                            00010000 hunk 0 \"\\xff\\x01A\"\n";
 
+/// A hunk of code with a symbol whose name is too long to be in place.
+pub(crate) const LONG_NAMED: [u32; 24] = [
+    0x3F3,
+    0,
+    1,
+    0,
+    0,
+    1,
+    0x3E9,
+    1,
+    0x4E75_4E71,
+    0x3F0,
+    10,
+    0x5F61_5F6E,
+    0x616D_655F,
+    0x6F66_5F66,
+    0x6F72_7479,
+    0x5F62_7974,
+    0x6573_5F74,
+    0x6861_745F,
+    0x6973_5F61,
+    0x6C6C_6F63,
+    0x6174_6564,
+    2,
+    0,
+    0x3F2,
+];
+
+const LONG_NAMED_LINES: &str = "00010002 hunk 0 \"_a_name_of_forty_bytes_that_is_allocated\"\n";
+
 /// Code with the symbol `a`, memory without symbols, and data with the symbols `a` and `b`.
 pub(crate) const SEVERAL: [u32; 32] = [
     0x3F3,
@@ -190,16 +220,16 @@ fn tells_what_a_writer_took(rt: HostRuntime) -> Result<(), Fail> {
     Ok(())
 }
 
-/// The bytes of the file that is read, its content, its sizes, its symbols and their names are on the
+/// The bytes of the file that is read, its content, its sizes, its symbol and the long name are on the
 /// heap.
 #[test]
 fn is_out_of_memory_with_each_growth_refused(rt: HostRuntime) -> Result<(), Fail> {
     for refused in 0..MOST_GROWTHS {
         let heap = Refusing::new(rt.alloc(), refused);
-        let mut reader = Pieces::new(bytes_of(rt.alloc(), &NAMED, &[])?, 64, None);
+        let mut reader = Pieces::new(bytes_of(rt.alloc(), &LONG_NAMED, &[])?, 64, None);
         let mut writer = Room::new(rt.alloc(), 64, ROOM, false)?;
         let got = symbols_run(&heap, &mut reader, &[BASE], SymbolForm::Lines, &mut writer);
-        if is_done(&rt, &heap, refused, &got, writer.bytes(), NAMED_LINES) {
+        if is_done(&rt, &heap, refused, &got, writer.bytes(), LONG_NAMED_LINES) {
             holds(&rt, &("growths", refused), 5 <= refused);
             return Ok(());
         }

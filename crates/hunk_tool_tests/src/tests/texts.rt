@@ -243,16 +243,39 @@ fn growths_of(
     Ok(0)
 }
 
-/// Texts of files, and the fewest allocations of each.
-static GROWTHS: [(Text, &[u32], &str, u64); 4] = [
+/// A unit without hunks, whose name is too long to be in place.
+const LONG_NAMED: [u32; 12] = [
+    0x3E7,
+    10,
+    0x5F61_5F6E,
+    0x616D_655F,
+    0x6F66_5F66,
+    0x6F72_7479,
+    0x5F62_7974,
+    0x6573_5F74,
+    0x6861_745F,
+    0x6973_5F61,
+    0x6C6C_6F63,
+    0x6174_6564,
+];
+
+/// Texts of files, and the fewest allocations of each. A short name takes none.
+static GROWTHS: [(Text, &[u32], &str, u64); 5] = [
     // the sites of the first hunk
     (Text::Check, &ASSEMBLED, ASSEMBLED_TEXT, 1),
     // the sizes in the header, and the sites
     (Text::Check, &LINKED_ALONE, LINKED_TEXT, 2),
-    // units, hunks, three names, content, sites, a definition, symbols, and debug blocks
-    (Text::Show, &ASSEMBLED, ASSEMBLED_TEXT, 10),
-    // sizes, hunks, content, sites, symbols, a name, debug blocks, and one of them
-    (Text::Show, &LINKED_ALONE, LINKED_TEXT, 8),
+    // units, hunks, content, sites, a definition, symbols, and debug blocks
+    (Text::Show, &ASSEMBLED, ASSEMBLED_TEXT, 7),
+    // sizes, hunks, content, sites, symbols, debug blocks, and one of them
+    (Text::Show, &LINKED_ALONE, LINKED_TEXT, 7),
+    // units, and the name
+    (
+        Text::Show,
+        &LONG_NAMED,
+        "object file: 1 units, 0 hunks\nunit 0 \"_a_name_of_forty_bytes_that_is_allocated\"\n",
+        2,
+    ),
 ];
 
 #[test]

@@ -1,4 +1,4 @@
-use Rattle.std.proofs.Common.{◌≡◌, ◌+◌, ◌-◌, ◌<◌, ℕ, List, ◌∷◌, drop, length, get_or, sym, ap, ◌∙◌, rules, arith}
+use Rattle.std.proofs.Common.{◌≡◌, ◌+◌, ◌-◌, ◌<◌, ℕ, List, ◌∷◌, drop, length, get_or, sym, ap, ◌∙◌, arith}
 use Rattle.std.proofs.lemmas.List.{drop_all, drop_more}
 use Rattle.hunk_link.specs.Ranks.{RankedHunk}
 use Rattle.hunk_link.proofs.CarriedHunksLemmas.{adds-known, its_addends-inside, making-begun, making-more, made-all, room-left}
@@ -18,19 +18,18 @@ pub overflow_add-own : goal.overflow_add-own
 overflow_add-own g c =
     let left = shown _ _ _ _ c.loop-ranked-test.true c.ranked-item.is c.ranked.view_is in
     let inside = its_addends-inside _ _ _ _ _ _ c.loop-ranked.invariant.making _ _ left _ (ap length c.references-count.ensures.value) in
-    search rules
+    omega (arith, inside, c.well_formed.1.1.0.0)
 
 pub offset_bounds-addends-next : goal.offset_bounds-addends-next
 offset_bounds-addends-next g c =
     let left = shown _ _ _ _ c.loop-ranked-test.true c.ranked-item.is c.ranked.view_is in
     let inside = its_addends-inside _ _ _ _ _ _ c.loop-ranked.invariant.making _ _ left _ (ap length c.references-count.ensures.value) in
-    search rules
+    omega (arith, inside, c.well_formed.1.1.0.1)
 
 pub slice_bounds-own-end : goal.slice_bounds-own-end
 slice_bounds-own-end g c =
     let left = shown _ _ _ _ c.loop-ranked-test.true c.ranked-item.is c.ranked.view_is in
-    let inside = its_addends-inside _ _ _ _ _ _ c.loop-ranked.invariant.making _ _ left _ (ap length c.references-count.ensures.value) in
-    search rules
+    its_addends-inside _ _ _ _ _ _ c.loop-ranked.invariant.making _ _ left _ (ap length c.references-count.ensures.value)
 
 pub copied_hunk-requires : goal.copied_hunk-requires
 copied_hunk-requires g c =
@@ -56,3 +55,9 @@ loop-ranked-preserved g c =
 
 pub returns : goal.returns
 returns g c = made-all _ _ _ _ _ _ c.loop-ranked.invariant.making (drop_all _ _ c.loop-ranked-test.false)
+
+pub overflow_add-next : goal.overflow_add-next
+overflow_add-next g c =
+    let left = shown _ _ _ _ c.loop-ranked-test.true c.ranked-item.is c.ranked.view_is in
+    let inside = its_addends-inside _ _ _ _ _ _ c.loop-ranked.invariant.making _ _ left _ (ap length c.references-count.ensures.value) in
+    omega (arith, inside, c.well_formed.1.1.0.0)

@@ -1,4 +1,4 @@
-use Rattle.std.proofs.Common.{◌+◌, ◌-◌, length, sym, ap, subst, ◌∙◌, rules, arith}
+use Rattle.std.proofs.Common.{◌+◌, ◌-◌, length, sym, ap, subst, ◌∙◌, arith}
 use Rattle.std.proofs.lemmas.List.{nil_from_length}
 use Rattle.hunk_link.specs.Ranks.{hunks_of}
 use Rattle.hunk_link.proofs.CarriedHunksLemmas.{BetweenUnits, hunk-inside, hunk-known, hunk-more, hunk-room, unit-begun, unit-ended, units-begun, units-made}
@@ -31,17 +31,16 @@ loop-hunk-init g c = record {
 pub overflow_add-own : goal.overflow_add-own
 overflow_add-own g c =
     let inside = hunk-inside _ _ _ _ _ _ _ _ c.loop-hunk.invariant.making _ _ c.in-Some-hunk.ensures.steps.0 _ (ap length c.references-count.ensures.value) in
-    search rules
+    omega (arith, inside, c.well_formed.1.1.1.0.0)
 
 pub offset_bounds-addends-next : goal.offset_bounds-addends-next
 offset_bounds-addends-next g c =
     let inside = hunk-inside _ _ _ _ _ _ _ _ c.loop-hunk.invariant.making _ _ c.in-Some-hunk.ensures.steps.0 _ (ap length c.references-count.ensures.value) in
-    search rules
+    omega (arith, inside, c.well_formed.1.1.1.0.1)
 
 pub slice_bounds-own-end : goal.slice_bounds-own-end
 slice_bounds-own-end g c =
-    let inside = hunk-inside _ _ _ _ _ _ _ _ c.loop-hunk.invariant.making _ _ c.in-Some-hunk.ensures.steps.0 _ (ap length c.references-count.ensures.value) in
-    search rules
+    hunk-inside _ _ _ _ _ _ _ _ c.loop-hunk.invariant.making _ _ c.in-Some-hunk.ensures.steps.0 _ (ap length c.references-count.ensures.value)
 
 pub moved_hunk-requires : goal.moved_hunk-requires
 moved_hunk-requires g c =

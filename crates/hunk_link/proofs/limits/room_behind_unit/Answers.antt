@@ -1,5 +1,5 @@
-use Rattle.std.proofs.Common.{ℕ, inl, inr, arith, ap, sum_by}
-use Rattle.std.proofs.lemmas.Grind.{common_steps}
+use Rattle.std.proofs.Common.{◌+◌, ◌∙◌, ℕ, List, inl, inr, arith, ap, sum_by, sym}
+use Rattle.std.proofs.lemmas.List.{take_all}
 use Rattle.hunk_objects.specs.UnitHunk.{ObjectHunk}
 use Rattle.hunk_link.specs.Limits.{carried_by}
 use Rattle.hunk_link.proofs.LimitsLemmas.{room-more, room-passed}
@@ -28,6 +28,10 @@ loop-hunk-preserved g c =
       carried = room-more (carried_by c.args.strip) hunks i hunk.result _ _ _ c.loop-hunk-test.true hunk.is c.loop-hunk.invariant.carried fits.1;
     }
 
--- `grind` at once: `search`, which Rattle tries before it, is slow here
 pub returns : goal.returns
-returns g c = grind (arith, common_steps)
+returns g c =
+    let hunks = c.hunks-hunk-items in
+    let whole = take_all c.loop-hunk.hunk-index hunks.result.now c.loop-hunk-test.false ∙ hunks.ensures.value in (
+      ap (λ (list : List ObjectHunk). c.loop-hunk.left.size + sum_by (λ h. h.size) list) (sym whole) ∙ c.loop-hunk.invariant.size,
+      ap (λ (list : List ObjectHunk). c.loop-hunk.left.carried + sum_by (carried_by c.args.strip) list) (sym whole) ∙ c.loop-hunk.invariant.carried,
+    )

@@ -4,6 +4,7 @@ use Rattle.std.proofs.lemmas.Result.{err_from_is_err_and}
 use Rattle.std.specs.List.{All}
 use Rattle.hunk_link.specs.Limits.{IsHunkCount, IsSmall}
 use Rattle.hunk_link.specs.Linkable.{IsFirstReason}
+use Rattle.hunk_link.specs.OwnHunks.{AllNameOwnHunks, sites_of}
 use Rattle.hunk_link.specs.Ranks.{IsUnit, hunks_of}
 use Rattle.hunk_link.proofs.LinkingLemmas.{accepted-linked, carried-linked, linkable-linked, linked-all, reference_count-linked}
 use Rattle.hunk_link.proofs.linking.link_units_with.Goals as goal
@@ -17,6 +18,11 @@ returns-in_err-addends-clause-refused g c =
     let limits = c.in_ok-total.ensures in
     rw (p.1, p.2) (subst (λ hunks. IsFirstReason hunks strip c.in_err-addends.field-0.0) all
     (c.in_err-addends.ensures.refused strip (subst IsHunkCount (sym seen) limits.counted) (subst (IsSmall strip) (sym seen) limits.small)))
+
+pub moved_hunks-requires-clause-own : goal.moved_hunks-requires-clause-own
+moved_hunks-requires-clause-own g c =
+    let all = c.deref-3.ensures.value ∙ c.in_ok-hunks.ensures.value ∙ ap hunks_of c.deref-2.ensures.value in
+    subst (λ hunks. AllNameOwnHunks (sites_of hunks)) all c.in_ok-addends.ensures.own
 
 pub moved_hunks-requires-clause-counted : goal.moved_hunks-requires-clause-counted
 moved_hunks-requires-clause-counted g c =
@@ -37,6 +43,9 @@ load_file-requires g c =
     let linked = linked-all units _ _ all named.own named.once named.defined named.addends in
     accepted-linked units strip _ linked (subst IsHunkCount (ap hunks_of seen) limits.counted) (subst (IsSmall strip) (ap hunks_of seen) limits.small) (subst (All IsUnit) seen limits.typed) _
     (carried-linked units strip _ linked _ _ refl c.deref-4.ensures.value _ c.in_ok-carried.ensures)
+
+pub returns-clause-typed : goal.returns-clause-typed
+returns-clause-typed g c = subst (All IsUnit) c.deref.ensures.value c.in_ok-total.ensures.typed
 
 pub returns-clause-linkable : goal.returns-clause-linkable
 returns-clause-linkable g c =

@@ -3,6 +3,7 @@ use Rattle.std.proofs.lemmas.Grind.{common_steps}
 use Rattle.std.proofs.lemmas.Result.{err_from_is_err_and}
 use Rattle.hunk_link.specs.Limits.{IsHunkCount, IsSmall}
 use Rattle.hunk_link.specs.Linkable.{IsFirstReason}
+use Rattle.hunk_link.specs.OwnHunks.{AllNameOwnHunks, sites_of}
 use Rattle.hunk_link.proofs.LinkingLemmas.{accepted-linked, carried-linked, linkable-linked, linked-all, reference_count-linked}
 use Rattle.hunk_link.proofs.linking.link_with.Goals as goal
 
@@ -14,6 +15,10 @@ returns-in_err-addends-clause-refused g c =
     let limits = c.in_ok-total.ensures in
     rw (p.1, p.2) (subst (λ hunks. IsFirstReason hunks strip c.in_err-addends.field-0.0) all
     (c.in_err-addends.ensures.refused strip (subst IsHunkCount (sym all) limits.counted) (subst (IsSmall strip) (sym all) limits.small)))
+
+pub copied_hunks-requires-clause-own : goal.copied_hunks-requires-clause-own
+copied_hunks-requires-clause-own g c =
+    subst (λ hunks. AllNameOwnHunks (sites_of hunks)) (c.deref.ensures.value ∙ sym c.deref-2.ensures.value) c.in_ok-addends.ensures.own
 
 pub copied_hunks-requires-clause-counted : goal.copied_hunks-requires-clause-counted
 copied_hunks-requires-clause-counted g c =

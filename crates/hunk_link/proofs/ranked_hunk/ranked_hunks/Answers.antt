@@ -69,7 +69,21 @@ pub overflow_cast-number : goal.overflow_cast-number
 overflow_cast-number g c = grind (arith, common_steps)
 
 pub push_reserved-requires : goal.push_reserved-requires
-push_reserved-requires g c = grind (arith, common_steps)
+push_reserved-requires g c =
+    let u = c.index-units-unit in
+    let more = sum_by-drop_more hunk_count c.args.units.now c.loop-unit.unit u.result c.loop-unit-test.true in
+    omega (
+      arith,
+      more,
+      ap hunk_count u.is,
+      ap length c.hunks.ensures.value,
+      ap length c.hunks-hunk-items.ensures.value,
+      c.len-first.ensures,
+      c.loop-unit.invariant.len,
+      c.loop-number.invariant.len,
+      c.loop-number.invariant.room,
+      c.loop-number-test.true,
+    )
 
 pub returns-clause-value : goal.returns-clause-value
 returns-clause-value g c = grind (arith, common_steps)

@@ -67,7 +67,19 @@ pub bounds-places-index : goal.bounds-places-index
 bounds-places-index g c = grind (arith, common_steps)
 
 pub overflow_add-first : goal.overflow_add-first
-overflow_add-first g c = grind (arith, common_steps)
+overflow_add-first g c =
+    let units = c.args.files.now in
+    let loop = c.loop-index in
+    let unit = c.unit-item.result in
+    let left = next_unit units c.places-places.result.now c.units-unit-items.result.now loop.index unit c.places-places.ensures c.units-unit-items.ensures c.loop-index-test.true c.unit-item.is in
+    omega (
+      arith,
+      ap length c.hunks.ensures.value,
+      ap length c.hunks-hunks.ensures.value,
+      length-origins-more units loop.index (get_or c.places-places.result.now loop.index no_place, unit) left,
+      loop.invariant.counted,
+      c.hunks-hunks.type_inv.0,
+    )
 
 pub returns : goal.returns
 returns g c = grind (arith, common_steps)

@@ -1,11 +1,10 @@
 -- The place and the unit of the index, and the hunk of the number.
-use Rattle.std.proofs.Common.{◌∙◌, List, ◌<◌, ap, get_or, length, sym, arith, rules}
-use Rattle.std.proofs.lemmas.Grind.{common_steps}
+use Rattle.std.proofs.Common.{◌∙◌, List, ◌<◌, ap, get_or, length, sym, arith}
 use Rattle.hunk_objects.specs.ProgramUnit.{ObjectUnit}
 use Rattle.hunk_objects.specs.UnitHunk.{ObjectHunk}
 use Rattle.hunk_tool.specs.ObjectFiles.{units_of}
 use Rattle.hunk_tool.specs.declared.object_files.UnitPlace.{UnitPlace}
-use Rattle.hunk_origins.proofs.OriginLemmas.{origin_at-none, origin_at-some}
+use Rattle.hunk_origins.proofs.OriginLemmas.{origin_at-none, origin_at-past, origin_at-some}
 use Rattle.hunk_origins.proofs.origins.origin_at.Goals as goal
 
 pub returns-in_err-own : goal.returns-in_err-own
@@ -35,6 +34,6 @@ returns g c =
     c.args.hunk own (omega (arith, c.in_ok-own.ensures.lookup.3.0, ap length c.hunks.ensures.value))
     (c.in_ok-own.ensures.lookup.3.1 own ∙ ap (λ (hs : List ObjectHunk). get_or hs c.args.hunk own) c.hunks.ensures.value))
 
--- `grind` at once: `search`, which Rattle tries before it, is slow here
 pub returns-in_err-unit : goal.returns-in_err-unit
-returns-in_err-unit g c = grind (rules, arith, common_steps)
+returns-in_err-unit g c =
+    c.from_residual-in_err-unit.ensures ∙ sym (origin_at-past c.args.files.now c.args.unit c.args.hunk (omega (arith, c.in_err-unit.ensures.lookup.3, ap length c.units.ensures)))

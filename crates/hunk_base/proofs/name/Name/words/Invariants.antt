@@ -7,5 +7,5 @@ abbrev pub invariant-loop-place : goal.invariant-loop-place
 invariant-loop-place g l = record {
   room : l.count ≤ vec_capacity l.words;
   len : vec_len l.words ≡ l.place;
-  value : l.words.items ≡ map (λ k. big_number 4 (drop (4 * k) l.self-inside.bytes.items)) (range_with_len 0 l.place);
+  value : l.words.items ≡ map (λ k. big_number 4 (drop (4 * k) l.bytes)) (range_with_len 0 l.place);
 }

@@ -1,4 +1,4 @@
-use Rattle.std.proofs.Common.{◌++◌, ap, subst, sym, refl, ◌∙◌}
+use Rattle.std.proofs.Common.{subst, sym, refl}
 use Rattle.std.specs.List.{All}
 use Rattle.std.proofs.lemmas.List.Elements.{All-append}
 use Rattle.hunk_base.specs.Name.{IsNameByte}
@@ -12,11 +12,11 @@ returns-then-self-clause-takes g c = λ words more are opens. Opens-ended _ word
 
 pub invariant_of-self-2 : goal.invariant_of-self-2
 invariant_of-self-2 g c = record {
-  no_zero = subst (All IsNameByte) (sym (c.in_ok-extend_from_slice.ensures.items ∙ ap (λ bytes. bytes ++ c.until_zero-front.result.now) c.in_ok-reserve.ensures.items))
+  no_zero = subst (All IsNameByte) (sym c.in_ok-extend.ensures.extends)
       (All-append IsNameByte _ _ c.args.self.now.no_zero (subst (All IsNameByte) (sym c.until_zero-front.ensures) (before_zero-name c.args.bytes.now (are-bytes c.args.bytes.now c.type_inv.bytes))));
 }
 
 pub returns-clause-takes : goal.returns-clause-takes
 returns-clause-takes g c = λ words more are opens.
     Opens-more _ _ words more c.args.bytes.now _ c.if-self.false opens are c.until_zero-front.ensures
-    (c.in_ok-extend_from_slice.ensures.items ∙ ap (λ bytes. bytes ++ c.until_zero-front.result.now) c.in_ok-reserve.ensures.items) refl
+    c.in_ok-extend.ensures.extends refl
