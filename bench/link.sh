@@ -35,7 +35,7 @@ for row in "many 5000 8" "symbols 100 20" "big 15728640 9"; do
     small="$(best /dev/null "$amihunk" link --short --trim --out small.linked "${files[@]}")"
     figure "the same with --short --trim ($small us) by it" 1.1 "$(ratio "$small" "$link")" times
     kib="$(peak "$amihunk" link --out "$kind.linked" "${files[@]}")"
-    figure "memory of the same by the inputs" 2.5 "$(ratio "$((1024 * kib))" "$size")" times
+    figure "memory of the same by the inputs" 2 "$(ratio "$((1024 * kib))" "$size")" times
     rm -r copy half.linked small.linked "$kind.half"
 done
 
